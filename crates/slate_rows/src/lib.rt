@@ -1,0 +1,12 @@
+//! Rows, batches and plain reads: what a line of batches says of a key.
+#![tactic(auto)]
+
+mod batches;
+mod memory;
+mod operators;
+mod sequences;
+
+pub use batches::{Batch, KeyOp, KeyValue, Op, WriteBatch};
+pub use memory::NoMemory;
+pub use operators::{MergeFault, MergeOperator, PrefixExtractor};
+pub use sequences::{Name, Seq};

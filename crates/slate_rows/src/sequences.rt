@@ -1,0 +1,70 @@
+ghost use Rattle.std.specs.Prelude.{◌≡◌, string_bytes};
+
+use std::marker::Model;
+
+/// A list of values, as records hold it. A contract sees the list.
+#[derive(Debug, Drop)]
+pub struct Seq<T> {
+    list: Vec<T>,
+}
+
+impl<T> Model for Seq<T> {
+    ghost use Rattle.std.specs.Prelude.{List};
+
+    ghost Value = { List T };
+
+    ghost view = { λ s. s.list.items };
+}
+
+impl<T> Seq<T> {
+    /// The list of these values. It takes no memory.
+    pub fn of(list: Vec<T>) -> Seq<T>
+        ensures { result ≡ list.items }
+    {
+        Seq { list }
+    }
+
+    /// The values, in order.
+    pub fn as_slice(&self) -> &[T]
+        ensures { result.now ≡ self.now }
+    {
+        self.list.as_slice()
+    }
+
+    /// The values as a vector. It takes no memory.
+    pub fn into_vec(self) -> Vec<T>
+        ensures { result.items ≡ self }
+    {
+        self.list
+    }
+}
+
+/// A text, as records hold it. A contract sees its bytes.
+#[derive(Debug, Drop)]
+pub struct Name {
+    text: String,
+}
+
+impl Model for Name {
+    ghost use Rattle.std.specs.Prelude.{List, ℕ, string_bytes};
+
+    ghost Value = { List ℕ };
+
+    ghost view = { λ n. string_bytes n.text };
+}
+
+impl Name {
+    /// The name that is this text. It takes no memory.
+    pub fn of(text: String) -> Name
+        ensures { result ≡ string_bytes text }
+    {
+        Name { text }
+    }
+
+    /// The text of the name.
+    pub fn as_str(&self) -> &str
+        ensures { result.now ≡ self.now }
+    {
+        self.text.as_str()
+    }
+}

@@ -1,1 +1,3 @@
+pub mod Line
 pub mod Operator
+pub mod Read

@@ -4,9 +4,13 @@
 mod batches;
 mod memory;
 mod operators;
+mod reads;
 mod sequences;
+mod tables;
 
 pub use batches::{Batch, KeyOp, KeyValue, Op, WriteBatch};
 pub use memory::NoMemory;
 pub use operators::{MergeFault, MergeOperator, PrefixExtractor};
+pub use reads::ReadFault;
 pub use sequences::{Name, Seq};
+pub use tables::IndexedTable;

@@ -1,5 +1,7 @@
-ghost use Rattle.std.specs.Prelude.{◌≡◌, string_bytes};
+ghost use Rattle.std.specs.Prelude.{◌≡◌, length, string_bytes};
+ghost use Rattle.std.specs.List.{AllZip};
 
+use std::alloc::AllocError;
 use std::marker::Model;
 
 /// A list of values, as records hold it. A contract sees the list.
@@ -36,6 +38,16 @@ impl<T> Seq<T> {
         ensures { result.items ≡ self }
     {
         self.list
+    }
+}
+
+impl<T: Clone> Clone for Seq<T> {
+    ghost is_clone = { λ s copy. AllZip T.is_clone s copy × (length copy ≡ length s) };
+
+    fn clone(&self) -> Result<Seq<T>, AllocError> {
+        Ok(Seq {
+            list: self.list.clone()?,
+        })
     }
 }
 

@@ -1,0 +1,12 @@
+//! The objects of a store, and the store itself: manifests and log files under rising ids.
+#![tactic(auto)]
+
+mod errors;
+mod memory_store;
+mod objects;
+mod stores;
+
+pub use errors::{StoreError, StoreFault};
+pub use memory_store::MemoryStore;
+pub use objects::{Checkpoint, Manifest, TableId, VersionedManifest};
+pub use stores::Store;

@@ -1,0 +1,97 @@
+ghost use Rattle.std.specs.Prelude.{◌≡◌, ◌+◌, min, Some, []};
+ghost use Rattle.slate_store.specs.Calls.{count_end};
+ghost use Rattle.slate_store.specs.Objects.{empty};
+
+use crate::{Manifest, Store, StoreError, VersionedManifest};
+use slate_rows::{Batch, NoMemory, Seq};
+use std::alloc::Global;
+use std::collections::BTreeMap;
+
+/// A store in memory. It never fails: it answers `NoMemory`, or what is asked.
+#[derive(Drop)]
+pub struct MemoryStore {
+    manifests: BTreeMap<u64, Manifest>,
+    logs: BTreeMap<u64, Seq<Batch>>,
+    calls: u64,
+}
+
+impl MemoryStore {
+    /// An empty store. It takes no memory.
+    pub fn new(alloc: Global) -> MemoryStore
+        ensures { ⟦<MemoryStore as Store>⟧.objects result ≡ Some empty }
+    {
+        MemoryStore {
+            manifests: BTreeMap::new(alloc),
+            logs: BTreeMap::new(alloc),
+            calls: 0,
+        }
+    }
+
+    fn count_call(&mut self)
+        ensures { self.new ≡ record self.old { calls = min (self.old.calls + 1) count_end } }
+    {
+        self.calls = self.calls.saturating_add(1);
+    }
+}
+
+impl Store for MemoryStore {
+    ghost use Rattle.std.specs.Prelude.{Some, []};
+
+    ghost objects = { λ s. Some (record { manifests = s.manifests.entries; logs = s.logs.entries; tables = [] }) };
+
+    ghost faults = { λ _. 0 };
+
+    ghost calls = { λ s. s.calls };
+
+    fn latest_manifest(&mut self, alloc: Global) -> Result<Option<VersionedManifest>, StoreError> {
+        self.count_call();
+        match self.manifests.last_key_value() {
+            None => Ok(None),
+            Some((id, manifest)) => Ok(Some(VersionedManifest {
+                id: *id,
+                manifest: manifest.clone().map_err(NoMemory::from)?,
+            })),
+        }
+    }
+
+    fn put_manifest(
+        &mut self,
+        alloc: Global,
+        id: u64,
+        manifest: &Manifest,
+    ) -> Result<(), StoreError> {
+        self.count_call();
+        if self.manifests.contains_key(&id) {
+            return Err(StoreError::Exists);
+        }
+        let manifest = manifest.clone().map_err(NoMemory::from)?;
+        self.manifests.insert(id, manifest).map_err(NoMemory::from)?;
+        Ok(())
+    }
+
+    fn last_log(&mut self, alloc: Global, after: u64) -> Result<u64, StoreError> {
+        self.count_call();
+        match self.logs.last_key_value() {
+            Some((id, _)) => Ok(after.max(*id)),
+            None => Ok(after),
+        }
+    }
+
+    fn read_log(&mut self, alloc: Global, id: u64) -> Result<Seq<Batch>, StoreError> {
+        self.count_call();
+        match self.logs.get(&id) {
+            None => Err(StoreError::NotFound),
+            Some(batches) => Ok(Batch::copies(alloc, batches.as_slice())?),
+        }
+    }
+
+    fn put_log(&mut self, alloc: Global, id: u64, batches: &[Batch]) -> Result<(), StoreError> {
+        self.count_call();
+        if self.logs.contains_key(&id) {
+            return Err(StoreError::Exists);
+        }
+        let batches = Batch::copies(alloc, batches)?;
+        self.logs.insert(id, batches).map_err(NoMemory::from)?;
+        Ok(())
+    }
+}

@@ -1,0 +1,85 @@
+ghost use Rattle.std.specs.Prelude.{◌≡◌};
+
+use bytes::Bytes;
+use slate_rows::{Name, Seq};
+use std::alloc::AllocError;
+use uuid::Uuid;
+
+/// The id of a table: the epoch of the writer that put it, and that writer's count of tables before.
+#[derive(Clone, Copy, Debug, PartialEq, Eq, PartialOrd, Ord)]
+pub struct TableId {
+    pub epoch: u64,
+    pub index: u64,
+}
+
+/// A manifest that is kept, with what it protects, until its lease ends. Times are in milliseconds.
+#[derive(Clone, Copy, Debug)]
+pub struct Checkpoint {
+    pub id: Uuid,
+    /// The manifest that is kept.
+    pub manifest_id: u64,
+    pub create_ms: i64,
+    /// The moment at which the lease ends, where it does.
+    pub expire_ms: Option<i64>,
+}
+
+/// The state of a database: which tables and log files it is made of, and who may write to it.
+#[derive(Debug, Drop)]
+pub struct Manifest {
+    /// The epoch of the handle that may write. A handle with a lower one is fenced.
+    pub writer_epoch: u64,
+    pub initialized: bool,
+    /// The tables, oldest first.
+    pub tables: Seq<TableId>,
+    /// The number of the last batch in the tables.
+    pub last_l0_seq: u64,
+    /// The greatest creation time in the tables, in milliseconds.
+    pub last_tick: i64,
+    /// The log files up to this id are in the tables: a replay begins after it.
+    pub replay_after_wal_id: u64,
+    /// The log files below this id, and above the replay mark, were stored when the manifest was put.
+    pub next_wal_id: u64,
+    pub checkpoints: Seq<Checkpoint>,
+    /// The segment prefixes of the keys in the tables, in order.
+    pub segments: Seq<Bytes>,
+    /// The name of the segment extractor, where there is one.
+    pub extractor_name: Option<Name>,
+}
+
+impl Clone for Manifest {
+    ghost is_clone = { λ manifest copy. copy ≡ manifest };
+
+    #[tactic(auto, using(crate::proofs::Copies::same_items))]
+    fn clone(&self) -> Result<Manifest, AllocError> {
+        Ok(Manifest {
+            writer_epoch: self.writer_epoch,
+            initialized: self.initialized,
+            tables: self.tables.clone()?,
+            last_l0_seq: self.last_l0_seq,
+            last_tick: self.last_tick,
+            replay_after_wal_id: self.replay_after_wal_id,
+            next_wal_id: self.next_wal_id,
+            checkpoints: self.checkpoints.clone()?,
+            segments: self.segments.clone()?,
+            extractor_name: self.extractor_name.clone()?,
+        })
+    }
+}
+
+/// A manifest under its id. SlateDB's type of this name.
+#[derive(Debug, Drop)]
+pub struct VersionedManifest {
+    pub id: u64,
+    pub manifest: Manifest,
+}
+
+impl Clone for VersionedManifest {
+    ghost is_clone = { λ versioned copy. copy ≡ versioned };
+
+    fn clone(&self) -> Result<VersionedManifest, AllocError> {
+        Ok(VersionedManifest {
+            id: self.id,
+            manifest: self.manifest.clone()?,
+        })
+    }
+}

@@ -1,0 +1,22 @@
+use Rattle.slate_store.specs.declared.errors.StoreError.{StoreError}
+use Rattle.slate_store.specs.declared.errors.StoreError.TheVariants.{NotFound, Exists, Failed, NoMemory}
+use Rattle.slate_store.specs.declared.errors.StoreFault.TheVariants.{NotFound as Missing, Unavailable}
+use Rattle.slate_status.specs.declared.closing.CloseFault.{CloseFault}
+use Rattle.slate_status.specs.declared.closing.CloseFault.TheVariants as faults
+use Rattle.slate_status.specs.declared.errors.SlateError.{SlateError}
+use Rattle.slate_status.specs.declared.errors.SlateError.TheVariants as errors
+
+-- the error that a refusal of a store's call is answered with
+abbrev pub error_of_store : StoreError → SlateError
+error_of_store NotFound = errors.ObjectStoreError Missing
+error_of_store Exists = errors.TransactionalObjectVersionExists
+error_of_store Failed = errors.ObjectStoreError Unavailable
+error_of_store NoMemory = errors.NoMemory
+
+-- the error that a recorded result is answered with
+abbrev pub error_of_fault : CloseFault → SlateError
+error_of_fault faults.Fenced = errors.Fenced
+error_of_fault faults.InvalidDBState = errors.InvalidDBState
+error_of_fault (faults.ObjectStoreError fault) = errors.ObjectStoreError fault
+error_of_fault faults.TransactionalObjectVersionExists = errors.TransactionalObjectVersionExists
+error_of_fault faults.LatestTransactionalObjectVersionMissing = errors.LatestTransactionalObjectVersionMissing

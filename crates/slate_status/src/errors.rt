@@ -1,0 +1,90 @@
+ghost use Rattle.std.specs.Prelude.{◌≡◌};
+ghost use Rattle.slate_status.specs.declared.errors.SlateError.TheVariants.{NoMemory as OutOfMemory};
+ghost use Rattle.slate_status.specs.Errors.{error_of_store, error_of_fault};
+
+use crate::{CloseFault, CloseReason};
+use slate_rows::NoMemory;
+use slate_store::{StoreError, StoreFault};
+
+/// What kind of error it is. SlateDB's enum of this name.
+#[derive(Clone, Copy, Debug, PartialEq, Eq)]
+pub enum ErrorKind {
+    Transaction,
+    Closed(CloseReason),
+    Unavailable,
+    Invalid,
+    Data,
+    Internal,
+    /// Memory ran out.
+    Memory,
+}
+
+/// Every error that a call of the product answers.
+#[derive(Debug, Drop)]
+pub enum SlateError {
+    /// A key to be written is empty.
+    EmptyKey,
+    /// A batch to be written has no operation.
+    EmptyBatch,
+    /// The object store failed, or an object isn't there.
+    ObjectStoreError(StoreFault),
+    /// A manifest or a log file that was to be put is there already.
+    TransactionalObjectVersionExists,
+    /// There is no manifest.
+    LatestTransactionalObjectVersionMissing,
+    /// The database is in a state that it can't go on from, or a number is at the end of its type.
+    InvalidDBState,
+    /// The moment of a write is below that of the write before. Moments are in milliseconds.
+    InvalidClockTick { last_tick: i64, next_tick: i64 },
+    /// Another writer took over.
+    Fenced,
+    /// It was closed by a call.
+    Closed,
+    /// The merge operator refused an operand.
+    MergeOperatorError,
+    /// There are operands to merge, and there is no operator.
+    MergeOperatorMissing,
+    /// A flush of the log was asked of a handle that keeps none.
+    WalDisabled,
+    /// Memory ran out.
+    NoMemory,
+}
+
+impl From<NoMemory> for SlateError {
+    ghost from_gives = { λ _ error. error ≡ OutOfMemory };
+
+    fn from(_error: NoMemory) -> SlateError {
+        SlateError::NoMemory
+    }
+}
+
+impl From<StoreError> for SlateError {
+    ghost from_gives = { λ refusal error. error ≡ error_of_store refusal };
+
+    fn from(refusal: StoreError) -> SlateError {
+        match refusal {
+            StoreError::NotFound => SlateError::ObjectStoreError(StoreFault::NotFound),
+            StoreError::Exists => SlateError::TransactionalObjectVersionExists,
+            StoreError::Failed => SlateError::ObjectStoreError(StoreFault::Unavailable),
+            StoreError::NoMemory => SlateError::NoMemory,
+        }
+    }
+}
+
+impl From<CloseFault> for SlateError {
+    ghost from_gives = { λ fault error. error ≡ error_of_fault fault };
+
+    fn from(fault: CloseFault) -> SlateError {
+        match fault {
+            CloseFault::Fenced => SlateError::Fenced,
+            CloseFault::InvalidDBState => SlateError::InvalidDBState,
+            CloseFault::ObjectStoreError(fault) => SlateError::ObjectStoreError(fault),
+            CloseFault::TransactionalObjectVersionExists => {
+                SlateError::TransactionalObjectVersionExists
+            }
+            CloseFault::LatestTransactionalObjectVersionMissing => {
+                SlateError::LatestTransactionalObjectVersionMissing
+            }
+        }
+    }
+}

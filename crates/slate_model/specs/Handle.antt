@@ -1,0 +1,35 @@
+use Rattle.std.specs.Prelude.{◌≡◌, ℕ, ℤ, ◌≤◌, Bool, List, Option, Some, None, Result, Ok, Err}
+use Rattle.slate_rows.specs.declared.batches.Batch.{Batch}
+use Rattle.slate_rows.specs.Line.{Line, IsLine, end, batches_above}
+use Rattle.slate_store.specs.declared.objects.VersionedManifest.{VersionedManifest}
+use Rattle.slate_status.specs.declared.closing.CloseFault.{CloseFault}
+use Rattle.slate_status.specs.declared.errors.SlateError.{SlateError}
+use Rattle.slate_status.specs.declared.errors.SlateError.TheVariants.{Closed}
+use Rattle.slate_status.specs.Errors.{error_of_fault}
+
+-- the result with which something closed, or None while it is open
+abbrev pub CloseResult : Type 0
+CloseResult = Option (Result (Unit {0}) CloseFault)
+
+-- A handle that writes. A world has its whole line; the code keeps the end of it.
+pub record Handle : Type 0 where
+  pub keeps_log : Bool
+  pub line : Line                -- the batches that it sees
+  pub durable : ℕ                -- its batches up to this number are stored
+  pub epoch : ℕ
+  pub tick : ℤ                   -- the creation time of its last batch
+  pub view : VersionedManifest   -- the manifest that its reads go by
+  pub result : CloseResult
+
+-- the number of the last batch that it accepted
+abbrev pub accepted : Handle → ℕ
+accepted handle = end handle.line
+
+-- the batches that it accepted and that aren't stored yet
+abbrev pub unstored : Handle → List Batch
+unstored handle = batches_above handle.durable handle.line.batches
+
+-- what a checked call on something that closed answers
+abbrev pub closed_error : Result (Unit {0}) CloseFault → SlateError
+closed_error (Ok _) = Closed
+closed_error (Err fault) = error_of_fault fault

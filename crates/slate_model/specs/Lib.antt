@@ -1,0 +1,5 @@
+pub mod Changes
+pub mod Flush
+pub mod Handle
+pub mod Open
+pub mod Write

@@ -1,0 +1,58 @@
+use Rattle.std.specs.Prelude.{◌≡◌, ℕ, ℤ, ◌+◌, ◌==◌, Bool, true, false, if◌then◌else◌, not, nat_lt, int_lt, List, [], ◌∷◌, length, Option, Some, None, Result, Ok, Err, unwrap_or}
+use Rattle.std.specs.List.{list_any}
+use Rattle.std.specs.Option.{option_or}
+use Rattle.slate_rows.specs.declared.batches.Batch.{Batch}
+use Rattle.slate_rows.specs.declared.batches.KeyOp.{KeyOp}
+use Rattle.slate_rows.specs.Line.{extended}
+use Rattle.slate_status.specs.declared.closing.CloseFault.{CloseFault}
+use Rattle.slate_status.specs.declared.errors.SlateError.{SlateError}
+use Rattle.slate_status.specs.declared.errors.SlateError.TheVariants.{EmptyBatch, EmptyKey, InvalidDBState, InvalidClockTick}
+use Rattle.slate_model.specs.Handle.{Handle, CloseResult, accepted, closed_error}
+
+-- the greatest number of a batch, manifest or log file
+abbrev pub last_number : ℕ
+last_number = 18446744073709551615
+
+-- the refusal of a checked call, where the handle is closed
+abbrev pub closed_refusal : CloseResult → Option SlateError
+closed_refusal None = None
+closed_refusal (Some result) = Some (closed_error result)
+
+abbrev pub has_empty_key : List KeyOp → Bool
+has_empty_key ops = list_any (λ o. length o.key == 0) ops
+
+-- the refusal of a batch without an operation, or with an empty key
+abbrev pub batch_refusal : List KeyOp → Option SlateError
+batch_refusal [] = Some EmptyBatch
+batch_refusal (op ∷ ops) = if has_empty_key (op ∷ ops) then Some EmptyKey else None
+
+-- the refusal of a write after the greatest number
+abbrev pub number_refusal : ℕ → Option SlateError
+number_refusal number = if nat_lt number last_number then None else Some InvalidDBState
+
+-- the moment at which a write is accepted: the first of its moments that isn't below the tick
+abbrev pub accepted_moment : ℤ → ℤ → Option ℤ → Option ℤ
+accepted_moment tick moment None = if int_lt moment tick then None else Some moment
+accepted_moment tick moment (Some second) =
+    if int_lt moment tick then (if int_lt second tick then None else Some second) else Some moment
+
+-- the refusal of a write whose moments all lie below the tick: it names the last one
+abbrev pub clock_refusal : ℤ → ℤ → Option ℤ → Option ℤ → Option SlateError
+clock_refusal tick moment second (Some at) = None
+clock_refusal tick moment second None = Some (InvalidClockTick tick (unwrap_or second moment))
+
+-- why a write is refused, where it is: the first of these in their order. Want of memory aside, nothing else refuses it.
+abbrev pub write_refusal : Handle → List KeyOp → ℤ → Option ℤ → Option SlateError
+write_refusal handle ops moment second =
+    option_or (closed_refusal handle.result)
+    (option_or (batch_refusal ops)
+    (option_or (number_refusal (accepted handle))
+    (clock_refusal handle.tick moment second (accepted_moment handle.tick moment second))))
+
+-- the batch that a write makes of operations: the next number, and the accepted moment
+abbrev pub next_batch : Handle → List KeyOp → ℤ → Batch
+next_batch handle ops at = record { number = accepted handle + 1; create_ts = at; ops = ops }
+
+-- the handle after a write
+abbrev pub written : Handle → List KeyOp → ℤ → Handle
+written handle ops at = record handle { line = extended handle.line (next_batch handle ops at ∷ []); tick = at }

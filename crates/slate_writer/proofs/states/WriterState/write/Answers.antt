@@ -1,0 +1,26 @@
+use Rattle.std.proofs.Common.{◌≡◌, ◌+◌, ◌<◌, ◌^◌, ◌++◌, [], ◌∷◌, length, length-append, arith, ap, sym, ◌∙◌}
+use Rattle.std.proofs.lemmas.List.Elements.{All-from_recursion}
+use Rattle.slate_model.specs.Handle.{accepted}
+use Rattle.slate_rows.proofs.Lines.{numbered-below, numbered-push}
+use Rattle.slate_writer.proofs.states.WriterState.write.Goals as goal
+
+pub push-requires : goal.push-requires
+push-requires g c =
+    let memory = c.self.inside.memory in
+    let number = c.in-Some-checked_add.number in
+    let is : c.accepted.result ≡ c.self.inside.floor + length memory = c.accepted.ensures ∙ sym (ap accepted c.self.view_is) in
+    let next : number ≡ c.accepted.result + 1 = c.in-Some-checked_add.ensures.1 in
+    All-from_recursion (λ b. b.number < number) memory (numbered-below c.self.inside.floor number memory c.self.invariant.numbered (omega arith))
+
+pub invariant_of-self-2 : goal.invariant_of-self-2
+invariant_of-self-2 g c =
+    let memory = c.self.inside.memory in
+    let is : c.accepted.result ≡ c.self.inside.floor + length memory = c.accepted.ensures ∙ sym (ap accepted c.self.view_is) in
+    let fits : c.accepted.result + 1 < 2 ^ 64 = c.in-Some-checked_add.ensures.0 in
+    let next : c.in-Some-checked_add.number ≡ c.accepted.result + 1 = c.in-Some-checked_add.ensures.1 in
+    rw c.in_default-push.ensures.ok (record {
+      numbered = numbered-push c.self.inside.floor memory _ c.self.invariant.numbered (omega arith);
+      fits = simp length-append (omega arith);
+      durable = simp length-append (omega (arith, c.self.invariant.durable));
+      in_memory = c.self.invariant.in_memory;
+    })

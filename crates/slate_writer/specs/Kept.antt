@@ -1,0 +1,24 @@
+use Rattle.std.specs.Prelude.{◌≡◌, ℕ, ◌+◌, ◌<◌, ◌≤◌, ◌^◌, length}
+use Rattle.slate_rows.specs.Line.{AreNumberedFrom}
+use Rattle.slate_model.specs.Handle.{Handle}
+use Rattle.slate_writer.specs.declared.states.WriterState.TheInside.{Inside}
+
+-- the handle that the fields stand for
+abbrev pub kept_handle : Inside → Handle
+kept_handle a =
+    record {
+      keeps_log = a.keeps_log;
+      line = record { floor = a.floor; batches = a.memory };
+      durable = a.durable;
+      epoch = a.epoch;
+      tick = a.tick;
+      view = a.view;
+      result = a.result;
+    }
+
+-- the batches in memory are numbered from the floor on, and those that aren't stored are among them
+pub record IsKept (a : Inside) : Type 0 where
+  pub numbered : AreNumberedFrom a.floor a.memory
+  pub fits : a.floor + length a.memory < 2 ^ 64
+  pub durable : a.durable ≤ a.floor + length a.memory
+  pub in_memory : a.floor ≤ a.durable

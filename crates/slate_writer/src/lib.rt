@@ -1,0 +1,8 @@
+//! The handle that writes: its batches, its flushes and its reads.
+#![tactic(auto)]
+
+mod states;
+mod writes;
+
+pub use states::WriterState;
+pub use writes::{WriteRefusal, Written};

@@ -1,0 +1,120 @@
+ghost use Rattle.std.specs.Prelude.{◌≡◌, ◌⊎◌, ◌+◌, Option, Some, None, Err, IfOk, IfErr};
+ghost use Rattle.slate_model.specs.Handle.{accepted, closed_error};
+ghost use Rattle.slate_model.specs.Write.{write_refusal, written, accepted_moment, batch_refusal, has_empty_key};
+
+use crate::WriterState;
+use slate_rows::{Batch, KeyOp, NoMemory, PrefixExtractor, WriteBatch};
+use slate_status::{CloseFault, SlateError};
+use std::alloc::Global;
+
+/// An accepted write: the number of its batch, and its creation time in milliseconds.
+#[derive(Clone, Copy, Debug, PartialEq, Eq)]
+pub struct Written {
+    pub number: u64,
+    pub create_ts: i64,
+}
+
+/// A write that was refused: the error, and the batch as it was handed in.
+#[derive(Debug, Drop)]
+pub struct WriteRefusal {
+    pub error: SlateError,
+    pub batch: WriteBatch,
+}
+
+impl WriterState {
+    /// Accepts a batch: it gets the next number, and is readable at once. Its creation time is `moment` in
+    /// milliseconds, or `second`, where `moment` is below the creation time of the batch before.
+    ///
+    /// It is refused, in this order, on a closed handle (`Closed` or the error that closed it), without an operation
+    /// (`EmptyBatch`), with an empty key (`EmptyKey`), after the greatest number (`InvalidDBState`), and where both
+    /// moments are below the creation time of the batch before (`InvalidClockTick`). A refusal changes nothing, and
+    /// hands the batch back. It takes amortised constant time, beside a look at each operation. SlateDB's `write`.
+    pub fn write<E: PrefixExtractor>(
+        &mut self,
+        alloc: Global,
+        batch: WriteBatch,
+        moment: i64,
+        second: Option<i64>,
+        extractor: Option<&E>,
+    ) -> Result<Written, WriteRefusal>
+        requires { extractor ≡ None }
+        ensures accepted { IfOk result (λ w. (write_refusal self.old batch.ops moment second ≡ None)
+            × (accepted_moment self.old.tick moment second ≡ Some w.create_ts) × (w.number ≡ accepted self.old + 1)
+            × (self.new ≡ written self.old batch.ops w.create_ts)) }
+        ensures refused { IfErr result (λ r. (r.batch ≡ batch) × (self.new ≡ self.old)
+            × ((r.error ≡ SlateError.NoMemory) ⊎ (write_refusal self.old batch.ops moment second ≡ Some r.error))) }
+    {
+        if let Some(result) = self.result {
+            return refuse(closed_error(result), batch);
+        }
+        if let Some(error) = batch_refusal(&batch) {
+            return refuse(error, batch);
+        }
+        let Some(number) = self.accepted().checked_add(1) else {
+            return refuse(SlateError::InvalidDBState, batch);
+        };
+        let Some(create_ts) = accepted_moment(self.tick, moment, second) else {
+            let error = SlateError::InvalidClockTick {
+                last_tick: self.tick,
+                next_tick: second.unwrap_or(moment),
+            };
+            return refuse(error, batch);
+        };
+        let accepted = Batch {
+            number,
+            create_ts,
+            ops: batch.ops,
+        };
+        if let Err(batch) = self.memory.push(accepted) {
+            return refuse(SlateError::NoMemory, WriteBatch { ops: batch.ops });
+        }
+        self.tick = create_ts;
+        Ok(Written { number, create_ts })
+    }
+}
+
+fn refuse(error: SlateError, batch: WriteBatch) -> Result<Written, WriteRefusal>
+    ensures { result ≡ Err (record { error = error; batch = batch }) }
+{
+    Err(WriteRefusal { error, batch })
+}
+
+/// What a checked call on something closed answers.
+pub(crate) fn closed_error(recorded: Result<(), CloseFault>) -> SlateError
+    ensures { result ≡ closed_error recorded }
+{
+    match recorded {
+        Ok(()) => SlateError::Closed,
+        Err(fault) => SlateError::from(fault),
+    }
+}
+
+/// The refusal of a batch without an operation, or with an empty key.
+fn batch_refusal(batch: &WriteBatch) -> Option<SlateError>
+    ensures { result ≡ batch_refusal batch.now.ops }
+{
+    let ops = batch.ops.as_slice();
+    if ops.is_empty() {
+        return Some(SlateError::EmptyBatch);
+    }
+    if has_empty_key(ops) {
+        return Some(SlateError::EmptyKey);
+    }
+    None
+}
+
+fn has_empty_key(ops: &[KeyOp]) -> bool
+    ensures { result ≡ has_empty_key ops.now }
+{
+    ops.iter().any(|o| o.key.is_empty())
+}
+
+/// The first of a write's moments that isn't below the tick.
+fn accepted_moment(tick: i64, moment: i64, second: Option<i64>) -> Option<i64>
+    ensures { result ≡ accepted_moment tick moment second }
+{
+    if tick <= moment {
+        return Some(moment);
+    }
+    second.filter(|second| tick <= *second)
+}

@@ -1,3 +1,4 @@
 pub mod Line
 pub mod Operator
 pub mod Read
+pub mod Tails

@@ -11,6 +11,6 @@ mod tables;
 pub use batches::{Batch, KeyOp, KeyValue, Op, WriteBatch};
 pub use memory::NoMemory;
 pub use operators::{MergeFault, MergeOperator, PrefixExtractor};
-pub use reads::ReadFault;
+pub use reads::{ReadFault, read};
 pub use sequences::{Name, Seq};
 pub use tables::IndexedTable;

@@ -7,7 +7,7 @@ use std::marker::Model;
 /// A list of values, as records hold it. A contract sees the list.
 #[derive(Debug, Drop)]
 pub struct Seq<T> {
-    list: Vec<T>,
+    pub(crate) list: Vec<T>,
 }
 
 impl<T> Model for Seq<T> {

@@ -1,3 +1,5 @@
 pub mod Line
 pub mod Operator
 pub mod Read
+pub mod Tails
+pub mod Written

@@ -4,6 +4,7 @@
 mod batches;
 mod memory;
 mod operators;
+mod options;
 mod reads;
 mod sequences;
 mod tables;
@@ -11,6 +12,10 @@ mod tables;
 pub use batches::{Batch, KeyOp, KeyValue, Op, WriteBatch};
 pub use memory::NoMemory;
 pub use operators::{MergeFault, MergeOperator, PrefixExtractor};
-pub use reads::ReadFault;
+pub use options::{
+    CloseOptions, DurabilityLevel, FlushOptions, FlushType, IterationOrder, MergeOptions,
+    PutOptions, ReadOptions, ScanOptions, WriteOptions,
+};
+pub use reads::{ReadFault, read};
 pub use sequences::{Name, Seq};
 pub use tables::IndexedTable;

@@ -7,7 +7,7 @@ use std::marker::Model;
 /// A list of values, as records hold it. A contract sees the list.
 #[derive(Debug, Drop)]
 pub struct Seq<T> {
-    list: Vec<T>,
+    pub(crate) list: Vec<T>,
 }
 
 impl<T> Model for Seq<T> {
@@ -78,15 +78,5 @@ impl Name {
         ensures { result.now ≡ self.now }
     {
         self.text.as_str()
-    }
-}
-
-impl Clone for Name {
-    ghost is_clone = { λ name copy. copy ≡ name };
-
-    fn clone(&self) -> Result<Name, AllocError> {
-        Ok(Name {
-            text: self.text.clone()?,
-        })
     }
 }

@@ -1,0 +1,7 @@
+use Rattle.slate_rows.proofs.Tails.{fold_versions-more}
+use Rattle.slate_rows.proofs.reads.fold.Goals as goal
+
+pub loop-version-preserved : goal.loop-version-preserved
+loop-version-preserved g c merge lawful =
+    fold_versions-more merge c.args.key.now c.loop-version.row c.in_ok-row.row c.args.versions.now c.loop-version.version-index c.version-item.result _
+    c.loop-version-test.true c.version-item.is c.requires (c.in_ok-row.ensures merge lawful) (c.loop-version.invariant merge lawful)

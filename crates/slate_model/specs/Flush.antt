@@ -17,13 +17,13 @@ abbrev pub log_changes : List Batch → ℕ → List Change
 log_changes [] last = []
 log_changes (batch ∷ batches) last = PutLog (last + 1) (batch ∷ batches) ∷ []
 
-abbrev pub flush_changes_by : Handle → Objects → Option VersionedManifest → List Change
-flush_changes_by handle objects None = []
-flush_changes_by handle objects (Some latest) = log_changes (unstored handle) (last_log latest.manifest.replay_after_wal_id objects)
+abbrev pub flush_changes_by : List Batch → Objects → Option VersionedManifest → List Change
+flush_changes_by batches objects None = []
+flush_changes_by batches objects (Some latest) = log_changes batches (last_log latest.manifest.replay_after_wal_id objects)
 
--- the changes of a flush
-abbrev pub flush_changes : Handle → Objects → List Change
-flush_changes handle objects = flush_changes_by handle objects (latest_manifest objects)
+-- the changes of a flush that stores these batches
+abbrev pub flush_changes : List Batch → Objects → List Change
+flush_changes batches objects = flush_changes_by batches objects (latest_manifest objects)
 
 -- what an error of a flush records: a fault of the store, or that the handle is fenced
 abbrev pub recorded : SlateError → CloseResult
@@ -38,44 +38,43 @@ abbrev pub flushed : Handle → VersionedManifest → Result (Unit {0}) SlateErr
 flushed handle view (Ok _) = record handle { durable = accepted handle; view = view }
 flushed handle view (Err error) = record handle { view = view; result = recorded error }
 
--- Why a flush of an open handle answers an error, over a store that tells its objects. Fenced: another handle opened
--- since. Only want of memory and a fault, which the count of faults shows, have no cause here.
-abbrev pub FlushCause : Handle → Objects → SlateError → Type 0
-FlushCause handle objects errors.WalDisabled = handle.keeps_log ≡ false
-FlushCause handle objects errors.LatestTransactionalObjectVersionMissing = latest_manifest objects ≡ None
-FlushCause handle objects errors.Fenced =
-    (latest : VersionedManifest) × (latest_manifest objects ≡ Some latest) × (handle.epoch < latest.manifest.writer_epoch)
-FlushCause handle objects errors.InvalidDBState =
+-- A flush of an open handle that keeps a log goes to the store.
+abbrev pub CanFlush : Handle → Type 0
+CanFlush handle = (handle.result ≡ None) × (handle.keeps_log ≡ true)
+
+-- Why a flush by a handle of this epoch answers an error, over a store that tells its objects. Fenced: another handle
+-- opened since. Only want of memory, and a fault, which the count of faults shows, have no cause here.
+abbrev pub FlushCause : ℕ → Objects → SlateError → Type 0
+FlushCause epoch objects errors.LatestTransactionalObjectVersionMissing = latest_manifest objects ≡ None
+FlushCause epoch objects errors.Fenced =
+    (latest : VersionedManifest) × (latest_manifest objects ≡ Some latest) × (epoch < latest.manifest.writer_epoch)
+FlushCause epoch objects errors.InvalidDBState =
     (latest : VersionedManifest) × (latest_manifest objects ≡ Some latest) × (last_number ≤ last_log latest.manifest.replay_after_wal_id objects)
-FlushCause handle objects errors.TransactionalObjectVersionExists =
+FlushCause epoch objects errors.TransactionalObjectVersionExists =
     (latest : VersionedManifest) × (latest_manifest objects ≡ Some latest)
     × (is_some (log_at (last_log latest.manifest.replay_after_wal_id objects + 1) objects) ≡ true)
-FlushCause handle objects (errors.ObjectStoreError Unavailable) = Unit {0}
-FlushCause handle objects errors.NoMemory = Unit {0}
-FlushCause handle objects error = ⊥
+FlushCause epoch objects (errors.ObjectStoreError Unavailable) = Unit {0}
+FlushCause epoch objects errors.NoMemory = Unit {0}
+FlushCause epoch objects error = ⊥
 
--- a flush that answers Ok found its epoch current
-abbrev pub FlushAnswer : Handle → Objects → Result (Unit {0}) SlateError → Type 0
-FlushAnswer handle objects (Ok _) =
-    (handle.keeps_log ≡ true) × (latest : VersionedManifest) × (latest_manifest objects ≡ Some latest)
-    × (latest.manifest.writer_epoch ≤ handle.epoch)
-FlushAnswer handle objects (Err error) = FlushCause handle objects error
+-- the latest manifest, where a handle of this epoch may still write by it; else the cause
+abbrev pub FindsCurrent : ℕ → Objects → Result VersionedManifest SlateError → Type 0
+FindsCurrent epoch objects (Ok latest) = (latest_manifest objects ≡ Some latest) × (latest.manifest.writer_epoch ≤ epoch)
+FindsCurrent epoch objects (Err error) = FlushCause epoch objects error
 
--- the view after a flush: the latest manifest, or the old view where it answers an error
-abbrev pub IsViewAfter : Handle → Objects → Result (Unit {0}) SlateError → VersionedManifest → Type 0
-IsViewAfter handle objects (Ok _) view = latest_manifest objects ≡ Some view
-IsViewAfter handle objects (Err _) view = (view ≡ handle.view) ⊎ (latest_manifest objects ≡ Some view)
+-- a flush that answers Ok found its epoch current, and goes by the latest manifest from then on
+abbrev pub FlushAnswer : ℕ → Objects → Result (Unit {0}) SlateError → VersionedManifest → VersionedManifest → Type 0
+FlushAnswer epoch objects (Ok _) view view' = (latest_manifest objects ≡ Some view') × (view'.manifest.writer_epoch ≤ epoch)
+FlushAnswer epoch objects (Err error) view view' = FlushCause epoch objects error × ((view' ≡ view) ⊎ (latest_manifest objects ≡ Some view'))
 
--- A flush of an open handle over a store that tells its objects: its answer has its cause, it makes its changes or
--- breaks off, and the handle goes by the latest manifest from then on, where it answers Ok.
-pub record Flushes (old : Handle) (objects : Objects) (result : Result (Unit {0}) SlateError) (new : Handle) (objects' : Objects) : Type 0 where
-  pub answer : FlushAnswer old objects result
-  pub changes : Makes (flush_changes old objects) result objects objects'
-  pub view : IsViewAfter old objects result new.view
+-- A flush of these batches by a handle of this epoch, over a store that tells its objects: its answer has its cause,
+-- and it makes its changes, or breaks off.
+pub record StoresBatches (epoch : ℕ) (batches : List Batch) (objects : Objects) (result : Result (Unit {0}) SlateError) (view view' : VersionedManifest) (objects' : Objects) : Type 0 where
+  pub answer : FlushAnswer epoch objects result view view'
+  pub changes : Makes (flush_changes batches objects) result objects objects'
 
--- What a flush of an open handle leaves of it, over any store: the errors that close it are recorded, and a fault is
--- told only where the count of faults has risen.
-pub record LeavesFlushed (old : Handle) (faults faults' : ℕ) (result : Result (Unit {0}) SlateError) (new : Handle) : Type 0 where
-  pub handle : new ≡ flushed old new.view result
-  pub fault : result ≡ Err (errors.ObjectStoreError Unavailable) → HasRisen faults faults'
-  pub no_missing : result ≢ Err (errors.ObjectStoreError NotFound)
+-- over any store: a fault is told only where the count of faults has risen, and no object is missing
+pub record TellsFaults {A : Type 0} (faults faults' : ℕ) (result : Result A SlateError) : Type 0 where
+  pub count : faults ≤ faults'
+  pub unavailable : result ≡ Err (errors.ObjectStoreError Unavailable) → HasRisen faults faults'
+  pub none_missing : result ≢ Err (errors.ObjectStoreError NotFound)

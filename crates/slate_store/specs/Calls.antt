@@ -17,10 +17,11 @@ pub record IsCall {A : Type 0} (faults faults' calls calls' : ℕ) (result : Res
   pub call_count : calls' ≡ min (calls + 1) count_end
   pub failed : IsErrOf result Failed → HasRisen faults faults'
 
--- where a store tells its objects, it tells those after, and P relates the two
-abbrev pub Told : (Objects → Objects → Type 0) → Option Objects → Option Objects → Type 0
-Told P None after = after ≡ None
-Told P (Some old) after = (new : Objects) × (after ≡ Some new) × P old new
+-- A store that tells its objects before a call tells them after it, and P relates the two. One that tells none goes
+-- on to tell none.
+pub record Told (P : Objects → Objects → Type 0) (before after : Option Objects) : Type 0 where
+  pub none : before ≡ None → after ≡ None
+  pub some : (old : Objects) → before ≡ Some old → (new : Objects) × (after ≡ Some new) × P old new
 
 -- a read gives what is stored, and NotFound where nothing is
 abbrev pub Finds : {A : Type 0} → Option A → Result A StoreError → Type 0

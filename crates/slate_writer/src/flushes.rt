@@ -1,8 +1,8 @@
-ghost use Rattle.std.specs.Prelude.{◌≡◌, ◌×◌, ◌≤◌, None, Some, Err, IfSome, IfOk, OnOk, OnErr, IfErr};
+ghost use Rattle.std.specs.Prelude.{◌≡◌, false, None, Err, IfSome};
 ghost use Rattle.slate_store.specs.Calls.{Told};
-ghost use Rattle.slate_store.specs.Objects.{latest_manifest};
 ghost use Rattle.slate_model.specs.Handle.{closed_error, unstored};
-ghost use Rattle.slate_model.specs.Flush.{Flushes, LeavesFlushed, recorded};
+ghost use Rattle.slate_model.specs.Flush.{CanFlush, FindsCurrent, StoresBatches, TellsFaults, flushed, recorded};
+ghost use Rattle.slate_writer.specs.Appends.{AppendsLog};
 
 use crate::WriterState;
 use crate::writes::closed_error;
@@ -30,9 +30,12 @@ impl WriterState {
     ) -> Result<(), SlateError>
         requires { flush_type ≡ FlushType.Wal }
         ensures closed { IfSome self.old.result (λ r. (result ≡ Err (closed_error r)) × (self.new ≡ self.old) × (store.new ≡ store.old)) }
-        ensures counts { S.faults store.old ≤ S.faults store.new }
-        ensures leaves { self.old.result ≡ None → LeavesFlushed self.old (S.faults store.old) (S.faults store.new) result self.new }
-        ensures told { self.old.result ≡ None → Told (λ o o'. Flushes self.old o result self.new o') (S.objects store.old) (S.objects store.new) }
+        ensures disabled { self.old.result ≡ None → self.old.keeps_log ≡ false →
+            (result ≡ Err SlateError.WalDisabled) × (self.new ≡ self.old) × (store.new ≡ store.old) }
+        ensures handle { CanFlush self.old → self.new ≡ flushed self.old self.new.view result }
+        ensures faults { CanFlush self.old → TellsFaults (S.faults store.old) (S.faults store.new) result }
+        ensures told { CanFlush self.old → Told (λ o o'. StoresBatches self.old.epoch (unstored self.old) o result self.old.view self.new.view o')
+            (S.objects store.old) (S.objects store.new) }
     {
         if let Some(result) = self.result {
             return Err(closed_error(result));
@@ -40,10 +43,89 @@ impl WriterState {
         if !self.keeps_log {
             return Err(SlateError::WalDisabled);
         }
-        let flushed = self.flush_log(alloc, store);
-        if let Err(error) = &flushed {
-            self.result = recorded(error);
+        let unstored = (self.durable - self.floor) as usize;
+        let batches = &self.memory.batches()[unstored..];
+        match store_batches(alloc, store, self.epoch, batches, &mut self.view) {
+            Ok(()) => {
+                self.durable = self.accepted();
+                Ok(())
+            }
+            Err(error) => {
+                self.result = recorded(&error);
+                Err(error)
+            }
         }
-        flushed
     }
+}
+
+/// Stores batches as one log file, where the handle's epoch is still current. `view` is then the latest manifest.
+fn store_batches<S: Store>(
+    alloc: Global,
+    store: &mut S,
+    epoch: u64,
+    batches: &[Batch],
+    view: &mut VersionedManifest,
+) -> Result<(), SlateError>
+    ensures faults { TellsFaults (S.faults store.old) (S.faults store.new) result }
+    ensures told { Told (λ o o'. StoresBatches epoch batches.now o result view.old view.new o') (S.objects store.old) (S.objects store.new) }
+{
+    *view = current_manifest(alloc, store, epoch)?;
+    if batches.is_empty() {
+        return Ok(());
+    }
+    append_log(alloc, store, view.manifest.replay_after_wal_id, batches)
+}
+
+/// The latest manifest, where a handle of this epoch may still write by it.
+pub(crate) fn current_manifest<S: Store>(
+    alloc: Global,
+    store: &mut S,
+    epoch: u64,
+) -> Result<VersionedManifest, SlateError>
+    ensures faults { TellsFaults (S.faults store.old) (S.faults store.new) result }
+    ensures kept { S.objects store.new ≡ S.objects store.old }
+    ensures told { IfSome (S.objects store.old) (λ o. FindsCurrent epoch o result) }
+{
+    let Some(latest) = store.latest_manifest(alloc)? else {
+        return Err(SlateError::LatestTransactionalObjectVersionMissing);
+    };
+    if latest.manifest.writer_epoch > epoch {
+        return Err(SlateError::Fenced);
+    }
+    Ok(latest)
+}
+
+/// Stores batches as the log file after the last one.
+fn append_log<S: Store>(
+    alloc: Global,
+    store: &mut S,
+    mark: u64,
+    batches: &[Batch],
+) -> Result<(), SlateError>
+    ensures faults { TellsFaults (S.faults store.old) (S.faults store.new) result }
+    ensures told { Told (AppendsLog mark batches.now result) (S.objects store.old) (S.objects store.new) }
+{
+    let last = store.last_log(alloc, mark)?;
+    let Some(id) = last.checked_add(1) else {
+        return Err(SlateError::InvalidDBState);
+    };
+    Ok(store.put_log(alloc, id, batches)?)
+}
+
+/// What an error of a flush records.
+fn recorded(error: &SlateError) -> Option<Result<(), CloseFault>>
+    ensures { result ≡ recorded error.now }
+{
+    let fault = match error {
+        SlateError::Fenced => CloseFault::Fenced,
+        SlateError::ObjectStoreError(fault) => CloseFault::ObjectStoreError(*fault),
+        SlateError::TransactionalObjectVersionExists => {
+            CloseFault::TransactionalObjectVersionExists
+        }
+        SlateError::LatestTransactionalObjectVersionMissing => {
+            CloseFault::LatestTransactionalObjectVersionMissing
+        }
+        _ => return None,
+    };
+    Some(Err(fault))
 }

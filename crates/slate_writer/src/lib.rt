@@ -1,6 +1,7 @@
 //! The handle that writes: its batches, its flushes and its reads.
 #![tactic(auto)]
 
+mod flushes;
 mod states;
 mod writes;
 

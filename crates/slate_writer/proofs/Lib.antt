@@ -1,3 +1,4 @@
 pub mod Appending
 pub mod Flushing
+pub mod Opening
 pub mod Telling

@@ -2,8 +2,10 @@
 #![tactic(auto)]
 
 mod flushes;
+mod opens;
 mod states;
 mod writes;
 
+pub use opens::WriterOptions;
 pub use states::WriterState;
 pub use writes::{WriteRefusal, Written};

@@ -1,5 +1,6 @@
 pub mod Line
 pub mod Operator
+pub mod Range
 pub mod Read
 pub mod Tails
 pub mod Written

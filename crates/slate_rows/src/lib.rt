@@ -5,6 +5,7 @@ mod batches;
 mod memory;
 mod operators;
 mod options;
+mod ranges;
 mod reads;
 mod sequences;
 mod tables;
@@ -16,6 +17,7 @@ pub use options::{
     CloseOptions, DurabilityLevel, FlushOptions, FlushType, IterationOrder, MergeOptions,
     PutOptions, ReadOptions, ScanOptions, WriteOptions,
 };
+pub use ranges::{ByteRange, KeyBound};
 pub use reads::{ReadFault, read};
 pub use sequences::{Name, Seq};
 pub use tables::IndexedTable;

@@ -1,3 +1,4 @@
 pub mod Copies
 pub mod Tails
 pub mod Prefixes
+pub mod Leb128

@@ -9,6 +9,7 @@ mod ranges;
 mod reads;
 mod sequences;
 mod tables;
+mod varints;
 
 pub use batches::{Batch, KeyOp, KeyValue, Op, WriteBatch};
 pub use memory::NoMemory;
@@ -21,3 +22,4 @@ pub use ranges::{ByteRange, KeyBound};
 pub use reads::{ReadFault, read};
 pub use sequences::{Name, Seq};
 pub use tables::IndexedTable;
+pub use varints::{VarintFault, decode_varint, encode_varint, varint_len};

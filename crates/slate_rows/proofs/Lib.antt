@@ -2,3 +2,4 @@ pub mod Copies
 pub mod Tails
 pub mod Prefixes
 pub mod Leb128
+pub mod Fronts

@@ -87,7 +87,7 @@ is_le-apart Equal apart = absurd (apart refl)
 is_le-apart Greater apart = refl
 
 -- no bytes are below none
-not_below_empty : (k : List ℕ) → is_lt (key_cmp k []) ≡ false
+pub not_below_empty : (k : List ℕ) → is_lt (key_cmp k []) ≡ false
 not_below_empty [] = refl
 not_below_empty (x ∷ k) = refl
 

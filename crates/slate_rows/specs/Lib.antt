@@ -1,7 +1,10 @@
+pub mod IndexKey
 pub mod Line
 pub mod Operator
+pub mod Prefix
 pub mod Range
 pub mod Read
+pub mod Shared
 pub mod Tails
 pub mod Varint
 pub mod Written

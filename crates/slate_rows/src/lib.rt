@@ -2,6 +2,7 @@
 #![tactic(auto)]
 
 mod batches;
+mod index_keys;
 mod memory;
 mod operators;
 mod options;
@@ -12,8 +13,9 @@ mod tables;
 mod varints;
 
 pub use batches::{Batch, KeyOp, KeyValue, Op, WriteBatch};
+pub use index_keys::compute_index_key;
 pub use memory::NoMemory;
-pub use operators::{MergeFault, MergeOperator, PrefixExtractor};
+pub use operators::{ConcatOperator, FixedPrefix, MergeFault, MergeOperator, PrefixExtractor};
 pub use options::{
     CloseOptions, DurabilityLevel, FlushOptions, FlushType, IterationOrder, MergeOptions,
     PutOptions, ReadOptions, ScanOptions, WriteOptions,

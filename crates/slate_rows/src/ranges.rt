@@ -137,7 +137,7 @@ fn high_with_prefix(alloc: Global, prefix: &[u8], bound: &KeyBound) -> Result<Ke
 }
 
 /// The bytes of both, one after the other.
-fn joined(alloc: Global, front: &[u8], back: &Bytes) -> Result<Bytes, NoMemory>
+pub(crate) fn joined(alloc: Global, front: &[u8], back: &Bytes) -> Result<Bytes, NoMemory>
     ensures { IfOk result (λ bytes. bytes ≡ front.now ++ back.now) }
 {
     let mut bytes = Vec::with_capacity(alloc, front.len() + back.len())?;

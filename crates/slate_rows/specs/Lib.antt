@@ -1,3 +1,4 @@
+pub mod Bound
 pub mod IndexKey
 pub mod Line
 pub mod Operator

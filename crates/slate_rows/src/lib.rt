@@ -21,7 +21,7 @@ pub use options::{
     PutOptions, ReadOptions, ScanOptions, WriteOptions,
 };
 pub use ranges::{ByteRange, KeyBound};
-pub use reads::{ReadFault, read};
+pub use reads::{ReadFault, prepare_max_seq, read};
 pub use sequences::{Name, Seq};
 pub use tables::IndexedTable;
 pub use varints::{VarintFault, decode_varint, encode_varint, varint_len};

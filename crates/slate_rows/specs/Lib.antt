@@ -1,5 +1,11 @@
+pub mod Bound
+pub mod IndexKey
 pub mod Line
 pub mod Operator
+pub mod Prefix
+pub mod Range
 pub mod Read
+pub mod Shared
 pub mod Tails
+pub mod Varint
 pub mod Written

@@ -1,4 +1,4 @@
-use Rattle.std.specs.Prelude.{◌≡◌, ℕ, List, Option, Some, None, Result, Ok, Err}
+use Rattle.std.specs.Prelude.{◌≡◌, ℕ, List, ◌++◌, Option, Some, None, Result, Ok, Err}
 use Rattle.slate_rows.specs.declared.operators.MergeFault.{MergeFault}
 use Rattle.slate_rows.specs.declared.operators.MergeFault.TheVariants.{Refused, NoMemory}
 
@@ -17,3 +17,8 @@ abbrev pub IsLawful : {M : Type 0} → (M → List ℕ → Option (List ℕ) →
 IsLawful may_answer operator merge =
     (key : List ℕ) (existing : Option (List ℕ)) (operand : List ℕ) (answer : Option (List ℕ)) →
     may_answer operator key existing operand answer → answer ≡ merge key existing operand
+
+-- appends each operand, and never refuses
+abbrev pub concat : Merge
+concat key None operand = Some operand
+concat key (Some existing) operand = Some (existing ++ operand)

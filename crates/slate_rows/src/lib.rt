@@ -2,20 +2,26 @@
 #![tactic(auto)]
 
 mod batches;
+mod index_keys;
 mod memory;
 mod operators;
 mod options;
+mod ranges;
 mod reads;
 mod sequences;
 mod tables;
+mod varints;
 
 pub use batches::{Batch, KeyOp, KeyValue, Op, WriteBatch};
+pub use index_keys::compute_index_key;
 pub use memory::NoMemory;
-pub use operators::{MergeFault, MergeOperator, PrefixExtractor};
+pub use operators::{ConcatOperator, FixedPrefix, MergeFault, MergeOperator, PrefixExtractor};
 pub use options::{
     CloseOptions, DurabilityLevel, FlushOptions, FlushType, IterationOrder, MergeOptions,
     PutOptions, ReadOptions, ScanOptions, WriteOptions,
 };
-pub use reads::{ReadFault, read};
+pub use ranges::{ByteRange, KeyBound};
+pub use reads::{ReadFault, prepare_max_seq, read};
 pub use sequences::{Name, Seq};
 pub use tables::IndexedTable;
+pub use varints::{VarintFault, decode_varint, encode_varint, varint_len};

@@ -1,9 +1,14 @@
-ghost use Rattle.std.specs.Prelude.{◌≡◌, ℕ, List, Option};
-ghost use Rattle.slate_rows.specs.Operator.{Merges};
+ghost use Rattle.std.specs.Prelude.{◌≡◌, ℕ, List, ◌++◌, Option, IfOk, codes};
+ghost use Rattle.std.specs.Fmt.{decimal};
+ghost use Rattle.slate_rows.specs.Operator.{Merges, concat};
+ghost use Rattle.slate_rows.specs.Prefix.{fixed_prefix};
 ghost use Rattle.std.specs.Option.{option_copied};
 
+use crate::ranges::joined;
+use crate::{Name, NoMemory};
 use bytes::Bytes;
 use std::alloc::Global;
+use std::marker::Model;
 
 /// Why a merge gave no value.
 #[derive(Clone, Copy, Debug, PartialEq, Eq)]
@@ -47,4 +52,81 @@ pub trait PrefixExtractor {
     /// The prefix of a key, or None where the key has none.
     fn prefix_of<'a>(&self, key: &'a [u8]) -> Option<&'a [u8]>
         ensures { may_extract self.now key.now (option_copied result) };
+}
+
+impl From<NoMemory> for MergeFault {
+    ghost use Rattle.std.specs.Prelude.{◌≡◌};
+    ghost use Rattle.slate_rows.specs.declared.operators.MergeFault.TheVariants.{NoMemory as OutOfMemory};
+
+    ghost from_gives = { λ _ fault. fault ≡ OutOfMemory };
+
+    fn from(_error: NoMemory) -> MergeFault {
+        MergeFault::NoMemory
+    }
+}
+
+/// Appends each operand to the value, and never refuses. It is lawful.
+#[derive(Clone, Copy, Debug, PartialEq, Eq)]
+pub struct ConcatOperator;
+
+impl MergeOperator for ConcatOperator {
+    ghost may_answer = { λ _ key existing operand answer. answer ≡ concat key existing operand };
+
+    fn merge(
+        &self,
+        alloc: Global,
+        _key: &[u8],
+        existing: Option<&Bytes>,
+        operand: &Bytes,
+    ) -> Result<Bytes, MergeFault> {
+        Ok(match existing {
+            None => operand.clone().map_err(NoMemory::from)?,
+            Some(existing) => joined(alloc, existing.as_slice(), operand)?,
+        })
+    }
+}
+
+/// Cuts off a prefix of a fixed length. A key that is shorter has none. It is lawful. A contract sees the length.
+#[derive(Debug, Drop)]
+pub struct FixedPrefix {
+    name: Name,
+    length: u8,
+}
+
+impl Model for FixedPrefix {
+    ghost use Rattle.std.specs.Prelude.{◌≡◌, ℕ, ◌++◌, codes};
+    ghost use Rattle.std.specs.Fmt.{decimal};
+
+    ghost Value = { ℕ };
+
+    ghost view = { λ p. p.length };
+
+    ghost invariant = { λ p. p.name ≡ codes "fixed-" ++ decimal p.length };
+}
+
+impl FixedPrefix {
+    /// The extractor of prefixes of this length, in bytes. Its name is `fixed-N`, with the length for N.
+    pub fn new(alloc: Global, length: u8) -> Result<FixedPrefix, NoMemory>
+        ensures { IfOk result (λ extractor. extractor ≡ length) }
+    {
+        let name = format!(in alloc; "fixed-{length}")?;
+        Ok(FixedPrefix {
+            name: Name::of(name),
+            length,
+        })
+    }
+}
+
+impl PrefixExtractor for FixedPrefix {
+    ghost may_name = { λ length name. name ≡ codes "fixed-" ++ decimal length };
+
+    ghost may_extract = { λ length key answer. answer ≡ fixed_prefix length key };
+
+    fn name(&self) -> &str {
+        self.name.as_str()
+    }
+
+    fn prefix_of<'a>(&self, key: &'a [u8]) -> Option<&'a [u8]> {
+        key.get(..usize::from(self.length))
+    }
 }

@@ -1,11 +1,12 @@
 ghost use Rattle.std.specs.Prelude.{◌≡◌, ◌++◌, [], ◌∷◌, ◌↔◌, None, Option, List, IsTrue, IfOk, OnOk, OnErr, map};
 ghost use Rattle.std.specs.List.{AllByRecursion};
 ghost use Rattle.std.specs.Option.{option_copied};
+ghost use Rattle.slate_rows.specs.Bound.{least, read_bound};
 ghost use Rattle.slate_rows.specs.Operator.{Merge};
 ghost use Rattle.slate_rows.specs.Tails.{seen, IsTail};
 ghost use Rattle.slate_rows.specs.Read.{Version as SeenVersion, IsOperator, Reads, read_at, row_after, fold_versions, versions_in, since_base, is_base, is_within, tail};
 
-use crate::{Batch, KeyOp, KeyValue, MergeFault, MergeOperator, NoMemory, Op};
+use crate::{Batch, DurabilityLevel, KeyOp, KeyValue, MergeFault, MergeOperator, NoMemory, Op};
 use bytes::Bytes;
 use std::alloc::Global;
 
@@ -30,6 +31,37 @@ impl From<NoMemory> for ReadFault {
 
     fn from(_error: NoMemory) -> ReadFault {
         ReadFault::NoMemory
+    }
+}
+
+/// Up to which number a read sees batches: the least of the bounds that it has. They are `user`, where there is one,
+/// `durable` at the level of the object store, and `committed` unless the read is dirty. It takes no memory. SlateDB's
+/// `prepare_max_seq`.
+pub fn prepare_max_seq(
+    user: Option<u64>,
+    durable: u64,
+    committed: u64,
+    level: DurabilityLevel,
+    dirty: bool,
+) -> Option<u64>
+    ensures { result ≡ read_bound user durable committed level dirty }
+{
+    let durable = match level {
+        DurabilityLevel::Memory => None,
+        DurabilityLevel::Remote => Some(durable),
+    };
+    let committed = if dirty { None } else { Some(committed) };
+    least(user, least(durable, committed))
+}
+
+/// The least of two bounds, of which each may be absent.
+fn least(bound: Option<u64>, other: Option<u64>) -> Option<u64>
+    ensures { result ≡ least bound other }
+{
+    match (bound, other) {
+        (Some(bound), Some(other)) => Some(bound.min(other)),
+        (Some(bound), None) => Some(bound),
+        (None, other) => other,
     }
 }
 

@@ -7,7 +7,7 @@ mod numbers;
 mod search;
 mod words;
 
-pub use appends::cut_back;
+pub use appends::{cut_back, write_text};
 pub use laws::prints_read_again;
 pub use numbers::{read_moment, read_number, write_number, write_signed};
 pub use search::find_byte;

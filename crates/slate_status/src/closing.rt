@@ -1,4 +1,7 @@
+ghost use Rattle.std.specs.Prelude.{◌≡◌, None, Some, is_none, unwrap_or};
+
 use slate_store::StoreFault;
+use std::marker::Model;
 
 /// Why something is closed. SlateDB's enum of this name.
 #[derive(Clone, Copy, Debug, PartialEq, Eq)]
@@ -24,4 +27,47 @@ pub enum CloseFault {
     TransactionalObjectVersionExists,
     /// There is no manifest.
     LatestTransactionalObjectVersionMissing,
+}
+
+/// The result with which something closed. The first one that is written stays.
+#[derive(Debug, Drop)]
+pub struct CloseCell {
+    recorded: Option<Result<(), CloseFault>>,
+}
+
+impl Model for CloseCell {
+    ghost use Rattle.std.specs.Prelude.{Option, Result};
+    ghost use Rattle.slate_status.specs.declared.closing.CloseFault.{CloseFault};
+
+    ghost Value = { Option (Result (Unit {0}) CloseFault) };
+
+    ghost view = { λ cell. cell.recorded };
+}
+
+impl CloseCell {
+    /// A cell that holds no result.
+    pub fn new() -> CloseCell
+        ensures { result ≡ None }
+    {
+        CloseCell { recorded: None }
+    }
+
+    /// Records how something closed, where nothing was recorded before, and answers whether that was so.
+    pub fn write(&mut self, outcome: Result<(), CloseFault>) -> bool
+        ensures first { result ≡ is_none self.old }
+        ensures kept { self.new ≡ Some (unwrap_or self.old outcome) }
+    {
+        if self.recorded.is_some() {
+            return false;
+        }
+        self.recorded = Some(outcome);
+        true
+    }
+
+    /// The result that was recorded first.
+    pub fn read(&self) -> Option<Result<(), CloseFault>>
+        ensures { result ≡ self.now }
+    {
+        self.recorded
+    }
 }

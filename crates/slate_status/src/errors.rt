@@ -1,10 +1,13 @@
-ghost use Rattle.std.specs.Prelude.{◌≡◌};
+ghost use Rattle.std.specs.Prelude.{◌≡◌, Some};
 ghost use Rattle.slate_status.specs.declared.errors.SlateError.TheVariants.{NoMemory as OutOfMemory};
 ghost use Rattle.slate_status.specs.Errors.{error_of_store, error_of_fault};
+ghost use Rattle.slate_status.specs.Texts.{kind_of, kind_words, reason_of};
 
+use crate::texts::words_of;
 use crate::{CloseFault, CloseReason};
 use slate_rows::NoMemory;
 use slate_store::{StoreError, StoreFault};
+use std::fmt;
 
 /// What kind of error it is. SlateDB's enum of this name.
 #[derive(Clone, Copy, Debug, PartialEq, Eq)]
@@ -17,6 +20,25 @@ pub enum ErrorKind {
     Internal,
     /// Memory ran out.
     Memory,
+}
+
+impl fmt::Display for ErrorKind {
+    ghost output = { λ kind. Some (kind_words kind) };
+
+    fn fmt<W: fmt::Write>(&self, f: &mut fmt::Formatter<W>) -> fmt::Result {
+        f.write_str(words_of(*self))
+    }
+}
+
+impl From<ErrorKind> for CloseReason {
+    ghost from_gives = { λ kind reason. reason ≡ reason_of kind };
+
+    fn from(kind: ErrorKind) -> CloseReason {
+        match kind {
+            ErrorKind::Closed(reason) => reason,
+            _ => CloseReason::Panic,
+        }
+    }
 }
 
 /// Every error that a call of the product answers.
@@ -34,6 +56,8 @@ pub enum SlateError {
     LatestTransactionalObjectVersionMissing,
     /// The database is in a state that it can't go on from, or a number is at the end of its type.
     InvalidDBState,
+    /// A log file that was to be replayed isn't there, or goes on with a number past the next. It tells the file's id.
+    WalTruncated(u64),
     /// The moment of a write is below that of the write before. Moments are in milliseconds.
     InvalidClockTick { last_tick: i64, next_tick: i64 },
     /// Another writer took over.
@@ -48,6 +72,31 @@ pub enum SlateError {
     WalDisabled,
     /// Memory ran out.
     NoMemory,
+}
+
+impl SlateError {
+    /// What kind of error it is. It takes no memory.
+    pub fn kind(&self) -> ErrorKind
+        ensures { result ≡ kind_of self.now }
+    {
+        match self {
+            SlateError::EmptyKey
+            | SlateError::TransactionalObjectVersionExists
+            | SlateError::LatestTransactionalObjectVersionMissing
+            | SlateError::ObjectStoreError(StoreFault::NotFound)
+            | SlateError::InvalidDBState
+            | SlateError::WalTruncated(_) => ErrorKind::Data,
+            SlateError::EmptyBatch
+            | SlateError::InvalidClockTick { .. }
+            | SlateError::MergeOperatorError
+            | SlateError::MergeOperatorMissing
+            | SlateError::WalDisabled => ErrorKind::Invalid,
+            SlateError::ObjectStoreError(StoreFault::Unavailable) => ErrorKind::Unavailable,
+            SlateError::Fenced => ErrorKind::Closed(CloseReason::Fenced),
+            SlateError::Closed => ErrorKind::Closed(CloseReason::Clean),
+            SlateError::NoMemory => ErrorKind::Memory,
+        }
+    }
 }
 
 impl From<NoMemory> for SlateError {

@@ -3,6 +3,8 @@
 
 mod closing;
 mod errors;
+mod texts;
 
-pub use closing::{CloseFault, CloseReason};
+pub use closing::{CloseCell, CloseFault, CloseReason};
 pub use errors::{ErrorKind, SlateError};
+pub use texts::write_error;

@@ -2,4 +2,5 @@ pub mod Changes
 pub mod Flush
 pub mod Handle
 pub mod Open
+pub mod Read
 pub mod Write

@@ -1,3 +1,5 @@
+use Rattle.slate_rows.specs.declared.reads.ReadFault.{ReadFault}
+use Rattle.slate_rows.specs.declared.reads.ReadFault.TheVariants as reads
 use Rattle.slate_store.specs.declared.errors.StoreError.{StoreError}
 use Rattle.slate_store.specs.declared.errors.StoreError.TheVariants.{NotFound, Exists, Failed, NoMemory}
 use Rattle.slate_store.specs.declared.errors.StoreFault.TheVariants.{NotFound as Missing, Unavailable}
@@ -5,6 +7,13 @@ use Rattle.slate_status.specs.declared.closing.CloseFault.{CloseFault}
 use Rattle.slate_status.specs.declared.closing.CloseFault.TheVariants as faults
 use Rattle.slate_status.specs.declared.errors.SlateError.{SlateError}
 use Rattle.slate_status.specs.declared.errors.SlateError.TheVariants as errors
+
+-- the error that a fault of a read is answered with
+abbrev pub error_of_read : ReadFault → SlateError
+error_of_read reads.MergeOperatorMissing = errors.MergeOperatorMissing
+error_of_read reads.MergeOperatorError = errors.MergeOperatorError
+error_of_read reads.ChecksumMismatch = errors.ChecksumMismatch
+error_of_read reads.NoMemory = errors.NoMemory
 
 -- the error that a refusal of a store's call is answered with
 abbrev pub error_of_store : StoreError → SlateError

@@ -22,6 +22,7 @@ kind_of errors.InvalidDBState = kinds.Data
 kind_of (errors.WalTruncated id) = kinds.Data
 kind_of (errors.InvalidClockTick last next) = kinds.Invalid
 kind_of errors.Fenced = kinds.Closed reasons.Fenced
+kind_of errors.ChecksumMismatch = kinds.Data
 kind_of errors.Closed = kinds.Closed reasons.Clean
 kind_of errors.MergeOperatorError = kinds.Invalid
 kind_of errors.MergeOperatorMissing = kinds.Invalid
@@ -55,6 +56,7 @@ message_of (errors.WalTruncated id) = codes "wal truncated at wal file `" ++ dec
 message_of (errors.InvalidClockTick last next) =
     codes "invalid clock tick, must be monotonic. last_tick=`" ++ signed_decimal last ++ codes "`, next_tick=`" ++ signed_decimal next ++ codes "`"
 message_of errors.Fenced = codes "detected newer DB client"
+message_of errors.ChecksumMismatch = codes "checksum mismatch"
 message_of errors.Closed = codes "db is closed"
 message_of errors.MergeOperatorError = codes "merge operator error"
 message_of errors.MergeOperatorMissing = codes "merge operator missing. A merge operator is required to read merge operands"

@@ -1,11 +1,11 @@
 ghost use Rattle.std.specs.Prelude.{◌≡◌, Some};
 ghost use Rattle.slate_status.specs.declared.errors.SlateError.TheVariants.{NoMemory as OutOfMemory};
-ghost use Rattle.slate_status.specs.Errors.{error_of_store, error_of_fault};
+ghost use Rattle.slate_status.specs.Errors.{error_of_read, error_of_store, error_of_fault};
 ghost use Rattle.slate_status.specs.Texts.{kind_of, kind_words, reason_of};
 
 use crate::texts::words_of;
 use crate::{CloseFault, CloseReason};
-use slate_rows::NoMemory;
+use slate_rows::{NoMemory, ReadFault};
 use slate_store::{StoreError, StoreFault};
 use std::fmt;
 
@@ -62,6 +62,8 @@ pub enum SlateError {
     InvalidClockTick { last_tick: i64, next_tick: i64 },
     /// Another writer took over.
     Fenced,
+    /// A stored row is damaged.
+    ChecksumMismatch,
     /// It was closed by a call.
     Closed,
     /// The merge operator refused an operand.
@@ -93,6 +95,7 @@ impl SlateError {
             | SlateError::WalDisabled => ErrorKind::Invalid,
             SlateError::ObjectStoreError(StoreFault::Unavailable) => ErrorKind::Unavailable,
             SlateError::Fenced => ErrorKind::Closed(CloseReason::Fenced),
+            SlateError::ChecksumMismatch => ErrorKind::Data,
             SlateError::Closed => ErrorKind::Closed(CloseReason::Clean),
             SlateError::NoMemory => ErrorKind::Memory,
         }
@@ -104,6 +107,19 @@ impl From<NoMemory> for SlateError {
 
     fn from(_error: NoMemory) -> SlateError {
         SlateError::NoMemory
+    }
+}
+
+impl From<ReadFault> for SlateError {
+    ghost from_gives = { λ fault error. error ≡ error_of_read fault };
+
+    fn from(fault: ReadFault) -> SlateError {
+        match fault {
+            ReadFault::MergeOperatorMissing => SlateError::MergeOperatorMissing,
+            ReadFault::MergeOperatorError => SlateError::MergeOperatorError,
+            ReadFault::ChecksumMismatch => SlateError::ChecksumMismatch,
+            ReadFault::NoMemory => SlateError::NoMemory,
+        }
     }
 }
 

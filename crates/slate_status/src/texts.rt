@@ -80,6 +80,7 @@ fn write_message(out: &mut Vec<u8>, error: &SlateError) -> Result<(), NoMemory>
             next_tick,
         } => write_clock_tick(out, *last_tick, *next_tick),
         SlateError::Fenced => write_text(out, "detected newer DB client"),
+        SlateError::ChecksumMismatch => write_text(out, "checksum mismatch"),
         SlateError::Closed => write_text(out, "db is closed"),
         SlateError::MergeOperatorError => write_text(out, "merge operator error"),
         SlateError::MergeOperatorMissing => {

@@ -3,6 +3,7 @@
 
 mod flushes;
 mod opens;
+mod reads;
 mod states;
 mod writes;
 

@@ -1,0 +1,51 @@
+ghost use Rattle.std.specs.Prelude.{◌≡◌, None, Some, Err, Option, IfSome};
+ghost use Rattle.std.specs.Option.{option_copied};
+ghost use Rattle.slate_rows.specs.Operator.{Merge};
+ghost use Rattle.slate_rows.specs.Bound.{read_bound};
+ghost use Rattle.slate_rows.specs.Read.{IsOperator, read_at};
+ghost use Rattle.slate_model.specs.Handle.{accepted, closed_error};
+ghost use Rattle.slate_model.specs.Read.{AnswersRead};
+
+use crate::WriterState;
+use crate::writes::closed_error;
+use slate_rows::{KeyValue, MergeOperator, ReadOptions, prepare_max_seq, read};
+use slate_status::SlateError;
+use slate_store::Store;
+use std::alloc::Global;
+
+impl WriterState {
+    /// What the handle's batches say of a key, up to the accepted number, or up to the durable one at the level
+    /// `Remote`, and up to the number of a snapshot, where one is given. None is: there is no value.
+    ///
+    /// On a closed handle it answers `Closed` or the error that closed it. It answers `MergeOperatorMissing` where
+    /// operands are to be merged and there is no operator, `MergeOperatorError` where the operator refuses one, and
+    /// `NoMemory`. A read changes nothing. Until batches are indexed by key, and stored in tables, it goes over the
+    /// batches in memory once, and touches no store. SlateDB's `get`.
+    pub fn get<S: Store, M: MergeOperator>(
+        &self,
+        alloc: Global,
+        store: &mut S,
+        key: &[u8],
+        options: &ReadOptions,
+        snapshot: Option<u64>,
+        operator: Option<&M>,
+    ) -> Result<Option<KeyValue>, SlateError>
+        ensures closed { IfSome self.now.result (λ r. result ≡ Err (closed_error r)) }
+        ensures read { self.now.result ≡ None → (merge : Option Merge) → IsOperator M.may_answer (option_copied operator.entry) merge →
+            AnswersRead (read_at merge self.now.line.batches
+            (read_bound snapshot self.now.durable (accepted self.now) options.now.durability_filter options.now.dirty) key.now) result }
+        ensures store { store.new ≡ store.old }
+    {
+        if let Some(result) = self.result {
+            return Err(closed_error(result));
+        }
+        let bound = prepare_max_seq(
+            snapshot,
+            self.durable,
+            self.accepted(),
+            options.durability_filter,
+            options.dirty,
+        );
+        Ok(read(alloc, self.memory.batches(), bound, key, operator)?)
+    }
+}

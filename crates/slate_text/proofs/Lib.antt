@@ -1,2 +1,3 @@
+pub mod AppendLemmas
 pub mod NumberLemmas
 pub mod WordLemmas

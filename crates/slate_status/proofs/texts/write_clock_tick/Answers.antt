@@ -1,7 +1,7 @@
 use Rattle.std.proofs.Common.{codes}
 use Rattle.std.specs.Fmt.{signed_decimal}
 use Rattle.std.proofs.lemmas.Int.{to_z-of_z}
-use Rattle.slate_status.proofs.TextLemmas.{five_written}
+use Rattle.slate_text.proofs.AppendLemmas.{five_written}
 use Rattle.slate_status.proofs.texts.write_clock_tick.Goals as goal
 
 pub returns-clause-ok : goal.returns-clause-ok

@@ -1,6 +1,6 @@
 use Rattle.slate_status.specs.Texts.{message_of}
 use Rattle.std.proofs.Common.{codes}
-use Rattle.slate_status.proofs.TextLemmas.{kept_front, always_on_err}
+use Rattle.slate_text.proofs.AppendLemmas.{kept_front, always_on_err}
 use Rattle.slate_status.proofs.texts.write_parts.Goals as goal
 
 pub returns-in_err-write_source-clause-err : goal.returns-in_err-write_source-clause-err

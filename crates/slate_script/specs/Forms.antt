@@ -1,0 +1,71 @@
+-- The forms of a script's commands.
+use Rattle.std.specs.Prelude.{ℕ, ◌==◌, false, List, [], ◌∷◌, Option, Some, None, codes, option_and_then, if◌then◌else◌}
+use Rattle.std.specs.Str.{bytes_eq}
+use Rattle.slate_text.specs.Numbers.{number_of, moment_of}
+use Rattle.slate_text.specs.Words.{word_of}
+use Rattle.slate_script.specs.Lines.{fields_of}
+use Rattle.slate_script.specs.declared.commands.Action.{Action}
+use Rattle.slate_script.specs.declared.commands.Action.TheVariants as actions
+use Rattle.slate_script.specs.declared.commands.Command.{Command}
+use Rattle.slate_script.specs.declared.commands.LineAnswer.{LineAnswer}
+use Rattle.slate_script.specs.declared.commands.LineAnswer.TheVariants as answers
+
+infixl 10 ◌>>=◌
+abbrev pub ◌>>=◌ : {A B : Type 0} → Option A → (A → Option B) → Option B
+o >>= f = option_and_then f o
+
+-- open
+abbrev pub open_form : List (List ℕ) → Option Action
+open_form [] = Some actions.Open
+open_form fields = None
+
+-- put H KEY VALUE
+abbrev pub put_form : List (List ℕ) → Option Action
+put_form (h ∷ k ∷ v ∷ []) = do
+  handle ← number_of h
+  key ← word_of k
+  value ← word_of v
+  Some (actions.Put handle key value None)
+put_form fields = None
+
+-- flush H
+abbrev pub flush_form : List (List ℕ) → Option Action
+flush_form (h ∷ []) = do
+  handle ← number_of h
+  Some (actions.Flush handle)
+flush_form fields = None
+
+-- get O KEY
+abbrev pub get_form : List (List ℕ) → Option Action
+get_form (o ∷ k ∷ []) = do
+  object ← number_of o
+  key ← word_of k
+  Some (actions.Get object key false)
+get_form fields = None
+
+-- the action that a name and the fields after it spell
+abbrev pub action_of : List ℕ → List (List ℕ) → Option Action
+action_of name fields =
+    if bytes_eq name (codes "open") then open_form fields
+    else (if bytes_eq name (codes "put") then put_form fields
+    else (if bytes_eq name (codes "flush") then flush_form fields
+    else (if bytes_eq name (codes "get") then get_form fields
+    else None)))
+
+-- the command that the fields of a line spell: a moment, the name, and the fields of its form
+abbrev pub command_of : List (List ℕ) → Option Command
+command_of [] = None
+command_of (m ∷ []) = None
+command_of (m ∷ name ∷ fields) = do
+  moment ← moment_of m
+  action ← action_of name fields
+  Some (record { moment = moment.0; second = moment.1; action = action })
+
+abbrev pub answer_of : Option Command → LineAnswer
+answer_of None = answers.Refused
+answer_of (Some command) = answers.Command command
+
+-- what a line is: one without bytes and one that begins with `#` hold no command
+abbrev pub line_of : List ℕ → LineAnswer
+line_of [] = answers.Blank
+line_of (b ∷ bs) = if b == 35 then answers.Blank else answer_of (command_of (fields_of (b ∷ bs)))

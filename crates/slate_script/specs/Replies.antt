@@ -1,0 +1,37 @@
+-- The text of each reply.
+use Rattle.std.specs.Prelude.{ℕ, ℤ, List, [], ◌∷◌, ◌++◌, Option, Some, None, codes, decimal}
+use Rattle.std.specs.Fmt.{signed_decimal}
+use Rattle.std.specs.List.{flat_map}
+use Rattle.slate_rows.specs.declared.batches.KeyValue.{KeyValue}
+use Rattle.slate_text.specs.Words.{word_text}
+use Rattle.slate_status.specs.Texts.{error_text}
+use Rattle.slate_script.specs.declared.replies.Reply.{Reply}
+use Rattle.slate_script.specs.declared.replies.Reply.TheVariants as replies
+
+-- a time of expiry, where there is one
+abbrev pub expiry_text : Option ℤ → List ℕ
+expiry_text None = []
+expiry_text (Some time) = codes " expires " ++ signed_decimal time
+
+-- the number of a row's write, its creation time and its time of expiry
+abbrev pub stamp_text : KeyValue → List ℕ
+stamp_text row = codes " number " ++ decimal row.seq ++ codes " created " ++ signed_decimal row.create_ts ++ expiry_text row.expire_ts
+
+-- a reply without the newline at its end
+abbrev pub reply_words : Reply → List ℕ
+reply_words (replies.Handle object) = codes "handle " ++ decimal object
+reply_words (replies.Written write number) = codes "write " ++ decimal write ++ codes " number " ++ decimal number
+reply_words (replies.Found row) = codes "value " ++ word_text row.value ++ stamp_text row
+reply_words replies.Absent = codes "none"
+reply_words replies.Flushed = codes "flushed"
+reply_words (replies.Refused error) = codes "error " ++ error_text error
+reply_words replies.Unknown = codes "error unknown object"
+reply_words replies.NoMemory = codes "error no memory"
+
+-- the text of a reply
+abbrev pub reply_text : Reply → List ℕ
+reply_text reply = reply_words reply ++ 10 ∷ []
+
+-- the text of replies, in order
+abbrev pub replies_text : List Reply → List ℕ
+replies_text replies = flat_map reply_text replies

@@ -1,0 +1,82 @@
+ghost use Rattle.std.specs.Prelude.{◌≡◌};
+ghost use Rattle.slate_script.specs.declared.commands.ScriptFault.TheVariants.{NoMemory as OutOfMemory};
+
+use bytes::Bytes;
+use slate_rows::NoMemory;
+use std::alloc::{AllocError, AllocFailed};
+
+/// What a command does. Handles, snapshots and followers are the objects of a run.
+#[derive(Debug, Drop)]
+pub enum Action {
+    /// Opens a handle.
+    Open,
+    /// Writes one put. The time of expiry is in milliseconds.
+    Put {
+        handle: u64,
+        key: Bytes,
+        value: Bytes,
+        expire: Option<i64>,
+    },
+    /// Makes what a handle wrote durable.
+    Flush {
+        handle: u64,
+    },
+    /// Reads a key of an object, from durable batches alone where `remote` is true.
+    Get {
+        object: u64,
+        key: Bytes,
+        remote: bool,
+    },
+}
+
+/// One command of a script, with its moment and its second moment in milliseconds.
+#[derive(Debug, Drop)]
+pub struct Command {
+    pub moment: i64,
+    pub second: Option<i64>,
+    pub action: Action,
+}
+
+/// What a line of a script is.
+#[derive(Debug, Drop)]
+pub enum LineAnswer {
+    /// A line without bytes, or a comment.
+    Blank,
+    /// A command.
+    Command(Command),
+    /// No script line.
+    Refused,
+}
+
+/// Why a script was not read.
+#[derive(Clone, Copy, Debug, PartialEq, Eq)]
+pub enum ScriptFault {
+    /// The line with this number, counted from 1, is the first that isn't a script line.
+    Line(u64),
+    /// Memory ran out.
+    NoMemory,
+}
+
+impl From<NoMemory> for ScriptFault {
+    ghost from_gives = { λ _ fault. fault ≡ OutOfMemory };
+
+    fn from(_error: NoMemory) -> ScriptFault {
+        ScriptFault::NoMemory
+    }
+}
+
+impl From<AllocError> for ScriptFault {
+    ghost from_gives = { λ _ fault. fault ≡ OutOfMemory };
+
+    fn from(_error: AllocError) -> ScriptFault {
+        ScriptFault::NoMemory
+    }
+}
+
+impl<T: Drop> From<AllocFailed<T>> for ScriptFault {
+    ghost from_gives = { λ _ fault. fault ≡ OutOfMemory };
+
+    fn from(_error: AllocFailed<T>) -> ScriptFault {
+        ScriptFault::NoMemory
+    }
+}

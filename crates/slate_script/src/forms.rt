@@ -1,0 +1,130 @@
+ghost use Rattle.std.specs.Prelude.{◌≡◌, IfOk};
+ghost use Rattle.slate_script.specs.Forms.{open_form, put_form, flush_form, get_form, action_of, command_of, line_of};
+
+use crate::fields::cut_fields;
+use crate::{Action, Command, LineAnswer};
+use bytes::Bytes;
+use slate_rows::NoMemory;
+use slate_text::{read_moment, read_number, read_shared_word};
+use std::alloc::Global;
+
+fn read_open(fields: &[Bytes]) -> Option<Action>
+    ensures { result ≡ open_form fields.now }
+{
+    match fields {
+        [] => Some(Action::Open),
+        _ => None,
+    }
+}
+
+fn read_put(alloc: Global, fields: &[Bytes]) -> Result<Option<Action>, NoMemory>
+    ensures { IfOk result (λ action. action ≡ put_form fields.now) }
+{
+    let [handle, key, value] = fields else {
+        return Ok(None);
+    };
+    let Some(handle) = read_number(handle.as_slice()) else {
+        return Ok(None);
+    };
+    let Some(key) = read_shared_word(alloc, key.clone()?)? else {
+        return Ok(None);
+    };
+    let Some(value) = read_shared_word(alloc, value.clone()?)? else {
+        return Ok(None);
+    };
+    Ok(Some(Action::Put {
+        handle,
+        key,
+        value,
+        expire: None,
+    }))
+}
+
+fn read_flush(fields: &[Bytes]) -> Option<Action>
+    ensures { result ≡ flush_form fields.now }
+{
+    let [handle] = fields else {
+        return None;
+    };
+    let handle = read_number(handle.as_slice())?;
+    Some(Action::Flush { handle })
+}
+
+fn read_get(alloc: Global, fields: &[Bytes]) -> Result<Option<Action>, NoMemory>
+    ensures { IfOk result (λ action. action ≡ get_form fields.now) }
+{
+    let [object, key] = fields else {
+        return Ok(None);
+    };
+    let Some(object) = read_number(object.as_slice()) else {
+        return Ok(None);
+    };
+    let Some(key) = read_shared_word(alloc, key.clone()?)? else {
+        return Ok(None);
+    };
+    Ok(Some(Action::Get {
+        object,
+        key,
+        remote: false,
+    }))
+}
+
+// The action that a name and the fields after it spell.
+fn read_action(alloc: Global, name: &[u8], fields: &[Bytes]) -> Result<Option<Action>, NoMemory>
+    ensures { IfOk result (λ action. action ≡ action_of name.now fields.now) }
+{
+    if name == b"open".as_slice() {
+        Ok(read_open(fields))
+    } else if name == b"put".as_slice() {
+        read_put(alloc, fields)
+    } else if name == b"flush".as_slice() {
+        Ok(read_flush(fields))
+    } else if name == b"get".as_slice() {
+        read_get(alloc, fields)
+    } else {
+        Ok(None)
+    }
+}
+
+fn read_command(alloc: Global, fields: &[Bytes]) -> Result<Option<Command>, NoMemory>
+    ensures { IfOk result (λ command. command ≡ command_of fields.now) }
+{
+    let [moment, name, fields @ ..] = fields else {
+        return Ok(None);
+    };
+    let Some((moment, second)) = read_moment(moment.as_slice()) else {
+        return Ok(None);
+    };
+    let Some(action) = read_action(alloc, name.as_slice(), fields)? else {
+        return Ok(None);
+    };
+    Ok(Some(Command {
+        moment,
+        second,
+        action,
+    }))
+}
+
+/// What `read_line` answers of the same bytes. Keys and values share the line's storage.
+pub(crate) fn read_shared_line(alloc: Global, line: Bytes) -> Result<LineAnswer, NoMemory>
+    ensures { IfOk result (λ answer. answer ≡ line_of line) }
+{
+    match line.as_slice() {
+        [] | [b'#', ..] => return Ok(LineAnswer::Blank),
+        _ => {}
+    }
+    let fields = cut_fields(alloc, line)?;
+    match read_command(alloc, fields.as_slice())? {
+        Some(command) => Ok(LineAnswer::Command(command)),
+        None => Ok(LineAnswer::Refused),
+    }
+}
+
+/// What a line of a script is, given without the newline at its end and without a carriage return before that: blank
+/// where it has no bytes or begins with `#`, the command that its fields spell, or refused exactly where they spell
+/// none. It copies the line once, and takes time in proportion to it.
+pub fn read_line(alloc: Global, line: &[u8]) -> Result<LineAnswer, NoMemory>
+    ensures { IfOk result (λ answer. answer ≡ line_of line.now) }
+{
+    read_shared_line(alloc, Bytes::copy_from_slice(alloc, line)?)
+}

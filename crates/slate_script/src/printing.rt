@@ -1,0 +1,110 @@
+ghost use Rattle.std.specs.Prelude.{◌≡◌, ◌++◌, length, take, OnOk, OnErr};
+ghost use Rattle.slate_script.specs.Replies.{expiry_text, stamp_text, reply_words, reply_text, replies_text};
+
+use crate::Reply;
+use slate_rows::{KeyValue, NoMemory};
+use slate_status::write_error;
+use slate_text::{cut_back, write_byte_word, write_number, write_signed, write_text};
+
+fn write_expiry(out: &mut Vec<u8>, time: Option<i64>) -> Result<(), NoMemory>
+    ensures ok { OnOk result (out.new.items ≡ out.old.items ++ expiry_text time) }
+    ensures err { OnErr result (take (length out.old.items) out.new.items ≡ out.old.items) }
+{
+    if let Some(time) = time {
+        write_text(out, " expires ")?;
+        write_signed(out, time)?;
+    }
+    Ok(())
+}
+
+fn write_stamp(out: &mut Vec<u8>, row: &KeyValue) -> Result<(), NoMemory>
+    ensures ok { OnOk result (out.new.items ≡ out.old.items ++ stamp_text row.now) }
+    ensures err { OnErr result (take (length out.old.items) out.new.items ≡ out.old.items) }
+{
+    write_text(out, " number ")?;
+    write_number(out, row.seq)?;
+    write_text(out, " created ")?;
+    write_signed(out, row.create_ts)?;
+    write_expiry(out, row.expire_ts)?;
+    Ok(())
+}
+
+fn write_found(out: &mut Vec<u8>, row: &KeyValue) -> Result<(), NoMemory>
+    ensures ok { OnOk result (out.new.items ≡ out.old.items ++ reply_words (Reply.Found row.now)) }
+    ensures err { OnErr result (take (length out.old.items) out.new.items ≡ out.old.items) }
+{
+    write_text(out, "value ")?;
+    write_byte_word(out, row.value.as_slice())?;
+    write_stamp(out, row)?;
+    Ok(())
+}
+
+fn write_written(out: &mut Vec<u8>, write: u64, number: u64) -> Result<(), NoMemory>
+    ensures ok { OnOk result (out.new.items ≡ out.old.items ++ reply_words (Reply.Written write number)) }
+    ensures err { OnErr result (take (length out.old.items) out.new.items ≡ out.old.items) }
+{
+    write_text(out, "write ")?;
+    write_number(out, write)?;
+    write_text(out, " number ")?;
+    write_number(out, number)?;
+    Ok(())
+}
+
+fn write_handle(out: &mut Vec<u8>, object: u64) -> Result<(), NoMemory>
+    ensures ok { OnOk result (out.new.items ≡ out.old.items ++ reply_words (Reply.Handle object)) }
+    ensures err { OnErr result (take (length out.old.items) out.new.items ≡ out.old.items) }
+{
+    write_text(out, "handle ")?;
+    write_number(out, object)?;
+    Ok(())
+}
+
+fn write_words(out: &mut Vec<u8>, reply: &Reply) -> Result<(), NoMemory>
+    ensures ok { OnOk result (out.new.items ≡ out.old.items ++ reply_words reply.now) }
+    ensures err { OnErr result (take (length out.old.items) out.new.items ≡ out.old.items) }
+{
+    match reply {
+        Reply::Handle { object } => write_handle(out, *object),
+        Reply::Written { write, number } => write_written(out, *write, *number),
+        Reply::Found(row) => write_found(out, row),
+        Reply::Absent => write_text(out, "none"),
+        Reply::Flushed => write_text(out, "flushed"),
+        Reply::Refused(error) => {
+            write_text(out, "error ")?;
+            write_error(out, error)?;
+            Ok(())
+        }
+        Reply::Unknown => write_text(out, "error unknown object"),
+        Reply::NoMemory => write_text(out, "error no memory"),
+    }
+}
+
+fn write_reply(out: &mut Vec<u8>, reply: &Reply) -> Result<(), NoMemory>
+    ensures ok { OnOk result (out.new.items ≡ out.old.items ++ reply_text reply.now) }
+    ensures err { OnErr result (take (length out.old.items) out.new.items ≡ out.old.items) }
+{
+    write_words(out, reply)?;
+    write_text(out, "\n")?;
+    Ok(())
+}
+
+fn write_replies(out: &mut Vec<u8>, replies: &[Reply]) -> Result<(), NoMemory>
+    ensures ok { OnOk result (out.new.items ≡ out.old.items ++ replies_text replies.now) }
+    ensures err { OnErr result (take (length out.old.items) out.new.items ≡ out.old.items) }
+{
+    for reply in replies {
+        write_reply(out, reply)?;
+    }
+    Ok(())
+}
+
+/// Writes the text of replies at the end, in order, each with its newline. Where memory runs out, nothing was written.
+/// It takes time in proportion to the text.
+pub fn print_replies(out: &mut Vec<u8>, replies: &[Reply]) -> Result<(), NoMemory>
+    ensures ok { OnOk result (out.new.items ≡ out.old.items ++ replies_text replies.now) }
+    ensures err { OnErr result (out.new.items ≡ out.old.items) }
+{
+    let length = out.len();
+    let written = write_replies(out, replies);
+    cut_back(out, length, written)
+}

@@ -1,0 +1,9 @@
+//! Tests of the crates, from outside.
+#![tactic(auto)]
+
+#[cfg(test)]
+mod script;
+#[cfg(test)]
+mod status;
+#[cfg(test)]
+mod text;

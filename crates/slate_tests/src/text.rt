@@ -1,0 +1,119 @@
+use bytes::Bytes;
+use slate_text::{
+    read_byte_word, read_moment, read_number, read_shared_word, write_byte_word, write_number,
+    write_signed,
+};
+use std::test::Fail;
+
+// Each byte prints as the format says, and is read again.
+#[test]
+fn every_byte(rt: HostRuntime) -> Result<(), Fail> {
+    let alloc = rt.alloc();
+    for byte in 0..=255u8 {
+        let mut word = Vec::new(alloc);
+        write_byte_word(&mut word, &[byte])?;
+        let plain = byte >= 0x21 && byte <= 0x7e && byte != b'%';
+        assert_eq!(rt; word.len(), if plain { 1 } else { 3 });
+        let read = read_byte_word(alloc, word.as_slice())?.ok_or("a word")?;
+        assert_eq!(rt; read.as_slice(), [byte].as_slice());
+    }
+    Ok(())
+}
+
+#[test]
+fn printed_words(rt: HostRuntime) -> Result<(), Fail> {
+    for (bytes, want) in [
+        (b"".as_slice(), b"%".as_slice()),
+        (b"abc".as_slice(), b"abc".as_slice()),
+        (
+            b"\x00 \x7f\xff%~!".as_slice(),
+            b"%00%20%7f%ff%25~!".as_slice(),
+        ),
+    ] {
+        let mut word = Vec::from_slice(rt.alloc(), b"= ")?;
+        write_byte_word(&mut word, bytes)?;
+        assert_eq!(rt; &word[..2], b"= ".as_slice());
+        assert_eq!(rt; &word[2..], want);
+    }
+    Ok(())
+}
+
+// Both readers of a word answer the same.
+#[test]
+fn read_words(rt: HostRuntime) -> Result<(), Fail> {
+    let alloc = rt.alloc();
+    for (field, want) in [
+        (b"%".as_slice(), Some(b"".as_slice())),
+        (b"a".as_slice(), Some(b"a".as_slice())),
+        (b"%41".as_slice(), Some(b"A".as_slice())),
+        (b"x%4a%4Ay".as_slice(), Some(b"xJJy".as_slice())),
+        (b"%25".as_slice(), Some(b"%".as_slice())),
+        (b"\xff;#".as_slice(), Some(b"\xff;#".as_slice())),
+        (b"".as_slice(), None),
+        (b"a%".as_slice(), None),
+        (b"%4".as_slice(), None),
+        (b"%%".as_slice(), None),
+        (b"%g0".as_slice(), None),
+        (b"a b".as_slice(), None),
+        (b"a\r".as_slice(), None),
+        (b"a\n".as_slice(), None),
+    ] {
+        let read = read_byte_word(alloc, field)?;
+        assert_eq!(rt; read.as_ref().map(|word| word.as_slice()), want);
+        let shared = read_shared_word(alloc, Bytes::copy_from_slice(alloc, field)?)?;
+        assert_eq!(rt; shared.as_ref().map(|word| word.as_slice()), want);
+    }
+    Ok(())
+}
+
+#[test]
+fn numbers(rt: HostRuntime) {
+    for (field, want) in [
+        (b"0".as_slice(), Some(0)),
+        (b"007".as_slice(), Some(7)),
+        (b"18446744073709551615".as_slice(), Some(u64::MAX)),
+        (b"18446744073709551616".as_slice(), None),
+        (b"".as_slice(), None),
+        (b"+1".as_slice(), None),
+        (b"-1".as_slice(), None),
+        (b"1a".as_slice(), None),
+        (b"1 ".as_slice(), None),
+    ] {
+        assert_eq!(rt; read_number(field), want);
+    }
+}
+
+#[test]
+fn moments(rt: HostRuntime) {
+    for (field, want) in [
+        (b"0".as_slice(), Some((0, None))),
+        (b"9223372036854775807".as_slice(), Some((i64::MAX, None))),
+        (b"5/12".as_slice(), Some((5, Some(12)))),
+        (b"12/05".as_slice(), Some((12, Some(5)))),
+        (b"9223372036854775808".as_slice(), None),
+        (b"1/9223372036854775808".as_slice(), None),
+        (b"0/".as_slice(), None),
+        (b"/0".as_slice(), None),
+        (b"1/2/3".as_slice(), None),
+        (b"x".as_slice(), None),
+        (b"".as_slice(), None),
+    ] {
+        assert_eq!(rt; read_moment(field), want);
+    }
+}
+
+#[test]
+fn printed_numbers(rt: HostRuntime) -> Result<(), Fail> {
+    let mut out = Vec::new(rt.alloc());
+    for number in [0, 7, u64::MAX] {
+        write_number(&mut out, number)?;
+        out.push(b' ')?;
+    }
+    for number in [0, -1, i64::MIN, i64::MAX] {
+        write_signed(&mut out, number)?;
+        out.push(b' ')?;
+    }
+    let want = b"0 7 18446744073709551615 0 -1 -9223372036854775808 9223372036854775807 ";
+    assert_eq!(rt; out.as_slice(), want.as_slice());
+    Ok(())
+}

@@ -1,11 +1,7 @@
-use Rattle.std.specs.Prelude.{◌≡◌, ℕ, ◌≤◌, Bool, true, false, MatchBool, List, length, take, Result, Ok, Err}
-use Rattle.slate_store.specs.Objects.{Objects, Change, changed_all}
+use Rattle.std.specs.Prelude.{◌≡◌, ℕ, ◌≤◌, Bool, true, false, MatchBool, List, take, Result, Ok, Err}
+use Rattle.slate_store.specs.Objects.{ObjectsOf, ChangeOf, changed_all}
 use Rattle.slate_status.specs.declared.errors.SlateError.{SlateError}
 use Rattle.slate_status.specs.declared.errors.SlateError.TheVariants.{ObjectStoreError, TransactionalObjectVersionExists, InvalidDBState, NoMemory}
-
--- a first part of these changes took place, in their order, and nothing else
-abbrev pub FirstPart : List Change → Objects → Objects → Type 0
-FirstPart changes old new = (k : ℕ) × (k ≤ length changes) × (new ≡ changed_all (take k changes) old)
 
 -- the errors that break a command off: a fault of the store, a number at its end, or want of memory
 abbrev pub breaks_off : SlateError → Bool
@@ -15,8 +11,12 @@ breaks_off InvalidDBState = true
 breaks_off NoMemory = true
 breaks_off error = false
 
--- What a command that makes these changes leaves: at Ok all of them, in their order; broken off, a first part; at any
--- other error nothing.
-abbrev pub Makes : {A : Type 0} → List Change → Result A SlateError → Objects → Objects → Type 0
-Makes changes (Ok _) old new = new ≡ changed_all changes old
-Makes changes (Err error) old new = MatchBool (breaks_off error) (FirstPart changes old new) (new ≡ old)
+-- How many of a command's changes were made, in their order: at Ok all of them; broken off, a first part; at any other
+-- error none.
+abbrev pub PartMade : {A : Type 0} → Result A SlateError → ℕ → ℕ → Type 0
+PartMade (Ok _) all made = made ≡ all
+PartMade (Err error) all made = MatchBool (breaks_off error) (made ≤ all) (made ≡ 0)
+
+-- the objects after the first so many of these changes
+abbrev pub after_part : {L : Type 0} → ℕ → List (ChangeOf L) → ObjectsOf L → ObjectsOf L
+after_part made changes objects = changed_all (take made changes) objects

@@ -1,29 +1,32 @@
-use Rattle.std.specs.Prelude.{◌≡◌, ◌≢◌, ℕ, ◌+◌, ◌<◌, ◌≤◌, ◌⊎◌, Bool, true, false, List, [], ◌∷◌, is_some, Option, Some, None, Result, Ok, Err, IfSome}
+use Rattle.std.specs.Prelude.{◌≡◌, ◌≢◌, ℕ, ◌+◌, ◌<◌, ◌≤◌, ◌⊎◌, Bool, true, false, List, [], ◌∷◌, length, Option, Some, None, Result, Ok, Err, IfSome}
 use Rattle.std.specs.Option.{option_or}
 use Rattle.slate_rows.specs.declared.batches.Batch.{Batch}
 use Rattle.slate_store.specs.declared.objects.VersionedManifest.{VersionedManifest}
 use Rattle.slate_store.specs.declared.errors.StoreFault.TheVariants.{NotFound, Unavailable}
-use Rattle.slate_store.specs.Objects.{Objects, Change, PutLog, latest_manifest, last_log, log_at}
+use Rattle.slate_store.specs.Objects.{ObjectsOf, ChangeOf, PutLog, latest_manifest, last_log}
 use Rattle.slate_store.specs.Calls.{HasRisen}
 use Rattle.slate_status.specs.declared.closing.CloseFault.TheVariants as faults
 use Rattle.slate_status.specs.declared.errors.SlateError.{SlateError}
 use Rattle.slate_status.specs.declared.errors.SlateError.TheVariants as errors
-use Rattle.slate_model.specs.Changes.{Makes}
+use Rattle.slate_model.specs.Changes.{PartMade, after_part}
 use Rattle.slate_model.specs.Handle.{Handle, CloseResult, accepted, unstored}
 use Rattle.slate_model.specs.Write.{last_number}
 
--- the changes of a flush of the log, where this log file is the last: one with these batches, where there are any
-abbrev pub log_changes : List Batch → ℕ → List Change
-log_changes [] last = []
-log_changes (batch ∷ batches) last = PutLog (last + 1) (batch ∷ batches) ∷ []
+-- What a command does to a store is said of the objects themselves, where a log file is told by its batches, and of
+-- what a world knows of them. `told` gives what is told of batches.
+module _ {L : Type 0} (told : List Batch → L) where
+  -- the changes of a flush of the log, where this log file is the last: one with these batches, where there are any
+  abbrev pub log_changes : List Batch → ℕ → List (ChangeOf L)
+  log_changes [] last = []
+  log_changes (batch ∷ batches) last = PutLog (last + 1) (told (batch ∷ batches)) ∷ []
 
-abbrev pub flush_changes_by : List Batch → Objects → Option VersionedManifest → List Change
-flush_changes_by batches objects None = []
-flush_changes_by batches objects (Some latest) = log_changes batches (last_log latest.manifest.replay_after_wal_id objects)
+  abbrev pub flush_changes_by : List Batch → ObjectsOf L → Option VersionedManifest → List (ChangeOf L)
+  flush_changes_by batches objects None = []
+  flush_changes_by batches objects (Some latest) = log_changes batches (last_log latest.manifest.replay_after_wal_id objects)
 
--- the changes of a flush that stores these batches
-abbrev pub flush_changes : List Batch → Objects → List Change
-flush_changes batches objects = flush_changes_by batches objects (latest_manifest objects)
+  -- the changes of a flush that stores these batches
+  abbrev pub flush_changes : List Batch → ObjectsOf L → List (ChangeOf L)
+  flush_changes batches objects = flush_changes_by batches objects (latest_manifest objects)
 
 -- what an error of a flush records: a fault of the store, or that the handle is fenced
 abbrev pub recorded : SlateError → CloseResult
@@ -44,34 +47,31 @@ CanFlush handle = (handle.result ≡ None) × (handle.keeps_log ≡ true)
 
 -- Why a flush by a handle of this epoch answers an error, over a store that tells its objects. Fenced: another handle
 -- opened since. Only want of memory, and a fault, which the count of faults shows, have no cause here.
-abbrev pub FlushCause : ℕ → Objects → SlateError → Type 0
+abbrev pub FlushCause : {L : Type 0} → ℕ → ObjectsOf L → SlateError → Type 0
 FlushCause epoch objects errors.LatestTransactionalObjectVersionMissing = latest_manifest objects ≡ None
 FlushCause epoch objects errors.Fenced =
     (latest : VersionedManifest) × (latest_manifest objects ≡ Some latest) × (epoch < latest.manifest.writer_epoch)
 FlushCause epoch objects errors.InvalidDBState =
     (latest : VersionedManifest) × (latest_manifest objects ≡ Some latest) × (last_number ≤ last_log latest.manifest.replay_after_wal_id objects)
-FlushCause epoch objects errors.TransactionalObjectVersionExists =
-    (latest : VersionedManifest) × (latest_manifest objects ≡ Some latest)
-    × (is_some (log_at (last_log latest.manifest.replay_after_wal_id objects + 1) objects) ≡ true)
 FlushCause epoch objects (errors.ObjectStoreError Unavailable) = Unit {0}
 FlushCause epoch objects errors.NoMemory = Unit {0}
 FlushCause epoch objects error = ⊥
 
 -- the latest manifest, where a handle of this epoch may still write by it; else the cause
-abbrev pub FindsCurrent : ℕ → Objects → Result VersionedManifest SlateError → Type 0
+abbrev pub FindsCurrent : {L : Type 0} → ℕ → ObjectsOf L → Result VersionedManifest SlateError → Type 0
 FindsCurrent epoch objects (Ok latest) = (latest_manifest objects ≡ Some latest) × (latest.manifest.writer_epoch ≤ epoch)
 FindsCurrent epoch objects (Err error) = FlushCause epoch objects error
 
 -- a flush that answers Ok found its epoch current, and goes by the latest manifest from then on
-abbrev pub FlushAnswer : ℕ → Objects → Result (Unit {0}) SlateError → VersionedManifest → VersionedManifest → Type 0
+abbrev pub FlushAnswer : {L : Type 0} → ℕ → ObjectsOf L → Result (Unit {0}) SlateError → VersionedManifest → VersionedManifest → Type 0
 FlushAnswer epoch objects (Ok _) view view' = (latest_manifest objects ≡ Some view') × (view'.manifest.writer_epoch ≤ epoch)
 FlushAnswer epoch objects (Err error) view view' = FlushCause epoch objects error × ((view' ≡ view) ⊎ (latest_manifest objects ≡ Some view'))
 
--- A flush of these batches by a handle of this epoch, over a store that tells its objects: its answer has its cause,
--- and it makes its changes, or breaks off.
-pub record StoresBatches (epoch : ℕ) (batches : List Batch) (objects : Objects) (result : Result (Unit {0}) SlateError) (view view' : VersionedManifest) (objects' : Objects) : Type 0 where
+-- A flush of these batches by a handle of this epoch: its answer has its cause, and so many of its changes were made.
+pub record StoresBatches {L : Type 0} (told : List Batch → L) (epoch : ℕ) (batches : List Batch) (objects : ObjectsOf L) (result : Result (Unit {0}) SlateError) (view view' : VersionedManifest) (made : ℕ) (objects' : ObjectsOf L) : Type 0 where
   pub answer : FlushAnswer epoch objects result view view'
-  pub changes : Makes (flush_changes batches objects) result objects objects'
+  pub part : PartMade result (length (flush_changes told batches objects)) made
+  pub after : objects' ≡ after_part made (flush_changes told batches objects) objects
 
 -- over any store: a fault is told only where the count of faults has risen, and no object is missing
 pub record TellsFaults {A : Type 0} (faults faults' : ℕ) (result : Result A SlateError) : Type 0 where

@@ -1,11 +1,12 @@
 use Rattle.std.specs.Prelude.{◌≡◌, ◌≢◌, ℕ, ℤ, ◌+◌, ◌≤◌, ◌⊎◌, negsuc, Bool, true, List, [], ◌∷◌, is_some, Option, Some, None, Result, Ok, Err}
+use Rattle.slate_rows.specs.declared.batches.Batch.{Batch}
 use Rattle.slate_store.specs.declared.objects.Manifest.{Manifest}
 use Rattle.slate_store.specs.declared.objects.VersionedManifest.{VersionedManifest}
 use Rattle.slate_store.specs.declared.errors.StoreFault.TheVariants.{NotFound, Unavailable}
-use Rattle.slate_store.specs.Objects.{Objects, Change, PutManifest, PutLog, latest_manifest, last_log}
+use Rattle.slate_store.specs.Objects.{ObjectsOf, ChangeOf, PutManifest, PutLog, latest_manifest, last_log}
 use Rattle.slate_status.specs.declared.errors.SlateError.{SlateError}
 use Rattle.slate_status.specs.declared.errors.SlateError.TheVariants as errors
-use Rattle.slate_model.specs.Changes.{Makes}
+use Rattle.slate_model.specs.Changes.{PartMade, after_part}
 use Rattle.slate_model.specs.Handle.{Handle}
 use Rattle.slate_model.specs.Write.{last_number}
 
@@ -29,9 +30,10 @@ first_manifest =
       extractor_name = None;
     }
 
--- the changes of an opening: the first manifest, and an empty log file, the fence, after the last one
-abbrev pub open_changes : Objects → List Change
-open_changes objects = PutManifest 1 first_manifest ∷ PutLog (last_log 0 objects + 1) [] ∷ []
+-- The changes of an opening: the first manifest, and an empty log file, the fence, after the last one. `told` gives
+-- what is told of the batches of a log file.
+abbrev pub open_changes : {L : Type 0} → (List Batch → L) → ObjectsOf L → List (ChangeOf L)
+open_changes told objects = PutManifest 1 first_manifest ∷ PutLog (last_log 0 objects + 1) (told []) ∷ []
 
 -- the handle that an opening of a new database gives
 abbrev pub first_handle : Bool → Handle
@@ -48,18 +50,19 @@ first_handle keeps_log =
 
 -- Why an opening answers an error, over a store that tells its objects. Until a database can be opened again,
 -- InvalidDBState says that there is one.
-abbrev pub OpenCause : Objects → SlateError → Type 0
+abbrev pub OpenCause : {L : Type 0} → ObjectsOf L → SlateError → Type 0
 OpenCause objects errors.InvalidDBState = (latest_manifest objects ≢ None) ⊎ (last_number ≤ last_log 0 objects)
 OpenCause objects (errors.ObjectStoreError Unavailable) = Unit {0}
 OpenCause objects errors.NoMemory = Unit {0}
 OpenCause objects error = ⊥
 
--- what an opening that answers an error leaves: a first part of its changes, or nothing where there is a database
-abbrev pub OpenAnswer : {A : Type 0} → Objects → Result A SlateError → Type 0
+-- an opening that answers Ok found no database
+abbrev pub OpenAnswer : {A L : Type 0} → ObjectsOf L → Result A SlateError → Type 0
 OpenAnswer objects (Ok _) = latest_manifest objects ≡ None
 OpenAnswer objects (Err error) = OpenCause objects error
 
--- An opening over a store that tells its objects.
-pub record Opens {A : Type 0} (objects : Objects) (result : Result A SlateError) (objects' : Objects) : Type 0 where
+-- An opening: its answer has its cause, and so many of its changes were made.
+pub record Opens {A L : Type 0} (told : List Batch → L) (objects : ObjectsOf L) (result : Result A SlateError) (made : ℕ) (objects' : ObjectsOf L) : Type 0 where
   pub answer : OpenAnswer objects result
-  pub changes : Makes (open_changes objects) result objects objects'
+  pub part : PartMade result 2 made
+  pub after : objects' ≡ after_part made (open_changes told objects) objects

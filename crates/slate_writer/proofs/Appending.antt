@@ -1,38 +1,64 @@
-use Rattle.std.proofs.Common.{◌≡◌, ℕ, ◌≤◌, ◌==◌, false, List, [], ◌∷◌, length, Some, Result, Ok, Err, sym, subst, ap, inl, inr, arith}
+use Rattle.std.proofs.Common.{◌≡◌, ℕ, ◌+◌, ◌≤◌, ◌==◌, Bool, true, false, List, [], ◌∷◌, length, Option, Some, None, Result, Ok, Err, refl, sym, subst, ap, ◌∙◌, inl, inr, arith}
 use Rattle.slate_rows.specs.declared.batches.Batch.{Batch}
 use Rattle.slate_store.specs.declared.objects.VersionedManifest.{VersionedManifest}
-use Rattle.slate_store.specs.declared.errors.StoreFault.TheVariants.{Unavailable}
-use Rattle.slate_store.specs.Objects.{Objects, latest_manifest, last_log}
+use Rattle.slate_store.specs.declared.errors.StoreFault.TheVariants.{NotFound, Unavailable}
+use Rattle.slate_store.specs.declared.errors.StoreError.{StoreError}
+use Rattle.slate_store.specs.declared.errors.StoreError.TheVariants as refusals
+use Rattle.slate_store.specs.Calls.{Puts}
+use Rattle.slate_status.specs.Errors.{error_of_store}
+use Rattle.slate_store.specs.Objects.{Objects, Change, PutLog, is_taken, latest_manifest, last_log, changed}
 use Rattle.slate_status.specs.declared.errors.SlateError.{SlateError}
 use Rattle.slate_status.specs.declared.errors.SlateError.TheVariants as errors
-use Rattle.slate_model.specs.Changes.{Makes}
-use Rattle.slate_model.specs.Flush.{FindsCurrent, StoresBatches, flush_changes, flush_changes_by, log_changes}
+use Rattle.slate_model.specs.Changes.{PartMade, after_part}
+use Rattle.slate_model.specs.Flush.{FindsCurrent, FlushAnswer, FlushCause, StoresBatches, flush_changes, flush_changes_by, log_changes}
+use Rattle.slate_model.proofs.Entries.{absent}
 use Rattle.slate_writer.specs.Appends.{AppendsLog}
+
+-- nothing is stored under the id after the last log file
+pub next_log_free : (mark : ℕ) (bs : List Batch) (o : Objects) → is_taken (PutLog (last_log mark o + 1) bs) o ≡ false
+next_log_free mark bs o = rw (absent (last_log mark o + 1) mark o.logs (omega arith)) refl
+
+-- a put of the next log file that was refused
+puts_at : (mark : ℕ) (bs : List Batch) (o o' : Objects) (e : StoreError) → Puts (PutLog (last_log mark o + 1) bs) (Err e) o o' → AppendsLog mark bs (Err (error_of_store e)) o o'
+puts_at mark bs o o' refusals.Exists h = let free = next_log_free mark bs o in let taken = h.0 in absurd (cc)
+puts_at mark bs o o' refusals.Failed (inl h) = inl h
+puts_at mark bs o o' refusals.Failed (inr h) = inr h.1
+puts_at mark bs o o' refusals.NotFound h = absurd h
+puts_at mark bs o o' refusals.NoMemory h = h
+
+pub appends_refused : (mark id last : ℕ) (bs : List Batch) (o o' : Objects) (e : StoreError) → last ≡ last_log mark o → id ≡ last + 1 → Puts (PutLog id bs) (Err e) o o' → AppendsLog mark bs (Err (error_of_store e)) o o'
+appends_refused mark id last bs o o' e at next h =
+    puts_at mark bs o o' e (subst (λ n. Puts (PutLog n bs) (Err e) o o') (next ∙ ap (λ n. n + 1) at) h)
+
+-- a flush that stores batches told as they are
+abbrev pub Stores : ℕ → List Batch → Objects → Result (Unit {0}) SlateError → VersionedManifest → VersionedManifest → Objects → Type 0
+Stores epoch batches o r view view' o' = (made : ℕ) × StoresBatches (λ bs. bs) epoch batches o r view view' made o'
 
 module _ (epoch : ℕ) (b : Batch) (bs : List Batch) (o o' : Objects) (view latest : VersionedManifest) (is : latest_manifest o ≡ Some latest) (current : latest.manifest.writer_epoch ≤ epoch) where
   -- the one change of the flush
-  changes_are : flush_changes (b ∷ bs) o ≡ log_changes (b ∷ bs) (last_log latest.manifest.replay_after_wal_id o)
-  changes_are = ap (flush_changes_by (b ∷ bs) o) is
+  changes_are : flush_changes (λ xs. xs) (b ∷ bs) o ≡ PutLog (last_log latest.manifest.replay_after_wal_id o + 1) (b ∷ bs) ∷ []
+  changes_are = ap (flush_changes_by (λ xs. xs) (b ∷ bs) o) is
 
-  made : (r : Result (Unit {0}) SlateError) → Makes (log_changes (b ∷ bs) (last_log latest.manifest.replay_after_wal_id o)) r o o' → Makes (flush_changes (b ∷ bs) o) r o o'
-  made r m = subst (λ cs. Makes cs r o o') (sym changes_are) m
+  stored : (r : Result (Unit {0}) SlateError) (made : ℕ) → FlushAnswer epoch o r view latest → PartMade r 1 made → o' ≡ after_part made (PutLog (last_log latest.manifest.replay_after_wal_id o + 1) (b ∷ bs) ∷ []) o → Stores epoch (b ∷ bs) o r view latest o'
+  stored r made answer part after = (
+    made,
+    record {
+      answer = answer;
+      part = subst (λ (cs : List Change). PartMade r (length cs) made) (sym changes_are) part;
+      after = after ∙ ap (λ (cs : List Change). after_part made cs o) (sym changes_are);
+    },
+  )
 
   -- to append a log file is to store the batches, where the epoch is current
-  pub stores_appended : (r : Result (Unit {0}) SlateError) → AppendsLog latest.manifest.replay_after_wal_id (b ∷ bs) r o o' → StoresBatches epoch (b ∷ bs) o r view latest o'
-  stores_appended (Ok x) h = record { answer = (is, current); changes = made (Ok x) h }
-  stores_appended (Err errors.InvalidDBState) h =
-      record { answer = ((latest, is, h.0), inr is); changes = made (Err errors.InvalidDBState) (0, omega arith, h.1) }
-  stores_appended (Err errors.TransactionalObjectVersionExists) h =
-      record { answer = ((latest, is, h.0), inr is); changes = made (Err errors.TransactionalObjectVersionExists) (0, omega arith, h.1) }
-  stores_appended (Err (errors.ObjectStoreError Unavailable)) (inl h) =
-      record { answer = (tt, inr is); changes = made (Err (errors.ObjectStoreError Unavailable)) (0, omega arith, h) }
-  stores_appended (Err (errors.ObjectStoreError Unavailable)) (inr h) =
-      record { answer = (tt, inr is); changes = made (Err (errors.ObjectStoreError Unavailable)) (1, omega arith, h) }
-  stores_appended (Err errors.NoMemory) h =
-      record { answer = (tt, inr is); changes = made (Err errors.NoMemory) (0, omega arith, h) }
+  stores_appended : (r : Result (Unit {0}) SlateError) → AppendsLog latest.manifest.replay_after_wal_id (b ∷ bs) r o o' → Stores epoch (b ∷ bs) o r view latest o'
+  stores_appended (Ok x) h = stored (Ok x) 1 (is, current) refl h
+  stores_appended (Err errors.InvalidDBState) h = stored (Err errors.InvalidDBState) 0 ((latest, is, h.0), inr is) (omega arith) h.1
+  stores_appended (Err (errors.ObjectStoreError Unavailable)) (inl h) = stored (Err (errors.ObjectStoreError Unavailable)) 0 (tt, inr is) (omega arith) h
+  stores_appended (Err (errors.ObjectStoreError Unavailable)) (inr h) = stored (Err (errors.ObjectStoreError Unavailable)) 1 (tt, inr is) (omega arith) h
+  stores_appended (Err errors.NoMemory) h = stored (Err errors.NoMemory) 0 (tt, inr is) (omega arith) h
   stores_appended (Err e) h = absurd h
 
 -- the same of any batches, where there are some
-pub stores_some : (epoch : ℕ) (batches : List Batch) (o o' : Objects) (view latest : VersionedManifest) (r : Result (Unit {0}) SlateError) → (length batches == 0) ≡ false → FindsCurrent epoch o (Ok latest) → AppendsLog latest.manifest.replay_after_wal_id batches r o o' → StoresBatches epoch batches o r view latest o'
+pub stores_some : (epoch : ℕ) (batches : List Batch) (o o' : Objects) (view latest : VersionedManifest) (r : Result (Unit {0}) SlateError) → (length batches == 0) ≡ false → FindsCurrent epoch o (Ok latest) → AppendsLog latest.manifest.replay_after_wal_id batches r o o' → Stores epoch batches o r view latest o'
 stores_some epoch [] o o' view latest r some found h = absurd (cc)
 stores_some epoch (b ∷ bs) o o' view latest r some found h = stores_appended epoch b bs o o' view latest found.0 found.1 r h

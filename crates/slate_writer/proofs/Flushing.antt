@@ -6,7 +6,7 @@ use Rattle.slate_store.specs.Objects.{Objects}
 use Rattle.slate_store.specs.declared.objects.VersionedManifest.{VersionedManifest}
 use Rattle.slate_status.specs.declared.errors.SlateError.{SlateError}
 use Rattle.slate_model.specs.Handle.{Handle, unstored}
-use Rattle.slate_model.specs.Flush.{StoresBatches}
+use Rattle.slate_writer.proofs.Appending.{Stores}
 use Rattle.slate_writer.specs.declared.states.WriterState.TheInside.{Inside}
 use Rattle.slate_writer.specs.Kept.{kept_handle, IsKept}
 
@@ -17,8 +17,8 @@ unstored_are a bs kept is =
     take_rest bs k ∙ (ap (drop k) is ∙ sym (above-drop a.floor a.durable k a.memory kept.numbered (omega (arith, kept.in_memory))))
 
 -- to store them is the handle's flush
-pub flush_of_slice : (a : Inside) (h : Handle) (bs : List Batch) (o o' : Objects) (view : VersionedManifest) (r r' : Result (Unit {0}) SlateError) → IsKept a → kept_handle a ≡ h → bs ≡ a.memory → r ≡ r' → StoresBatches a.epoch (take (length bs - (a.durable - a.floor)) (drop (a.durable - a.floor) bs)) o r a.view view o' → StoresBatches h.epoch (unstored h) o r' h.view view o'
+pub flush_of_slice : (a : Inside) (h : Handle) (bs : List Batch) (o o' : Objects) (view : VersionedManifest) (r r' : Result (Unit {0}) SlateError) → IsKept a → kept_handle a ≡ h → bs ≡ a.memory → r ≡ r' → Stores a.epoch (take (length bs - (a.durable - a.floor)) (drop (a.durable - a.floor) bs)) o r a.view view o' → Stores h.epoch (unstored h) o r' h.view view o'
 flush_of_slice a h bs o o' view r r' kept view_is is result s =
-    subst (λ h. StoresBatches h.epoch (unstored h) o r' h.view view o') view_is
-    (subst (λ r. StoresBatches a.epoch (unstored (kept_handle a)) o r a.view view o') result
-    (subst (λ bs. StoresBatches a.epoch bs o r a.view view o') (unstored_are a bs kept is) s))
+    subst (λ h. Stores h.epoch (unstored h) o r' h.view view o') view_is
+    (subst (λ r. Stores a.epoch (unstored (kept_handle a)) o r a.view view o') result
+    (subst (λ bs. Stores a.epoch bs o r a.view view o') (unstored_are a bs kept is) s))

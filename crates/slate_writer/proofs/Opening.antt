@@ -5,7 +5,7 @@ use Rattle.slate_store.specs.declared.errors.StoreFault.TheVariants.{NotFound, U
 use Rattle.slate_store.specs.Objects.{Objects, PutManifest, PutLog, entry_at, last, versioned, latest_manifest, last_log, is_taken}
 use Rattle.slate_status.specs.declared.errors.SlateError.{SlateError}
 use Rattle.slate_status.specs.declared.errors.SlateError.TheVariants as errors
-use Rattle.slate_model.specs.Changes.{Makes, FirstPart}
+use Rattle.slate_model.specs.Changes.{after_part}
 use Rattle.slate_model.specs.Open.{Opens, OpenCause, open_changes, first_manifest}
 use Rattle.slate_model.proofs.Entries.{absent, nil-from-last}
 use Rattle.slate_writer.specs.Firsts.{FindsNew, PutsFirst, first_changes}
@@ -22,8 +22,12 @@ none_taken m o h = let nil : o.manifests ≡ [] = nil-from-last o.manifests (no_
 fence_free : (o : Objects) → is_taken (PutLog (last_log 0 o + 1) []) o ≡ false
 fence_free o = rw (absent (last_log 0 o + 1) 0 o.logs (omega arith)) refl
 
+-- an opening over a store whose log files are told by their batches
+abbrev pub OpensTold : {A : Type 0} → Objects → Result A SlateError → Objects → Type 0
+OpensTold o r o' = (made : ℕ) × Opens (λ batches. batches) o r made o'
+
 -- an opening that puts the first manifest and the fence, or breaks off in it
-opens_by_puts : {A : Type 0} (o o' : Objects) (l : ℕ) (e : SlateError) → FindsNew o (Ok l) → PutsFirst first_manifest (l + 1) (Err e) o o' → Opens {A = A} o (Err e) o'
+opens_by_puts : {A : Type 0} (o o' : Objects) (l : ℕ) (e : SlateError) → FindsNew o (Ok l) → PutsFirst first_manifest (l + 1) (Err e) o o' → OpensTold {A = A} o (Err e) o'
 opens_by_puts o o' l errors.TransactionalObjectVersionExists found (inl taken) = let free = none_taken first_manifest o found.0 in absurd (cc)
 opens_by_puts o o' l errors.TransactionalObjectVersionExists found (inr taken) =
     let free = fence_free o in
@@ -31,11 +35,11 @@ opens_by_puts o o' l errors.TransactionalObjectVersionExists found (inr taken) =
     let taken_at : is_taken (PutLog (last_log 0 o + 1) []) o ≡ true = subst (λ n. is_taken (PutLog (n + 1) []) o ≡ true) at taken in
     absurd (cc)
 opens_by_puts o o' l (errors.ObjectStoreError Unavailable) found part =
-    record { answer = tt; changes = subst (λ n. FirstPart (first_changes first_manifest (n + 1)) o o') found.1 part }
+    (part.0, record { answer = tt; part = part.1; after = part.2 ∙ ap (λ n. after_part part.0 (first_changes first_manifest (n + 1)) o) found.1 })
 opens_by_puts o o' l errors.NoMemory found part =
-    record { answer = tt; changes = subst (λ n. FirstPart (first_changes first_manifest (n + 1)) o o') found.1 part }
+    (part.0, record { answer = tt; part = part.1; after = part.2 ∙ ap (λ n. after_part part.0 (first_changes first_manifest (n + 1)) o) found.1 })
 opens_by_puts o o' l e found h = absurd h
 
 -- the same of a manifest that is the first one
-pub opens_by_first : {A : Type 0} (o o' : Objects) (l : ℕ) (m : Manifest) (e : SlateError) → m ≡ first_manifest → FindsNew o (Ok l) → PutsFirst m (l + 1) (Err e) o o' → Opens {A = A} o (Err e) o'
+pub opens_by_first : {A : Type 0} (o o' : Objects) (l : ℕ) (m : Manifest) (e : SlateError) → m ≡ first_manifest → FindsNew o (Ok l) → PutsFirst m (l + 1) (Err e) o o' → OpensTold {A = A} o (Err e) o'
 opens_by_first o o' l m e first found puts = opens_by_puts o o' l e found (subst (λ m. PutsFirst m (l + 1) (Err e) o o') first puts)

@@ -1,7 +1,7 @@
-use Rattle.std.specs.Prelude.{◌≡◌, ℕ, ◌+◌, ◌≤◌, ◌⊎◌, List, is_some, true, Result, Ok, Err}
+use Rattle.std.specs.Prelude.{◌≡◌, ℕ, ◌+◌, ◌≤◌, ◌⊎◌, List, Result, Ok, Err}
 use Rattle.slate_rows.specs.declared.batches.Batch.{Batch}
 use Rattle.slate_store.specs.declared.errors.StoreFault.TheVariants.{Unavailable}
-use Rattle.slate_store.specs.Objects.{Objects, PutLog, changed, last_log, log_at}
+use Rattle.slate_store.specs.Objects.{Objects, PutLog, changed, last_log}
 use Rattle.slate_status.specs.declared.errors.SlateError.{SlateError}
 use Rattle.slate_status.specs.declared.errors.SlateError.TheVariants as errors
 use Rattle.slate_model.specs.Write.{last_number}
@@ -10,8 +10,6 @@ use Rattle.slate_model.specs.Write.{last_number}
 abbrev pub AppendsLog : ℕ → List Batch → Result (Unit {0}) SlateError → Objects → Objects → Type 0
 AppendsLog mark batches (Ok _) old new = new ≡ changed (PutLog (last_log mark old + 1) batches) old
 AppendsLog mark batches (Err errors.InvalidDBState) old new = (last_number ≤ last_log mark old) × (new ≡ old)
-AppendsLog mark batches (Err errors.TransactionalObjectVersionExists) old new =
-    (is_some (log_at (last_log mark old + 1) old) ≡ true) × (new ≡ old)
 AppendsLog mark batches (Err (errors.ObjectStoreError Unavailable)) old new =
     (new ≡ old) ⊎ (new ≡ changed (PutLog (last_log mark old + 1) batches) old)
 AppendsLog mark batches (Err errors.NoMemory) old new = new ≡ old

@@ -1,4 +1,4 @@
-ghost use Rattle.std.specs.Prelude.{◌≡◌, false, None, Err, IfSome};
+ghost use Rattle.std.specs.Prelude.{◌≡◌, ℕ, false, None, Err, IfSome};
 ghost use Rattle.slate_store.specs.Calls.{Told};
 ghost use Rattle.slate_model.specs.Handle.{closed_error, unstored};
 ghost use Rattle.slate_model.specs.Flush.{CanFlush, FindsCurrent, StoresBatches, TellsFaults, flushed, recorded};
@@ -34,7 +34,7 @@ impl WriterState {
             (result ≡ Err SlateError.WalDisabled) × (self.new ≡ self.old) × (store.new ≡ store.old) }
         ensures handle { CanFlush self.old → self.new ≡ flushed self.old self.new.view result }
         ensures faults { CanFlush self.old → TellsFaults (S.faults store.old) (S.faults store.new) result }
-        ensures told { CanFlush self.old → Told (λ o o'. StoresBatches self.old.epoch (unstored self.old) o result self.old.view self.new.view o')
+        ensures told { CanFlush self.old → Told (λ o o'. (made : ℕ) × StoresBatches (λ batches. batches) self.old.epoch (unstored self.old) o result self.old.view self.new.view made o')
             (S.objects store.old) (S.objects store.new) }
     {
         if let Some(result) = self.result {
@@ -67,7 +67,7 @@ fn store_batches<S: Store>(
     view: &mut VersionedManifest,
 ) -> Result<(), SlateError>
     ensures faults { TellsFaults (S.faults store.old) (S.faults store.new) result }
-    ensures told { Told (λ o o'. StoresBatches epoch batches.now o result view.old view.new o') (S.objects store.old) (S.objects store.new) }
+    ensures told { Told (λ o o'. (made : ℕ) × StoresBatches (λ batches. batches) epoch batches.now o result view.old view.new made o') (S.objects store.old) (S.objects store.new) }
 {
     *view = current_manifest(alloc, store, epoch)?;
     if batches.is_empty() {

@@ -1,4 +1,4 @@
-ghost use Rattle.std.specs.Prelude.{◌≡◌, ◌<◌, None, IfOk, IfSome};
+ghost use Rattle.std.specs.Prelude.{◌≡◌, ℕ, ◌<◌, None, IfOk, IfSome};
 ghost use Rattle.slate_model.specs.Write.{last_number};
 ghost use Rattle.slate_writer.specs.Firsts.{FindsNew, PutsFirst};
 ghost use Rattle.slate_store.specs.Calls.{Told};
@@ -54,7 +54,7 @@ impl WriterState {
         requires { extractor ≡ None }
         ensures handle { IfOk result (λ w. w ≡ first_handle options.now.wal_enabled) }
         ensures faults { TellsFaults (S.faults store.old) (S.faults store.new) result }
-        ensures told { Told (λ o o'. Opens o result o') (S.objects store.old) (S.objects store.new) }
+        ensures told { Told (λ o o'. (made : ℕ) × Opens (λ batches. batches) o result made o') (S.objects store.old) (S.objects store.new) }
     {
         let last = last_log_of_new(alloc, store)?;
         let view = VersionedManifest {

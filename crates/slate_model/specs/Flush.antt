@@ -67,10 +67,18 @@ abbrev pub FlushAnswer : {L : Type 0} → ℕ → ObjectsOf L → Result (Unit {
 FlushAnswer epoch objects (Ok _) view view' = (latest_manifest objects ≡ Some view') × (view'.manifest.writer_epoch ≤ epoch)
 FlushAnswer epoch objects (Err error) view view' = FlushCause epoch objects error × ((view' ≡ view) ⊎ (latest_manifest objects ≡ Some view'))
 
+-- only at Ok and at a fault may batches have been stored
+abbrev pub StoresOnly : Result (Unit {0}) SlateError → ℕ → Type 0
+StoresOnly (Err errors.NoMemory) made = made ≡ 0
+StoresOnly (Err errors.InvalidDBState) made = made ≡ 0
+StoresOnly result made = Unit {0}
+
 -- A flush of these batches by a handle of this epoch: its answer has its cause, and so many of its changes were made.
 pub record StoresBatches {L : Type 0} (told : List Batch → L) (epoch : ℕ) (batches : List Batch) (objects : ObjectsOf L) (result : Result (Unit {0}) SlateError) (view view' : VersionedManifest) (made : ℕ) (objects' : ObjectsOf L) : Type 0 where
   pub answer : FlushAnswer epoch objects result view view'
   pub part : PartMade result (length (flush_changes told batches objects)) made
+  pub only : StoresOnly result made
+  pub current : 0 < made → (latest : VersionedManifest) × (latest_manifest objects ≡ Some latest) × (latest.manifest.writer_epoch ≤ epoch)
   pub after : objects' ≡ after_part made (flush_changes told batches objects) objects
 
 -- over any store: a fault is told only where the count of faults has risen, and no object is missing

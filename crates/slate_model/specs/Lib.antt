@@ -1,3 +1,4 @@
+pub mod Catalogue
 pub mod Changes
 pub mod Flush
 pub mod Handle

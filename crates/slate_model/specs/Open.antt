@@ -1,4 +1,4 @@
-use Rattle.std.specs.Prelude.{◌≡◌, ◌≢◌, ℕ, ℤ, ◌+◌, ◌≤◌, ◌⊎◌, negsuc, Bool, true, List, [], ◌∷◌, is_some, Option, Some, None, Result, Ok, Err}
+use Rattle.std.specs.Prelude.{◌≡◌, ◌≢◌, ℕ, ℤ, ◌+◌, ◌<◌, ◌≤◌, ◌⊎◌, negsuc, Bool, true, List, [], ◌∷◌, is_some, Option, Some, None, Result, Ok, Err}
 use Rattle.slate_rows.specs.declared.batches.Batch.{Batch}
 use Rattle.slate_store.specs.declared.objects.Manifest.{Manifest}
 use Rattle.slate_store.specs.declared.objects.VersionedManifest.{VersionedManifest}
@@ -61,8 +61,15 @@ abbrev pub OpenAnswer : {A L : Type 0} → ObjectsOf L → Result A SlateError �
 OpenAnswer objects (Ok _) = latest_manifest objects ≡ None
 OpenAnswer objects (Err error) = OpenCause objects error
 
--- An opening: its answer has its cause, and so many of its changes were made.
+-- nothing is put where a database is found, or no id is left
+abbrev pub OpensOnly : {A : Type 0} → Result A SlateError → ℕ → Type 0
+OpensOnly (Err errors.InvalidDBState) made = made ≡ 0
+OpensOnly result made = Unit {0}
+
+-- An opening: its answer has its cause, and so many of its changes were made, none where there is a manifest.
 pub record Opens {A L : Type 0} (told : List Batch → L) (objects : ObjectsOf L) (result : Result A SlateError) (made : ℕ) (objects' : ObjectsOf L) : Type 0 where
   pub answer : OpenAnswer objects result
   pub part : PartMade result 2 made
+  pub only : OpensOnly result made
+  pub new : 0 < made → latest_manifest objects ≡ None
   pub after : objects' ≡ after_part made (open_changes told objects) objects

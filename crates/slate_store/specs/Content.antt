@@ -62,9 +62,16 @@ pub record HasItsLogs (objects : Objects) (manifest : Manifest) : Type 0 where
   pub next : manifest.replay_after_wal_id < manifest.next_wal_id
   pub stored : manifest.next_wal_id ≤ manifest.replay_after_wal_id + length (logs_above manifest.replay_after_wal_id objects) + 1
 
+-- the tables of a manifest, joined in order, end at its last number in tables
+abbrev pub HasItsTables : Objects → Manifest → Type 0
+HasItsTables objects manifest =
+    let joined = table_batches objects manifest.tables in
+    number_before joined manifest.last_l0_seq + length joined ≡ manifest.last_l0_seq
+
 -- Objects that the commands of a database leave. Without a manifest there is no log and no table.
 pub record IsSound (objects : Objects) : Type 0 where
   pub manifests : AreRising (map (λ entry. entry.0) objects.manifests)
   pub nothing : latest_manifest objects ≡ None → (objects.logs ≡ []) × (objects.tables ≡ [])
+  pub joined : IfSome (latest_manifest objects) (λ latest. HasItsTables objects latest.manifest)
   pub logs : IfSome (latest_manifest objects) (λ latest. HasItsLogs objects latest.manifest)
   pub line : IsLine (content objects)

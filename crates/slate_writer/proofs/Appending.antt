@@ -10,7 +10,7 @@ use Rattle.slate_store.specs.Objects.{Objects, Change, PutLog, is_taken, latest_
 use Rattle.slate_status.specs.declared.errors.SlateError.{SlateError}
 use Rattle.slate_status.specs.declared.errors.SlateError.TheVariants as errors
 use Rattle.slate_model.specs.Changes.{PartMade, after_part}
-use Rattle.slate_model.specs.Flush.{FindsCurrent, FlushAnswer, FlushCause, StoresBatches, flush_changes, flush_changes_by, log_changes}
+use Rattle.slate_model.specs.Flush.{FindsCurrent, FlushAnswer, FlushCause, StoresBatches, StoresOnly, flush_changes, flush_changes_by, log_changes}
 use Rattle.slate_model.proofs.Entries.{absent}
 use Rattle.slate_writer.specs.Appends.{AppendsLog}
 
@@ -39,23 +39,25 @@ module _ (epoch : ℕ) (b : Batch) (bs : List Batch) (o o' : Objects) (view late
   changes_are : flush_changes (λ xs. xs) (b ∷ bs) o ≡ PutLog (last_log latest.manifest.replay_after_wal_id o + 1) (b ∷ bs) ∷ []
   changes_are = ap (flush_changes_by (λ xs. xs) (b ∷ bs) o) is
 
-  stored : (r : Result (Unit {0}) SlateError) (made : ℕ) → FlushAnswer epoch o r view latest → PartMade r 1 made → o' ≡ after_part made (PutLog (last_log latest.manifest.replay_after_wal_id o + 1) (b ∷ bs) ∷ []) o → Stores epoch (b ∷ bs) o r view latest o'
-  stored r made answer part after = (
+  stored : (r : Result (Unit {0}) SlateError) (made : ℕ) → FlushAnswer epoch o r view latest → PartMade r 1 made → StoresOnly r made → o' ≡ after_part made (PutLog (last_log latest.manifest.replay_after_wal_id o + 1) (b ∷ bs) ∷ []) o → Stores epoch (b ∷ bs) o r view latest o'
+  stored r made answer part only after = (
     made,
     record {
       answer = answer;
       part = subst (λ (cs : List Change). PartMade r (length cs) made) (sym changes_are) part;
+      only = only;
+      current = λ _. (latest, is, current);
       after = after ∙ ap (λ (cs : List Change). after_part made cs o) (sym changes_are);
     },
   )
 
   -- to append a log file is to store the batches, where the epoch is current
   stores_appended : (r : Result (Unit {0}) SlateError) → AppendsLog latest.manifest.replay_after_wal_id (b ∷ bs) r o o' → Stores epoch (b ∷ bs) o r view latest o'
-  stores_appended (Ok x) h = stored (Ok x) 1 (is, current) refl h
-  stores_appended (Err errors.InvalidDBState) h = stored (Err errors.InvalidDBState) 0 ((latest, is, h.0), inr is) (omega arith) h.1
-  stores_appended (Err (errors.ObjectStoreError Unavailable)) (inl h) = stored (Err (errors.ObjectStoreError Unavailable)) 0 (tt, inr is) (omega arith) h
-  stores_appended (Err (errors.ObjectStoreError Unavailable)) (inr h) = stored (Err (errors.ObjectStoreError Unavailable)) 1 (tt, inr is) (omega arith) h
-  stores_appended (Err errors.NoMemory) h = stored (Err errors.NoMemory) 0 (tt, inr is) (omega arith) h
+  stores_appended (Ok x) h = stored (Ok x) 1 (is, current) refl tt h
+  stores_appended (Err errors.InvalidDBState) h = stored (Err errors.InvalidDBState) 0 ((latest, is, h.0), inr is) (omega arith) refl h.1
+  stores_appended (Err (errors.ObjectStoreError Unavailable)) (inl h) = stored (Err (errors.ObjectStoreError Unavailable)) 0 (tt, inr is) (omega arith) tt h
+  stores_appended (Err (errors.ObjectStoreError Unavailable)) (inr h) = stored (Err (errors.ObjectStoreError Unavailable)) 1 (tt, inr is) (omega arith) tt h
+  stores_appended (Err errors.NoMemory) h = stored (Err errors.NoMemory) 0 (tt, inr is) (omega arith) refl h
   stores_appended (Err e) h = absurd h
 
 -- the same of any batches, where there are some

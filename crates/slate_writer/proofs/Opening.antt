@@ -35,9 +35,9 @@ opens_by_puts o o' l errors.TransactionalObjectVersionExists found (inr taken) =
     let taken_at : is_taken (PutLog (last_log 0 o + 1) []) o ≡ true = subst (λ n. is_taken (PutLog (n + 1) []) o ≡ true) at taken in
     absurd (cc)
 opens_by_puts o o' l (errors.ObjectStoreError Unavailable) found part =
-    (part.0, record { answer = tt; part = part.1; after = part.2 ∙ ap (λ n. after_part part.0 (first_changes first_manifest (n + 1)) o) found.1 })
+    (part.0, record { answer = tt; part = part.1; only = tt; new = λ _. found.0; after = part.2 ∙ ap (λ n. after_part part.0 (first_changes first_manifest (n + 1)) o) found.1 })
 opens_by_puts o o' l errors.NoMemory found part =
-    (part.0, record { answer = tt; part = part.1; after = part.2 ∙ ap (λ n. after_part part.0 (first_changes first_manifest (n + 1)) o) found.1 })
+    (part.0, record { answer = tt; part = part.1; only = tt; new = λ _. found.0; after = part.2 ∙ ap (λ n. after_part part.0 (first_changes first_manifest (n + 1)) o) found.1 })
 opens_by_puts o o' l e found h = absurd h
 
 -- the same of a manifest that is the first one

@@ -1,0 +1,152 @@
+use Rattle.std.specs.Prelude.{◌≡◌, ℕ, ℤ, ◌+◌, ◌⊎◌, Bool, true, false, if◌then◌else◌, nat_lt, List, [], ◌∷◌, ◌++◌, length, slice_get, slice_set, Option, Some, None, Result, Ok, Err}
+use Rattle.slate_rows.specs.declared.batches.Batch.{Batch}
+use Rattle.slate_rows.specs.declared.batches.KeyOp.{KeyOp}
+use Rattle.slate_rows.specs.declared.batches.KeyValue.{KeyValue}
+use Rattle.slate_rows.specs.declared.batches.Op.TheVariants.{Put as PutOp}
+use Rattle.slate_rows.specs.declared.options.DurabilityLevel.{DurabilityLevel}
+use Rattle.slate_rows.specs.declared.options.DurabilityLevel.TheVariants.{Memory, Remote}
+use Rattle.slate_rows.specs.declared.reads.ReadFault.{ReadFault}
+use Rattle.slate_rows.specs.declared.reads.ReadFault.TheVariants as reads
+use Rattle.slate_rows.specs.Line.{Line, end, extended}
+use Rattle.slate_rows.specs.Operator.{Merge}
+use Rattle.slate_rows.specs.Read.{read_at}
+use Rattle.slate_store.specs.declared.objects.VersionedManifest.{VersionedManifest}
+use Rattle.slate_status.specs.declared.errors.SlateError.{SlateError}
+use Rattle.slate_status.specs.declared.errors.SlateError.TheVariants as errors
+use Rattle.slate_model.specs.Catalogue.{span}
+use Rattle.slate_model.specs.Handle.{Handle, CloseResult, accepted, unstored, closed_error}
+use Rattle.slate_model.specs.Open.{Opens, first_handle}
+use Rattle.slate_model.specs.Write.{write_refusal, accepted_moment, written}
+use Rattle.slate_model.specs.Flush.{StoresBatches, TellsFaults, flushed}
+use Rattle.slate_model.specs.Read.{cut}
+use Rattle.slate_script.specs.declared.commands.Action.{Action}
+use Rattle.slate_script.specs.declared.commands.Action.TheVariants as actions
+use Rattle.slate_script.specs.declared.commands.Command.{Command}
+use Rattle.slate_script.specs.declared.replies.Reply.{Reply}
+use Rattle.slate_script.specs.declared.replies.Reply.TheVariants as replies
+use Rattle.slate_live.specs.declared.states.Object.{Object}
+use Rattle.slate_live.specs.declared.states.Object.TheVariants as objects
+use Rattle.slate_live.specs.World.{World}
+
+-- the reply to a command that answers an error
+abbrev pub refusal : SlateError → Reply
+refusal errors.NoMemory = replies.NoMemory
+refusal error = replies.Refused error
+
+-- the reply of a command that answers nothing but that it was done
+abbrev pub done_or_refused : Reply → Result (Unit {0}) SlateError → Reply
+done_or_refused done (Ok _) = done
+done_or_refused done (Err error) = refusal error
+
+-- a command is answered so, and changes nothing
+abbrev pub OnlyAnswers : Reply → World → Reply → World → Type 0
+OnlyAnswers answer w reply w' = (reply ≡ answer) × (w' ≡ w)
+
+-- the handle that an opening gives: it sees what is stored, and all of it is durable
+abbrev pub opened_handle : World → Handle
+opened_handle w = record (first_handle true) { line = w.stored; durable = end w.stored }
+
+abbrev pub objects_after_open : World → Result (Unit {0}) SlateError → List Object
+objects_after_open w (Ok _) = w.objects ++ objects.Handle (opened_handle w) ∷ []
+objects_after_open w (Err error) = w.objects
+
+-- An opening adds a handle, or answers why not.
+pub record OpensIn (w : World) (reply : Reply) (w' : World) : Type 0 where
+  pub result : Result (Unit {0}) SlateError
+  pub made : ℕ
+  pub answered : reply ≡ done_or_refused (replies.Handle (length w.objects)) result
+  pub opens : Opens span w.catalogue result made w'.catalogue
+  pub fault : TellsFaults w.faults w'.faults result
+  pub stored : w'.stored ≡ w.stored
+  pub objects_after : w'.objects ≡ objects_after_open w result
+  pub writes : w'.writes ≡ w.writes
+
+-- A write of these operations to the handle with this number adds a batch to its line, where nothing refuses it.
+abbrev pub WritesUnless : Option SlateError → World → ℕ → Handle → List KeyOp → Option ℤ → Reply → World → Type 0
+WritesUnless (Some error) w n handle ops moment reply w' = OnlyAnswers (replies.Refused error) w reply w'
+WritesUnless None w n handle ops moment reply w' =
+    (at : ℤ) × (moment ≡ Some at) × (reply ≡ replies.Written (length w.writes) (accepted handle + 1))
+    × (w' ≡ record w {
+      objects = slice_set w.objects n (objects.Handle (written handle ops at));
+      writes = w.writes ++ record { handle = n; number = accepted handle + 1 } ∷ [];
+    })
+
+abbrev pub WritesIn : World → ℕ → Handle → List KeyOp → ℤ → Option ℤ → Reply → World → Type 0
+WritesIn w n handle ops moment second reply w' =
+    OnlyAnswers replies.NoMemory w reply w'
+    ⊎ WritesUnless (write_refusal handle ops moment second) w n handle ops (accepted_moment handle.tick moment second) reply w'
+
+-- the stored line after so many changes of a flush of these batches: it grows where the log file was put
+abbrev pub stored_after : ℕ → Line → List Batch → Line
+stored_after made stored batches = if nat_lt 0 made then extended stored batches else stored
+
+-- A flush of an open handle that keeps a log stores the batches that aren't stored yet, or answers why not.
+pub record FlushesIn (w : World) (n : ℕ) (handle : Handle) (reply : Reply) (w' : World) : Type 0 where
+  pub result : Result (Unit {0}) SlateError
+  pub view : VersionedManifest
+  pub made : ℕ
+  pub answered : reply ≡ done_or_refused replies.Flushed result
+  pub stores : StoresBatches span handle.epoch (unstored handle) w.catalogue result handle.view view made w'.catalogue
+  pub fault : TellsFaults w.faults w'.faults result
+  pub stored : w'.stored ≡ stored_after made w.stored (unstored handle)
+  pub objects_after : w'.objects ≡ slice_set w.objects n (objects.Handle (flushed handle view result))
+  pub writes : w'.writes ≡ w.writes
+
+abbrev pub FlushesUnless : CloseResult → Bool → World → ℕ → Handle → Reply → World → Type 0
+FlushesUnless (Some result) keeps_log w n handle reply w' = OnlyAnswers (replies.Refused (closed_error result)) w reply w'
+FlushesUnless None false w n handle reply w' = OnlyAnswers (replies.Refused errors.WalDisabled) w reply w'
+FlushesUnless None true w n handle reply w' = FlushesIn w n handle reply w'
+
+-- the reply to a read that gives this
+abbrev pub IsReadReply : Result (Option KeyValue) ReadFault → Reply → Type 0
+IsReadReply answer (replies.Found row) = answer ≡ Ok (Some row)
+IsReadReply answer replies.Absent = answer ≡ Ok None
+IsReadReply answer (replies.Refused errors.MergeOperatorMissing) = answer ≡ Err reads.MergeOperatorMissing
+IsReadReply answer (replies.Refused errors.MergeOperatorError) = answer ≡ Err reads.MergeOperatorError
+IsReadReply answer replies.NoMemory = Unit {0}
+IsReadReply answer reply = ⊥
+
+abbrev pub level_of : Bool → DurabilityLevel
+level_of true = Remote
+level_of false = Memory
+
+-- a read of an open handle is the plain read of its line at its cut, and changes nothing
+abbrev pub ReadsUnless : CloseResult → Option Merge → World → Handle → List ℕ → Bool → Reply → World → Type 0
+ReadsUnless (Some result) merge w handle key remote reply w' = OnlyAnswers (replies.Refused (closed_error result)) w reply w'
+ReadsUnless None merge w handle key remote reply w' =
+    IsReadReply (read_at merge handle.line.batches (Some (cut handle (level_of remote))) key) reply × (w' ≡ w)
+
+-- what is said of the handle with a number; a number without an object is unknown
+abbrev pub AtHandle : Option Object → (Handle → Type 0) → Type 0 → Type 0
+AtHandle None said unknown = unknown
+AtHandle (Some (objects.Handle handle)) said unknown = said handle
+
+abbrev pub put_op : List ℕ → List ℕ → Option ℤ → KeyOp
+put_op key value expire = record { key = key; op = PutOp value expire }
+
+abbrev pub NextBy : Option Merge → World → ℤ → Option ℤ → Action → Reply → World → Type 0
+NextBy merge w moment second actions.Open reply w' = OpensIn w reply w'
+NextBy merge w moment second (actions.Put n key value expire) reply w' =
+    AtHandle (slice_get w.objects n)
+    (λ handle. WritesIn w n handle (put_op key value expire ∷ []) moment second reply w')
+    (OnlyAnswers replies.Unknown w reply w')
+NextBy merge w moment second (actions.Flush n) reply w' =
+    AtHandle (slice_get w.objects n)
+    (λ handle. FlushesUnless handle.result handle.keeps_log w n handle reply w')
+    (OnlyAnswers replies.Unknown w reply w')
+NextBy merge w moment second (actions.Get n key remote) reply w' =
+    AtHandle (slice_get w.objects n)
+    (λ handle. ReadsUnless handle.result merge w handle key remote reply w')
+    (OnlyAnswers replies.Unknown w reply w')
+
+-- From a world, a command may be answered so, and leave the other world. `merge` is the operator, where there is one.
+abbrev pub Next : Option Merge → World → Command → Reply → World → Type 0
+Next merge w command reply w' = NextBy merge w command.moment command.second command.action reply w'
+
+-- the worlds that commands with these replies lead through, one link each
+abbrev pub Chain : Option Merge → World → List Command → List Reply → World → Type 0
+Chain merge w [] [] last = last ≡ w
+Chain merge w (command ∷ commands) (reply ∷ replies) last =
+    (next : World) × Next merge w command reply next × Chain merge next commands replies last
+Chain merge w [] (reply ∷ replies) last = ⊥
+Chain merge w (command ∷ commands) [] last = ⊥

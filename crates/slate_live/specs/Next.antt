@@ -124,20 +124,27 @@ AtHandle (Some (objects.Handle handle)) said unknown = said handle
 abbrev pub put_op : List ℕ → List ℕ → Option ℤ → KeyOp
 put_op key value expire = record { key = key; op = PutOp value expire }
 
+-- a write of operations to the handle with a number
+abbrev pub Writes : World → ℕ → List KeyOp → ℤ → Option ℤ → Reply → World → Type 0
+Writes w n ops moment second reply w' =
+    AtHandle (slice_get w.objects n) (λ handle. WritesIn w n handle ops moment second reply w') (OnlyAnswers replies.Unknown w reply w')
+
+-- a flush of the handle with a number
+abbrev pub Flushes : World → ℕ → Reply → World → Type 0
+Flushes w n reply w' =
+    AtHandle (slice_get w.objects n) (λ handle. FlushesUnless handle.result handle.keeps_log w n handle reply w') (OnlyAnswers replies.Unknown w reply w')
+
+-- a read of a key of the object with a number
+abbrev pub Reads : Option Merge → World → ℕ → List ℕ → Bool → Reply → World → Type 0
+Reads merge w n key remote reply w' =
+    AtHandle (slice_get w.objects n) (λ handle. ReadsUnless handle.result merge w handle key remote reply w') (OnlyAnswers replies.Unknown w reply w')
+
+-- what a command may be answered, and the world that it leads to: one case for each command
 abbrev pub NextBy : Option Merge → World → ℤ → Option ℤ → Action → Reply → World → Type 0
 NextBy merge w moment second actions.Open reply w' = OpensIn w reply w'
-NextBy merge w moment second (actions.Put n key value expire) reply w' =
-    AtHandle (slice_get w.objects n)
-    (λ handle. WritesIn w n handle (put_op key value expire ∷ []) moment second reply w')
-    (OnlyAnswers replies.Unknown w reply w')
-NextBy merge w moment second (actions.Flush n) reply w' =
-    AtHandle (slice_get w.objects n)
-    (λ handle. FlushesUnless handle.result handle.keeps_log w n handle reply w')
-    (OnlyAnswers replies.Unknown w reply w')
-NextBy merge w moment second (actions.Get n key remote) reply w' =
-    AtHandle (slice_get w.objects n)
-    (λ handle. ReadsUnless handle.result merge w handle key remote reply w')
-    (OnlyAnswers replies.Unknown w reply w')
+NextBy merge w moment second (actions.Put n key value expire) reply w' = Writes w n (put_op key value expire ∷ []) moment second reply w'
+NextBy merge w moment second (actions.Flush n) reply w' = Flushes w n reply w'
+NextBy merge w moment second (actions.Get n key remote) reply w' = Reads merge w n key remote reply w'
 
 -- From a world, a command may be answered so, and leave the other world. `merge` is the operator, where there is one.
 abbrev pub Next : Option Merge → World → Command → Reply → World → Type 0

@@ -1,16 +1,17 @@
-ghost use Rattle.std.specs.Prelude.{◌≡◌, ℕ, ◌≤◌, None, Option};
+ghost use Rattle.std.specs.Prelude.{◌≡◌, ℕ, ◌≤◌, [], None, Option, true};
 ghost use Rattle.std.specs.Option.{option_copied};
+ghost use Rattle.slate_rows.specs.Operator.{Merge};
+ghost use Rattle.slate_rows.specs.Read.{IsOperator};
+ghost use Rattle.slate_live.specs.Links.{Links};
+ghost use Rattle.slate_live.specs.Next.{Next};
 
-use bytes::Bytes;
-use slate_rows::{
-    DurabilityLevel, FlushType, KeyOp, MergeOperator, Op, PrefixExtractor, ReadOptions, Seq,
-    WriteBatch,
-};
+use crate::commands;
+use slate_rows::{MergeOperator, PrefixExtractor};
 use slate_script::{Action, Command, Options, Reply};
-use slate_status::SlateError;
 use slate_store::Store;
 use slate_writer::{WriterOptions, WriterState};
 use std::alloc::Global;
+use std::marker::Model;
 
 /// Something that commands name by its number.
 #[derive(Drop)]
@@ -32,4 +33,95 @@ pub struct LiveState {
     options: Options,
     objects: Vec<Object>,
     writes: Vec<Write>,
+}
+
+impl Model for LiveState {
+    ghost use Rattle.slate_live.specs.Live.{Live};
+
+    ghost Value = { Live };
+
+    ghost view = { λ s. record { objects = s.objects.items; writes = s.writes.items } };
+}
+
+impl LiveState {
+    /// A state without an object and without a write. It takes no memory.
+    pub fn new(alloc: Global, options: &Options) -> LiveState
+        ensures { result ≡ record { objects = []; writes = [] } }
+    {
+        LiveState {
+            options: *options,
+            objects: Vec::new(alloc),
+            writes: Vec::new(alloc),
+        }
+    }
+
+    /// Does one command on the store.
+    ///
+    /// Over an honest store the reply is one that the command may have, and the state and the store stand afterwards
+    /// for the world that the command then leads to.
+    pub fn apply<S: Store, M: MergeOperator, E: PrefixExtractor>(
+        &mut self,
+        alloc: Global,
+        store: &mut S,
+        operator: Option<&M>,
+        extractor: Option<&E>,
+        command: &Command,
+    ) -> Reply
+        requires { extractor ≡ None }
+        ensures faults { S.faults store.old ≤ S.faults store.new }
+        ensures link { (merge : Option Merge) → IsOperator M.may_answer (option_copied operator.entry) merge →
+            Links (λ w reply w'. Next merge w command.now reply w')
+            self.old (S.objects store.old) (S.faults store.old) result self.new (S.objects store.new) (S.faults store.new) }
+    {
+        match &command.action {
+            Action::Open => commands::open(
+                alloc,
+                store,
+                &mut self.objects,
+                &writer_options(&self.options),
+                extractor,
+            ),
+            Action::Put {
+                handle,
+                key,
+                value,
+                expire,
+            } => commands::put(
+                alloc,
+                &mut self.objects,
+                &mut self.writes,
+                *handle,
+                (key, value, *expire),
+                command,
+                extractor,
+            ),
+            Action::Flush { handle } => commands::flush(alloc, store, &mut self.objects, *handle),
+            Action::Get {
+                object,
+                key,
+                remote,
+            } => commands::get(
+                alloc,
+                store,
+                self.objects.as_slice(),
+                *object,
+                key,
+                *remote,
+                operator,
+            ),
+        }
+    }
+}
+
+/// How the handles of a run write.
+fn writer_options(options: &Options) -> WriterOptions
+    ensures { result.wal_enabled ≡ true }
+{
+    WriterOptions {
+        wal_enabled: true,
+        max_unflushed_bytes: options.max_unflushed_bytes,
+        compactor: options.compactor,
+        compaction_worker: options.compaction_worker,
+        collector: options.collector,
+    }
 }

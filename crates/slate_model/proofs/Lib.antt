@@ -1,1 +1,4 @@
+pub mod Catalogued
 pub mod Entries
+pub mod Flushed
+pub mod Sound

@@ -1,4 +1,5 @@
-use Rattle.std.proofs.Common.{◌≡◌, ℕ, suc, zero, ◌+◌, ◌-◌, ◌<◌, ◌≤◌, List, [], ◌∷◌, ◌++◌, length, drop, filter, cond, true, false, refl, ap, sym, ◌∙◌, ltb, nat_lt, arith}
+use Rattle.std.proofs.Common.{◌≡◌, ℕ, suc, zero, ◌+◌, ◌-◌, ◌<◌, ◌≤◌, List, [], ◌∷◌, ◌++◌, length, drop, filter, cond, true, false, refl, ap, sym, subst, ◌∙◌, ltb, arith}
+use Rattle.std.proofs.lemmas.List.Elements.{filter-append}
 use Rattle.std.specs.List.{AllByRecursion}
 use Rattle.std.proofs.lemmas.Bool.{lt-ltb, le-ltb, cases_lt}
 use Rattle.slate_rows.specs.declared.batches.Batch.{Batch}
@@ -28,3 +29,21 @@ above-drop floor n (suc k) [] h at = refl
 above-drop floor n (suc k) (b ∷ bs) h at =
     let no : ltb n b.number ≡ false = le-ltb n b.number (omega arith) in
     rw no (above-drop (floor + 1) n k bs h.1 (omega arith))
+
+-- the batches of a line from a place on are numbered from there
+pub numbered-drop : (floor k : ℕ) (bs : List Batch) → AreNumberedFrom floor bs → k ≤ length bs → AreNumberedFrom (floor + k) (drop k bs)
+numbered-drop floor zero bs h low = subst (λ n. AreNumberedFrom n bs) (omega arith) h
+numbered-drop floor (suc k) [] h low = absurd (omega arith)
+numbered-drop floor (suc k) (b ∷ bs) h low =
+    subst (λ n. AreNumberedFrom n (drop k bs)) (omega arith) (numbered-drop (floor + 1) k bs h.1 (omega arith))
+
+-- no batch of a line is above its end
+pub above-none : (floor n : ℕ) (bs : List Batch) → AreNumberedFrom floor bs → floor + length bs ≤ n → batches_above n bs ≡ []
+above-none floor n [] h low = refl
+above-none floor n (b ∷ bs) h low =
+    let no : ltb n b.number ≡ false = le-ltb n b.number (omega arith) in
+    rw no (above-none (floor + 1) n bs h.1 (omega arith))
+
+-- a batch above a number comes last among those above it
+pub above-push : (n : ℕ) (bs : List Batch) (b : Batch) → n < b.number → batches_above n (bs ++ b ∷ []) ≡ batches_above n bs ++ b ∷ []
+above-push n bs b h = filter-append (λ x. ltb n x.number) bs (b ∷ []) ∙ ap (λ t. batches_above n bs ++ cond t (b ∷ []) []) (lt-ltb n b.number h)

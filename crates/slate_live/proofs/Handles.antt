@@ -1,0 +1,82 @@
+use Rattle.std.proofs.Common.{◌≡◌, ◌≢◌, ◌⊎◌, inl, inr, ℕ, ℤ, zero, suc, ◌+◌, ◌-◌, ◌<◌, ◌≤◌, List, [], ◌∷◌, ◌++◌, length, set, Option, Some, None, refl, sym, subst, ap, ◌∙◌, arith, append_assoc, length-append}
+use Rattle.std.specs.List.{slice_get}
+use Rattle.std.proofs.lemmas.Bool.{cases_eq}
+use Rattle.slate_rows.specs.declared.batches.Batch.{Batch}
+use Rattle.slate_rows.specs.declared.batches.KeyOp.{KeyOp}
+use Rattle.slate_rows.specs.Line.{Line, AreNumberedFrom, end, extended, batches_above}
+use Rattle.slate_rows.proofs.Lines.{numbered-push, above-push}
+use Rattle.slate_store.specs.declared.objects.VersionedManifest.{VersionedManifest}
+use Rattle.slate_model.specs.Handle.{Handle, accepted, unstored}
+use Rattle.slate_model.specs.Write.{written, next_batch}
+use Rattle.slate_live.specs.declared.states.Object.{Object}
+use Rattle.slate_live.specs.declared.states.Object.TheVariants as objects
+use Rattle.slate_live.specs.Stands.{IsHandleAt, IsValidHandle}
+
+-- what stands at the place that was set, and at any other
+pub get-set_same : {X : Type 0} (xs : List X) (n : ℕ) (x y : X) → slice_get xs n ≡ Some y → slice_get (set xs n x) n ≡ Some x
+get-set_same [] n x y h = absurd (cc)
+get-set_same (z ∷ xs) zero x y h = refl
+get-set_same (z ∷ xs) (suc n) x y h = get-set_same xs n x y h
+
+pub get-set_other : {X : Type 0} (xs : List X) (n m : ℕ) (x : X) → m ≢ n → slice_get (set xs n x) m ≡ slice_get xs m
+get-set_other [] n m x h = refl
+get-set_other (z ∷ xs) zero zero x h = absurd (h refl)
+get-set_other (z ∷ xs) zero (suc m) x h = refl
+get-set_other (z ∷ xs) (suc n) zero x h = refl
+get-set_other (z ∷ xs) (suc n) (suc m) x h = get-set_other xs n m x (λ e. h (ap suc e))
+
+pub set-same : {X : Type 0} (xs : List X) (n : ℕ) (x : X) → slice_get xs n ≡ Some x → set xs n x ≡ xs
+set-same [] n x h = refl
+set-same (z ∷ xs) zero x h = let same : z ≡ x = cc in ap (λ y. y ∷ xs) (sym same)
+set-same (z ∷ xs) (suc n) x h = ap (λ ys. z ∷ ys) (set-same xs n x h)
+
+-- one handle stands at a place
+pub one_handle : (live : List Object) (n : ℕ) (a b : Handle) → IsHandleAt live n a → IsHandleAt live n b → a ≡ b
+one_handle live n a b h k = cc
+
+-- where each handle is valid, and the one at a place changes into a valid one, each is valid
+pub valid-set : (P : Handle → Type 0) (live : List Object) (n : ℕ) (old new : Handle) → IsHandleAt live n old → P new → ((m : ℕ) (h : Handle) → m ≢ n → IsHandleAt live m h → P h) → (m : ℕ) (h : Handle) → IsHandleAt (set live n (objects.Handle new)) m h → P h
+valid-set P live n old new at p others m h is =
+    elim (cases_eq m n) [
+      | inl same ↦
+          let there : IsHandleAt (set live n (objects.Handle new)) m new = subst (λ k. IsHandleAt (set live n (objects.Handle new)) k new) (sym same) (get-set_same live n (objects.Handle new) (objects.Handle old) at) in
+          subst P (one_handle (set live n (objects.Handle new)) m new h there is) p
+      | inr other ↦ others m h other (sym (get-set_other live n m (objects.Handle new) other) ∙ is)
+    ]
+
+-- each handle stood there before, with its epoch, where one changed and kept it
+stood : (live : List Object) (n : ℕ) (old new : Handle) → IsHandleAt live n old → new.epoch ≡ old.epoch → (m : ℕ) (h : Handle) → IsHandleAt (set live n (objects.Handle new)) m h → (o : Handle) × IsHandleAt live m o × (o.epoch ≡ h.epoch)
+stood live n old new at same m h is =
+    elim (cases_eq m n) [
+      | inl place ↦
+          let there : IsHandleAt (set live n (objects.Handle new)) m new = subst (λ k. IsHandleAt (set live n (objects.Handle new)) k new) (sym place) (get-set_same live n (objects.Handle new) (objects.Handle old) at) in
+          let is_new = one_handle (set live n (objects.Handle new)) m new h there is in
+          (old, subst (λ k. IsHandleAt live k old) (sym place) at, sym same ∙ ap (λ (x : Handle). x.epoch) is_new)
+      | inr other ↦ (h, sym (get-set_other live n m (objects.Handle new) other) ∙ is, refl)
+    ]
+
+-- handles keep distinct epochs where one changes and keeps its epoch
+pub distinct-set : (live : List Object) (n : ℕ) (old new : Handle) → IsHandleAt live n old → new.epoch ≡ old.epoch → ((i j : ℕ) (a b : Handle) → IsHandleAt live i a → IsHandleAt live j b → a.epoch ≡ b.epoch → i ≡ j) → (i j : ℕ) (a b : Handle) → IsHandleAt (set live n (objects.Handle new)) i a → IsHandleAt (set live n (objects.Handle new)) j b → a.epoch ≡ b.epoch → i ≡ j
+distinct-set live n old new at same distinct i j a b is_a is_b epochs =
+    let x = stood live n old new at same i a is_a in
+    let y = stood live n old new at same j b is_b in
+    distinct i j x.0 y.0 x.1 y.1 (x.2 ∙ (epochs ∙ sym y.2))
+
+-- a valid handle stays valid when it accepts a write
+pub valid-written : (stored : Line) (latest : Option VersionedManifest) (h : Handle) (ops : List KeyOp) (at : ℤ) → IsValidHandle stored latest h → IsValidHandle stored latest (written h ops at)
+valid-written stored latest h ops at v =
+    let b = next_batch h ops at in
+    let durable = v.durable in
+    let line = h.line.batches in
+    let unstored-after : unstored (written h ops at) ≡ unstored h ++ b ∷ [] = above-push h.durable line b (omega (arith, durable)) in
+    record {
+      numbered = numbered-push h.line.floor line b v.numbered refl;
+      floor = v.floor;
+      durable = simp length-append (omega (arith, durable));
+      behind = v.behind;
+      current = λ manifest live is current.
+          let before = v.current manifest live is current in
+          ap (extended stored) unstored-after
+          ∙ (ap (λ bs. record { floor = stored.floor; batches = bs }) (sym (append_assoc stored.batches (unstored h) (b ∷ [])))
+          ∙ ap (λ l. extended l (b ∷ [])) before);
+    }

@@ -1,0 +1,84 @@
+use Rattle.std.proofs.Common.{◌≡◌, ℕ, ℤ, ◌<◌, ◌≤◌, List, [], ◌∷◌, length, get_or, Option, Some, None, Result, Ok, Err, Bool, true, false, min, refl, sym, subst, ap, ◌∙◌, arith}
+use Rattle.std.specs.List.{slice_get}
+use Rattle.std.specs.Option.{IfSome, option_map}
+use Rattle.slate_rows.specs.declared.batches.Batch.{Batch}
+use Rattle.slate_rows.specs.declared.batches.KeyValue.{KeyValue}
+use Rattle.slate_rows.specs.declared.batches.Op.{Op}
+use Rattle.slate_rows.specs.declared.batches.Op.TheVariants.{Put, Delete, Merge as MergeOperand}
+use Rattle.slate_rows.specs.declared.options.DurabilityLevel.{DurabilityLevel}
+use Rattle.slate_rows.specs.declared.options.DurabilityLevel.TheVariants.{Memory, Remote}
+use Rattle.slate_rows.specs.declared.reads.ReadFault.{ReadFault}
+use Rattle.slate_rows.specs.declared.reads.ReadFault.TheVariants as reads
+use Rattle.slate_rows.specs.Bound.{read_bound}
+use Rattle.slate_rows.specs.Operator.{Merge}
+use Rattle.slate_rows.specs.Read.{Version, and_then, fold_versions, merged_row, read_at, row_after, tail}
+use Rattle.slate_status.specs.declared.errors.SlateError.{SlateError}
+use Rattle.slate_status.specs.declared.errors.SlateError.TheVariants as errors
+use Rattle.slate_model.specs.Handle.{Handle, CloseResult, accepted, closed_error}
+use Rattle.slate_model.specs.Read.{AnswersRead, cut}
+use Rattle.slate_script.specs.declared.replies.Reply.{Reply}
+use Rattle.slate_script.specs.declared.replies.Reply.TheVariants as replies
+use Rattle.slate_live.specs.declared.states.Object.{Object}
+use Rattle.slate_live.specs.declared.states.Object.TheVariants as objects
+use Rattle.slate_live.specs.Live.{handle_of}
+use Rattle.slate_live.specs.Next.{IsReadReply, Reads, ReadsUnless, level_of, refusal}
+use Rattle.slate_live.specs.Stands.{IsHandleAt, IsValid}
+use Rattle.slate_live.specs.World.{World}
+use Rattle.slate_live.proofs.Objects.{get_read}
+use Rattle.slate_live.proofs.Replies.{closed-refused}
+
+-- no plain read finds a damaged row
+merged-whole : (key : List ℕ) (v : Version) (expire : Option ℤ) (value : Option (List ℕ)) → merged_row key v expire value ≡ Err reads.ChecksumMismatch → ⊥
+merged-whole key v expire (Some value) h = absurd (cc)
+merged-whole key v expire None h = absurd (cc)
+
+row-whole : (merge : Option Merge) (key : List ℕ) (before : Option KeyValue) (v : Version) (op : Op) → row_after merge key before v op ≡ Err reads.ChecksumMismatch → ⊥
+row-whole merge key before v (Put value expire) h = absurd (cc)
+row-whole merge key before v Delete h = absurd (cc)
+row-whole None key before v (MergeOperand operand expire) h = absurd (cc)
+row-whole (Some merge) key before v (MergeOperand operand expire) h = merged-whole key v expire (merge key (option_map (λ (r : KeyValue). r.value) before) operand) h
+
+step-whole : (merge : Option Merge) (key : List ℕ) (vs : List Version) (r : Result (Option KeyValue) ReadFault) → (r ≡ Err reads.ChecksumMismatch → ⊥) → ((after : Option KeyValue) → fold_versions merge key after vs ≡ Err reads.ChecksumMismatch → ⊥) → and_then r (λ after. fold_versions merge key after vs) ≡ Err reads.ChecksumMismatch → ⊥
+step-whole merge key vs (Ok after) whole rest h = rest after h
+step-whole merge key vs (Err fault) whole rest h = whole h
+
+fold-whole : (merge : Option Merge) (key : List ℕ) (before : Option KeyValue) (vs : List Version) → fold_versions merge key before vs ≡ Err reads.ChecksumMismatch → ⊥
+fold-whole merge key before [] h = absurd (cc)
+fold-whole merge key before (v ∷ vs) h = step-whole merge key vs (row_after merge key before v v.op) (row-whole merge key before v v.op) (λ after. fold-whole merge key after vs) h
+
+read-whole : (merge : Option Merge) (bs : List Batch) (bound : Option ℕ) (key : List ℕ) → read_at merge bs bound key ≡ Err reads.ChecksumMismatch → ⊥
+read-whole merge bs bound key = fold-whole merge key None (tail bs bound key)
+
+-- the reply to what a read answered
+abbrev pub read_reply : Result (Option KeyValue) SlateError → Reply
+read_reply (Ok (Some row)) = replies.Found row
+read_reply (Ok None) = replies.Absent
+read_reply (Err e) = refusal e
+
+replied : (answer : Result (Option KeyValue) ReadFault) (r : Result (Option KeyValue) SlateError) → (answer ≡ Err reads.ChecksumMismatch → ⊥) → AnswersRead answer r → IsReadReply answer (read_reply r)
+replied answer (Ok (Some row)) whole h = h
+replied answer (Ok None) whole h = h
+replied answer (Err errors.MergeOperatorMissing) whole h = h
+replied answer (Err errors.MergeOperatorError) whole h = h
+replied answer (Err errors.ChecksumMismatch) whole h = absurd (whole h)
+replied answer (Err errors.NoMemory) whole h = tt
+replied answer (Err e) whole h = absurd h
+
+-- a read of a handle sees its line up to the cut
+bound-cut : (h : Handle) (remote : Bool) → h.durable ≤ accepted h → read_bound None h.durable (accepted h) (level_of remote) false ≡ Some (cut h (level_of remote))
+bound-cut h false durable = refl
+bound-cut h true durable = let m : min h.durable (accepted h) ≡ h.durable = omega arith in ap (λ n. Some n) m
+
+module _ (merge : Option Merge) (w : World) (n : ℕ) (h : Handle) (key : List ℕ) (remote : Bool) (r : Result (Option KeyValue) SlateError) (durable : h.durable ≤ accepted h) where
+  read-by : (result : CloseResult) → h.result ≡ result → IfSome result (λ q. r ≡ Err (closed_error q)) → (h.result ≡ None → AnswersRead (read_at merge h.line.batches (read_bound None h.durable (accepted h) (level_of remote) false) key) r) → ReadsUnless result merge w h key remote (read_reply r) w
+  read-by (Some q) is closed read = (ap read_reply closed ∙ closed-refused q, refl)
+  read-by None is closed read =
+      let answer = subst (λ b. AnswersRead (read_at merge h.line.batches b key) r) (bound-cut h remote durable) (read is) in
+      (replied (read_at merge h.line.batches (Some (cut h (level_of remote))) key) r (read-whole merge h.line.batches (Some (cut h (level_of remote))) key) answer, refl)
+
+-- a read of the object at a place is answered as the world says
+pub read_object : (merge : Option Merge) (w : World) (xs : List Object) (n : ℕ) (x : Object) (key : List ℕ) (remote : Bool) (r : Result (Option KeyValue) SlateError) (reply : Reply) → IsValid w → w.objects ≡ xs → n < length xs → x ≡ get_or xs n x → IfSome (handle_of x).result (λ q. r ≡ Err (closed_error q)) → ((handle_of x).result ≡ None → AnswersRead (read_at merge (handle_of x).line.batches (read_bound None (handle_of x).durable (accepted (handle_of x)) (level_of remote) false) key) r) → reply ≡ read_reply r → Reads merge w n key remote reply w
+read_object merge w xs n (objects.Handle h) key remote r reply valid objs low at closed read answer =
+    let there : slice_get w.objects n ≡ Some (objects.Handle h) = ap (λ ys. slice_get ys n) objs ∙ get_read xs n (objects.Handle h) low at in
+    let durable = (valid.handles n h there).durable in
+    rw (there, answer) (read-by merge w n h key remote r durable h.result refl closed read)

@@ -1,0 +1,120 @@
+use Rattle.std.proofs.Common.{◌≡◌, ℕ, ◌+◌, List, [], ◌∷◌, length, map, take, Option, Some, None, Result, Ok, Err, ◌≤◌, ◌⊎◌, inl, inr, refl, sym, subst, ap, ◌∙◌, max, zero, suc}
+use Rattle.std.proofs.lemmas.List.{length-map}
+use Rattle.std.specs.Ordering.{nat_cmp}
+use Rattle.std.specs.declared.cmp.Ordering.{Ordering}
+use Rattle.std.specs.declared.cmp.Ordering.TheVariants.{Less, Equal, Greater}
+use Rattle.std.specs.Ordering.{match_ordering}
+use Rattle.std.specs.BTreeMap.{insert_entry}
+use Rattle.slate_rows.specs.declared.batches.Batch.{Batch}
+use Rattle.slate_store.specs.declared.objects.VersionedManifest.{VersionedManifest}
+use Rattle.slate_store.specs.declared.errors.StoreFault.TheVariants.{NotFound, Unavailable}
+use Rattle.slate_store.specs.Objects.{Objects, ObjectsOf, Change, ChangeOf, PutManifest, PutLog, changed, changed_all, latest_manifest, last_log, greatest}
+use Rattle.slate_status.specs.declared.errors.SlateError.{SlateError}
+use Rattle.slate_status.specs.declared.errors.SlateError.TheVariants as errors
+use Rattle.slate_model.specs.Catalogue.{Span, span, Catalogue, catalogue_of}
+use Rattle.slate_model.specs.Changes.{PartMade, after_part}
+use Rattle.slate_model.specs.Flush.{flush_changes, flush_changes_by, log_changes, FlushAnswer, FlushCause, StoresBatches}
+use Rattle.slate_model.specs.Open.{open_changes, first_manifest, Opens, OpenAnswer, OpenCause}
+use Rattle.slate_model.specs.Write.{last_number}
+
+-- what a world knows of a log file under its id
+abbrev pub spanned : ℕ × List Batch → ℕ × Span
+spanned log = (log.0, span log.1)
+
+-- what it knows of a change
+abbrev pub reduced : Change → ChangeOf Span
+reduced (PutManifest id manifest) = PutManifest id manifest
+reduced (PutLog id log) = PutLog id (span log)
+
+same_ids : (logs : List (ℕ × List Batch)) → map (λ log. log.0) (map spanned logs) ≡ map (λ log. log.0) logs
+same_ids [] = refl
+same_ids (log ∷ logs) = ap (λ ids. log.0 ∷ ids) (same_ids logs)
+
+-- the last log file is known
+pub last_log-catalogue : (mark : ℕ) (o : Objects) → last_log mark (catalogue_of o) ≡ last_log mark o
+last_log-catalogue mark o = ap (greatest mark) (same_ids o.logs)
+
+map-choice : (r : Ordering) (a b c : List (ℕ × List Batch)) → map spanned (match_ordering r a b c) ≡ match_ordering r (map spanned a) (map spanned b) (map spanned c)
+map-choice Less a b c = refl
+map-choice Equal a b c = refl
+map-choice Greater a b c = refl
+
+map-insert : (id : ℕ) (bs : List Batch) (logs : List (ℕ × List Batch)) → map spanned (insert_entry nat_cmp logs id bs) ≡ insert_entry nat_cmp (map spanned logs) id (span bs)
+map-insert id bs [] = refl
+map-insert id bs (log ∷ logs) =
+    map-choice (nat_cmp id log.0) _ _ _
+    ∙ ap (λ rest. match_ordering (nat_cmp id log.0) ((id, span bs) ∷ map spanned (log ∷ logs)) ((log.0, span bs) ∷ map spanned logs) (spanned log ∷ rest)) (map-insert id bs logs)
+
+catalogue-changed : (c : Change) (o : Objects) → catalogue_of (changed c o) ≡ changed (reduced c) (catalogue_of o)
+catalogue-changed (PutManifest id manifest) o = refl
+catalogue-changed (PutLog id log) o = ap (λ logs. record { manifests = o.manifests; logs = logs; tables = (catalogue_of o).tables }) (map-insert id log o.logs)
+
+-- what is known after changes is what the known changes make of what was known
+pub catalogue-after : (made : ℕ) (cs : List Change) (o : Objects) → catalogue_of (after_part made cs o) ≡ after_part made (map reduced cs) (catalogue_of o)
+catalogue-after zero cs o = refl
+catalogue-after (suc made) [] o = refl
+catalogue-after (suc made) (c ∷ cs) o =
+    catalogue-after made cs (changed c o) ∙ ap (after_part made (map reduced cs)) (catalogue-changed c o)
+
+log_changes-known : (bs : List Batch) (last : ℕ) → map reduced (log_changes (λ xs. xs) bs last) ≡ log_changes span bs last
+log_changes-known [] last = refl
+log_changes-known (b ∷ bs) last = refl
+
+flush_by-known : (bs : List Batch) (o : Objects) (latest : Option VersionedManifest) → map reduced (flush_changes_by (λ xs. xs) bs o latest) ≡ flush_changes_by span bs (catalogue_of o) latest
+flush_by-known bs o None = refl
+flush_by-known bs o (Some latest) =
+    log_changes-known bs (last_log latest.manifest.replay_after_wal_id o)
+    ∙ ap (log_changes span bs) (sym (last_log-catalogue latest.manifest.replay_after_wal_id o))
+
+-- the changes of a flush, as they are known
+pub flush_changes-known : (bs : List Batch) (o : Objects) → map reduced (flush_changes (λ xs. xs) bs o) ≡ flush_changes span bs (catalogue_of o)
+flush_changes-known bs o = flush_by-known bs o (latest_manifest o)
+
+-- and those of an opening
+pub open_changes-known : (o : Objects) → map reduced (open_changes (λ xs. xs) o) ≡ open_changes span (catalogue_of o)
+open_changes-known o = ap (λ last. PutManifest 1 first_manifest ∷ PutLog (last + 1) None ∷ []) (sym (last_log-catalogue 0 o))
+
+cause-known : (epoch : ℕ) (o : Objects) (e : SlateError) → FlushCause epoch o e → FlushCause epoch (catalogue_of o) e
+cause-known epoch o errors.LatestTransactionalObjectVersionMissing h = h
+cause-known epoch o errors.Fenced h = h
+cause-known epoch o errors.InvalidDBState h = (h.0, h.1, subst (λ n. last_number ≤ n) (sym (last_log-catalogue h.0.manifest.replay_after_wal_id o)) h.2)
+cause-known epoch o (errors.ObjectStoreError Unavailable) h = tt
+cause-known epoch o errors.NoMemory h = tt
+cause-known epoch o e h = absurd h
+
+answer-known : (epoch : ℕ) (o : Objects) (r : Result (Unit {0}) SlateError) (view view' : VersionedManifest) → FlushAnswer epoch o r view view' → FlushAnswer epoch (catalogue_of o) r view view'
+answer-known epoch o (Ok x) view view' h = h
+answer-known epoch o (Err e) view view' h = (cause-known epoch o e h.0, h.1)
+
+-- a flush of the objects is a flush of what is known of them
+pub stores-known : {epoch : ℕ} {bs : List Batch} {o : Objects} {r : Result (Unit {0}) SlateError} {view view' : VersionedManifest} {made : ℕ} {o' : Objects} → StoresBatches (λ xs. xs) epoch bs o r view view' made o' → StoresBatches span epoch bs (catalogue_of o) r view view' made (catalogue_of o')
+stores-known {epoch} {bs} {o} {r} {view} {view'} {made} {o'} s =
+    record {
+      answer = answer-known epoch o r view view' s.answer;
+      part = subst (λ n. PartMade r n made) (sym (length-map (flush_changes (λ xs. xs) bs o) reduced) ∙ ap length (flush_changes-known bs o)) s.part;
+      only = s.only;
+      current = s.current;
+      after = ap catalogue_of s.after ∙ (catalogue-after made (flush_changes (λ xs. xs) bs o) o ∙ ap (λ cs. after_part made cs (catalogue_of o)) (flush_changes-known bs o));
+    }
+
+open_cause-known : (o : Objects) (e : SlateError) → OpenCause o e → OpenCause (catalogue_of o) e
+open_cause-known o errors.InvalidDBState (inl h) = inl h
+open_cause-known o errors.InvalidDBState (inr h) = inr (subst (λ n. last_number ≤ n) (sym (last_log-catalogue 0 o)) h)
+open_cause-known o (errors.ObjectStoreError Unavailable) h = tt
+open_cause-known o errors.NoMemory h = tt
+open_cause-known o e h = absurd h
+
+open_answer-known : {A : Type 0} (o : Objects) (r : Result A SlateError) → OpenAnswer o r → OpenAnswer (catalogue_of o) r
+open_answer-known o (Ok x) h = h
+open_answer-known o (Err e) h = open_cause-known o e h
+
+-- an opening of the objects is an opening of what is known of them
+pub opens-known : {A : Type 0} (o : Objects) (r : Result A SlateError) (made : ℕ) (o' : Objects) → Opens (λ xs. xs) o r made o' → Opens span (catalogue_of o) r made (catalogue_of o')
+opens-known o r made o' s =
+    record {
+      answer = open_answer-known o r s.answer;
+      part = s.part;
+      only = s.only;
+      new = s.new;
+      after = ap catalogue_of s.after ∙ (catalogue-after made (open_changes (λ xs. xs) o) o ∙ ap (λ cs. after_part made cs (catalogue_of o)) (open_changes-known o));
+    }

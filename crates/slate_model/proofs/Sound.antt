@@ -1,0 +1,135 @@
+use Rattle.std.proofs.Common.{◌≡◌, ℕ, zero, suc, ◌+◌, ◌-◌, ◌<◌, ◌≤◌, inl, inr, List, [], ◌∷◌, ◌++◌, length, map, max, Option, Some, None, true, false, refl, sym, subst, ap, ◌∙◌, arith, length-append, append_assoc, ltb, cond}
+use Rattle.std.proofs.lemmas.List.{append-nil, length-map}
+use Rattle.std.specs.List.{filter, flat_map}
+use Rattle.std.specs.Option.{IfSome}
+use Rattle.std.proofs.lemmas.Bool.{lt-ltb, le-ltb, cases_lt}
+use Rattle.std.proofs.lemmas.List.{map-append}
+use Rattle.std.proofs.lemmas.List.Elements.{filter-append}
+use Rattle.std.proofs.lemmas.Grind.{flat_map-append}
+use Rattle.slate_rows.specs.declared.batches.Batch.{Batch}
+use Rattle.slate_rows.specs.Line.{Line, AreNumberedFrom, IsLine, end, extended, batches_above}
+use Rattle.slate_rows.proofs.Lines.{above-all}
+use Rattle.slate_store.specs.declared.objects.Manifest.{Manifest}
+use Rattle.slate_store.specs.declared.objects.VersionedManifest.{VersionedManifest}
+use Rattle.slate_store.specs.Objects.{Objects, PutLog, changed, latest_manifest, last_log, greatest}
+use Rattle.slate_store.specs.Content.{AreGapless, HasItsLogs, HasItsTables, IsSound, content, content_by, logged, logs_above, number_before, table_batches}
+use Rattle.slate_model.proofs.Entries.{insert-last}
+
+greatest-max : (n k : ℕ) (xs : List ℕ) → n ≤ k → greatest k xs ≡ max k (greatest n xs)
+greatest-max n k [] h = omega arith
+greatest-max n k (x ∷ xs) h = let e = greatest-max n k xs h in omega (arith, e)
+
+at_least : (n : ℕ) (xs : List ℕ) → n ≤ greatest n xs
+at_least n [] = omega arith
+at_least n (x ∷ xs) = let h = at_least n xs in omega arith
+
+-- where the ids above a mark have no gaps, the greatest one is as far behind as there are ids
+pub gapless-greatest : {X : Type 0} (mark n : ℕ) (es : List (ℕ × X)) → mark ≤ n → AreGapless n (map (λ e. e.0) (filter (λ e. ltb mark e.0) es)) → greatest n (map (λ e. e.0) es) ≡ n + length (filter (λ e. ltb mark e.0) es)
+gapless-greatest mark n [] low h = omega arith
+gapless-greatest {X} mark n (e ∷ es) low h =
+    elim (cases_lt mark e.0) [
+      | inl above ↦
+          let yes : ltb mark e.0 ≡ true = lt-ltb mark e.0 above in
+          let g = rw yes at h in
+          let next : e.0 ≡ n + 1 = g.0 in
+          let rest = gapless-greatest mark e.0 es (omega arith) g.1 in
+          let more = greatest-max n e.0 (map (λ e. e.0) es) (omega arith) in
+          rw yes (omega (arith, rest, more, next))
+      | inr below ↦
+          let no : ltb mark e.0 ≡ false = le-ltb mark e.0 below in
+          let g = rw no at h in
+          let rest = gapless-greatest mark n es low g in
+          let least = at_least n (map (λ e. e.0) es) in
+          rw no (omega (arith, rest, least))
+    ]
+
+-- a line goes on by batches that are numbered from its end on
+pub numbered-append : (floor : ℕ) (xs ys : List Batch) → AreNumberedFrom floor xs → AreNumberedFrom (floor + length xs) ys → AreNumberedFrom floor (xs ++ ys)
+numbered-append floor [] ys h k = subst (λ n. AreNumberedFrom n ys) (omega arith) k
+numbered-append floor (x ∷ xs) ys h k =
+    (h.0, numbered-append (floor + 1) xs ys h.1 (let e : floor + length (x ∷ xs) ≡ (floor + 1) + length xs = omega arith in subst (λ n. AreNumberedFrom n ys) e k))
+
+-- ids without gaps go on by the next one
+gapless-push : (before : ℕ) (ids : List ℕ) (id : ℕ) → AreGapless before ids → id ≡ before + length ids + 1 → AreGapless before (ids ++ id ∷ [])
+gapless-push before [] id h next = (omega arith, tt)
+gapless-push before (x ∷ ids) id h next = (h.0, gapless-push x ids id h.1 (let first : x ≡ before + 1 = h.0 in omega arith))
+
+-- the objects after a put of the next log file
+abbrev pub with_log : Objects → Manifest → List Batch → Objects
+with_log o m bs = changed (PutLog (last_log m.replay_after_wal_id o + 1) bs) o
+
+module _ (o : Objects) (m : Manifest) (bs : List Batch) where
+  -- the next log file goes to the end
+  logs-after : (with_log o m bs).logs ≡ o.logs ++ (last_log m.replay_after_wal_id o + 1, bs) ∷ []
+  logs-after = insert-last (last_log m.replay_after_wal_id o + 1) m.replay_after_wal_id bs o.logs (omega arith)
+
+  above-after : logs_above m.replay_after_wal_id (with_log o m bs) ≡ logs_above m.replay_after_wal_id o ++ (last_log m.replay_after_wal_id o + 1, bs) ∷ []
+  above-after =
+      let next = last_log m.replay_after_wal_id o + 1 in
+      let over : m.replay_after_wal_id < next = let h = at_least m.replay_after_wal_id (map (λ e. e.0) o.logs) in omega arith in
+      let yes : ltb m.replay_after_wal_id next ≡ true = lt-ltb m.replay_after_wal_id next over in
+      ap (filter (λ log. ltb m.replay_after_wal_id log.0)) logs-after
+      ∙ (filter-append (λ log. ltb m.replay_after_wal_id log.0) o.logs ((next, bs) ∷ []) ∙ ap (λ b. logs_above m.replay_after_wal_id o ++ cond b ((next, bs) ∷ []) []) yes)
+
+  logged-after : logged (with_log o m bs) m ≡ logged o m ++ batches_above m.last_l0_seq bs
+  logged-after =
+      let next = last_log m.replay_after_wal_id o + 1 in
+      let olds = flat_map (λ log. log.1) (logs_above m.replay_after_wal_id o) in
+      let news : flat_map (λ log. log.1) (logs_above m.replay_after_wal_id (with_log o m bs)) ≡ olds ++ (bs ++ []) =
+          ap (flat_map (λ log. log.1)) above-after ∙ flat_map-append (λ log. log.1) (logs_above m.replay_after_wal_id o) ((next, bs) ∷ []) in
+      ap (batches_above m.last_l0_seq) (news ∙ ap (λ xs. olds ++ xs) (append-nil bs))
+      ∙ filter-append (λ b. ltb m.last_l0_seq b.number) olds bs
+
+  has_logs-after : HasItsLogs o m → HasItsLogs (with_log o m bs) m
+  has_logs-after has =
+      let ids = map (λ log. log.0) (logs_above m.replay_after_wal_id o) in
+      let next = last_log m.replay_after_wal_id o + 1 in
+      let last = gapless-greatest m.replay_after_wal_id m.replay_after_wal_id o.logs (omega arith) has.gapless in
+      let ids-after : map (λ log. log.0) (logs_above m.replay_after_wal_id (with_log o m bs)) ≡ ids ++ next ∷ [] =
+          ap (map (λ log. log.0)) above-after ∙ map-append (λ log. log.0) (logs_above m.replay_after_wal_id o) ((next, bs) ∷ []) in
+      let count = length-map (logs_above m.replay_after_wal_id o) (λ log. log.0) in
+      let longer = ap length above-after ∙ length-append (logs_above m.replay_after_wal_id o) ((next, bs) ∷ []) in
+      record {
+        gapless = subst (AreGapless m.replay_after_wal_id) (sym ids-after) (gapless-push m.replay_after_wal_id ids next has.gapless (omega (arith, last, count)));
+        next = has.next;
+        stored = let h = has.stored in omega (arith, h, longer);
+      }
+
+-- Storing batches that go on from the content keeps objects sound, and appends them to the content.
+pub record Appended (o : Objects) (bs : List Batch) (o' : Objects) : Type 0 where
+  pub sound : IsSound o'
+  pub content : content o' ≡ extended (content o) bs
+
+module _ (o : Objects) (latest : VersionedManifest) (bs : List Batch) (sound : IsSound o) (is : latest_manifest o ≡ Some latest) where
+  content-is : content o ≡ content_by o (Some latest)
+  content-is = ap (content_by o) is
+
+  content-after : AreNumberedFrom (end (content o)) bs → content (with_log o latest.manifest bs) ≡ extended (content o) bs
+  content-after next =
+      let m = latest.manifest in
+      let joined = table_batches o m.tables in
+      let tables : HasItsTables o m = subst (λ x. IfSome x (λ l. HasItsTables o l.manifest)) is sound.joined in
+      let after-is : content (with_log o m bs) ≡ content_by (with_log o m bs) (Some latest) = ap (content_by (with_log o m bs)) is in
+      let end_is : end (content o) ≡ m.last_l0_seq + length (logged o m) =
+          ap end content-is ∙ (let t = tables in let l = length-append joined (logged o m) in omega (arith, t, l)) in
+      let fresh : batches_above m.last_l0_seq bs ≡ bs = above-all (end (content o)) m.last_l0_seq bs next (omega (arith, end_is)) in
+      after-is
+      ∙ (ap (λ xs. record { floor = number_before joined m.last_l0_seq; batches = joined ++ xs }) (logged-after o m bs ∙ ap (λ xs. logged o m ++ xs) fresh)
+      ∙ (ap (λ xs. record { floor = number_before joined m.last_l0_seq; batches = xs }) (sym (append_assoc joined (logged o m) bs))
+      ∙ ap (λ l. extended l bs) (sym content-is)))
+
+  -- to store batches as the next log file
+  pub appended : AreNumberedFrom (end (content o)) bs → Appended o bs (with_log o latest.manifest bs)
+  appended next =
+      let m = latest.manifest in
+      let after = content-after next in
+      record {
+        sound = record {
+          manifests = sound.manifests;
+          nothing = λ none. absurd (cc (none, is));
+          joined = sound.joined;
+          logs = subst (λ x. IfSome x (λ l. HasItsLogs (with_log o m bs) l.manifest)) (sym is) (has_logs-after o m bs (subst (λ x. IfSome x (λ l. HasItsLogs o l.manifest)) is sound.logs));
+          line = subst IsLine (sym after) (numbered-append (content o).floor (content o).batches bs sound.line next);
+        };
+        content = after;
+      }

@@ -6,6 +6,15 @@ use slate_rows::NoMemory;
 use slate_store::StoreFault;
 use slate_text::{cut_back, write_number, write_signed, write_text};
 
+const VERSION_EXISTS: &str = "transactional object (e.g. manifest) version already exists";
+
+const VERSION_MISSING: &str = "failed to find latest transactional object (e.g. manifest) version";
+
+const OPERATOR_MISSING: &str =
+    "merge operator missing. A merge operator is required to read merge operands";
+
+const WAL_DISABLED: &str = "attempted a WAL operation when the WAL is disabled";
+
 // The words of a kind.
 pub(crate) fn words_of(kind: ErrorKind) -> &'static str
     ensures { result.now ≡ kind_words kind }
@@ -61,18 +70,8 @@ fn write_message(out: &mut Vec<u8>, error: &SlateError) -> Result<(), NoMemory>
         SlateError::EmptyKey => write_text(out, "empty RowEntry key"),
         SlateError::EmptyBatch => write_text(out, "empty write batch not allowed"),
         SlateError::ObjectStoreError(_) => write_text(out, "object store error"),
-        SlateError::TransactionalObjectVersionExists => {
-            write_text(
-                out,
-                "transactional object (e.g. manifest) version already exists",
-            )
-        }
-        SlateError::LatestTransactionalObjectVersionMissing => {
-            write_text(
-                out,
-                "failed to find latest transactional object (e.g. manifest) version",
-            )
-        }
+        SlateError::TransactionalObjectVersionExists => write_text(out, VERSION_EXISTS),
+        SlateError::LatestTransactionalObjectVersionMissing => write_text(out, VERSION_MISSING),
         SlateError::InvalidDBState => write_text(out, "invalid DB state error"),
         SlateError::WalTruncated(id) => write_wal_truncated(out, *id),
         SlateError::InvalidClockTick {
@@ -83,16 +82,8 @@ fn write_message(out: &mut Vec<u8>, error: &SlateError) -> Result<(), NoMemory>
         SlateError::ChecksumMismatch => write_text(out, "checksum mismatch"),
         SlateError::Closed => write_text(out, "db is closed"),
         SlateError::MergeOperatorError => write_text(out, "merge operator error"),
-        SlateError::MergeOperatorMissing => {
-            write_text(
-                out,
-                "merge operator missing. A merge operator is required to read merge operands",
-            )
-        }
-        SlateError::WalDisabled => write_text(
-            out,
-            "attempted a WAL operation when the WAL is disabled",
-        ),
+        SlateError::MergeOperatorMissing => write_text(out, OPERATOR_MISSING),
+        SlateError::WalDisabled => write_text(out, WAL_DISABLED),
         SlateError::NoMemory => write_text(out, "no memory"),
     }
 }

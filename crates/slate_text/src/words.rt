@@ -108,7 +108,7 @@ fn digit_of(value: u8) -> u8
 fn prints_plainly(byte: u8) -> bool
     ensures { result ≡ is_plain byte }
 {
-    byte >= 0x21 && byte <= 0x7e && byte != b'%'
+    matches!(byte, 0x21..=0x7e) && byte != b'%'
 }
 
 fn write_byte(out: &mut Vec<u8>, byte: u8) -> Result<(), NoMemory>

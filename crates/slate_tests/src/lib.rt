@@ -6,4 +6,6 @@ mod script;
 #[cfg(test)]
 mod status;
 #[cfg(test)]
+mod streams;
+#[cfg(test)]
 mod text;

@@ -130,11 +130,13 @@ impl<S: Store> Store for FaultyStore<S> {
     ghost calls = { λ s. s.calls };
 
     fn latest_manifest(&mut self, alloc: Global) -> Result<Option<VersionedManifest>, StoreError>
-        ensures counts { IsCall (S.faults self.old.inner + self.old.faults) (S.faults self.new.inner + self.new.faults) self.old.calls self.new.calls result }
+        ensures counts { IsCall (S.faults self.old.inner + self.old.faults)
+            (S.faults self.new.inner + self.new.faults) self.old.calls self.new.calls result }
         ensures kept { S.objects self.new.inner ≡ S.objects self.old.inner }
         ensures found { IfSome (S.objects self.old.inner) (λ o. IfOk result (λ latest. latest ≡ latest_manifest o)) }
         ensures refusals { IfErr result IsOfList }
-        ensures fated { IsFated self.old self.new (S.calls self.old.inner) (S.calls self.new.inner) result }
+        ensures fated { IsFated self.old self.new
+            (S.calls self.old.inner) (S.calls self.new.inner) result }
     {
         let fate = self.fate();
         if fate == Fate::Lost {
@@ -149,10 +151,12 @@ impl<S: Store> Store for FaultyStore<S> {
         id: u64,
         manifest: &Manifest,
     ) -> Result<(), StoreError>
-        ensures counts { IsCall (S.faults self.old.inner + self.old.faults) (S.faults self.new.inner + self.new.faults) self.old.calls self.new.calls result }
+        ensures counts { IsCall (S.faults self.old.inner + self.old.faults)
+            (S.faults self.new.inner + self.new.faults) self.old.calls self.new.calls result }
         ensures put { Told (Puts (PutManifest id manifest.now) result) (S.objects self.old.inner) (S.objects self.new.inner) }
         ensures refusals { IfErr result IsOfPut }
-        ensures fated { IsFated self.old self.new (S.calls self.old.inner) (S.calls self.new.inner) result }
+        ensures fated { IsFated self.old self.new
+            (S.calls self.old.inner) (S.calls self.new.inner) result }
     {
         let fate = self.fate();
         if fate == Fate::Lost {
@@ -162,11 +166,13 @@ impl<S: Store> Store for FaultyStore<S> {
     }
 
     fn last_log(&mut self, alloc: Global, after: u64) -> Result<u64, StoreError>
-        ensures counts { IsCall (S.faults self.old.inner + self.old.faults) (S.faults self.new.inner + self.new.faults) self.old.calls self.new.calls result }
+        ensures counts { IsCall (S.faults self.old.inner + self.old.faults)
+            (S.faults self.new.inner + self.new.faults) self.old.calls self.new.calls result }
         ensures kept { S.objects self.new.inner ≡ S.objects self.old.inner }
         ensures found { IfSome (S.objects self.old.inner) (λ o. IfOk result (λ last. last ≡ last_log after o)) }
         ensures refusals { IfErr result IsOfList }
-        ensures fated { IsFated self.old self.new (S.calls self.old.inner) (S.calls self.new.inner) result }
+        ensures fated { IsFated self.old self.new
+            (S.calls self.old.inner) (S.calls self.new.inner) result }
     {
         let fate = self.fate();
         if fate == Fate::Lost {
@@ -176,11 +182,13 @@ impl<S: Store> Store for FaultyStore<S> {
     }
 
     fn read_log(&mut self, alloc: Global, id: u64) -> Result<Seq<Batch>, StoreError>
-        ensures counts { IsCall (S.faults self.old.inner + self.old.faults) (S.faults self.new.inner + self.new.faults) self.old.calls self.new.calls result }
+        ensures counts { IsCall (S.faults self.old.inner + self.old.faults)
+            (S.faults self.new.inner + self.new.faults) self.old.calls self.new.calls result }
         ensures kept { S.objects self.new.inner ≡ S.objects self.old.inner }
         ensures found { IfSome (S.objects self.old.inner) (λ o. Finds (log_at id o) result) }
         ensures refusals { IfErr result IsOfRead }
-        ensures fated { IsFated self.old self.new (S.calls self.old.inner) (S.calls self.new.inner) result }
+        ensures fated { IsFated self.old self.new
+            (S.calls self.old.inner) (S.calls self.new.inner) result }
     {
         let fate = self.fate();
         if fate == Fate::Lost {
@@ -190,10 +198,12 @@ impl<S: Store> Store for FaultyStore<S> {
     }
 
     fn put_log(&mut self, alloc: Global, id: u64, batches: &[Batch]) -> Result<(), StoreError>
-        ensures counts { IsCall (S.faults self.old.inner + self.old.faults) (S.faults self.new.inner + self.new.faults) self.old.calls self.new.calls result }
+        ensures counts { IsCall (S.faults self.old.inner + self.old.faults)
+            (S.faults self.new.inner + self.new.faults) self.old.calls self.new.calls result }
         ensures put { Told (Puts (PutLog id batches.now) result) (S.objects self.old.inner) (S.objects self.new.inner) }
         ensures refusals { IfErr result IsOfPut }
-        ensures fated { IsFated self.old self.new (S.calls self.old.inner) (S.calls self.new.inner) result }
+        ensures fated { IsFated self.old self.new
+            (S.calls self.old.inner) (S.calls self.new.inner) result }
     {
         let fate = self.fate();
         if fate == Fate::Lost {

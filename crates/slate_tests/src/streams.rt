@@ -57,7 +57,10 @@ fn failing_reads(rt: HostRuntime) -> Result<(), Fail> {
         (4, b"".as_slice()),
     ] {
         let mut source = source(alloc, b"abcdefgh", 3, &[failing])?;
-        assert_eq!(rt; read_whole(alloc, &mut source).err(), Some(InputFault::Failed));
+        assert_eq!(rt;
+            read_whole(alloc, &mut source).err(),
+            Some(InputFault::Failed)
+        );
         let bytes = read_whole(alloc, &mut source)?;
         assert_eq!(rt; bytes.as_slice(), rest);
     }
@@ -90,19 +93,39 @@ fn failing_writes(rt: HostRuntime) -> Result<(), Fail> {
     Ok(())
 }
 
-fn zeros(alloc: Global, count: usize) -> Result<Vec<u8>, AllocError> {
-    vec![in alloc; 0; count]
+// Bytes that nothing holds, which come as many at a time as there is room for.
+#[derive(Drop)]
+struct Unheld {
+    left: usize,
+}
+
+impl Source for Unheld {
+    ghost use Rattle.std.specs.Prelude.{None};
+
+    ghost left = { λ _. None };
+
+    ghost faults = { λ _. 0 };
+
+    fn read(&mut self, buf: &mut [u8]) -> ReadAnswer {
+        let count = self.left.min(buf.len());
+        if count == 0 {
+            return ReadAnswer::End;
+        }
+        self.left -= count;
+        ReadAnswer::Got(count)
+    }
 }
 
 // A source of as many bytes as a script may have is read, and one of one more is refused.
 #[test]
 fn limit(rt: HostRuntime) -> Result<(), Fail> {
     let alloc = rt.alloc();
-    let longest = zeros(alloc, MAX_SCRIPT)?;
-    let mut source = SliceSource::new(longest, usize::MAX, Seq::of(Vec::new(alloc)));
-    assert_eq!(rt; read_whole(alloc, &mut source)?.len(), MAX_SCRIPT);
-    let longer = zeros(alloc, MAX_SCRIPT + 1)?;
-    let mut source = SliceSource::new(longer, usize::MAX, Seq::of(Vec::new(alloc)));
-    assert_eq!(rt; read_whole(alloc, &mut source).err(), Some(InputFault::TooLong));
+    for (left, want) in [
+        (MAX_SCRIPT, Ok(MAX_SCRIPT)),
+        (MAX_SCRIPT + 1, Err(InputFault::TooLong)),
+    ] {
+        let bytes = read_whole(alloc, &mut Unheld { left });
+        assert_eq!(rt; bytes.map(|bytes| bytes.len()), want);
+    }
     Ok(())
 }

@@ -4,3 +4,4 @@ pub mod Tails
 pub mod Prefixes
 pub mod Leb128
 pub mod Fronts
+pub mod Telling

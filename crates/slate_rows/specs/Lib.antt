@@ -1,4 +1,5 @@
 pub mod Bound
+pub mod Counts
 pub mod IndexKey
 pub mod Line
 pub mod Operator
@@ -7,5 +8,6 @@ pub mod Range
 pub mod Read
 pub mod Shared
 pub mod Tails
+pub mod Telling
 pub mod Varint
 pub mod Written

@@ -1,27 +1,15 @@
-use Rattle.std.specs.Prelude.{◌≡◌, ℕ, ◌+◌, ◌<◌, ◌≤◌, ◌⊎◌, min, true, false, Option, Some, None, Result, Ok, Err, IsErrOf}
+use Rattle.std.specs.Prelude.{◌≡◌, ℕ, ◌≤◌, ◌⊎◌, true, false, Option, Some, None, Result, Ok, Err, IsErrOf}
+pub use Rattle.slate_rows.specs.Counts.{count_end, one_more, HasRisen}
+pub use Rattle.slate_rows.specs.Telling.{Told}
 use Rattle.slate_store.specs.declared.errors.StoreError.{StoreError}
 use Rattle.slate_store.specs.declared.errors.StoreError.TheVariants.{NotFound, Exists, Failed, NoMemory}
 use Rattle.slate_store.specs.Objects.{Objects, Change, is_taken, changed}
 
--- the greatest u64, at which a count stays
-abbrev pub count_end : ℕ
-count_end = 18446744073709551615
-
--- A count has risen. One that stands at the end of its type counts as risen.
-abbrev pub HasRisen : ℕ → ℕ → Type 0
-HasRisen before after = (before < after) ⊎ (count_end ≤ after)
-
 -- what every call says of the two counts: a failure is told only where the count of faults has risen
 pub record IsCall {A : Type 0} (faults faults' calls calls' : ℕ) (result : Result A StoreError) : Type 0 where
   pub fault_count : faults ≤ faults'
-  pub call_count : calls' ≡ min (calls + 1) count_end
+  pub call_count : calls' ≡ one_more calls
   pub failed : IsErrOf result Failed → HasRisen faults faults'
-
--- A store that tells its objects before a call tells them after it, and P relates the two. One that tells none goes
--- on to tell none.
-pub record Told (P : Objects → Objects → Type 0) (before after : Option Objects) : Type 0 where
-  pub none : before ≡ None → after ≡ None
-  pub some : (old : Objects) → before ≡ Some old → (new : Objects) × (after ≡ Some new) × P old new
 
 -- a read gives what is stored, and NotFound where nothing is
 abbrev pub Finds : {A : Type 0} → Option A → Result A StoreError → Type 0

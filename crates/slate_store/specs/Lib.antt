@@ -1,3 +1,4 @@
 pub mod Calls
 pub mod Content
+pub mod Faulty
 pub mod Objects

@@ -2,11 +2,13 @@
 #![tactic(auto)]
 
 mod errors;
+mod faulty_store;
 mod memory_store;
 mod objects;
 mod stores;
 
 pub use errors::{StoreError, StoreFault};
+pub use faulty_store::{FailingCall, FaultyStore};
 pub use memory_store::MemoryStore;
 pub use objects::{Checkpoint, Manifest, TableId, VersionedManifest};
 pub use stores::Store;

@@ -1,5 +1,5 @@
-ghost use Rattle.std.specs.Prelude.{◌≡◌, ◌+◌, min, Some, []};
-ghost use Rattle.slate_store.specs.Calls.{count_end};
+ghost use Rattle.std.specs.Prelude.{◌≡◌, Some, []};
+ghost use Rattle.slate_rows.specs.Counts.{one_more};
 ghost use Rattle.slate_store.specs.Objects.{empty};
 
 use crate::{Manifest, Store, StoreError, VersionedManifest};
@@ -28,7 +28,7 @@ impl MemoryStore {
     }
 
     fn count_call(&mut self)
-        ensures { self.new ≡ record self.old { calls = min (self.old.calls + 1) count_end } }
+        ensures { self.new ≡ record self.old { calls = one_more self.old.calls } }
     {
         self.calls = self.calls.saturating_add(1);
     }

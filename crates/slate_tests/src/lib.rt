@@ -6,4 +6,8 @@ mod script;
 #[cfg(test)]
 mod status;
 #[cfg(test)]
+mod store;
+#[cfg(test)]
+mod streams;
+#[cfg(test)]
 mod text;

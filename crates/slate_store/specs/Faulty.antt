@@ -1,0 +1,52 @@
+use Rattle.std.specs.Prelude.{◌≡◌, ℕ, ◌+◌, ◌==◌, nat_lt, if◌then◌else◌, List, find, Option, Some, None, Result, Err}
+use Rattle.slate_rows.specs.Counts.{count_end, one_more}
+use Rattle.slate_store.specs.declared.errors.StoreError.{StoreError}
+use Rattle.slate_store.specs.declared.errors.StoreError.TheVariants.{Failed}
+use Rattle.slate_store.specs.declared.faulty_store.FailingCall.{FailingCall}
+use Rattle.slate_store.specs.declared.faulty_store.Fate.{Fate}
+use Rattle.slate_store.specs.declared.faulty_store.Fate.TheVariants.{Answered, Landed, Lost}
+
+-- A store whose calls fail as a list says: the store inside, the list, how many calls there were, and how many of them
+-- failed by the list.
+pub record Faulty (S : Type 0) : Type 0 where
+  pub inner : S
+  pub failing : List FailingCall
+  pub calls : ℕ
+  pub faults : ℕ
+
+-- what the list says of the next call, which is counted from 1; at the end of the count it says nothing
+abbrev pub next_named : {S : Type 0} → Faulty S → Option FailingCall
+next_named store = if nat_lt store.calls count_end then find (λ call. call.at == store.calls + 1) store.failing else None
+
+-- whether a call is answered, fails once it was made, or fails and isn't made
+abbrev pub fate_of : Option FailingCall → Fate
+fate_of None = Answered
+fate_of (Some call) = if call.landed then Landed else Lost
+
+abbrev pub fate : {S : Type 0} → Faulty S → Fate
+fate store = fate_of (next_named store)
+
+abbrev pub faults_after : Option FailingCall → ℕ → ℕ
+faults_after None faults = faults
+faults_after (Some call) faults = one_more faults
+
+-- the store after a call was counted, and before it is made
+abbrev pub called : {S : Type 0} → Faulty S → Faulty S
+called store = record store { calls = one_more store.calls; faults = faults_after (next_named store) store.faults }
+
+-- what a call answers, by its fate, where the store inside gives this answer
+abbrev pub answer_of : {A : Type 0} → Fate → Result A StoreError → Result A StoreError
+answer_of Answered answer = answer
+answer_of Landed answer = Err Failed
+answer_of Lost answer = Err Failed
+
+-- Whether a call of the store inside was made, by the count of its calls; one that isn't answered fails.
+abbrev pub Befalls : {A : Type 0} → Fate → ℕ → ℕ → Result A StoreError → Type 0
+Befalls Answered made made' result = made' ≡ one_more made
+Befalls Landed made made' result = (made' ≡ one_more made) × (result ≡ Err Failed)
+Befalls Lost made made' result = (made' ≡ made) × (result ≡ Err Failed)
+
+-- a call is counted and meets its fate; the two numbers are the calls of the store inside
+pub record IsFated {S A : Type 0} (old new : Faulty S) (made made' : ℕ) (result : Result A StoreError) : Type 0 where
+  pub counted : new ≡ record (called old) { inner = new.inner }
+  pub fate : Befalls (fate old) made made' result

@@ -1,0 +1,214 @@
+ghost use Rattle.std.specs.Prelude.{◌≡◌, ◌≤◌, ◌==◌, find};
+
+use crate::{Manifest, Store, StoreError, VersionedManifest};
+use slate_rows::{Batch, Seq};
+use std::alloc::Global;
+use std::marker::Model;
+
+/// A call of a `FaultyStore` that is to fail.
+#[derive(Clone, Copy, Debug, PartialEq, Eq)]
+pub struct FailingCall {
+    /// The number of the call. The first one since the store was made is call 1.
+    pub at: u64,
+    /// Whether the call is made all the same. A put that is made takes place, though its answer is lost.
+    pub landed: bool,
+}
+
+/// What becomes of a call.
+#[derive(Clone, Copy, Debug, PartialEq, Eq)]
+enum Fate {
+    /// It is made and answered.
+    Answered,
+    /// It is made, and fails.
+    Landed,
+    /// It isn't made, and fails.
+    Lost,
+}
+
+impl Fate {
+    ghost use Rattle.slate_store.specs.Faulty.{answer_of};
+
+    /// What a call answers where the store inside gave this answer.
+    fn tell<A: Drop>(self, answer: Result<A, StoreError>) -> Result<A, StoreError>
+        ensures { result ≡ answer_of self answer }
+    {
+        match self {
+            Fate::Answered => answer,
+            Fate::Landed | Fate::Lost => Err(StoreError::Failed),
+        }
+    }
+}
+
+/// A store over another one, whose calls fail as a list says. A call that the list names answers `Failed`; it is made
+/// or not, as the list says. Where the list names a call twice, the first counts. All other calls are those of the
+/// store inside. Each call takes time linear in the list besides.
+#[derive(Drop)]
+pub struct FaultyStore<S> {
+    inner: S,
+    failing: Seq<FailingCall>,
+    calls: u64,
+    faults: u64,
+}
+
+impl<S> Model for FaultyStore<S> {
+    ghost use Rattle.slate_store.specs.Faulty.{Faulty};
+
+    ghost Value = { Faulty S };
+
+    ghost view = { λ s. record { inner = s.inner; failing = s.failing; calls = s.calls; faults = s.faults } };
+}
+
+impl<S> FaultyStore<S> {
+    ghost use Rattle.slate_store.specs.Faulty.{called, fate};
+
+    /// A store over `inner` whose calls of these numbers fail. It takes no memory.
+    pub fn new(inner: S, failing: Seq<FailingCall>) -> FaultyStore<S>
+        ensures { result ≡ record { inner = inner; failing = failing; calls = 0; faults = 0 } }
+    {
+        FaultyStore {
+            inner,
+            failing,
+            calls: 0,
+            faults: 0,
+        }
+    }
+
+    /// How many calls there were, those that failed too. It stays at the greatest `u64`, and then no call fails by the
+    /// list.
+    pub fn calls(&self) -> u64
+        ensures { result ≡ self.now.calls }
+    {
+        self.calls
+    }
+
+    /// The store inside.
+    pub fn into_inner(self) -> S
+        ensures { result ≡ self.inner }
+    {
+        self.inner
+    }
+
+    /// Counts a call, and answers what becomes of it. It counts a failure.
+    fn fate(&mut self) -> Fate
+        ensures value { result ≡ fate self.old }
+        ensures counted { self.new ≡ called self.old }
+        ensures never_falls { self.old.faults ≤ self.new.faults }
+    {
+        let Some(call) = self.calls.checked_add(1) else {
+            return Fate::Answered;
+        };
+        self.calls = call;
+        let Some(named) = find_call(self.failing.as_slice(), call) else {
+            return Fate::Answered;
+        };
+        self.faults = self.faults.saturating_add(1);
+        if named.landed {
+            Fate::Landed
+        } else {
+            Fate::Lost
+        }
+    }
+}
+
+/// What the list says of a call.
+fn find_call(failing: &[FailingCall], call: u64) -> Option<FailingCall>
+    ensures { result ≡ find (λ named. named.at == call) failing.now }
+{
+    failing.iter().copied().find(|named| named.at == call)
+}
+
+impl<S: Store> Store for FaultyStore<S> {
+    ghost use Rattle.std.specs.Prelude.{◌≡◌, ◌+◌, IfSome, IfOk, IfErr};
+    ghost use Rattle.slate_store.specs.Objects.{PutManifest, PutLog, latest_manifest, last_log, log_at};
+    ghost use Rattle.slate_store.specs.Calls.{IsCall, Told, Finds, Puts, IsOfList, IsOfRead, IsOfPut};
+    ghost use Rattle.slate_store.specs.Faulty.{IsFated};
+
+    ghost objects = { λ s. S.objects s.inner };
+
+    ghost faults = { λ s. S.faults s.inner + s.faults };
+
+    ghost calls = { λ s. s.calls };
+
+    fn latest_manifest(&mut self, alloc: Global) -> Result<Option<VersionedManifest>, StoreError>
+        ensures counts { IsCall (S.faults self.old.inner + self.old.faults)
+            (S.faults self.new.inner + self.new.faults) self.old.calls self.new.calls result }
+        ensures kept { S.objects self.new.inner ≡ S.objects self.old.inner }
+        ensures found { IfSome (S.objects self.old.inner) (λ o. IfOk result (λ latest. latest ≡ latest_manifest o)) }
+        ensures refusals { IfErr result IsOfList }
+        ensures fated { IsFated self.old self.new
+            (S.calls self.old.inner) (S.calls self.new.inner) result }
+    {
+        let fate = self.fate();
+        if fate == Fate::Lost {
+            return Err(StoreError::Failed);
+        }
+        fate.tell(self.inner.latest_manifest(alloc))
+    }
+
+    fn put_manifest(
+        &mut self,
+        alloc: Global,
+        id: u64,
+        manifest: &Manifest,
+    ) -> Result<(), StoreError>
+        ensures counts { IsCall (S.faults self.old.inner + self.old.faults)
+            (S.faults self.new.inner + self.new.faults) self.old.calls self.new.calls result }
+        ensures put { Told (Puts (PutManifest id manifest.now) result) (S.objects self.old.inner) (S.objects self.new.inner) }
+        ensures refusals { IfErr result IsOfPut }
+        ensures fated { IsFated self.old self.new
+            (S.calls self.old.inner) (S.calls self.new.inner) result }
+    {
+        let fate = self.fate();
+        if fate == Fate::Lost {
+            return Err(StoreError::Failed);
+        }
+        fate.tell(self.inner.put_manifest(alloc, id, manifest))
+    }
+
+    fn last_log(&mut self, alloc: Global, after: u64) -> Result<u64, StoreError>
+        ensures counts { IsCall (S.faults self.old.inner + self.old.faults)
+            (S.faults self.new.inner + self.new.faults) self.old.calls self.new.calls result }
+        ensures kept { S.objects self.new.inner ≡ S.objects self.old.inner }
+        ensures found { IfSome (S.objects self.old.inner) (λ o. IfOk result (λ last. last ≡ last_log after o)) }
+        ensures refusals { IfErr result IsOfList }
+        ensures fated { IsFated self.old self.new
+            (S.calls self.old.inner) (S.calls self.new.inner) result }
+    {
+        let fate = self.fate();
+        if fate == Fate::Lost {
+            return Err(StoreError::Failed);
+        }
+        fate.tell(self.inner.last_log(alloc, after))
+    }
+
+    fn read_log(&mut self, alloc: Global, id: u64) -> Result<Seq<Batch>, StoreError>
+        ensures counts { IsCall (S.faults self.old.inner + self.old.faults)
+            (S.faults self.new.inner + self.new.faults) self.old.calls self.new.calls result }
+        ensures kept { S.objects self.new.inner ≡ S.objects self.old.inner }
+        ensures found { IfSome (S.objects self.old.inner) (λ o. Finds (log_at id o) result) }
+        ensures refusals { IfErr result IsOfRead }
+        ensures fated { IsFated self.old self.new
+            (S.calls self.old.inner) (S.calls self.new.inner) result }
+    {
+        let fate = self.fate();
+        if fate == Fate::Lost {
+            return Err(StoreError::Failed);
+        }
+        fate.tell(self.inner.read_log(alloc, id))
+    }
+
+    fn put_log(&mut self, alloc: Global, id: u64, batches: &[Batch]) -> Result<(), StoreError>
+        ensures counts { IsCall (S.faults self.old.inner + self.old.faults)
+            (S.faults self.new.inner + self.new.faults) self.old.calls self.new.calls result }
+        ensures put { Told (Puts (PutLog id batches.now) result) (S.objects self.old.inner) (S.objects self.new.inner) }
+        ensures refusals { IfErr result IsOfPut }
+        ensures fated { IsFated self.old self.new
+            (S.calls self.old.inner) (S.calls self.new.inner) result }
+    {
+        let fate = self.fate();
+        if fate == Fate::Lost {
+            return Err(StoreError::Failed);
+        }
+        fate.tell(self.inner.put_log(alloc, id, batches))
+    }
+}

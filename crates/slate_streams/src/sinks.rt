@@ -1,0 +1,30 @@
+ghost use Rattle.std.specs.Prelude.{◌≡◌, ℕ, ◌≤◌, List, length, Option};
+ghost use Rattle.slate_rows.specs.Counts.{HasRisen};
+ghost use Rattle.slate_rows.specs.Telling.{Told};
+ghost use Rattle.slate_streams.specs.Streams.{Takes, Writes};
+
+/// What a write to a sink answered.
+#[derive(Clone, Copy, Debug, PartialEq, Eq)]
+pub enum WriteAnswer {
+    /// So many bytes from the front of the piece were written.
+    Took(usize),
+    /// The sink failed, and wrote nothing. Another write may succeed.
+    Failed,
+}
+
+/// Where bytes go, in pieces.
+pub trait Sink {
+    /// The bytes that are written, where it tells them.
+    ghost written: { Self → Option (List ℕ) };
+
+    /// How often it has failed. The count never falls.
+    ghost faults: { Self → ℕ };
+
+    /// Writes the first bytes of a piece: at least one where the piece isn't empty. It answers `Failed` only where its
+    /// count of faults has risen.
+    fn write(&mut self, piece: &[u8]) -> WriteAnswer
+        ensures faults { faults self.old ≤ faults self.new }
+        ensures failed { result ≡ WriteAnswer.Failed → HasRisen (faults self.old) (faults self.new) }
+        ensures takes { Takes (length piece.now) result }
+        ensures told { Told (Writes result piece.now) (written self.old) (written self.new) };
+}

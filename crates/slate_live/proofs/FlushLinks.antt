@@ -1,27 +1,24 @@
-use Rattle.std.proofs.Common.{◌≡◌, ◌≢◌, ◌⊎◌, inl, inr, ℕ, zero, suc, ◌+◌, ◌<◌, ◌≤◌, List, [], ◌∷◌, length, set, get_or, Option, Some, None, Result, Ok, Err, Bool, true, false, refl, sym, subst, ap, ◌∙◌, arith}
+use Rattle.std.proofs.Common.{◌≡◌, ◌≢◌, inl, inr, ℕ, ◌<◌, ◌≤◌, length, set, get_or, Option, Some, None, Result, Ok, Err, Bool, true, false, refl, sym, subst, ap, ◌∙◌, arith}
 use Rattle.std.specs.List.{slice_get}
 use Rattle.std.specs.Option.{IfSome}
-use Rattle.slate_rows.specs.declared.batches.Batch.{Batch}
-use Rattle.slate_rows.specs.Line.{Line, AreNumberedFrom, end, extended}
+use Rattle.slate_rows.specs.Line.{AreNumberedFrom, end, extended}
 use Rattle.slate_store.specs.declared.objects.VersionedManifest.{VersionedManifest}
 use Rattle.slate_store.specs.Objects.{Objects, latest_manifest}
 use Rattle.slate_store.specs.Content.{IsSound, content}
-use Rattle.slate_status.specs.declared.closing.CloseFault.{CloseFault}
 use Rattle.slate_status.specs.declared.errors.SlateError.{SlateError}
-use Rattle.slate_status.specs.declared.errors.SlateError.TheVariants as errors
-use Rattle.slate_model.specs.Catalogue.{Catalogue, catalogue_of, span}
-use Rattle.slate_model.specs.Handle.{Handle, CloseResult, accepted, unstored, closed_error}
+use Rattle.slate_model.specs.Catalogue.{catalogue_of, span}
+use Rattle.slate_model.specs.Handle.{Handle, CloseResult, unstored, closed_error}
 use Rattle.slate_model.specs.Flush.{CanFlush, StoresBatches, TellsFaults, flushed}
 use Rattle.slate_model.proofs.Catalogued.{stores-known}
-use Rattle.slate_model.proofs.Flushed.{PutsLog, flush_cases}
-use Rattle.slate_model.proofs.Sound.{Appended, appended, with_log}
+use Rattle.slate_model.proofs.Flushed.{flush_cases}
+use Rattle.slate_model.proofs.Sound.{appended, with_log}
 use Rattle.slate_script.specs.declared.replies.Reply.{Reply}
 use Rattle.slate_script.specs.declared.replies.Reply.TheVariants as replies
 use Rattle.slate_live.specs.declared.states.Object.{Object}
 use Rattle.slate_live.specs.declared.states.Object.TheVariants as objects
 use Rattle.slate_live.specs.Links.{Links}
 use Rattle.slate_live.specs.Live.{Live, FlushesObject, handle_of}
-use Rattle.slate_live.specs.Next.{AtHandle, Flushes, FlushesIn, FlushesUnless, OnlyAnswers, done_or_refused, refusal, stored_after}
+use Rattle.slate_live.specs.Next.{Flushes, FlushesIn, FlushesUnless, done_or_refused, stored_after}
 use Rattle.slate_live.specs.Stands.{Holds, IsValid, IsValidHandle, IsHandleAt, StandsFor}
 use Rattle.slate_live.specs.World.{World}
 use Rattle.slate_live.proofs.Flushing.{unstored_next, valid-none, valid-one}

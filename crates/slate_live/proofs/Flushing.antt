@@ -1,24 +1,16 @@
-use Rattle.std.proofs.Common.{◌≡◌, ◌≢◌, ◌⊎◌, inl, inr, ℕ, zero, suc, ◌+◌, ◌-◌, ◌<◌, ◌≤◌, List, [], ◌∷◌, ◌++◌, length, set, take, drop, Option, Some, None, Result, Ok, Err, Bool, true, false, nat_lt, refl, sym, subst, ap, ◌∙◌, arith, append_assoc, length-append, length-drop}
-use Rattle.std.specs.List.{slice_get}
+use Rattle.std.proofs.Common.{◌≡◌, ℕ, ◌+◌, ◌≤◌, List, [], ◌∷◌, ◌++◌, length, Some, None, Result, Ok, Err, refl, sym, subst, ap, ◌∙◌, arith}
 use Rattle.std.proofs.lemmas.List.{append-nil}
 use Rattle.slate_rows.specs.declared.batches.Batch.{Batch}
 use Rattle.slate_rows.specs.Line.{Line, AreNumberedFrom, IsLine, end, extended, batches_above}
-use Rattle.slate_rows.proofs.Lines.{above-drop, above-none, numbered-drop}
+use Rattle.slate_rows.proofs.Lines.{above-none}
 use Rattle.slate_store.specs.declared.objects.VersionedManifest.{VersionedManifest}
-use Rattle.slate_store.specs.declared.errors.StoreFault.TheVariants.{NotFound, Unavailable}
+use Rattle.slate_store.specs.declared.errors.StoreFault.TheVariants.{Unavailable}
 use Rattle.slate_store.specs.Objects.{Objects, ObjectsOf, latest_manifest}
-use Rattle.slate_store.specs.Content.{IsSound, content}
-use Rattle.slate_store.specs.Calls.{Told}
 use Rattle.slate_status.specs.declared.errors.SlateError.{SlateError}
 use Rattle.slate_status.specs.declared.errors.SlateError.TheVariants as errors
-use Rattle.slate_model.specs.Catalogue.{Catalogue, catalogue_of, span}
 use Rattle.slate_model.specs.Changes.{PartMade}
 use Rattle.slate_model.specs.Handle.{Handle, accepted, unstored}
-use Rattle.slate_model.specs.Flush.{CanFlush, FlushAnswer, FlushCause, StoresBatches, StoresOnly, TellsFaults, flush_changes, flush_changes_by, flushed, recorded}
-use Rattle.slate_model.proofs.Catalogued.{stores-known}
-use Rattle.slate_model.proofs.Flushed.{PutsLog, flush_cases}
-use Rattle.slate_model.proofs.Sound.{Appended, appended, with_log}
-use Rattle.slate_live.specs.Next.{stored_after}
+use Rattle.slate_model.specs.Flush.{CanFlush, FlushAnswer, FlushCause, StoresBatches, StoresOnly, flush_changes, flush_changes_by, flushed, recorded}
 use Rattle.slate_live.specs.Stands.{IsValidHandle}
 
 -- the batches after the first ones of a line are numbered from the end of those

@@ -1,3 +1,4 @@
+pub mod Chains
 pub mod FlushLinks
 pub mod Flushing
 pub mod Handles

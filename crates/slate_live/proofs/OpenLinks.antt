@@ -1,10 +1,9 @@
-use Rattle.std.proofs.Common.{◌≡◌, ◌⊎◌, inl, inr, ℕ, zero, suc, ◌+◌, ◌<◌, ◌≤◌, List, [], ◌∷◌, ◌++◌, length, Option, Some, None, Result, Ok, Err, Bool, true, refl, sym, subst, ap, ◌∙◌, arith}
+use Rattle.std.proofs.Common.{◌≡◌, ◌⊎◌, inl, inr, ℕ, zero, suc, ◌<◌, ◌≤◌, List, [], ◌∷◌, ◌++◌, length, Option, Some, None, Result, Ok, Err, true, refl, sym, subst, ap, ◌∙◌, arith}
 use Rattle.std.specs.List.{slice_get}
 use Rattle.std.specs.Option.{option_map}
 use Rattle.std.proofs.lemmas.List.{append-nil}
-use Rattle.slate_rows.specs.Line.{Line, IsLine, end, extended, batches_above}
+use Rattle.slate_rows.specs.Line.{IsLine, end, extended}
 use Rattle.slate_rows.proofs.Lines.{above-none}
-use Rattle.slate_store.specs.declared.objects.VersionedManifest.{VersionedManifest}
 use Rattle.slate_store.specs.Objects.{Objects, empty, last, versioned, latest_manifest}
 use Rattle.slate_store.specs.Calls.{Told}
 use Rattle.slate_store.specs.Content.{IsSound, content, content_by}
@@ -12,18 +11,17 @@ use Rattle.slate_status.specs.declared.errors.SlateError.{SlateError}
 use Rattle.slate_status.specs.declared.errors.SlateError.TheVariants as errors
 use Rattle.slate_model.specs.Catalogue.{catalogue_of, span}
 use Rattle.slate_model.specs.Changes.{after_part}
-use Rattle.slate_model.specs.Handle.{Handle, accepted, unstored}
+use Rattle.slate_model.specs.Handle.{Handle, unstored}
 use Rattle.slate_model.specs.Flush.{TellsFaults}
 use Rattle.slate_model.specs.Open.{Opens, OpensOnly, first_handle, first_manifest, open_changes}
 use Rattle.slate_model.proofs.Catalogued.{opens-known}
 use Rattle.slate_model.proofs.Entries.{nil-from-last}
 use Rattle.slate_model.proofs.Flushed.{part_le}
 use Rattle.slate_script.specs.declared.replies.Reply.TheVariants as replies
-use Rattle.slate_live.specs.declared.states.Object.{Object}
 use Rattle.slate_live.specs.declared.states.Object.TheVariants as objects
 use Rattle.slate_live.specs.Live.{Live}
-use Rattle.slate_live.specs.Next.{OpensIn, done_or_refused, opened_handle, refusal}
-use Rattle.slate_live.specs.Stands.{Holds, IsValid, IsValidHandle, IsHandleAt, StandsFor}
+use Rattle.slate_live.specs.Next.{OpensIn, opened_handle, refusal}
+use Rattle.slate_live.specs.Stands.{IsValidHandle, IsHandleAt, StandsFor}
 use Rattle.slate_live.specs.World.{World}
 
 no_last : {X Y : Type 0} (f : X → Y) (o : Option X) → option_map f o ≡ None → o ≡ None

@@ -1,12 +1,10 @@
-use Rattle.std.proofs.Common.{◌≡◌, ℕ, ℤ, ◌<◌, ◌≤◌, List, [], ◌∷◌, length, get_or, Option, Some, None, Result, Ok, Err, Bool, true, false, min, refl, sym, subst, ap, ◌∙◌, arith}
+use Rattle.std.proofs.Common.{◌≡◌, ℕ, ℤ, ◌<◌, ◌≤◌, List, [], ◌∷◌, length, get_or, Option, Some, None, Result, Ok, Err, Bool, true, false, min, refl, subst, ap, ◌∙◌, arith}
 use Rattle.std.specs.List.{slice_get}
 use Rattle.std.specs.Option.{IfSome, option_map}
 use Rattle.slate_rows.specs.declared.batches.Batch.{Batch}
 use Rattle.slate_rows.specs.declared.batches.KeyValue.{KeyValue}
 use Rattle.slate_rows.specs.declared.batches.Op.{Op}
 use Rattle.slate_rows.specs.declared.batches.Op.TheVariants.{Put, Delete, Merge as MergeOperand}
-use Rattle.slate_rows.specs.declared.options.DurabilityLevel.{DurabilityLevel}
-use Rattle.slate_rows.specs.declared.options.DurabilityLevel.TheVariants.{Memory, Remote}
 use Rattle.slate_rows.specs.declared.reads.ReadFault.{ReadFault}
 use Rattle.slate_rows.specs.declared.reads.ReadFault.TheVariants as reads
 use Rattle.slate_rows.specs.Bound.{read_bound}
@@ -22,7 +20,7 @@ use Rattle.slate_live.specs.declared.states.Object.{Object}
 use Rattle.slate_live.specs.declared.states.Object.TheVariants as objects
 use Rattle.slate_live.specs.Live.{handle_of}
 use Rattle.slate_live.specs.Next.{IsReadReply, Reads, ReadsUnless, level_of, refusal}
-use Rattle.slate_live.specs.Stands.{IsHandleAt, IsValid}
+use Rattle.slate_live.specs.Stands.{IsValid}
 use Rattle.slate_live.specs.World.{World}
 use Rattle.slate_live.proofs.Objects.{get_read}
 use Rattle.slate_live.proofs.Replies.{closed-refused}

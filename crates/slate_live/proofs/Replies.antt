@@ -1,4 +1,4 @@
-use Rattle.std.proofs.Common.{◌≡◌, ℕ, ℤ, List, [], ◌∷◌, Option, Some, None, Result, Ok, Err, Bool, true, false, nat_lt, if◌then◌else◌, refl, sym, subst, ap, ◌∙◌}
+use Rattle.std.proofs.Common.{◌≡◌, ℤ, List, [], ◌∷◌, Option, Some, None, Result, Ok, Err, Bool, true, false, nat_lt, if◌then◌else◌, refl, subst}
 use Rattle.std.specs.Option.{option_or, unwrap_or}
 use Rattle.slate_rows.specs.declared.batches.KeyOp.{KeyOp}
 use Rattle.slate_status.specs.declared.closing.CloseFault.{CloseFault}

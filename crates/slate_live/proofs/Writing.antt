@@ -1,9 +1,9 @@
-use Rattle.std.proofs.Common.{◌≡◌, ◌⊎◌, inl, inr, ℕ, ℤ, ◌+◌, List, [], ◌∷◌, ◌++◌, length, set, Option, Some, None, refl, sym, subst, ap, ◌∙◌}
+use Rattle.std.proofs.Common.{◌≡◌, inl, inr, ℕ, ℤ, List, set, Option, Some, None, refl, sym, subst}
 use Rattle.std.specs.List.{slice_get}
 use Rattle.slate_rows.specs.declared.batches.KeyOp.{KeyOp}
 use Rattle.slate_store.specs.Objects.{Objects, latest_manifest}
 use Rattle.slate_status.specs.declared.errors.SlateError.{SlateError}
-use Rattle.slate_model.specs.Handle.{Handle, accepted}
+use Rattle.slate_model.specs.Handle.{Handle}
 use Rattle.slate_model.specs.Write.{write_refusal, written, accepted_moment}
 use Rattle.slate_script.specs.declared.replies.Reply.{Reply}
 use Rattle.slate_script.specs.declared.replies.Reply.TheVariants as replies
@@ -12,7 +12,7 @@ use Rattle.slate_live.specs.declared.states.Object.TheVariants as objects
 use Rattle.slate_live.specs.declared.states.Write.{Write}
 use Rattle.slate_live.specs.Live.{Live}
 use Rattle.slate_live.specs.Next.{AtHandle, OnlyAnswers, Writes, WritesIn, WritesUnless}
-use Rattle.slate_live.specs.Stands.{Holds, IsValid, IsValidHandle, IsHandleAt, StandsFor}
+use Rattle.slate_live.specs.Stands.{IsValid, IsValidHandle, IsHandleAt, StandsFor}
 use Rattle.slate_live.specs.World.{World}
 use Rattle.slate_live.proofs.Handles.{valid-set, distinct-set, valid-written}
 

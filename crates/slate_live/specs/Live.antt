@@ -1,4 +1,4 @@
-use Rattle.std.specs.Prelude.{◌≡◌, ℕ, false, List, Option, Some, None, Result, Ok, Err, IfSome}
+use Rattle.std.specs.Prelude.{◌≡◌, ℕ, false, List, Option, None, Result, Err, IfSome}
 use Rattle.slate_store.specs.Objects.{Objects}
 use Rattle.slate_store.specs.Calls.{Told}
 use Rattle.slate_status.specs.declared.errors.SlateError.{SlateError}

@@ -1,4 +1,4 @@
-use Rattle.std.specs.Prelude.{◌≡◌, ℕ, List, []}
+use Rattle.std.specs.Prelude.{ℕ, List, []}
 use Rattle.slate_rows.specs.Line.{Line}
 use Rattle.slate_store.specs.Objects.{Objects}
 use Rattle.slate_store.specs.Content.{content}

@@ -3,7 +3,9 @@
 #![tactic(auto)]
 
 mod commands;
+mod runs;
 mod states;
 
+pub use runs::run;
 pub use slate_script::{Action, Command, Options, Reply};
 pub use states::LiveState;

@@ -1,4 +1,4 @@
-use Rattle.std.proofs.Common.{rules, ◌∙◌, ap, sym, subst, ◌++◌, ◌∷◌, [], Ok, Err, Result, ◌≡◌, ℕ, length}
+use Rattle.std.proofs.Common.{rules, ◌∙◌, ap, sym, subst, ◌++◌, ◌∷◌, []}
 use Rattle.slate_live.specs.declared.states.Object.TheVariants as objects
 use Rattle.slate_model.specs.Open.{first_handle}
 use Rattle.slate_live.specs.Stands.{StandsFor}

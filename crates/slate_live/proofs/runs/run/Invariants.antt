@@ -1,0 +1,23 @@
+use Rattle.std.proofs.Common.{◌≡◌, ◌≤◌, Option, Some, length, take, vec_len, vec_capacity}
+use Rattle.std.specs.Option.{option_copied}
+use Rattle.slate_rows.specs.Operator.{Merge}
+use Rattle.slate_rows.specs.Read.{IsOperator}
+use Rattle.slate_store.specs.Objects.{Objects}
+use Rattle.slate_store.specs.Content.{IsSound}
+use Rattle.slate_live.specs.Next.{Chain}
+use Rattle.slate_live.specs.Stands.{StandsFor}
+use Rattle.slate_live.specs.World.{World, start}
+use Rattle.slate_live.proofs.runs.run.Given as goal
+
+-- the commands so far led to a world that state and store stand for, and there is room for the replies to the others
+abbrev pub invariant-loop-command : goal.invariant-loop-command
+invariant-loop-command g l =
+    record {
+      faults : g.S.Store.faults l.fn.store ≤ g.S.Store.faults l.store;
+      count : vec_len l.replies ≡ l.command-index;
+      room : length l.commands ≤ vec_capacity l.replies;
+      leads : (merge : Option Merge) → IsOperator g.M.MergeOperator.may_answer (option_copied l.operator) merge →
+          (before : Objects) → g.S.Store.objects l.fn.store ≡ Some before → IsSound before →
+          (w : World) × Chain merge (start before (g.S.Store.faults l.fn.store)) (take l.command-index l.commands) l.replies.items w
+          × StandsFor l.live (g.S.Store.objects l.store) (g.S.Store.faults l.store) w;
+    }

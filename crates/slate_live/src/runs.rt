@@ -1,0 +1,39 @@
+ghost use Rattle.std.specs.Prelude.{◌≡◌, ◌≤◌, None, Option, IfOk, OnErr};
+ghost use Rattle.std.specs.Option.{option_copied};
+ghost use Rattle.slate_rows.specs.Operator.{Merge};
+ghost use Rattle.slate_rows.specs.Read.{IsOperator};
+ghost use Rattle.slate_live.specs.Run.{IsRun};
+
+use crate::LiveState;
+use slate_rows::{MergeOperator, NoMemory, PrefixExtractor};
+use slate_script::{Command, Options, Reply};
+use slate_store::Store;
+use std::alloc::Global;
+
+/// Does a list of commands on a store, one after another, and answers a reply to each.
+///
+/// Over an honest store and with a lawful operator the commands lead through worlds, one link for each command with its
+/// reply, from the world of the store as it was to one that the store holds afterwards. Where memory runs out before
+/// the first command, nothing was done; a command that finds no memory has a reply of its own.
+pub fn run<S: Store, M: MergeOperator, E: PrefixExtractor>(
+    alloc: Global,
+    store: &mut S,
+    options: &Options,
+    operator: Option<&M>,
+    extractor: Option<&E>,
+    commands: &[Command],
+) -> Result<Vec<Reply>, NoMemory>
+    requires { extractor ≡ None }
+    ensures faults { S.faults store.old ≤ S.faults store.new }
+    ensures nothing { OnErr result (store.new ≡ store.old) }
+    ensures leads { IfOk result (λ replies. (merge : Option Merge) → IsOperator M.may_answer (option_copied operator.entry) merge →
+        IsRun merge commands.now replies.items (S.objects store.old) (S.faults store.old) (S.objects store.new) (S.faults store.new)) }
+{
+    let mut replies = Vec::with_capacity(alloc, commands.len())?;
+    let mut live = LiveState::new(alloc, options);
+    for command in commands {
+        let reply = live.apply(alloc, store, operator, extractor, command);
+        replies.push_reserved(reply);
+    }
+    Ok(replies)
+}

@@ -6,4 +6,5 @@ pub mod Objects
 pub mod OpenLinks
 pub mod Reading
 pub mod Replies
+pub mod Endings
 pub mod Writing

@@ -2,5 +2,6 @@ pub mod Links
 pub mod Live
 pub mod Next
 pub mod Run
+pub mod Session
 pub mod Stands
 pub mod World

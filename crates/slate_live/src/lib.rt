@@ -4,8 +4,17 @@
 
 mod commands;
 mod runs;
+mod sessions;
 mod states;
 
 pub use runs::run;
-pub use slate_script::{Action, Command, Options, Reply};
+pub use sessions::{Finished, session};
+pub use slate_script::{
+    Action, Command, LineAnswer, Options, Reply, ScriptFault, print_replies, read_line,
+    read_script, script_fields,
+};
+pub use slate_streams::{
+    InputFault, MAX_SCRIPT, ReadAnswer, Sink, SliceSource, Source, VecSink, WriteAnswer,
+    read_whole, write_whole,
+};
 pub use states::LiveState;

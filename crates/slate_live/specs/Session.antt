@@ -1,0 +1,137 @@
+-- What a session did, by how it ended.
+use Rattle.std.specs.Prelude.{◌≡◌, ℕ, ◌<◌, ◌≤◌, ◌⊎◌, List, [], ◌++◌, length, take, Option, Some, None, Result, Ok, Err}
+use Rattle.std.specs.Global.{Vec}
+use Rattle.slate_rows.specs.Counts.{HasRisen}
+use Rattle.slate_rows.specs.Telling.{Told}
+use Rattle.slate_store.specs.Objects.{Objects}
+use Rattle.slate_streams.specs.declared.whole.TheConstants.{MAX_SCRIPT}
+use Rattle.slate_streams.specs.declared.whole.InputFault.{InputFault}
+use Rattle.slate_streams.specs.declared.whole.InputFault.TheVariants as inputs
+use Rattle.slate_script.specs.declared.commands.ScriptFault.{ScriptFault}
+use Rattle.slate_script.specs.declared.commands.ScriptFault.TheVariants as scripts
+use Rattle.slate_script.specs.Replies.{replies_text}
+use Rattle.slate_script.specs.Scripts.{script_of}
+use Rattle.slate_script.specs.declared.commands.Command.{Command}
+use Rattle.slate_script.specs.declared.options.Options.{Options}
+use Rattle.slate_script.specs.declared.replies.Reply.{Reply}
+use Rattle.slate_live.specs.Run.{IsRun}
+use Rattle.slate_live.specs.declared.sessions.Ending.{Ending}
+use Rattle.slate_live.specs.declared.sessions.Ending.TheVariants.{Done, LineRefused, ReadFault, WriteFault, NoMemory, TooLong, WordsRefused}
+
+-- the status of an ending, and the number of the line that was refused
+abbrev pub status_of : Ending → ℕ
+status_of Done = 0
+status_of (LineRefused number) = 2
+status_of ReadFault = 3
+status_of WriteFault = 4
+status_of NoMemory = 5
+status_of TooLong = 6
+status_of WordsRefused = 64
+
+abbrev pub refused_line : Ending → ℕ
+refused_line Done = 0
+refused_line (LineRefused number) = number
+refused_line ReadFault = 0
+refused_line WriteFault = 0
+refused_line NoMemory = 0
+refused_line TooLong = 0
+refused_line WordsRefused = 0
+
+-- how a fault of reading a source, or a script, ends a session
+abbrev pub input_ending : InputFault → Ending
+input_ending inputs.Failed = ReadFault
+input_ending inputs.TooLong = TooLong
+input_ending inputs.NoMemory = NoMemory
+
+abbrev pub script_ending : ScriptFault → Ending
+script_ending (scripts.Line number) = LineRefused number
+script_ending scripts.NoMemory = NoMemory
+
+-- what a source, a sink and a store tell, and how often each has failed
+pub record Sides : Type 0 where
+  pub left : Option (List ℕ)
+  pub source_faults : ℕ
+  pub written : Option (List ℕ)
+  pub sink_faults : ℕ
+  pub objects : Option Objects
+  pub store_faults : ℕ
+
+-- the source was read to its end: it had these bytes left, within the limit
+pub record WasRead (bytes : List ℕ) (left left' : Option (List ℕ)) : Type 0 where
+  pub limit : length bytes ≤ MAX_SCRIPT
+  pub told : Told (λ old new. (old ≡ bytes) × (new ≡ [])) left left'
+
+-- why no script came of a source
+abbrev pub StopsReading : Ending → (left left' : Option (List ℕ)) → (faults faults' : ℕ) → Type 0
+StopsReading (LineRefused number) left left' faults faults' = (bytes : List ℕ) × WasRead bytes left left' × (script_of bytes ≡ Err number)
+StopsReading ReadFault left left' faults faults' = HasRisen faults faults'
+StopsReading TooLong left left' faults faults' = Told (λ old new. (taken : List ℕ) × (old ≡ taken ++ new) × (MAX_SCRIPT < length taken)) left left'
+StopsReading NoMemory left left' faults faults' = Unit {0}
+StopsReading Done left left' faults faults' = ⊥
+StopsReading WriteFault left left' faults faults' = ⊥
+StopsReading WordsRefused left left' faults faults' = ⊥
+
+-- what reading a script gave: its commands, or why none came
+abbrev pub ReadsScript : Result (Vec Command) Ending → (left left' : Option (List ℕ)) → (faults faults' : ℕ) → Type 0
+ReadsScript (Ok commands) left left' faults faults' = (bytes : List ℕ) × WasRead bytes left left' × (script_of bytes ≡ Ok commands.items)
+ReadsScript (Err ending) left left' faults faults' = StopsReading ending left left' faults faults'
+
+-- how writing a text ends: all of it is written, or a part of it, or none
+abbrev pub EndsWriting : Ending → List ℕ → (written written' : Option (List ℕ)) → (faults faults' : ℕ) → Type 0
+EndsWriting Done text written written' faults faults' = Told (λ old new. new ≡ old ++ text) written written'
+EndsWriting WriteFault text written written' faults faults' =
+    HasRisen faults faults' × Told (λ old new. (count : ℕ) × (count < length text) × (new ≡ old ++ take count text)) written written'
+EndsWriting NoMemory text written written' faults faults' = (written' ≡ written) × (faults' ≡ faults)
+EndsWriting (LineRefused number) text written written' faults faults' = ⊥
+EndsWriting ReadFault text written written' faults faults' = ⊥
+EndsWriting TooLong text written written' faults faults' = ⊥
+EndsWriting WordsRefused text written written' faults faults' = ⊥
+
+-- what a sink tells and a store tells stays
+pub record KeepsOutput (s s' : Sides) : Type 0 where
+  pub written : s'.written ≡ s.written
+  pub sink_faults : s'.sink_faults ≡ s.sink_faults
+  pub objects : s'.objects ≡ s.objects
+  pub store_faults : s'.store_faults ≡ s.store_faults
+
+-- The words were refused: nothing was read, run or written.
+pub record RefusesWords (words : Option Options) (replies : List Reply) (ending : Ending) (s s' : Sides) : Type 0 where
+  pub refused : words ≡ None
+  pub ending_is : ending ≡ WordsRefused
+  pub nothing : s' ≡ s
+  pub no_reply : replies ≡ []
+
+-- No script came of the source: nothing was run or written.
+pub record RunsNothing (words : Option Options) (replies : List Reply) (ending : Ending) (s s' : Sides) : Type 0 where
+  pub options : Options
+  pub accepted : words ≡ Some options
+  pub stops : StopsReading ending s.left s'.left s.source_faults s'.source_faults
+  pub output : KeepsOutput s s'
+  pub no_reply : replies ≡ []
+
+-- The script was read whole, its commands were run, and the text of the replies was written, or writing it ended.
+pub record RunsScript (words : Option Options) (replies : List Reply) (ending : Ending) (s s' : Sides) : Type 0 where
+  pub options : Options
+  pub accepted : words ≡ Some options
+  pub bytes : List ℕ
+  pub read : WasRead bytes s.left s'.left
+  pub commands : List Command
+  pub script : script_of bytes ≡ Ok commands
+  pub run : IsRun None commands replies s.objects s.store_faults s'.objects s'.store_faults
+  pub writing : EndsWriting ending (replies_text replies) s.written s'.written s.sink_faults s'.sink_faults
+
+abbrev pub Ends : Option Options → List Reply → Ending → Sides → Sides → Type 0
+Ends words replies ending s s' =
+    RefusesWords words replies ending s s' ⊎ (RunsNothing words replies ending s s' ⊎ RunsScript words replies ending s s')
+
+-- what a session that meets no fault needs: words that spell options, and a script within the limit, of script lines
+pub record IsGiven (words : Option Options) (s s' : Sides) : Type 0 where
+  pub options : Options
+  pub accepted : words ≡ Some options
+  pub bytes : List ℕ
+  pub left : s.left ≡ Some bytes
+  pub limit : length bytes ≤ MAX_SCRIPT
+  pub commands : List Command
+  pub script : script_of bytes ≡ Ok commands
+  pub reading : HasRisen s.source_faults s'.source_faults → ⊥
+  pub writing : HasRisen s.sink_faults s'.sink_faults → ⊥

@@ -1,0 +1,224 @@
+ghost use Rattle.std.specs.Prelude.{◌≡◌, ◌≤◌, ◌⊎◌, map, string_bytes};
+ghost use Rattle.slate_script.specs.Options.{options_of};
+ghost use Rattle.slate_script.specs.Replies.{replies_text};
+ghost use Rattle.slate_live.specs.Session.{Ends, EndsWriting, IsGiven, ReadsScript, input_ending, refused_line, script_ending, status_of};
+
+use crate::run;
+use bytes::Bytes;
+use slate_rows::{MergeFault, MergeOperator, PrefixExtractor, Seq};
+use slate_script::{Command, Reply, ScriptFault, print_replies, read_script, read_words};
+use slate_store::Store;
+use slate_streams::{InputFault, Sink, Source, read_whole, write_whole};
+use std::alloc::Global;
+
+/// How a session ended.
+#[derive(Clone, Copy, Debug, PartialEq, Eq)]
+pub(crate) enum Ending {
+    /// The text of all replies was written.
+    Done,
+    /// The line with this number is the first that isn't a script line.
+    LineRefused(u64),
+    /// The source failed.
+    ReadFault,
+    /// The sink failed.
+    WriteFault,
+    /// Memory ran out.
+    NoMemory,
+    /// The script is longer than the limit.
+    TooLong,
+    /// The words spell no options.
+    WordsRefused,
+}
+
+/// What a session did.
+#[derive(Debug, Drop)]
+pub struct Finished {
+    /// The exit status of the program.
+    pub status: u8,
+    /// With status 2 the number, from 1, of the first line that isn't a script line; else 0.
+    pub line: u64,
+    /// The replies of the run; none where nothing was run.
+    pub replies: Seq<Reply>,
+}
+
+impl From<InputFault> for Ending {
+    ghost from_gives = { λ fault ending. ending ≡ input_ending fault };
+
+    fn from(fault: InputFault) -> Ending {
+        match fault {
+            InputFault::Failed => Ending::ReadFault,
+            InputFault::TooLong => Ending::TooLong,
+            InputFault::NoMemory => Ending::NoMemory,
+        }
+    }
+}
+
+impl From<ScriptFault> for Ending {
+    ghost from_gives = { λ fault ending. ending ≡ script_ending fault };
+
+    fn from(fault: ScriptFault) -> Ending {
+        match fault {
+            ScriptFault::Line(number) => Ending::LineRefused(number),
+            ScriptFault::NoMemory => Ending::NoMemory,
+        }
+    }
+}
+
+impl Ending {
+    /// The exit status that says how a session ended.
+    fn status(self) -> u8
+        ensures { result ≡ status_of self }
+    {
+        match self {
+            Ending::Done => 0,
+            Ending::LineRefused(_) => 2,
+            Ending::ReadFault => 3,
+            Ending::WriteFault => 4,
+            Ending::NoMemory => 5,
+            Ending::TooLong => 6,
+            Ending::WordsRefused => 64,
+        }
+    }
+
+    /// The number of the line that was refused, or 0.
+    fn line(self) -> u64
+        ensures { result ≡ refused_line self }
+    {
+        match self {
+            Ending::LineRefused(number) => number,
+            _ => 0,
+        }
+    }
+
+    /// A session that ended so, with these replies.
+    fn finished(self, replies: Vec<Reply>) -> Finished
+        ensures status { result.status ≡ status_of self }
+        ensures line { result.line ≡ refused_line self }
+        ensures replies { result.replies ≡ replies.items }
+    {
+        Finished {
+            status: self.status(),
+            line: self.line(),
+            replies: Seq::of(replies),
+        }
+    }
+}
+
+/// No operator: a type without a value.
+enum NoOperator {}
+
+impl MergeOperator for NoOperator {
+    ghost use Rattle.std.specs.Prelude.{◌≡◌};
+    ghost use Rattle.std.specs.Option.{option_copied};
+    ghost use Rattle.slate_rows.specs.Operator.{Merges};
+
+    ghost may_answer = { λ operator key existing operand answer. ⊥ };
+
+    fn merge(
+        &self,
+        _alloc: Global,
+        _key: &[u8],
+        _existing: Option<&Bytes>,
+        _operand: &Bytes,
+    ) -> Result<Bytes, MergeFault>
+        ensures { Merges (λ answer. ⊥) result }
+    {
+        match *self {}
+    }
+}
+
+/// No extractor: a type without a value.
+enum NoExtractor {}
+
+impl PrefixExtractor for NoExtractor {
+    ghost may_name = { λ extractor name. ⊥ };
+
+    ghost may_extract = { λ extractor key prefix. ⊥ };
+
+    fn name(&self) -> &str
+        ensures { ⊥ }
+    {
+        match *self {}
+    }
+
+    fn prefix_of<'a>(&self, _key: &'a [u8]) -> Option<&'a [u8]>
+        ensures { ⊥ }
+    {
+        match *self {}
+    }
+}
+
+/// Reads the commands of a script from a source, to its end.
+fn read_commands<I: Source>(alloc: Global, source: &mut I) -> Result<Vec<Command>, Ending>
+    ensures faults { I.faults source.old ≤ I.faults source.new }
+    ensures reads { ReadsScript result (I.left source.old) (I.left source.new) (I.faults source.old) (I.faults source.new) }
+{
+    let bytes = read_whole(alloc, source)?;
+    let commands = read_script(alloc, bytes.as_slice())?;
+    Ok(commands)
+}
+
+/// Writes the text of replies to a sink.
+fn write_replies<O: Sink>(alloc: Global, sink: &mut O, replies: &[Reply]) -> Ending
+    ensures faults { O.faults sink.old ≤ O.faults sink.new }
+    ensures writes { EndsWriting result (replies_text replies.now) (O.written sink.old) (O.written sink.new) (O.faults sink.old) (O.faults sink.new) }
+{
+    let mut text = Vec::new(alloc);
+    if print_replies(&mut text, replies).is_err() {
+        return Ending::NoMemory;
+    }
+    if write_whole(sink, text.as_slice()) {
+        Ending::Done
+    } else {
+        Ending::WriteFault
+    }
+}
+
+/// Does a script over a store: reads it from the source to its end, runs its commands one after another, and writes
+/// the text of the replies to the sink, a line or a few for each. The words are those of the command line.
+///
+/// The status says how it ended. Words that spell no options end it before anything is read (64). A source that fails
+/// (3), a script of more than `MAX_SCRIPT` bytes (6) and a line that isn't a script line (2) end it before anything is
+/// run. Where the sink fails (4), the run is whole and a part of the text is written. Where memory runs out (5), nothing
+/// is written, and the store is as it was or the run is whole. Else all is done and written (0).
+pub fn session<I: Source, O: Sink, S: Store>(
+    alloc: Global,
+    words: &[String],
+    source: &mut I,
+    sink: &mut O,
+    store: &mut S,
+) -> Finished
+    ensures source_faults { I.faults source.old ≤ I.faults source.new }
+    ensures sink_faults { O.faults sink.old ≤ O.faults sink.new }
+    ensures store_faults { S.faults store.old ≤ S.faults store.new }
+    ensures ends { (ending : Ending) × (result.status ≡ status_of ending) × (result.line ≡ refused_line ending)
+        × Ends (options_of (map string_bytes words.now)) result.replies ending
+        (record { left = I.left source.old; source_faults = I.faults source.old; written = O.written sink.old; sink_faults = O.faults sink.old; objects = S.objects store.old; store_faults = S.faults store.old })
+        (record { left = I.left source.new; source_faults = I.faults source.new; written = O.written sink.new; sink_faults = O.faults sink.new; objects = S.objects store.new; store_faults = S.faults store.new }) }
+    ensures completes { IsGiven (options_of (map string_bytes words.now))
+        (record { left = I.left source.old; source_faults = I.faults source.old; written = O.written sink.old; sink_faults = O.faults sink.old; objects = S.objects store.old; store_faults = S.faults store.old })
+        (record { left = I.left source.new; source_faults = I.faults source.new; written = O.written sink.new; sink_faults = O.faults sink.new; objects = S.objects store.new; store_faults = S.faults store.new })
+        → (result.status ≡ 0) ⊎ (result.status ≡ 5) }
+{
+    let Some(options) = read_words(words) else {
+        return Ending::WordsRefused.finished(Vec::new(alloc));
+    };
+    let commands = match read_commands(alloc, source) {
+        Ok(commands) => commands,
+        Err(ending) => return ending.finished(Vec::new(alloc)),
+    };
+    let operator: Option<&NoOperator> = None;
+    let extractor: Option<&NoExtractor> = None;
+    let Ok(replies) = run(
+        alloc,
+        store,
+        &options,
+        operator,
+        extractor,
+        commands.as_slice(),
+    ) else {
+        return Ending::NoMemory.finished(Vec::new(alloc));
+    };
+    let ending = write_replies(alloc, sink, replies.as_slice());
+    ending.finished(replies)
+}

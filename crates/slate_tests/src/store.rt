@@ -17,50 +17,58 @@ fn write_once<S: Store>(alloc: Global, store: &mut S) -> Result<(), SlateError> 
     writer.flush(alloc, store, FlushType::Wal)
 }
 
+// What a run leaves in a store whose calls fail so: the id of the manifest, that of the last log file, and how many
+// batches this one has.
+type Left = (Option<u64>, u64, usize);
+
+fn left_in<S: Store>(alloc: Global, store: &mut S) -> Result<Left, StoreError> {
+    let manifest = store.latest_manifest(alloc)?.map(|latest| latest.id);
+    let last = store.last_log(alloc, 0)?;
+    let batches = match store.read_log(alloc, last) {
+        Err(StoreError::NotFound) => 0,
+        log => log?.as_slice().len(),
+    };
+    Ok((manifest, last, batches))
+}
+
+// Whether the run answers that the store is unavailable, and not Ok, and what it leaves.
+fn write_over(alloc: Global, at: u64, landed: bool) -> Result<(bool, Left), Fail> {
+    let failing = Seq::of(vec![in alloc; FailingCall { at, landed }]?);
+    let mut store = FaultyStore::new(MemoryStore::new(alloc), failing);
+    let failed = match write_once(alloc, &mut store) {
+        Err(SlateError::ObjectStoreError(StoreFault::Unavailable)) => true,
+        answer => {
+            answer?;
+            false
+        }
+    };
+    Ok((failed, left_in(alloc, &mut store.into_inner())?))
+}
+
 // Each call of a run fails in turn, made and not made. The run ends with that fault, and the store has what was put
 // before, and what the failing call put where it was made.
 #[test]
 fn failing_calls(rt: HostRuntime) -> Result<(), Fail> {
-    let alloc = rt.alloc();
-    for (at, landed, manifest, logs) in [
-        (1, false, None, 0),
-        (1, true, None, 0),
-        (2, false, None, 0),
-        (2, true, None, 0),
-        (3, false, None, 0),
-        (3, true, Some(1), 0),
-        (4, false, Some(1), 0),
-        (4, true, Some(1), 1),
-        (5, false, Some(1), 1),
-        (5, true, Some(1), 1),
-        (6, false, Some(1), 1),
-        (6, true, Some(1), 1),
-        (7, false, Some(1), 1),
-        (7, true, Some(1), 2),
-        (8, false, Some(1), 2),
+    for (at, lost, landed) in [
+        (1, (None, 0, 0), (None, 0, 0)),
+        (2, (None, 0, 0), (None, 0, 0)),
+        (3, (None, 0, 0), (Some(1), 0, 0)),
+        (4, (Some(1), 0, 0), (Some(1), 1, 0)),
+        (5, (Some(1), 1, 0), (Some(1), 1, 0)),
+        (6, (Some(1), 1, 0), (Some(1), 1, 0)),
+        (7, (Some(1), 1, 0), (Some(1), 2, 1)),
+        (8, (Some(1), 2, 1), (Some(1), 2, 1)),
     ] {
-        let failing = Seq::of(vec![in alloc; FailingCall { at, landed }]?);
-        let mut store = FaultyStore::new(MemoryStore::new(alloc), failing);
-        let answer = write_once(alloc, &mut store);
-        assert_eq!(rt; answer.is_ok(), at == 8, "at call {at}");
-        let unavailable = matches!(
-            answer,
-            Err(SlateError::ObjectStoreError(StoreFault::Unavailable))
-        );
-        assert_eq!(rt; unavailable, at < 8, "at call {at}");
-        assert_eq!(rt; store.calls(), at.min(7));
-        let mut stored = store.into_inner();
-        let latest = stored.latest_manifest(alloc)?;
-        assert_eq!(rt; latest.map(|latest| latest.id), manifest, "at call {at}");
-        assert_eq!(rt; stored.last_log(alloc, 0)?, logs, "at call {at}");
         assert_eq!(rt;
-            stored.read_log(alloc, logs + 1).err(),
-            Some(StoreError::NotFound)
+            write_over(rt.alloc(), at, false)?,
+            (at < 8, lost),
+            "at call {at}"
         );
-        if logs > 0 {
-            let log = stored.read_log(alloc, logs)?;
-            assert_eq!(rt; log.as_slice().len(), if logs == 2 { 1 } else { 0 });
-        }
+        assert_eq!(rt;
+            write_over(rt.alloc(), at, true)?,
+            (at < 8, landed),
+            "at call {at}"
+        );
     }
     Ok(())
 }

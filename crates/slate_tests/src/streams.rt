@@ -26,70 +26,73 @@ fn sink(alloc: Global, piece: usize, failing: &[u64]) -> Result<VecSink, AllocEr
     Ok(VecSink::new(alloc, piece, failing))
 }
 
-// A text comes whole, and goes whole, whatever its pieces are.
+// Whether a text that comes in these pieces, and goes in them, is the same afterwards.
+fn passes(alloc: Global, text: &[u8], piece: usize) -> Result<bool, Fail>
+    requires { 1 ≤ piece }
+{
+    let bytes = read_whole(alloc, &mut source(alloc, text, piece, &[])?)?;
+    let mut sink = sink(alloc, piece, &[])?;
+    Ok(write_whole(&mut sink, bytes.as_slice()) && sink.written() == text)
+}
+
 #[test]
 fn pieces(rt: HostRuntime) -> Result<(), Fail> {
-    let alloc = rt.alloc();
     for text in [b"".as_slice(), b"a".as_slice(), b"three pieces".as_slice()] {
         for piece in [1, 4, 5, 12, 100] {
-            let mut source = source(alloc, text, piece, &[])?;
-            let bytes = read_whole(alloc, &mut source)?;
-            assert_eq!(rt; bytes.as_slice(), text);
-            assert_eq!(rt; source.read(&mut [0; 4]), ReadAnswer::End);
-            let mut sink = sink(alloc, piece, &[])?;
-            assert!(rt; write_whole(&mut sink, text));
-            assert!(rt; write_whole(&mut sink, b"."));
-            assert_eq!(rt; sink.written().len(), text.len() + 1);
-            assert_eq!(rt; &sink.written()[..text.len()], text);
+            assert!(rt; passes(rt.alloc(), text, piece)?, "pieces of {piece}");
         }
     }
     Ok(())
 }
 
+// The fault of a read to the end of three pieces, and what another read gives.
+fn read_twice(alloc: Global, failing: u64) -> Result<(Option<InputFault>, Vec<u8>), Fail> {
+    let mut source = source(alloc, b"abcdefgh", 3, &[failing])?;
+    let fault = read_whole(alloc, &mut source).err();
+    Ok((fault, read_whole(alloc, &mut source)?))
+}
+
 // Each read fails in turn, the one that would tell the end too. What came before it is lost, and what is left comes.
 #[test]
 fn failing_reads(rt: HostRuntime) -> Result<(), Fail> {
-    let alloc = rt.alloc();
-    for (failing, rest) in [
-        (1, b"abcdefgh".as_slice()),
-        (2, b"defgh".as_slice()),
-        (3, b"gh".as_slice()),
-        (4, b"".as_slice()),
+    let failed = Some(InputFault::Failed);
+    for (failing, want, rest) in [
+        (0, None, b"".as_slice()),
+        (1, failed, b"abcdefgh".as_slice()),
+        (2, failed, b"defgh".as_slice()),
+        (3, failed, b"gh".as_slice()),
+        (4, failed, b"".as_slice()),
+        (u64::MAX, None, b"".as_slice()),
     ] {
-        let mut source = source(alloc, b"abcdefgh", 3, &[failing])?;
-        assert_eq!(rt;
-            read_whole(alloc, &mut source).err(),
-            Some(InputFault::Failed)
-        );
-        let bytes = read_whole(alloc, &mut source)?;
-        assert_eq!(rt; bytes.as_slice(), rest);
-    }
-    for failing in [0, 5, u64::MAX] {
-        let mut source = source(alloc, b"abcdefgh", 3, &[failing])?;
-        let bytes = read_whole(alloc, &mut source)?;
-        assert_eq!(rt; bytes.as_slice(), b"abcdefgh".as_slice());
+        let (fault, bytes) = read_twice(rt.alloc(), failing)?;
+        assert_eq!(rt; fault, want, "at call {failing}");
+        assert_eq!(rt; bytes.as_slice(), rest, "at call {failing}");
     }
     Ok(())
+}
+
+// Whether three pieces were written, and what is written after one more.
+fn write_twice(alloc: Global, failing: u64) -> Result<(bool, Vec<u8>), Fail> {
+    let mut sink = sink(alloc, 3, &[failing])?;
+    let whole = write_whole(&mut sink, b"abcdefgh");
+    let _ = write_whole(&mut sink, b".");
+    Ok((whole, Vec::from_slice(alloc, sink.written())?))
 }
 
 // Each write fails in turn. What was written before it stays, and more can be written.
 #[test]
 fn failing_writes(rt: HostRuntime) -> Result<(), Fail> {
-    let alloc = rt.alloc();
-    for (failing, front) in [
-        (1, b"".as_slice()),
-        (2, b"abc".as_slice()),
-        (3, b"abcdef".as_slice()),
+    for (failing, want, text) in [
+        (0, true, b"abcdefgh.".as_slice()),
+        (1, false, b".".as_slice()),
+        (2, false, b"abc.".as_slice()),
+        (3, false, b"abcdef.".as_slice()),
+        (4, true, b"abcdefgh".as_slice()),
     ] {
-        let mut sink = sink(alloc, 3, &[failing])?;
-        assert!(rt; !write_whole(&mut sink, b"abcdefgh"));
-        assert_eq!(rt; sink.written(), front);
-        assert!(rt; write_whole(&mut sink, b"."));
-        assert_eq!(rt; sink.written().len(), front.len() + 1);
+        let (whole, written) = write_twice(rt.alloc(), failing)?;
+        assert_eq!(rt; whole, want, "at call {failing}");
+        assert_eq!(rt; written.as_slice(), text, "at call {failing}");
     }
-    let mut sink = sink(alloc, 3, &[0, 4])?;
-    assert!(rt; write_whole(&mut sink, b"abcdefgh"));
-    assert_eq!(rt; sink.written(), b"abcdefgh".as_slice());
     Ok(())
 }
 

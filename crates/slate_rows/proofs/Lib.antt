@@ -5,3 +5,4 @@ pub mod Prefixes
 pub mod Leb128
 pub mod Fronts
 pub mod Telling
+pub mod Passing

@@ -1,8 +1,11 @@
 pub mod Bound
 pub mod Counts
 pub mod IndexKey
+pub mod Iteration
+pub mod Kept
 pub mod Line
 pub mod Operator
+pub mod Order
 pub mod Prefix
 pub mod Range
 pub mod Read

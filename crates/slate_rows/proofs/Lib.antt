@@ -6,3 +6,8 @@ pub mod Leb128
 pub mod Fronts
 pub mod Telling
 pub mod Passing
+pub mod Grouping
+pub mod Gathering
+pub mod Scanning
+pub mod Steps
+pub mod Scanned

@@ -1,5 +1,6 @@
 pub mod Bound
 pub mod Counts
+pub mod Gathered
 pub mod IndexKey
 pub mod Iteration
 pub mod Kept
@@ -9,6 +10,7 @@ pub mod Order
 pub mod Prefix
 pub mod Range
 pub mod Read
+pub mod Scan
 pub mod Shared
 pub mod Tails
 pub mod Telling

@@ -9,6 +9,7 @@ mod operators;
 mod options;
 mod ranges;
 mod reads;
+mod scans;
 mod seeks;
 mod sequences;
 mod tables;
@@ -25,6 +26,7 @@ pub use options::{
 };
 pub use ranges::{ByteRange, KeyBound};
 pub use reads::{ReadFault, prepare_max_seq, read};
+pub use scans::scan;
 pub use seeks::SeekFault;
 pub use sequences::{Name, Seq};
 pub use tables::IndexedTable;

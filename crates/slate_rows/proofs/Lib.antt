@@ -11,3 +11,4 @@ pub mod Gathering
 pub mod Scanning
 pub mod Steps
 pub mod Scanned
+pub mod Recent

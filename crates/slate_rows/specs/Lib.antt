@@ -10,6 +10,7 @@ pub mod Order
 pub mod Prefix
 pub mod Range
 pub mod Read
+pub mod Recency
 pub mod Scan
 pub mod Shared
 pub mod Tails

@@ -2,6 +2,7 @@
 #![tactic(auto)]
 
 mod batches;
+mod entries;
 mod index_keys;
 mod iterators;
 mod memory;
@@ -9,6 +10,7 @@ mod operators;
 mod options;
 mod ranges;
 mod reads;
+mod recencies;
 mod scans;
 mod seeks;
 mod sequences;
@@ -16,6 +18,7 @@ mod tables;
 mod varints;
 
 pub use batches::{Batch, KeyOp, KeyValue, Op, WriteBatch};
+pub use entries::{RowEntry, ValueDeletable};
 pub use index_keys::compute_index_key;
 pub use iterators::DbIterator;
 pub use memory::NoMemory;
@@ -26,6 +29,7 @@ pub use options::{
 };
 pub use ranges::{ByteRange, KeyBound};
 pub use reads::{ReadFault, prepare_max_seq, read};
+pub use recencies::{DbRecencyIterator, recency};
 pub use scans::scan;
 pub use seeks::SeekFault;
 pub use sequences::{Name, Seq};

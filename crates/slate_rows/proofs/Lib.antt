@@ -12,3 +12,4 @@ pub mod Scanning
 pub mod Steps
 pub mod Scanned
 pub mod Recent
+pub mod Unique

@@ -29,7 +29,7 @@ pub bytes_eq-same : (key : List ℕ) → bytes_eq key key ≡ true
 bytes_eq-same key = (bytes_eq-Decides key key).1 refl
 
 -- keys that stand in an order differ
-apart : (order : IterationOrder) (a b : List ℕ) → order_cmp order a b ≡ Less → bytes_eq b a ≡ false
+pub apart : (order : IterationOrder) (a b : List ℕ) → order_cmp order a b ≡ Less → bytes_eq b a ≡ false
 apart order a b less = go (bytes_eq b a) refl where
   go : (t : Bool) → bytes_eq b a ≡ t → t ≡ false
   go false is = refl

@@ -211,7 +211,7 @@ AreSorted-keys order (h ∷ x ∷ held) sorted (suc k) d low lt =
     let next : suc k + 1 ≡ suc (k + 1) = omega arith in
     rw next (AreSorted-keys order (x ∷ held) sorted.1 k d (omega arith) (omega arith))
 
-ties-keys : (order : IterationOrder) (a b : List ℕ) → bytes_eq a b ≡ eq_by_cmp (order_cmp order) a b
+pub ties-keys : (order : IterationOrder) (a b : List ℕ) → bytes_eq a b ≡ eq_by_cmp (order_cmp order) a b
 ties-keys Ascending a b = sym (is_eq-slice_cmp a b)
 ties-keys Descending a b = sym (back a b ∙ is_eq-slice_cmp a b) where
   turned : (o : Ordering) → is_eq (ordering_reverse o) ≡ is_eq o

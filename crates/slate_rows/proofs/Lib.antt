@@ -5,3 +5,11 @@ pub mod Prefixes
 pub mod Leb128
 pub mod Fronts
 pub mod Telling
+pub mod Passing
+pub mod Grouping
+pub mod Gathering
+pub mod Scanning
+pub mod Steps
+pub mod Scanned
+pub mod Recent
+pub mod Unique

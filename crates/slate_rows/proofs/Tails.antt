@@ -1,4 +1,4 @@
-use Rattle.std.proofs.Common.{◌≡◌, refl, sym, ◌∙◌, ap, ℕ, ◌+◌, ◌<◌, Bool, true, false, cond, List, [], ◌∷◌, ◌++◌, ◌||◌, length, get_or, take, drop, map, Option, Result, Ok}
+use Rattle.std.proofs.Common.{◌≡◌, refl, sym, ◌∙◌, ap, ℕ, ◌+◌, ◌<◌, Bool, true, false, cond, List, [], ◌∷◌, ◌++◌, ◌||◌, length, get_or, take, drop, map, Option, Some, None, IfSome, Result, Ok}
 use Rattle.std.specs.List.{list_any, AllByRecursion}
 use Rattle.std.specs.Str.{bytes_eq}
 use Rattle.std.proofs.lemmas.List.{take_more, drop_more, map_push, map-append, append-nil, append_assoc}
@@ -14,7 +14,7 @@ use Rattle.slate_rows.specs.Read.{Version, is_base, since_base, versions_in, his
 use Rattle.slate_rows.specs.Tails.{seen, IsTail}
 
 -- a put or a delete at the end: nothing before it counts
-since_base-base : (versions : List Version) (last : Version) → is_base last.op ≡ true → since_base (versions ++ last ∷ []) ≡ last ∷ []
+pub since_base-base : (versions : List Version) (last : Version) → is_base last.op ≡ true → since_base (versions ++ last ∷ []) ≡ last ∷ []
 since_base-base [] last base = refl
 since_base-base (version ∷ versions) last base =
     rw (list_any-append (λ v. is_base v.op) versions (last ∷ []))
@@ -23,7 +23,7 @@ since_base-base (version ∷ versions) last base =
     [ true ↦ since_base-base versions last base | false ↦ since_base-base versions last base ]))
 
 -- a merge at the end is one more
-since_base-merge : (versions : List Version) (last : Version) → is_base last.op ≡ false → since_base (versions ++ last ∷ []) ≡ since_base versions ++ last ∷ []
+pub since_base-merge : (versions : List Version) (last : Version) → is_base last.op ≡ false → since_base (versions ++ last ∷ []) ≡ since_base versions ++ last ∷ []
 since_base-merge [] last merge = refl
 since_base-merge (version ∷ versions) last merge =
     rw (list_any-append (λ v. is_base v.op) versions (last ∷ []))
@@ -50,7 +50,7 @@ IsTail-more history held kept new last false is kept-is new-is before = record {
 }
 
 -- the versions of a key in the operations so far, and in one more
-versions_in-more : (key : List ℕ) (batch : Batch) (items : List KeyOp) (i : ℕ) (o : KeyOp) → items ≡ batch.ops → i < length items → o ≡ get_or items i o →
+pub versions_in-more : (key : List ℕ) (batch : Batch) (items : List KeyOp) (i : ℕ) (o : KeyOp) → items ≡ batch.ops → i < length items → o ≡ get_or items i o →
     versions_in key (record batch { ops = take (i + 1) batch.ops }) ≡
     versions_in key (record batch { ops = take i batch.ops }) ++ versions_in key (record batch { ops = o ∷ [] })
 versions_in-more key batch items i o same lt at =
@@ -82,3 +82,10 @@ fold_versions-more merge key before after held i h whole lt at same step start =
     let there : drop i held ≡ h ∷ drop (i + 1) held = drop_more held i h lt ∙ ap (λ x. x ∷ drop (i + 1) held) (sym at) in
     ap (λ r. and_then r (λ next. fold_versions merge key next (map seen (drop (i + 1) held)))) (sym (rw is_key at step)) ∙
     rw there at start
+
+-- the row has the key of the versions
+pub keyed-more : (key : List ℕ) (held : List Held) (i : ℕ) (h : Held) (found : Option KeyValue) →
+    i < length held → h ≡ get_or held i h → AllByRecursion (λ v. v.key_op.now.key ≡ key) held →
+    IfSome found (λ row. row.key ≡ h.key_op.now.key) → IfSome found (λ row. row.key ≡ key)
+keyed-more key held i h None lt at same keyed = keyed
+keyed-more key held i h (Some row) lt at same keyed = keyed ∙ rw at (All-from_recursion (λ (v : Held). v.key_op.now.key ≡ key) held same i h lt)

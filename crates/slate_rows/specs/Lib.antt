@@ -1,11 +1,17 @@
 pub mod Bound
 pub mod Counts
+pub mod Gathered
 pub mod IndexKey
+pub mod Iteration
+pub mod Kept
 pub mod Line
 pub mod Operator
+pub mod Order
 pub mod Prefix
 pub mod Range
 pub mod Read
+pub mod Recency
+pub mod Scan
 pub mod Shared
 pub mod Tails
 pub mod Telling

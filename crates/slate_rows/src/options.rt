@@ -1,5 +1,7 @@
 ghost use Rattle.std.specs.Prelude.{◌≡◌, None, Some, false};
 
+use std::cmp::Ordering;
+
 /// From where a read takes its rows.
 #[derive(Clone, Copy, Debug, PartialEq, Eq)]
 pub enum DurabilityLevel {
@@ -24,6 +26,27 @@ impl Default for DurabilityLevel {
 pub enum IterationOrder {
     Ascending,
     Descending,
+}
+
+impl IterationOrder {
+    ghost use Rattle.slate_rows.specs.Order.{order_cmp, is_before};
+
+    /// How two keys stand in this order.
+    pub(crate) fn compare(self, key: &[u8], other: &[u8]) -> Ordering
+        ensures { result ≡ order_cmp self key.now other.now }
+    {
+        match self {
+            IterationOrder::Ascending => key.cmp(other),
+            IterationOrder::Descending => other.cmp(key),
+        }
+    }
+
+    /// Whether a key comes before another in this order.
+    pub(crate) fn is_before(self, key: &[u8], other: &[u8]) -> bool
+        ensures { result ≡ is_before self key.now other.now }
+    {
+        self.compare(key, other).is_lt()
+    }
 }
 
 impl Default for IterationOrder {

@@ -1,4 +1,4 @@
-ghost use Rattle.std.specs.Prelude.{◌≡◌, ◌++◌, [], ◌∷◌, ◌↔◌, None, Option, List, IsTrue, IfOk, OnOk, OnErr, map};
+ghost use Rattle.std.specs.Prelude.{◌≡◌, ◌++◌, [], ◌∷◌, ◌↔◌, None, Option, List, IsTrue, IfOk, IfSome, OnOk, OnErr, map};
 ghost use Rattle.std.specs.List.{AllByRecursion};
 ghost use Rattle.std.specs.Option.{option_copied};
 ghost use Rattle.slate_rows.specs.Bound.{least, read_bound};
@@ -67,9 +67,9 @@ fn least(bound: Option<u64>, other: Option<u64>) -> Option<u64>
 
 /// An operation, in its batch.
 #[derive(Clone, Copy)]
-struct Version<'a> {
-    batch: &'a Batch,
-    key_op: &'a KeyOp,
+pub(crate) struct Version<'a> {
+    pub(crate) batch: &'a Batch,
+    pub(crate) key_op: &'a KeyOp,
 }
 
 /// Reads a key in batches up to a bound, which is a number; without one, in all of them. What is found is what the
@@ -123,15 +123,16 @@ fn take_version<'a>(versions: &mut Vec<Version<'a>>, version: Version<'a>) -> Re
 }
 
 /// The row that versions of a key make, oldest first.
-fn fold<M: MergeOperator>(
+pub(crate) fn fold<M: MergeOperator>(
     alloc: Global,
     key: &[u8],
     versions: &[Version<'_>],
     operator: Option<&M>,
 ) -> Result<Option<KeyValue>, ReadFault>
     requires { AllByRecursion (λ v. v.key_op.now.key ≡ key.now) versions.now }
-    ensures { (merge : Option Merge) → IsOperator M.may_answer (option_copied operator.entry) merge →
+    ensures plain { (merge : Option Merge) → IsOperator M.may_answer (option_copied operator.entry) merge →
         Reads (fold_versions merge key.now None (map seen versions.now)) result }
+    ensures keyed { IfOk result (λ found. IfSome found (λ row. row.key ≡ key.now)) }
 {
     let mut row = None;
     for version in versions {
@@ -147,8 +148,9 @@ fn apply<M: MergeOperator>(
     version: &Version<'_>,
     operator: Option<&M>,
 ) -> Result<Option<KeyValue>, ReadFault>
-    ensures { (merge : Option Merge) → IsOperator M.may_answer (option_copied operator.entry) merge →
+    ensures plain { (merge : Option Merge) → IsOperator M.may_answer (option_copied operator.entry) merge →
         Reads (row_after merge version.now.key_op.now.key before (seen version.now) version.now.key_op.now.op) result }
+    ensures keyed { IfOk result (λ found. IfSome found (λ row. row.key ≡ version.now.key_op.now.key)) }
 {
     let (value, expire_ts) = match &version.key_op.op {
         Op::Put(value, expire_ts) => (value.clone().map_err(NoMemory::from)?, *expire_ts),
@@ -175,7 +177,7 @@ fn apply<M: MergeOperator>(
 }
 
 /// Whether nothing before an operation counts.
-fn is_base(op: &Op) -> bool
+pub(crate) fn is_base(op: &Op) -> bool
     ensures { result ≡ is_base op.now }
 {
     match op {
@@ -186,7 +188,7 @@ fn is_base(op: &Op) -> bool
 }
 
 /// Whether a batch of this number is seen at a bound.
-fn is_within(bound: Option<u64>, number: u64) -> bool
+pub(crate) fn is_within(bound: Option<u64>, number: u64) -> bool
     ensures { result ≡ is_within bound number }
 {
     match bound {

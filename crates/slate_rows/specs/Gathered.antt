@@ -1,0 +1,48 @@
+use Rattle.std.specs.Prelude.{◌≡◌, ℕ, true, false, List, [], ◌∷◌, ◌++◌, map, filter, Option, Some, None, Result, Ok, Err}
+use Rattle.std.specs.List.{AllByRecursion, dedup}
+use Rattle.std.specs.Str.{bytes_eq}
+use Rattle.slate_rows.specs.declared.batches.KeyValue.{KeyValue}
+use Rattle.slate_rows.specs.declared.options.IterationOrder.{IterationOrder}
+use Rattle.slate_rows.specs.declared.ranges.ByteRange.{ByteRange}
+use Rattle.slate_rows.specs.declared.reads.ReadFault.{ReadFault}
+use Rattle.slate_rows.specs.declared.reads.ReadFault.TheVariants.{NoMemory}
+use Rattle.slate_rows.specs.declared.reads.Version.{Version as Held}
+use Rattle.slate_rows.specs.Operator.{Merge}
+use Rattle.slate_rows.specs.Order.{is_before}
+use Rattle.slate_rows.specs.Range.{contains}
+use Rattle.slate_rows.specs.Read.{Version, since_base, fold_versions}
+use Rattle.slate_rows.specs.Scan.{Rows, rows_of}
+use Rattle.slate_rows.specs.Tails.{seen}
+
+-- the keys of the versions that the code holds
+abbrev pub held_keys : List Held → List (List ℕ)
+held_keys held = map (λ h. h.key_op.now.key) held
+
+-- the versions of one key among them
+abbrev pub of_key : List ℕ → List Held → List Held
+of_key key held = filter (λ h. bytes_eq h.key_op.now.key key) held
+
+-- The versions held are those of the keys in a range, of which each has these.
+pub record AreGathered (versions : List ℕ → List Version) (range : ByteRange) (held : List Held) : Type 0 where
+  pub within : AllByRecursion (λ h. contains range h.key_op.now.key ≡ true) held
+  pub whole : (key : List ℕ) → contains range key ≡ true → map seen (of_key key held) ≡ versions key
+
+-- no key comes before an earlier one
+abbrev pub AreSorted : IterationOrder → List Held → Type 0
+AreSorted order [] = Unit {0}
+AreSorted order (h ∷ held) = AllByRecursion (λ later. is_before order later.key_op.now.key h.key_op.now.key ≡ false) held × AreSorted order held
+
+-- a key's versions, folded from nothing
+abbrev pub read_held : Option Merge → List Held → List ℕ → Result (Option KeyValue) ReadFault
+read_held merge held key = fold_versions merge key None (since_base (map seen (of_key key held)))
+
+-- the rows of the keys, each once
+abbrev pub held_rows : Option Merge → List Held → Rows
+held_rows merge held = rows_of (read_held merge held) (dedup bytes_eq (held_keys held))
+
+-- what is added to rows that were taken: a row that was found, or nothing and the fault; want of memory adds nothing
+abbrev pub Adds : Result (Option KeyValue) ReadFault → List KeyValue → List KeyValue → Option ReadFault → Type 0
+Adds (Ok None) old new fault = (new ≡ old) × (fault ≡ None)
+Adds (Ok (Some row)) old new fault = (new ≡ old ++ row ∷ []) × (fault ≡ None)
+Adds (Err NoMemory) old new fault = ⊥
+Adds (Err refused) old new fault = (new ≡ old) × (fault ≡ Some refused)

@@ -1,0 +1,146 @@
+ghost use Rattle.std.specs.Prelude.{◌≡◌, ◌<◌, ◌∷◌, List, map, not, filter, All, IsTrue, IfOk, OnOk, IfErr, Some, None};
+ghost use Rattle.std.specs.VecDeque.{deque_len};
+ghost use Rattle.slate_rows.specs.declared.iterators.Kept.{Kept};
+ghost use Rattle.slate_rows.specs.Iteration.{begun, next_of, after_next, is_returned, seek_refusal, sought};
+ghost use Rattle.slate_rows.specs.Kept.{kept_rows, kept_keys, AreCopies};
+ghost use Rattle.slate_rows.specs.Order.{is_before, AreInOrder, row_keys};
+ghost use Rattle.slate_rows.specs.Range.{contains};
+
+use crate::{ByteRange, IterationOrder, KeyValue, NoMemory, ReadFault, SeekFault, Seq};
+use bytes::Bytes;
+use std::alloc::Global;
+use std::collections::VecDeque;
+use std::marker::Model;
+
+/// A row, and its key once more for when the row is given away.
+#[derive(Debug, Drop)]
+struct Kept {
+    key: Bytes,
+    row: KeyValue,
+}
+
+/// An iterator over the rows of a range, which may end with a fault. SlateDB's `DbIterator`.
+#[derive(Debug, Drop)]
+pub struct DbIterator {
+    range: ByteRange,
+    order: IterationOrder,
+    rows: VecDeque<Kept>,
+    fault: Option<ReadFault>,
+    returned: Option<Bytes>,
+    answered: Option<ReadFault>,
+}
+
+impl Model for DbIterator {
+    ghost use Rattle.slate_rows.specs.Iteration.{Iteration};
+
+    ghost Value = { Iteration };
+
+    ghost use Rattle.slate_rows.specs.Kept.{kept_rows, AreKept};
+
+    ghost view = { λ i. record { range = i.range; order = i.order; rows = kept_rows i.rows.items; fault = i.fault; returned = i.returned; answered = i.answered } };
+
+    ghost invariant = { λ i. AreKept i.order i.rows.items };
+}
+
+impl DbIterator {
+    /// An iterator over these rows, whose keys are in the range and strictly in the order, and the fault after them,
+    /// where there is one. It takes memory for each row, and copies no bytes.
+    pub fn of_rows(
+        alloc: Global,
+        range: ByteRange,
+        order: IterationOrder,
+        rows: Seq<KeyValue>,
+        fault: Option<ReadFault>,
+    ) -> Result<DbIterator, NoMemory>
+        requires in_range { All (λ row. IsTrue (contains range row.key)) rows }
+        requires in_order { AreInOrder order (row_keys rows) }
+        ensures { IfOk result (λ it. it ≡ begun range order rows fault) }
+    {
+        let mut kept = VecDeque::new(alloc);
+        for row in rows.into_vec() {
+            let key = row.key.clone()?;
+            kept.push_back(Kept { key, row })?;
+        }
+        Ok(DbIterator {
+            range,
+            order,
+            rows: kept,
+            fault,
+            returned: None,
+            answered: None,
+        })
+    }
+
+    /// The next row. After the last one it answers the fault, at each call, or None. It takes no memory. SlateDB's
+    /// `DbIterator::next`.
+    pub fn next(&mut self) -> Result<Option<KeyValue>, ReadFault>
+        ensures answer { result ≡ next_of self.old.rows self.old.fault }
+        ensures after { self.new ≡ after_next self.old.rows self.old.fault self.old }
+    {
+        match self.rows.pop_front() {
+            Some(kept) => {
+                self.returned = Some(kept.key);
+                Ok(Some(kept.row))
+            }
+            None => match self.fault {
+                Some(fault) => {
+                    self.answered = Some(fault);
+                    Err(fault)
+                }
+                None => Ok(None),
+            },
+        }
+    }
+
+    /// Passes the rows before a key, in the order of the iterator. It is refused with a fault that was answered before,
+    /// then where the key is out of the range, and then where it is at most the key that was returned last, in both
+    /// orders; a refusal changes nothing. Each row is passed once, and no other is looked at. It takes no memory.
+    /// SlateDB's `DbIterator::seek`.
+    pub fn seek(&mut self, next_key: &[u8]) -> Result<(), SeekFault>
+        ensures ok { OnOk result ((seek_refusal self.old next_key.now ≡ None) × (self.new ≡ sought next_key.now self.old)) }
+        ensures err { IfErr result (λ fault. (seek_refusal self.old next_key.now ≡ Some fault) × (self.new ≡ self.old)) }
+    {
+        if let Some(fault) = self.answered {
+            return Err(SeekFault::Stored(fault));
+        }
+        if !self.range.contains(next_key) {
+            return Err(SeekFault::OutOfRange);
+        }
+        if is_returned(&self.returned, next_key) {
+            return Err(SeekFault::LessThanLastReturned);
+        }
+        pass(&mut self.rows, self.order, next_key);
+        Ok(())
+    }
+}
+
+/// Whether a key is at most the one that was returned last.
+fn is_returned(returned: &Option<Bytes>, key: &[u8]) -> bool
+    ensures { result ≡ is_returned returned.now key.now }
+{
+    match returned {
+        None => false,
+        Some(last) => key.cmp(last.as_slice()).is_le(),
+    }
+}
+
+/// Drops the rows before a key from the front.
+fn pass(rows: &mut VecDeque<Kept>, order: IterationOrder, key: &[u8])
+    requires { AreInOrder order (kept_keys rows.old.items) }
+    ensures { rows.new.items ≡ filter (λ k. not (is_before order k.key key.now)) rows.old.items }
+{
+    while let Some(kept) = rows.front() {
+        if !order.is_before(kept.key.as_slice(), key) {
+            break;
+        }
+        drop_front(rows);
+    }
+}
+
+/// Drops the first row.
+fn drop_front(rows: &mut VecDeque<Kept>)
+    requires { 0 < deque_len rows.old }
+    ensures { (first : Kept) × (rows.old.items ≡ first ∷ rows.new.items) }
+{
+    rows.pop_front();
+}

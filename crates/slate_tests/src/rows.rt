@@ -1,0 +1,422 @@
+ghost use Rattle.std.specs.Prelude.{◌≡◌, None};
+
+use bytes::Bytes;
+use slate_rows::{
+    Batch, ByteRange, CloseOptions, ConcatOperator, DbIterator, DurabilityLevel, FixedPrefix,
+    FlushType, IterationOrder, KeyBound, MergeFault, MergeOperator, MergeOptions, NoMemory, Op,
+    PrefixExtractor, PutOptions, ReadFault, ReadOptions, ScanOptions, SeekFault, Seq,
+    ValueDeletable, VarintFault, WriteBatch, WriteOptions, compute_index_key, decode_varint,
+    encode_varint, prepare_max_seq, read, recency, scan, varint_len,
+};
+use std::alloc::Global;
+use std::test::Fail;
+
+const NONE: Option<&ConcatOperator> = None;
+
+// A batch that puts these values.
+fn puts(alloc: Global, number: u64, rows: &[(&[u8], &[u8])]) -> Result<Batch, NoMemory> {
+    let mut written = WriteBatch::new(alloc);
+    for (key, value) in rows {
+        written.put(alloc, key, value)?;
+    }
+    Ok(Batch {
+        number,
+        create_ts: 7,
+        ops: written.ops,
+    })
+}
+
+fn bytes(alloc: Global, text: &[u8]) -> Result<Bytes, NoMemory> {
+    Ok(Bytes::copy_from_slice(alloc, text)?)
+}
+
+fn from(alloc: Global, low: &[u8]) -> Result<ByteRange, NoMemory> {
+    Ok(ByteRange {
+        low: KeyBound::Included(bytes(alloc, low)?),
+        high: KeyBound::Unbounded,
+    })
+}
+
+// The keys of what is left, with a blank between them, and the fault that ends them.
+fn keys(alloc: Global, rows: &mut DbIterator) -> Result<(Vec<u8>, Option<ReadFault>), NoMemory> {
+    let mut keys = Vec::new(alloc);
+    for _ in 0..100 {
+        match rows.next() {
+            Ok(Some(row)) => {
+                keys.extend_from_slice(row.key.as_slice())?;
+                keys.push(b' ')?;
+            }
+            Ok(None) => return Ok((keys, None)),
+            Err(fault) => return Ok((keys, Some(fault))),
+        }
+    }
+    Ok((keys, None))
+}
+
+// Refuses each operand.
+struct Refusing;
+
+impl MergeOperator for Refusing {
+    ghost may_answer = { λ _ key existing operand answer. answer ≡ None };
+
+    fn merge(
+        &self,
+        _alloc: Global,
+        _key: &[u8],
+        _existing: Option<&Bytes>,
+        _operand: &Bytes,
+    ) -> Result<Bytes, MergeFault> {
+        Err(MergeFault::Refused)
+    }
+}
+
+#[test]
+fn batches(rt: HostRuntime) -> Result<(), Fail> {
+    let alloc = rt.alloc();
+    let mut written = WriteBatch::new(alloc);
+    let expires = Some(9);
+    written.put(alloc, b"a", b"1")?;
+    written.merge(alloc, b"a", b"2")?;
+    written.put_with_options(alloc, b"b", b"3", &PutOptions { expire_ts: expires })?;
+    written.merge_with_options(alloc, b"b", b"4", &MergeOptions { expire_ts: expires })?;
+    written.put_bytes(alloc, bytes(alloc, b"c")?, bytes(alloc, b"5")?)?;
+    let options = PutOptions { expire_ts: expires };
+    written.put_bytes_with_options(alloc, bytes(alloc, b"d")?, bytes(alloc, b"6")?, &options)?;
+    assert_eq!(rt; written.op_count(), 6);
+    written.delete(alloc, b"a")?;
+    assert_eq!(rt; written.op_count(), 5);
+    let mut text = Vec::new(alloc);
+    for key_op in written.ops.as_slice() {
+        text.extend_from_slice(key_op.key.as_slice())?;
+        let (letter, value, expire_ts) = match &key_op.op {
+            Op::Put(value, expire_ts) => (b'p', value.as_slice(), *expire_ts),
+            Op::Delete => (b'd', b"".as_slice(), None),
+            Op::Merge(operand, expire_ts) => (b'm', operand.as_slice(), *expire_ts),
+        };
+        text.push(letter)?;
+        text.extend_from_slice(value)?;
+        text.push(if expire_ts == expires { b'!' } else { b' ' })?;
+    }
+    assert_eq!(rt; text.as_slice(), b"bp3!bm4!cp5 dp6!ad ".as_slice());
+    Ok(())
+}
+
+#[test]
+fn defaults(rt: HostRuntime) {
+    let read = ReadOptions::default();
+    assert_eq!(rt; read.durability_filter, DurabilityLevel::Memory);
+    assert!(rt; !read.dirty);
+    let scan = ScanOptions::default();
+    assert_eq!(rt; scan.durability_filter, DurabilityLevel::default());
+    assert!(rt; !scan.dirty);
+    assert_eq!(rt; scan.order, IterationOrder::Ascending);
+    assert_eq!(rt; PutOptions::default().expire_ts, None);
+    assert_eq!(rt; MergeOptions::default().expire_ts, None);
+    assert_eq!(rt;
+        CloseOptions::default().flush_type,
+        Some(FlushType::MemTable)
+    );
+    assert_eq!(rt; WriteOptions::default().reserved, 0);
+}
+
+// A read takes the newest put up to its bound, and shares its bytes.
+#[test]
+fn reads(rt: HostRuntime) -> Result<(), Fail> {
+    let alloc = rt.alloc();
+    let batches = [
+        puts(alloc, 95, &[(b"key1", b"value3")])?,
+        puts(alloc, 96, &[(b"key1", b"value1")])?,
+        puts(alloc, 110, &[(b"key1", b"value2")])?,
+    ];
+    let row = read(alloc, &batches, Some(100), b"key1", NONE)?.ok_or("a row")?;
+    assert_eq!(rt; row.value.as_slice(), b"value1".as_slice());
+    assert_eq!(rt; row.seq, 96);
+    assert_eq!(rt; row.create_ts, 7);
+    // The row shares the bytes of the batch: they have more than one owner.
+    assert!(rt; row.value.try_into_mut().is_err());
+    let newest = read(alloc, &batches, None, b"key1", NONE)?.ok_or("a row")?;
+    assert_eq!(rt; newest.value.as_slice(), b"value2".as_slice());
+    assert!(rt; read(alloc, &batches, Some(94), b"key1", NONE)?.is_none());
+    assert!(rt; read(alloc, &batches, None, b"key", NONE)?.is_none());
+    Ok(())
+}
+
+// Operands are folded oldest first, from the last put or delete on; a key whose merge is refused ends a scan.
+#[test]
+fn merges(rt: HostRuntime) -> Result<(), Fail> {
+    let alloc = rt.alloc();
+    let mut first = WriteBatch::new(alloc);
+    first.merge(alloc, b"a", b"0")?;
+    first.put(alloc, b"a", b"x")?;
+    first.merge(alloc, b"a", b"y")?;
+    first.merge(alloc, b"b", b"1")?;
+    first.put(alloc, b"c", b"2")?;
+    let mut second = WriteBatch::new(alloc);
+    second.merge_with_options(alloc, b"a", b"z", &MergeOptions { expire_ts: Some(3) })?;
+    second.delete(alloc, b"b")?;
+    second.merge(alloc, b"b", b"4")?;
+    let batches = [
+        Batch {
+            number: 1,
+            create_ts: 10,
+            ops: first.ops,
+        },
+        Batch {
+            number: 2,
+            create_ts: 20,
+            ops: second.ops,
+        },
+    ];
+    let row = read(alloc, &batches, None, b"a", Some(&ConcatOperator))?.ok_or("a row")?;
+    assert_eq!(rt; row.value.as_slice(), b"xyz".as_slice());
+    assert_eq!(rt; (row.seq, row.create_ts, row.expire_ts), (2, 20, Some(3)));
+    let row = read(alloc, &batches, None, b"b", Some(&ConcatOperator))?.ok_or("a row")?;
+    assert_eq!(rt; row.value.as_slice(), b"4".as_slice());
+    let refused = read(alloc, &batches, None, b"a", Some(&Refusing)).err();
+    assert_eq!(rt; refused, Some(ReadFault::MergeOperatorError));
+    let missing = read(alloc, &batches, None, b"a", NONE).err();
+    assert_eq!(rt; missing, Some(ReadFault::MergeOperatorMissing));
+    let all = ByteRange::full();
+    let order = IterationOrder::Descending;
+    let mut rows = scan(alloc, &batches, None, &all, order, NONE)?;
+    let (found, fault) = keys(alloc, &mut rows)?;
+    assert_eq!(rt; found.as_slice(), b"c ".as_slice());
+    assert_eq!(rt; fault, Some(ReadFault::MergeOperatorMissing));
+    let mut rows = scan(alloc, &batches, None, &all, order, Some(&ConcatOperator))?;
+    let (found, fault) = keys(alloc, &mut rows)?;
+    assert_eq!(rt; found.as_slice(), b"c b a ".as_slice());
+    assert_eq!(rt; fault, None);
+    Ok(())
+}
+
+#[test]
+fn prefixes(rt: HostRuntime) -> Result<(), Fail> {
+    let alloc = rt.alloc();
+    let batches = [puts(alloc, 1, &[(b"ab", b"v0"), (b"aba", b"v1"), (b"b", b"v2")])?];
+    let range = ByteRange::prefix_and_subrange(alloc, b"ab", &from(alloc, b"a")?)?;
+    let mut rows = scan(
+        alloc,
+        &batches,
+        None,
+        &range,
+        IterationOrder::Ascending,
+        NONE,
+    )?;
+    let row = rows.next()?.ok_or("a row")?;
+    assert_eq!(rt; row.key.as_slice(), b"aba".as_slice());
+    assert_eq!(rt; row.value.as_slice(), b"v1".as_slice());
+    assert!(rt; rows.next()?.is_none());
+    let whole = ByteRange::prefix(alloc, b"a\xff")?;
+    for (key, want) in [
+        (b"a".as_slice(), false),
+        (b"a\xff".as_slice(), true),
+        (b"a\xff\xff".as_slice(), true),
+        (b"b".as_slice(), false),
+    ] {
+        assert_eq!(rt; whole.contains(key), want);
+    }
+    assert!(rt; ByteRange::prefix(alloc, b"\xff")?.contains(b"\xff\xff"));
+    Ok(())
+}
+
+#[test]
+fn seeks(rt: HostRuntime) -> Result<(), Fail> {
+    let alloc = rt.alloc();
+    let batches = [puts(
+        alloc,
+        1,
+        &[
+            (b"test_key1", b"test_value1"),
+            (b"test_key2", b"test_value2"),
+            (b"test_key3", b"test_value3"),
+            (b"test_key4", b"test_value4"),
+        ],
+    )?];
+    let order = IterationOrder::Ascending;
+    let crossed = ByteRange {
+        low: KeyBound::Included(bytes(alloc, b"b")?),
+        high: KeyBound::Included(bytes(alloc, b"a")?),
+    };
+    let mut rows = scan(alloc, &batches, None, &crossed, order, NONE)?;
+    assert!(rt; rows.next()?.is_none());
+    let mut rows = scan(alloc, &batches, None, &ByteRange::full(), order, NONE)?;
+    assert_eq!(rt; rows.seek(b"test_key4"), Ok(()));
+    assert_eq!(rt;
+        keys(alloc, &mut rows)?.0.as_slice(),
+        b"test_key4 ".as_slice()
+    );
+    let mut rows = scan(alloc, &batches, None, &ByteRange::full(), order, NONE)?;
+    assert!(rt; rows.next()?.is_some());
+    assert_eq!(rt;
+        rows.seek(b"test_key1"),
+        Err(SeekFault::LessThanLastReturned)
+    );
+    assert_eq!(rt; rows.seek(b"test_key11"), Ok(()));
+    assert_eq!(rt;
+        keys(alloc, &mut rows)?.0.as_slice(),
+        b"test_key2 test_key3 test_key4 ".as_slice()
+    );
+    let mut rows = scan(alloc, &batches, None, &from(alloc, b"b")?, order, NONE)?;
+    assert_eq!(rt; rows.seek(b"a"), Err(SeekFault::OutOfRange));
+    Ok(())
+}
+
+// After a row of a descending scan, a seek of that key or of one below is refused.
+#[test]
+fn descending(rt: HostRuntime) -> Result<(), Fail> {
+    let alloc = rt.alloc();
+    let batches = [
+        puts(alloc, 1, &[(b"a", b"1"), (b"c", b"3")])?,
+        puts(alloc, 2, &[(b"b", b"2"), (b"c", b"4")])?,
+    ];
+    let all = ByteRange::full();
+    let order = IterationOrder::Descending;
+    let mut rows = scan(alloc, &batches, None, &all, order, NONE)?;
+    let row = rows.next()?.ok_or("a row")?;
+    assert_eq!(rt; (row.key.as_slice(), row.seq), (b"c".as_slice(), 2));
+    assert_eq!(rt; rows.seek(b"c"), Err(SeekFault::LessThanLastReturned));
+    assert_eq!(rt; rows.seek(b"a"), Err(SeekFault::LessThanLastReturned));
+    assert_eq!(rt; keys(alloc, &mut rows)?.0.as_slice(), b"b a ".as_slice());
+    let mut rows = scan(alloc, &batches, Some(1), &all, order, NONE)?;
+    assert_eq!(rt; rows.seek(b"bb"), Ok(()));
+    assert_eq!(rt; keys(alloc, &mut rows)?.0.as_slice(), b"a ".as_slice());
+    Ok(())
+}
+
+// The fault after the rows comes again and again, and no seek goes past it.
+#[test]
+fn faults(rt: HostRuntime) -> Result<(), Fail> {
+    let alloc = rt.alloc();
+    let mut rows = DbIterator::of_rows(
+        alloc,
+        ByteRange::full(),
+        IterationOrder::Ascending,
+        Seq::of(Vec::new(alloc)),
+        Some(ReadFault::ChecksumMismatch),
+    )?;
+    assert_eq!(rt; rows.seek(b"a"), Ok(()));
+    for _ in 0..2 {
+        assert_eq!(rt; rows.next().err(), Some(ReadFault::ChecksumMismatch));
+    }
+    assert_eq!(rt;
+        rows.seek(b"a"),
+        Err(SeekFault::Stored(ReadFault::ChecksumMismatch))
+    );
+    Ok(())
+}
+
+#[test]
+fn recent(rt: HostRuntime) -> Result<(), Fail> {
+    let alloc = rt.alloc();
+    let mut newer = Vec::new(alloc);
+    newer.push(puts(alloc, 2, &[(b"a", b"y")])?)?;
+    let mut older = Vec::new(alloc);
+    older.push(puts(alloc, 1, &[(b"a", b"x")])?)?;
+    let mut sources = Vec::new(alloc);
+    sources.push(Seq::of(newer))?;
+    sources.push(Seq::of(older))?;
+    let mut entries = recency(
+        alloc,
+        &Seq::of(sources),
+        None,
+        b"a",
+        IterationOrder::Ascending,
+    )?;
+    for (want, number) in [(b"y".as_slice(), 2), (b"x".as_slice(), 1)] {
+        let entry = entries.next_entry().ok_or("an entry")?;
+        assert_eq!(rt;
+            (entry.key.as_slice(), entry.seq),
+            (b"a".as_slice(), number)
+        );
+        let ValueDeletable::Value(value) = &entry.value else {
+            return Err(Fail::from("a value"));
+        };
+        assert_eq!(rt; value.as_slice(), want);
+    }
+    assert!(rt; entries.next_entry().is_none());
+    Ok(())
+}
+
+#[test]
+fn bounds(rt: HostRuntime) {
+    for (user, level, dirty, want) in [
+        (None, DurabilityLevel::Memory, true, None),
+        (None, DurabilityLevel::Memory, false, Some(9)),
+        (None, DurabilityLevel::Remote, true, Some(5)),
+        (None, DurabilityLevel::Remote, false, Some(5)),
+        (Some(3), DurabilityLevel::Remote, false, Some(3)),
+        (Some(7), DurabilityLevel::Memory, false, Some(7)),
+        (Some(12), DurabilityLevel::Memory, false, Some(9)),
+        (Some(12), DurabilityLevel::Memory, true, Some(12)),
+    ] {
+        assert_eq!(rt; prepare_max_seq(user, 5, 9, level, dirty), want);
+    }
+}
+
+#[test]
+fn index_keys(rt: HostRuntime) -> Result<(), Fail> {
+    let alloc = rt.alloc();
+    let first = bytes(alloc, b"abc")?;
+    assert!(rt; !first.is_empty());
+    assert!(rt; compute_index_key(alloc, None, &first)?.is_empty());
+    for (prev, this, want) in [
+        (b"aaaac".as_slice(), b"abaaa".as_slice(), b"ab".as_slice()),
+        (b"ababc".as_slice(), b"abacd".as_slice(), b"abac".as_slice()),
+        (b"cc".as_slice(), b"ccccccc".as_slice(), b"ccc".as_slice()),
+        (b"eed".as_slice(), b"eee".as_slice(), b"eee".as_slice()),
+        (
+            b"abcdef".as_slice(),
+            b"abcdef".as_slice(),
+            b"abcdef".as_slice(),
+        ),
+    ] {
+        let prev = bytes(alloc, prev)?;
+        let this = bytes(alloc, this)?;
+        assert!(rt; !prev.is_empty() && !this.is_empty() && prev <= this);
+        let key = compute_index_key(alloc, Some(&prev), &this)?;
+        assert_eq!(rt; key.as_slice(), want);
+        assert!(rt; key.try_into_mut().is_err());
+    }
+    Ok(())
+}
+
+#[test]
+fn varints(rt: HostRuntime) -> Result<(), Fail> {
+    let alloc = rt.alloc();
+    for (value, want) in [
+        (0, b"\x00".as_slice()),
+        (127, b"\x7f".as_slice()),
+        (300, b"\xac\x02".as_slice()),
+        (u32::MAX, b"\xff\xff\xff\xff\x0f".as_slice()),
+    ] {
+        let mut buf = Vec::new(alloc);
+        encode_varint(alloc, &mut buf, value)?;
+        assert_eq!(rt; buf.as_slice(), want);
+        assert_eq!(rt; varint_len(value), want.len());
+        buf.push(b'!')?;
+        let mut rest = buf.as_slice();
+        assert_eq!(rt; decode_varint(&mut rest), Ok(value));
+        assert_eq!(rt; rest, b"!".as_slice());
+    }
+    for (refused, want) in [
+        (b"".as_slice(), VarintFault::Short),
+        (b"\xff\xff".as_slice(), VarintFault::Short),
+        (b"\xff\xff\xff\xff\x10".as_slice(), VarintFault::TooLong),
+        (b"\x80\x80\x80\x80\x80\x00".as_slice(), VarintFault::TooLong),
+    ] {
+        let mut rest = refused;
+        assert_eq!(rt; decode_varint(&mut rest), Err(want));
+        assert_eq!(rt; rest, refused);
+    }
+    Ok(())
+}
+
+#[test]
+fn fixed_prefixes(rt: HostRuntime) -> Result<(), Fail> {
+    let extractor = FixedPrefix::new(rt.alloc(), 3)?;
+    assert_eq!(rt; extractor.name(), "fixed-3");
+    assert_eq!(rt; extractor.prefix_of(b"abcd"), Some(b"abc".as_slice()));
+    assert_eq!(rt; extractor.prefix_of(b"abc"), Some(b"abc".as_slice()));
+    assert_eq!(rt; extractor.prefix_of(b"ab"), None);
+    Ok(())
+}

@@ -76,7 +76,7 @@ module _ (o : Objects) (m : Manifest) (bs : List Batch) where
       let next = last_log m.replay_after_wal_id o + 1 in
       let olds = flat_map (λ log. log.1) (logs_above m.replay_after_wal_id o) in
       let news : flat_map (λ log. log.1) (logs_above m.replay_after_wal_id (with_log o m bs)) ≡ olds ++ (bs ++ []) =
-          ap (flat_map (λ log. log.1)) above-after ∙ flat_map-append (λ log. log.1) (logs_above m.replay_after_wal_id o) ((next, bs) ∷ []) in
+      ap (flat_map (λ log. log.1)) above-after ∙ flat_map-append (λ log. log.1) (logs_above m.replay_after_wal_id o) ((next, bs) ∷ []) in
       ap (batches_above m.last_l0_seq) (news ∙ ap (λ xs. olds ++ xs) (append-nil bs))
       ∙ filter-append (λ b. ltb m.last_l0_seq b.number) olds bs
 
@@ -86,7 +86,7 @@ module _ (o : Objects) (m : Manifest) (bs : List Batch) where
       let next = last_log m.replay_after_wal_id o + 1 in
       let last = gapless-greatest m.replay_after_wal_id m.replay_after_wal_id o.logs (omega arith) has.gapless in
       let ids-after : map (λ log. log.0) (logs_above m.replay_after_wal_id (with_log o m bs)) ≡ ids ++ next ∷ [] =
-          ap (map (λ log. log.0)) above-after ∙ map-append (λ log. log.0) (logs_above m.replay_after_wal_id o) ((next, bs) ∷ []) in
+      ap (map (λ log. log.0)) above-after ∙ map-append (λ log. log.0) (logs_above m.replay_after_wal_id o) ((next, bs) ∷ []) in
       let count = length-map (logs_above m.replay_after_wal_id o) (λ log. log.0) in
       let longer = ap length above-after ∙ length-append (logs_above m.replay_after_wal_id o) ((next, bs) ∷ []) in
       record {
@@ -111,7 +111,7 @@ module _ (o : Objects) (latest : VersionedManifest) (bs : List Batch) (sound : I
       let tables : HasItsTables o m = subst (λ x. IfSome x (λ l. HasItsTables o l.manifest)) is sound.joined in
       let after-is : content (with_log o m bs) ≡ content_by (with_log o m bs) (Some latest) = ap (content_by (with_log o m bs)) is in
       let end_is : end (content o) ≡ m.last_l0_seq + length (logged o m) =
-          ap end content-is ∙ (let t = tables in let l = length-append joined (logged o m) in omega (arith, t, l)) in
+      ap end content-is ∙ (let t = tables in let l = length-append joined (logged o m) in omega (arith, t, l)) in
       let fresh : batches_above m.last_l0_seq bs ≡ bs = above-all (end (content o)) m.last_l0_seq bs next (omega (arith, end_is)) in
       after-is
       ∙ (ap (λ xs. record { floor = number_before joined m.last_l0_seq; batches = joined ++ xs }) (logged-after o m bs ∙ ap (λ xs. logged o m ++ xs) fresh)

@@ -14,11 +14,11 @@ CloseResult = Option (Result (Unit {0}) CloseFault)
 -- A handle that writes. A world has its whole line; the code keeps the end of it.
 pub record Handle : Type 0 where
   pub keeps_log : Bool
-  pub line : Line                -- the batches that it sees
-  pub durable : ℕ                -- its batches up to this number are stored
+  pub line : Line  -- the batches that it sees
+  pub durable : ℕ  -- its batches up to this number are stored
   pub epoch : ℕ
-  pub tick : ℤ                   -- the creation time of its last batch
-  pub view : VersionedManifest   -- the manifest that its reads go by
+  pub tick : ℤ  -- the creation time of its last batch
+  pub view : VersionedManifest  -- the manifest that its reads go by
   pub result : CloseResult
 
 -- the number of the last batch that it accepted

@@ -1,4 +1,4 @@
-use Rattle.std.proofs.Common.{◌≡◌, refl, sym, ◌∙◌, ap, ℕ, ◌+◌, zero, suc, Bool, true, false, ◌||◌, List, [], ◌∷◌, Contains, Option, arith}
+use Rattle.std.proofs.Common.{◌≡◌, refl, sym, ◌∙◌, ap, ℕ, zero, suc, Bool, true, false, ◌||◌, List, [], ◌∷◌, Contains, Option, arith}
 use Rattle.std.specs.List.{AllByRecursion, list_any}
 use Rattle.std.specs.List.Sorted.{IsStrictlySortedBy}
 use Rattle.std.specs.Str.{bytes_eq}
@@ -43,23 +43,25 @@ same-keys order (x ∷ xs) (y ∷ ys) sorted sorted' same =
     let first : x ≡ y = heads (order_cmp order x y) refl in
     ap (λ z. z ∷ xs) first ∙ ap (λ zs. y ∷ zs) (same-keys order xs ys sorted.1 sorted'.1 (tails first))
   where
-  here : (k : List ℕ) (ks : List (List ℕ)) → (bytes_eq k k || list_any (bytes_eq k) ks) ≡ true
-  here k ks = rw (bytes_eq-same k)
-  heads : (o : Ordering) → order_cmp order x y ≡ o → x ≡ y
-  heads Less is = absurd (false≢true (sym (none-before order x (y ∷ ys) (is, before-all order x y ys is sorted'.0)) ∙ sym (same x) ∙ here x xs))
-  heads Greater is =
-      let back : order_cmp order y x ≡ Less = (order_cmp-total order).antisymm y x ∙ ap ordering_reverse is in
-      absurd (false≢true (sym (none-before order y (x ∷ xs) (back, before-all order y x xs back sorted.0)) ∙ same y ∙ here y ys))
-  heads Equal is = (bytes_eq-Decides x y).0 (ties-keys order x y ∙ ap is_eq is)
-  tails : x ≡ y → (k : List ℕ) → list_any (bytes_eq k) xs ≡ list_any (bytes_eq k) ys
-  tails first k = go (bytes_eq k x) refl where
-    go : (t : Bool) → bytes_eq k x ≡ t → list_any (bytes_eq k) xs ≡ list_any (bytes_eq k) ys
-    go false other =
-        let other' : bytes_eq k y ≡ false = ap (bytes_eq k) (sym first) ∙ other in
-        rw (other, other') at (same k)
-    go true is =
-        let at-x : k ≡ x = (bytes_eq-Decides k x).0 is in
-        ap (λ q. list_any (bytes_eq q) xs) at-x ∙ none-before order x xs sorted.0 ∙ sym (none-before order y ys sorted'.0) ∙ ap (λ q. list_any (bytes_eq q) ys) (sym (at-x ∙ first))
+    here : (k : List ℕ) (ks : List (List ℕ)) → (bytes_eq k k || list_any (bytes_eq k) ks) ≡ true
+    here k ks = rw (bytes_eq-same k)
+
+    heads : (o : Ordering) → order_cmp order x y ≡ o → x ≡ y
+    heads Less is = absurd (false≢true (sym (none-before order x (y ∷ ys) (is, before-all order x y ys is sorted'.0)) ∙ sym (same x) ∙ here x xs))
+    heads Greater is =
+        let back : order_cmp order y x ≡ Less = (order_cmp-total order).antisymm y x ∙ ap ordering_reverse is in
+        absurd (false≢true (sym (none-before order y (x ∷ xs) (back, before-all order y x xs back sorted.0)) ∙ same y ∙ here y ys))
+    heads Equal is = (bytes_eq-Decides x y).0 (ties-keys order x y ∙ ap is_eq is)
+
+    tails : x ≡ y → (k : List ℕ) → list_any (bytes_eq k) xs ≡ list_any (bytes_eq k) ys
+    tails first k = go (bytes_eq k x) refl where
+      go : (t : Bool) → bytes_eq k x ≡ t → list_any (bytes_eq k) xs ≡ list_any (bytes_eq k) ys
+      go false other =
+          let other' : bytes_eq k y ≡ false = ap (bytes_eq k) (sym first) ∙ other in
+          rw (other, other') at (same k)
+      go true is =
+          let at-x : k ≡ x = (bytes_eq-Decides k x).0 is in
+          ap (λ q. list_any (bytes_eq q) xs) at-x ∙ none-before order x xs sorted.0 ∙ sym (none-before order y ys sorted'.0) ∙ ap (λ q. list_any (bytes_eq q) ys) (sym (at-x ∙ first))
 
 contains-any : (ks : List (List ℕ)) (k : List ℕ) → list_any (bytes_eq k) ks ≡ true → Contains ks k
 contains-any [] k has = absurd (false≢true has)
@@ -81,7 +83,7 @@ pub IsScan-unique : (merge : Option Merge) (batches : List Batch) (bound : Optio
     IsScan merge batches bound range order rows fault → IsScan merge batches bound range order rows' fault' → (rows ≡ rows') × (fault ≡ fault')
 IsScan-unique merge batches bound range order rows rows' fault fault' one other =
     let keys : one.keys ≡ other.keys =
-        same-keys order one.keys other.keys one.in_order other.in_order
-        (λ k. same-any one.keys other.keys k (λ has. (other.whole k).1 ((one.whole k).0 has)) (λ has. (one.whole k).1 ((other.whole k).0 has))) in
+    same-keys order one.keys other.keys one.in_order other.in_order
+    (λ k. same-any one.keys other.keys k (λ has. (other.whole k).1 ((one.whole k).0 has)) (λ has. (one.whole k).1 ((other.whole k).0 has))) in
     let same = sym one.taken ∙ ap (rows_of (read_at merge batches bound)) keys ∙ other.taken in
     (ap (λ (r : Rows). r.rows) same, ap (λ (r : Rows). r.fault) same)

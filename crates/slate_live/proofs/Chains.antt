@@ -6,14 +6,14 @@ use Rattle.slate_store.specs.Content.{IsSound}
 use Rattle.slate_script.specs.declared.commands.Command.{Command}
 use Rattle.slate_script.specs.declared.replies.Reply.{Reply}
 use Rattle.slate_live.specs.Live.{Live}
-use Rattle.slate_live.specs.Next.{Chain, Next}
+use Rattle.slate_live.specs.Valid.{Chain, Link}
 use Rattle.slate_live.specs.Run.{LeadsTo}
 use Rattle.slate_live.specs.Stands.{StandsFor}
 use Rattle.slate_live.specs.World.{World, start}
 
 -- a chain goes on by one more link
-pub chain-push : (merge : Option Merge) (first mid last : World) (commands : List Command) (replies : List Reply) (command : Command) (reply : Reply) → Chain merge first commands replies mid → Next merge mid command reply last → Chain merge first (commands ++ command ∷ []) (replies ++ reply ∷ []) last
-chain-push merge first mid last [] [] command reply chain next = (last, subst (λ w. Next merge w command reply last) chain next, refl)
+pub chain-push : (merge : Option Merge) (first mid last : World) (commands : List Command) (replies : List Reply) (command : Command) (reply : Reply) → Chain merge first commands replies mid → Link merge mid command reply last → Chain merge first (commands ++ command ∷ []) (replies ++ reply ∷ []) last
+chain-push merge first mid last [] [] command reply chain next = (last, subst (λ w. Link merge w command reply last) chain next, refl)
 chain-push merge first mid last [] (r ∷ replies) command reply chain next = absurd chain
 chain-push merge first mid last (c ∷ commands) [] command reply chain next = absurd chain
 chain-push merge first mid last (c ∷ commands) (r ∷ replies) command reply chain next =
@@ -52,7 +52,7 @@ pub chain_none : (merge : Option Merge) (first : World) (replies : List Reply) �
 chain_none merge first replies none = subst (λ rs. Chain merge first [] rs first) (sym none) refl
 
 -- the same, of the command at a place of a list
-pub chain-at : (merge : Option Merge) (first mid last : World) (commands : List Command) (i : ℕ) (command : Command) (replies replies' : List Reply) (reply : Reply) → i < length commands → command ≡ get_or commands i command → replies' ≡ replies ++ reply ∷ [] → Chain merge first (take i commands) replies mid → Next merge mid command reply last → Chain merge first (take (i + 1) commands) replies' last
+pub chain-at : (merge : Option Merge) (first mid last : World) (commands : List Command) (i : ℕ) (command : Command) (replies replies' : List Reply) (reply : Reply) → i < length commands → command ≡ get_or commands i command → replies' ≡ replies ++ reply ∷ [] → Chain merge first (take i commands) replies mid → Link merge mid command reply last → Chain merge first (take (i + 1) commands) replies' last
 chain-at merge first mid last commands i command replies replies' reply inside item pushed chain next =
     let longer : Chain merge first (take i commands ++ command ∷ []) (replies ++ reply ∷ []) last = chain-push merge first mid last (take i commands) replies command reply chain next in
     let more : take (i + 1) commands ≡ take i commands ++ command ∷ [] = take_more commands i command inside ∙ ap (λ c. take i commands ++ c ∷ []) (sym item) in

@@ -1,4 +1,5 @@
 pub mod Chains
+pub mod Completeness
 pub mod FlushLinks
 pub mod Flushing
 pub mod Handles

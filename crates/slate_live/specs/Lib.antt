@@ -4,4 +4,5 @@ pub mod Next
 pub mod Run
 pub mod Session
 pub mod Stands
+pub mod Valid
 pub mod World

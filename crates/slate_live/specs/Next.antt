@@ -149,11 +149,3 @@ NextBy merge w moment second (actions.Get n key remote) reply w' = Reads merge w
 -- From a world, a command may be answered so, and leave the other world. `merge` is the operator, where there is one.
 abbrev pub Next : Option Merge → World → Command → Reply → World → Type 0
 Next merge w command reply w' = NextBy merge w command.moment command.second command.action reply w'
-
--- the worlds that commands with these replies lead through, one link each
-abbrev pub Chain : Option Merge → World → List Command → List Reply → World → Type 0
-Chain merge w [] [] last = last ≡ w
-Chain merge w (command ∷ commands) (reply ∷ replies) last =
-    (next : World) × Next merge w command reply next × Chain merge next commands replies last
-Chain merge w [] (reply ∷ replies) last = ⊥
-Chain merge w (command ∷ commands) [] last = ⊥

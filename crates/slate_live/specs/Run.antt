@@ -4,7 +4,7 @@ use Rattle.slate_store.specs.Objects.{Objects}
 use Rattle.slate_store.specs.Content.{IsSound}
 use Rattle.slate_script.specs.declared.commands.Command.{Command}
 use Rattle.slate_script.specs.declared.replies.Reply.{Reply}
-use Rattle.slate_live.specs.Next.{Chain}
+use Rattle.slate_live.specs.Valid.{Chain}
 use Rattle.slate_live.specs.Stands.{Holds}
 use Rattle.slate_live.specs.World.{World, start}
 

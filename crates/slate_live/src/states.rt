@@ -4,6 +4,7 @@ ghost use Rattle.slate_rows.specs.Operator.{Merge};
 ghost use Rattle.slate_rows.specs.Read.{IsOperator};
 ghost use Rattle.slate_live.specs.Links.{Links};
 ghost use Rattle.slate_live.specs.Next.{Next};
+ghost use Rattle.slate_live.specs.Valid.{Link};
 
 use crate::commands;
 use slate_rows::{MergeOperator, PrefixExtractor};
@@ -58,8 +59,27 @@ impl LiveState {
     /// Does one command on the store.
     ///
     /// Over an honest store the reply is one that the command may have, and the state and the store stand afterwards
-    /// for the world that the command then leads to.
+    /// for the world that the command then leads to. A valid command that meets no fault of the
+    /// store is refused nothing.
     pub fn apply<S: Store, M: MergeOperator, E: PrefixExtractor>(
+        &mut self,
+        alloc: Global,
+        store: &mut S,
+        operator: Option<&M>,
+        extractor: Option<&E>,
+        command: &Command,
+    ) -> Reply
+        requires { extractor ≡ None }
+        ensures faults { S.faults store.old ≤ S.faults store.new }
+        ensures link { (merge : Option Merge) → IsOperator M.may_answer (option_copied operator.entry) merge →
+            Links (λ w reply w'. Link merge w command.now reply w')
+            self.old (S.objects store.old) (S.faults store.old) result self.new (S.objects store.new) (S.faults store.new) }
+    {
+        self.answer(alloc, store, operator, extractor, command)
+    }
+
+    /// Does one command on the store: the reply is one that the command may have.
+    fn answer<S: Store, M: MergeOperator, E: PrefixExtractor>(
         &mut self,
         alloc: Global,
         store: &mut S,

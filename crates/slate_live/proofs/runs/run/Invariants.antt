@@ -4,7 +4,7 @@ use Rattle.slate_rows.specs.Operator.{Merge}
 use Rattle.slate_rows.specs.Read.{IsOperator}
 use Rattle.slate_store.specs.Objects.{Objects}
 use Rattle.slate_store.specs.Content.{IsSound}
-use Rattle.slate_live.specs.Next.{Chain}
+use Rattle.slate_live.specs.Valid.{Chain}
 use Rattle.slate_live.specs.Stands.{StandsFor}
 use Rattle.slate_live.specs.World.{World, start}
 use Rattle.slate_live.proofs.runs.run.Given as goal

@@ -1,26 +1,7 @@
-use Rattle.std.proofs.Common.{[], ◌∷◌, sym, subst}
-use Rattle.slate_live.specs.Next.{NextBy, put_op}
-use Rattle.slate_live.proofs.Writing.{stands_written}
+use Rattle.slate_live.proofs.Completeness.{completes}
 use Rattle.slate_live.proofs.states.LiveState.apply.Goals as goal
 
-pub returns-in-Open-clause-link : goal.returns-in-Open-clause-link
-returns-in-Open-clause-link g c merge lawful =
-    rw (← c.self.view_is) (λ w stands.
-    let l = c.open.ensures.link c.self.inside.writes.items w stands in
-    (l.0, subst (λ a. NextBy merge w c.args.command.now.moment c.args.command.now.second a c.open.result l.0) (sym c.in-Open.is) l.1, l.2))
-
-pub returns-in-Put-clause-link : goal.returns-in-Put-clause-link
-returns-in-Put-clause-link g c merge lawful =
-    rw (← c.self.view_is) (λ w stands.
-    let w' = record w { objects = c.put.new.objects.items; writes = c.put.new.writes.items } in
-    let next = c.put.ensures w (sym stands.objects) (sym stands.writes) in (
-      w',
-      subst (λ a. NextBy merge w c.args.command.now.moment c.args.command.now.second a c.put.result w') (sym c.in-Put.is) next,
-      stands_written _ (record { objects = c.put.new.objects.items; writes = c.put.new.writes.items }) _ _ w c.in-Put.handle (put_op c.in-Put.key c.in-Put.value c.in-Put.expire ∷ []) c.args.command.now.moment c.args.command.now.second c.put.result stands next,
-    ))
-
-pub returns-in-Flush-clause-link : goal.returns-in-Flush-clause-link
-returns-in-Flush-clause-link g c merge lawful =
-    rw (← c.self.view_is) (λ w stands.
-    let l = c.flush.ensures.link c.self.inside.writes.items w stands in
-    (l.0, subst (λ a. NextBy merge w c.args.command.now.moment c.args.command.now.second a c.flush.result l.0) (sym c.in-Flush.is) l.1, l.2))
+pub returns-clause-link : goal.returns-clause-link
+returns-clause-link g c merge lawful w stands =
+    let l = c.answer.ensures.link merge lawful w stands in
+    (l.0, record { next = l.1; completes = completes merge w c.args.command.now c.answer.result l.0 l.1 }, l.2)

@@ -1,0 +1,176 @@
+use Rattle.std.proofs.Common.{◌≡◌, ℕ, ℤ, ◌<◌, ◌≤◌, inl, inr, Bool, true, false, if◌then◌else◌, ◌||◌, List, [], ◌∷◌, length, slice_get, Option, Some, None, Result, Ok, Err, refl, sym, subst, ap, ◌∙◌, arith}
+use Rattle.std.proofs.lemmas.Bool.{lt-ltb}
+use Rattle.std.proofs.Math.Dec.{eqb-suc-zero}
+use Rattle.slate_rows.specs.Counts.{HasRisen}
+use Rattle.slate_rows.specs.Operator.{Merge}
+use Rattle.slate_rows.specs.declared.batches.KeyValue.{KeyValue}
+use Rattle.slate_rows.specs.declared.reads.ReadFault.{ReadFault}
+use Rattle.slate_rows.specs.declared.reads.ReadFault.TheVariants as reads
+use Rattle.slate_store.specs.declared.errors.StoreFault.TheVariants.{NotFound, Unavailable}
+use Rattle.slate_store.specs.declared.objects.VersionedManifest.{VersionedManifest}
+use Rattle.slate_store.specs.Objects.{latest_manifest, last_log}
+use Rattle.slate_status.specs.declared.errors.SlateError.{SlateError}
+use Rattle.slate_status.specs.declared.errors.SlateError.TheVariants as errors
+use Rattle.slate_model.specs.Flush.{FlushAnswer, FlushCause, TellsFaults}
+use Rattle.slate_model.specs.Handle.{Handle, accepted}
+use Rattle.slate_model.specs.Open.{OpenAnswer, OpenCause}
+use Rattle.slate_model.specs.Write.{accepted_moment, batch_refusal, clock_refusal, last_number, number_refusal, write_refusal}
+use Rattle.slate_script.specs.declared.commands.Action.{Action}
+use Rattle.slate_script.specs.declared.commands.Action.TheVariants as actions
+use Rattle.slate_script.specs.declared.commands.Command.{Command}
+use Rattle.slate_script.specs.declared.replies.Reply.{Reply}
+use Rattle.slate_script.specs.declared.replies.Reply.TheVariants as replies
+use Rattle.slate_live.specs.declared.states.Object.TheVariants as objects
+use Rattle.slate_live.specs.Next.{AtHandle, FlushesUnless, IsReadReply, Next, NextBy, OpensIn, ReadsUnless, WritesIn, WritesUnless, done_or_refused, put_op, refusal}
+use Rattle.slate_live.specs.Valid.{CanOpen, CanPut, CanRead, CanStore, IsOkOrNoMemory, IsValidAction, IsValidCommand}
+use Rattle.slate_live.specs.World.{World}
+
+none-some : {A : Type 0} (o : Option A) (x : A) → o ≡ None → o ≡ Some x → ⊥
+none-some o x none some = absurd (cc)
+
+some-same : {A : Type 0} (a b : A) → Some a ≡ Some b → a ≡ b
+some-same a b same = cc
+
+beyond : (a b : ℕ) → a < b → b ≤ a → ⊥
+beyond a b under over = omega (arith, under, over)
+
+-- an opening that nothing stands against, and that met no fault, answers no error but want of memory
+open-cause : (w : World) (faults : ℕ) (error : SlateError) → OpenCause w.catalogue error → TellsFaults {A = Unit {0}} w.faults faults (Err error) → CanOpen w → (HasRisen w.faults faults → ⊥) → IsOkOrNoMemory (refusal error)
+open-cause w faults errors.EmptyKey cause fault can calm = absurd cause
+open-cause w faults errors.EmptyBatch cause fault can calm = absurd cause
+open-cause w faults (errors.ObjectStoreError NotFound) cause fault can calm = absurd cause
+open-cause w faults errors.TransactionalObjectVersionExists cause fault can calm = absurd cause
+open-cause w faults (errors.WalTruncated from) cause fault can calm = absurd cause
+open-cause w faults (errors.InvalidClockTick last next) cause fault can calm = absurd cause
+open-cause w faults errors.ChecksumMismatch cause fault can calm = absurd cause
+open-cause w faults errors.Closed cause fault can calm = absurd cause
+open-cause w faults errors.MergeOperatorError cause fault can calm = absurd cause
+open-cause w faults errors.MergeOperatorMissing cause fault can calm = absurd cause
+open-cause w faults errors.WalDisabled cause fault can calm = absurd cause
+open-cause w faults errors.Fenced cause fault can calm = absurd cause
+open-cause w faults errors.LatestTransactionalObjectVersionMissing cause fault can calm = absurd cause
+open-cause w faults errors.InvalidDBState (inl found) fault can calm = absurd (found can.0)
+open-cause w faults errors.InvalidDBState (inr full) fault can calm = absurd (beyond (last_log 0 w.catalogue) last_number can.1 full)
+open-cause w faults (errors.ObjectStoreError Unavailable) cause fault can calm = absurd (calm (fault.unavailable refl))
+open-cause w faults errors.NoMemory cause fault can calm = tt
+
+open-answer : (w : World) (faults : ℕ) (n : ℕ) (result : Result (Unit {0}) SlateError) → OpenAnswer w.catalogue result → TellsFaults w.faults faults result → CanOpen w → (HasRisen w.faults faults → ⊥) → IsOkOrNoMemory (done_or_refused (replies.Handle n) result)
+open-answer w faults n (Ok _) answer fault can calm = tt
+open-answer w faults n (Err error) answer fault can calm = open-cause w faults error answer fault can calm
+
+no-manifest : (w : World) (handle : Handle) → latest_manifest w.catalogue ≡ None → CanStore w handle → ⊥
+no-manifest w handle none can = none-some (latest_manifest w.catalogue) can.1 none can.2
+
+same-manifest : (found : Option VersionedManifest) (a b : VersionedManifest) → found ≡ Some a → found ≡ Some b → a ≡ b
+same-manifest found a b is_a is_b = some-same a b (sym is_a ∙ is_b)
+
+still-current : (w : World) (handle : Handle) → FlushCause handle.epoch w.catalogue errors.Fenced → CanStore w handle → ⊥
+still-current w handle cause can =
+    let same : cause.0 ≡ can.1 = same-manifest (latest_manifest w.catalogue) cause.0 can.1 cause.1 can.2 in
+    beyond handle.epoch can.1.manifest.writer_epoch (subst (λ m. handle.epoch < m.manifest.writer_epoch) same cause.2) can.3
+
+full-log : (w : World) (handle : Handle) → FlushCause handle.epoch w.catalogue errors.InvalidDBState → CanStore w handle → ⊥
+full-log w handle cause can =
+    let same : cause.0 ≡ can.1 = same-manifest (latest_manifest w.catalogue) cause.0 can.1 cause.1 can.2 in
+    beyond (last_log can.1.manifest.replay_after_wal_id w.catalogue) last_number can.4 (subst (λ m. last_number ≤ last_log m.manifest.replay_after_wal_id w.catalogue) same cause.2)
+
+-- the same of a flush
+flush-cause : (w : World) (handle : Handle) (faults : ℕ) (error : SlateError) → FlushCause handle.epoch w.catalogue error → TellsFaults {A = Unit {0}} w.faults faults (Err error) → CanStore w handle → (HasRisen w.faults faults → ⊥) → IsOkOrNoMemory (refusal error)
+flush-cause w handle faults errors.EmptyKey cause fault can calm = absurd cause
+flush-cause w handle faults errors.EmptyBatch cause fault can calm = absurd cause
+flush-cause w handle faults (errors.ObjectStoreError NotFound) cause fault can calm = absurd cause
+flush-cause w handle faults errors.TransactionalObjectVersionExists cause fault can calm = absurd cause
+flush-cause w handle faults (errors.WalTruncated from) cause fault can calm = absurd cause
+flush-cause w handle faults (errors.InvalidClockTick last next) cause fault can calm = absurd cause
+flush-cause w handle faults errors.ChecksumMismatch cause fault can calm = absurd cause
+flush-cause w handle faults errors.Closed cause fault can calm = absurd cause
+flush-cause w handle faults errors.MergeOperatorError cause fault can calm = absurd cause
+flush-cause w handle faults errors.MergeOperatorMissing cause fault can calm = absurd cause
+flush-cause w handle faults errors.WalDisabled cause fault can calm = absurd cause
+flush-cause w handle faults errors.Fenced cause fault can calm = absurd (still-current w handle cause can)
+flush-cause w handle faults errors.LatestTransactionalObjectVersionMissing cause fault can calm = absurd (no-manifest w handle cause can)
+flush-cause w handle faults errors.InvalidDBState cause fault can calm = absurd (full-log w handle cause can)
+flush-cause w handle faults (errors.ObjectStoreError Unavailable) cause fault can calm = absurd (calm (fault.unavailable refl))
+flush-cause w handle faults errors.NoMemory cause fault can calm = tt
+
+flush-answer : (w : World) (handle : Handle) (faults : ℕ) (view view' : VersionedManifest) (result : Result (Unit {0}) SlateError) → FlushAnswer handle.epoch w.catalogue result view view' → TellsFaults w.faults faults result → CanStore w handle → (HasRisen w.faults faults → ⊥) → IsOkOrNoMemory (done_or_refused replies.Flushed result)
+flush-answer w handle faults view view' (Ok _) answer fault can calm = tt
+flush-answer w handle faults view view' (Err error) answer fault can calm = flush-cause w handle faults error answer.0 fault can calm
+
+flush-completes : (w : World) (n : ℕ) (handle : Handle) (reply : Reply) (w' : World) → handle.result ≡ None → CanStore w handle → FlushesUnless handle.result handle.keeps_log w n handle reply w' → (HasRisen w.faults w'.faults → ⊥) → IsOkOrNoMemory reply
+flush-completes w n handle reply w' unclosed can next calm =
+    let flushes : FlushesUnless None true w n handle reply w' =
+    subst (λ k. FlushesUnless None k w n handle reply w') can.0 (subst (λ r. FlushesUnless r handle.keeps_log w n handle reply w') unclosed next) in
+    subst IsOkOrNoMemory (sym flushes.answered) (flush-answer w handle w'.faults handle.view flushes.view flushes.result flushes.stores.answer flushes.fault can calm)
+
+open-completes : (w : World) (reply : Reply) (w' : World) → OpensIn w reply w' → CanOpen w → (HasRisen w.faults w'.faults → ⊥) → IsOkOrNoMemory reply
+open-completes w reply w' opens can calm =
+    subst IsOkOrNoMemory (sym opens.answered) (open-answer w w'.faults (length w.objects) opens.result opens.opens.answer opens.fault can calm)
+
+-- a put that nothing stands against isn't refused
+no-refusal : (handle : Handle) (key value : List ℕ) (expire : Option ℤ) (moment : ℤ) (second : Option ℤ) → handle.result ≡ None → CanPut key moment second handle → write_refusal handle (put_op key value expire ∷ []) moment second ≡ None
+no-refusal handle [] value expire moment second unclosed can = absurd (beyond 0 0 can.0 (omega (arith)))
+no-refusal handle (byte ∷ key) value expire moment second unclosed can =
+    let batch : batch_refusal (put_op (byte ∷ key) value expire ∷ []) ≡ None = ap (λ empty. if (empty || false) then Some errors.EmptyKey else None) (eqb-suc-zero (length key)) in
+    let number : number_refusal (accepted handle) ≡ None = ap (λ below. if below then None else Some errors.InvalidDBState) (lt-ltb (accepted handle) last_number can.1) in
+    let clock : clock_refusal handle.tick moment second (accepted_moment handle.tick moment second) ≡ None = ap (clock_refusal handle.tick moment second) can.3 in
+    rw (unclosed, batch, number, clock) refl
+
+put-unrefused : (refused : Option SlateError) (w : World) (n : ℕ) (handle : Handle) (key value : List ℕ) (expire : Option ℤ) (moment : Option ℤ) (reply : Reply) (w' : World) → refused ≡ None → WritesUnless refused w n handle (put_op key value expire ∷ []) moment reply w' → IsOkOrNoMemory reply
+put-unrefused (Some error) w n handle key value expire moment reply w' none writes = absurd (none-some (Some error) error none refl)
+put-unrefused None w n handle key value expire moment reply w' none writes = subst IsOkOrNoMemory (sym writes.2) tt
+
+put-completes : (w : World) (n : ℕ) (handle : Handle) (key value : List ℕ) (expire : Option ℤ) (moment : ℤ) (second : Option ℤ) (reply : Reply) (w' : World) → handle.result ≡ None → CanPut key moment second handle → WritesIn w n handle (put_op key value expire ∷ []) moment second reply w' → IsOkOrNoMemory reply
+put-completes w n handle key value expire moment second reply w' unclosed can (inl memory) = subst IsOkOrNoMemory (sym memory.0) tt
+put-completes w n handle key value expire moment second reply w' unclosed can (inr writes) =
+    put-unrefused (write_refusal handle (put_op key value expire ∷ []) moment second) w n handle key value expire (accepted_moment handle.tick moment second) reply w' (no-refusal handle key value expire moment second unclosed can) writes
+
+ok-err : (answer : Result (Option KeyValue) ReadFault) (found : Option KeyValue) (fault : ReadFault) → answer ≡ Ok found → answer ≡ Err fault → ⊥
+ok-err answer found fault ok err = absurd (cc)
+
+-- a read that finds a row, or none, is refused nothing
+found-reply : (answer : Result (Option KeyValue) ReadFault) (found : Option KeyValue) (reply : Reply) → answer ≡ Ok found → IsReadReply answer reply → IsOkOrNoMemory reply
+found-reply answer found (replies.Found row) is said = tt
+found-reply answer found replies.Absent is said = tt
+found-reply answer found replies.NoMemory is said = tt
+found-reply answer found (replies.Handle n) is said = tt
+found-reply answer found (replies.Written n m) is said = tt
+found-reply answer found replies.Flushed is said = tt
+found-reply answer found replies.Unknown is said = absurd said
+found-reply answer found (replies.Refused errors.EmptyKey) is said = absurd said
+found-reply answer found (replies.Refused errors.EmptyBatch) is said = absurd said
+found-reply answer found (replies.Refused (errors.ObjectStoreError NotFound)) is said = absurd said
+found-reply answer found (replies.Refused errors.TransactionalObjectVersionExists) is said = absurd said
+found-reply answer found (replies.Refused (errors.WalTruncated from)) is said = absurd said
+found-reply answer found (replies.Refused (errors.InvalidClockTick last next)) is said = absurd said
+found-reply answer found (replies.Refused errors.ChecksumMismatch) is said = absurd said
+found-reply answer found (replies.Refused errors.Closed) is said = absurd said
+found-reply answer found (replies.Refused errors.MergeOperatorError) is said = absurd (ok-err answer found reads.MergeOperatorError is said)
+found-reply answer found (replies.Refused errors.MergeOperatorMissing) is said = absurd (ok-err answer found reads.MergeOperatorMissing is said)
+found-reply answer found (replies.Refused errors.WalDisabled) is said = absurd said
+found-reply answer found (replies.Refused errors.Fenced) is said = absurd said
+found-reply answer found (replies.Refused errors.LatestTransactionalObjectVersionMissing) is said = absurd said
+found-reply answer found (replies.Refused errors.InvalidDBState) is said = absurd said
+found-reply answer found (replies.Refused (errors.ObjectStoreError Unavailable)) is said = absurd said
+found-reply answer found (replies.Refused errors.NoMemory) is said = absurd said
+
+get-completes : (merge : Option Merge) (w : World) (handle : Handle) (key : List ℕ) (remote : Bool) (reply : Reply) (w' : World) → handle.result ≡ None → CanRead merge key remote handle → ReadsUnless handle.result merge w handle key remote reply w' → IsOkOrNoMemory reply
+get-completes merge w handle key remote reply w' unclosed can next =
+    let read : ReadsUnless None merge w handle key remote reply w' = subst (λ r. ReadsUnless r merge w handle key remote reply w') unclosed next in
+    found-reply _ can.0 reply can.1 read.0
+
+at-open : (object : Option objects.the_data) (handle : Handle) (said : Handle → Type 0) (unknown : Type 0) → object ≡ Some (objects.Handle handle) → AtHandle object said unknown → said handle
+at-open object handle said unknown is at = subst (λ o. AtHandle o said unknown) is at
+
+action-completes : (merge : Option Merge) (w : World) (moment : ℤ) (second : Option ℤ) (action : Action) (reply : Reply) (w' : World) → NextBy merge w moment second action reply w' → IsValidAction merge w moment second action → (HasRisen w.faults w'.faults → ⊥) → IsOkOrNoMemory reply
+action-completes merge w moment second actions.Open reply w' next valid calm = open-completes w reply w' next valid calm
+action-completes merge w moment second (actions.Put n key value expire) reply w' next valid calm =
+    put-completes w n valid.0 key value expire moment second reply w' valid.2 valid.3 (at-open (slice_get w.objects n) valid.0 _ _ valid.1 next)
+action-completes merge w moment second (actions.Flush n) reply w' next valid calm =
+    flush-completes w n valid.0 reply w' valid.2 valid.3 (at-open (slice_get w.objects n) valid.0 _ _ valid.1 next) calm
+action-completes merge w moment second (actions.Get n key remote) reply w' next valid calm =
+    get-completes merge w valid.0 key remote reply w' valid.2 valid.3 (at-open (slice_get w.objects n) valid.0 _ _ valid.1 next)
+
+-- a valid command that meets no fault is refused nothing
+pub completes : (merge : Option Merge) (w : World) (command : Command) (reply : Reply) (w' : World) → Next merge w command reply w' → IsValidCommand merge w command → (HasRisen w.faults w'.faults → ⊥) → IsOkOrNoMemory reply
+completes merge w command reply w' next valid calm = action-completes merge w command.moment command.second command.action reply w' next valid calm

@@ -1,0 +1,74 @@
+-- Commands that nothing in a world stands against, and the link of a command, which such a one answers.
+use Rattle.std.specs.Prelude.{◌≡◌, ℕ, ℤ, ◌<◌, ◌≤◌, Bool, true, List, [], ◌∷◌, length, slice_get, Option, Some, None, Ok}
+use Rattle.slate_rows.specs.declared.batches.KeyValue.{KeyValue}
+use Rattle.slate_rows.specs.Counts.{HasRisen}
+use Rattle.slate_rows.specs.Operator.{Merge}
+use Rattle.slate_rows.specs.Read.{read_at}
+use Rattle.slate_store.specs.declared.objects.VersionedManifest.{VersionedManifest}
+use Rattle.slate_store.specs.Objects.{latest_manifest, last_log}
+use Rattle.slate_model.specs.Handle.{Handle, accepted}
+use Rattle.slate_model.specs.Read.{cut}
+use Rattle.slate_model.specs.Write.{accepted_moment, last_number}
+use Rattle.slate_script.specs.declared.commands.Action.{Action}
+use Rattle.slate_script.specs.declared.commands.Action.TheVariants as actions
+use Rattle.slate_script.specs.declared.commands.Command.{Command}
+use Rattle.slate_script.specs.declared.replies.Reply.{Reply}
+use Rattle.slate_script.specs.declared.replies.Reply.TheVariants as replies
+use Rattle.slate_live.specs.declared.states.Object.TheVariants as objects
+use Rattle.slate_live.specs.Next.{Next, level_of}
+use Rattle.slate_live.specs.World.{World}
+
+-- the object with this number is an open handle, of which this holds
+abbrev pub IsOpen : World → ℕ → (Handle → Type 0) → Type 0
+IsOpen w n said = (handle : Handle) × (slice_get w.objects n ≡ Some (objects.Handle handle)) × (handle.result ≡ None) × said handle
+
+-- an opening: there is no manifest, and an id for a log file is left
+abbrev pub CanOpen : World → Type 0
+CanOpen w = (latest_manifest w.catalogue ≡ None) × (last_log 0 w.catalogue < last_number)
+
+-- a put to a handle: the key has a byte, a number is left, and one of the moments isn't below the tick
+abbrev pub CanPut : List ℕ → ℤ → Option ℤ → Handle → Type 0
+CanPut key moment second handle =
+    (0 < length key) × (accepted handle < last_number) × (at : ℤ) × (accepted_moment handle.tick moment second ≡ Some at)
+
+-- a flush of a handle: it keeps a log, no handle was opened since, and an id for a log file is left
+abbrev pub CanStore : World → Handle → Type 0
+CanStore w handle =
+    (handle.keeps_log ≡ true)
+    × (latest : VersionedManifest) × (latest_manifest w.catalogue ≡ Some latest) × (latest.manifest.writer_epoch ≤ handle.epoch)
+    × (last_log latest.manifest.replay_after_wal_id w.catalogue < last_number)
+
+-- a get from a handle: the plain read of its line at its cut finds a row, or none
+abbrev pub CanRead : Option Merge → List ℕ → Bool → Handle → Type 0
+CanRead merge key remote handle =
+    (found : Option KeyValue) × (read_at merge handle.line.batches (Some (cut handle (level_of remote))) key ≡ Ok found)
+
+abbrev pub IsValidAction : Option Merge → World → ℤ → Option ℤ → Action → Type 0
+IsValidAction merge w moment second actions.Open = CanOpen w
+IsValidAction merge w moment second (actions.Put n key value expire) = IsOpen w n (CanPut key moment second)
+IsValidAction merge w moment second (actions.Flush n) = IsOpen w n (CanStore w)
+IsValidAction merge w moment second (actions.Get n key remote) = IsOpen w n (CanRead merge key remote)
+
+-- nothing in this world stands against the command
+abbrev pub IsValidCommand : Option Merge → World → Command → Type 0
+IsValidCommand merge w command = IsValidAction merge w command.moment command.second command.action
+
+-- a reply that refuses nothing, or want of memory
+abbrev pub IsOkOrNoMemory : Reply → Type 0
+IsOkOrNoMemory (replies.Refused error) = ⊥
+IsOkOrNoMemory replies.Unknown = ⊥
+IsOkOrNoMemory reply = Unit {0}
+
+-- The link of a command: its reply and the world that it leads to are such as follow. A valid command that meets no
+-- fault of the store is refused nothing.
+pub record Link (merge : Option Merge) (w : World) (command : Command) (reply : Reply) (w' : World) : Type 0 where
+  pub next : Next merge w command reply w'
+  pub completes : IsValidCommand merge w command → (HasRisen w.faults w'.faults → ⊥) → IsOkOrNoMemory reply
+
+-- the worlds that commands with these replies lead through, one link each
+abbrev pub Chain : Option Merge → World → List Command → List Reply → World → Type 0
+Chain merge w [] [] last = last ≡ w
+Chain merge w (command ∷ commands) (reply ∷ replies) last =
+    (next : World) × Link merge w command reply next × Chain merge next commands replies last
+Chain merge w [] (reply ∷ replies) last = ⊥
+Chain merge w (command ∷ commands) [] last = ⊥

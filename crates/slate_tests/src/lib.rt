@@ -6,6 +6,8 @@ mod rows;
 #[cfg(test)]
 mod script;
 #[cfg(test)]
+mod session;
+#[cfg(test)]
 mod status;
 #[cfg(test)]
 mod store;

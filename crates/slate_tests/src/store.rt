@@ -19,9 +19,9 @@ fn write_once<S: Store>(alloc: Global, store: &mut S) -> Result<(), SlateError> 
 
 // What a run leaves in a store whose calls fail so: the id of the manifest, that of the last log file, and how many
 // batches this one has.
-type Left = (Option<u64>, u64, usize);
+pub(crate) type Left = (Option<u64>, u64, usize);
 
-fn left_in<S: Store>(alloc: Global, store: &mut S) -> Result<Left, StoreError> {
+pub(crate) fn left_in<S: Store>(alloc: Global, store: &mut S) -> Result<Left, StoreError> {
     let manifest = store.latest_manifest(alloc)?.map(|latest| latest.id);
     let last = store.last_log(alloc, 0)?;
     let batches = match store.read_log(alloc, last) {

@@ -7,7 +7,7 @@ use slate_streams::{
 use std::alloc::{AllocError, Global};
 use std::test::Fail;
 
-fn source(
+pub(crate) fn source(
     alloc: Global,
     text: &[u8],
     piece: usize,
@@ -19,7 +19,7 @@ fn source(
     Ok(SliceSource::new(Vec::from_slice(alloc, text)?, piece, failing))
 }
 
-fn sink(alloc: Global, piece: usize, failing: &[u64]) -> Result<VecSink, AllocError>
+pub(crate) fn sink(alloc: Global, piece: usize, failing: &[u64]) -> Result<VecSink, AllocError>
     requires { 1 ≤ piece }
 {
     let failing = Seq::of(Vec::from_slice(alloc, failing)?);

@@ -2,10 +2,8 @@ ghost use Rattle.std.specs.Prelude.{◌≡◌, None};
 
 use crate::store::{Left, left_in};
 use crate::streams::{sink, source};
-use bytes::Bytes;
 use slate_live::{
-    Action, Command, Finished, LiveState, Options, Reply, print_replies, read_script, read_whole,
-    run, session,
+    Action, Command, Finished, LiveState, Options, print_replies, read_script, run, session,
 };
 use slate_rows::{ConcatOperator, FixedPrefix, NoMemory, Seq};
 use slate_store::{FailingCall, FaultyStore, MemoryStore, Store};
@@ -25,96 +23,80 @@ const OPTIONS: Options = Options {
 // numbers fail.
 fn play<S: Store>(
     alloc: Global,
+    words: &[String],
     script: &[u8],
     fails: (u64, u64),
     store: &mut S,
 ) -> Result<(Finished, Vec<u8>), AllocError> {
     let mut source = source(alloc, script, 1, &[fails.0])?;
     let mut sink = sink(alloc, 1, &[fails.1])?;
-    let finished = session(alloc, &[], &mut source, &mut sink, store);
+    let finished = session(alloc, words, &mut source, &mut sink, store);
     Ok((finished, Vec::from_slice(alloc, sink.written())?))
 }
 
-// The status, the refused line and the text of a session over a fresh store.
-fn answer(alloc: Global, script: &[u8]) -> Result<(u8, u64, Vec<u8>), AllocError> {
-    let mut store = MemoryStore::new(alloc);
-    let (finished, text) = play(alloc, script, (0, 0), &mut store)?;
-    Ok((finished.status, finished.line, text))
-}
+// Scripts, and what a session over a fresh store writes.
+const SCRIPTS: [(&[u8], &[u8]); 10] = [
+    (b"", b""),
+    (
+        b"0 open\n1 put 0 a x\n2 get 0 a",
+        b"handle 0\nwrite 0 number 1\nvalue x number 1 created 1\n",
+    ),
+    (
+        b"0 open\n1 put 0 a x\n2 flush 0\n3 get 0 a\n",
+        b"handle 0\nwrite 0 number 1\nflushed\nvalue x number 1 created 1\n",
+    ),
+    (
+        b"0 open\n1 put 0 a x\n2 get 0 b\n3 flush 0\n4 flush 0",
+        b"handle 0\nwrite 0 number 1\nnone\nflushed\nflushed\n",
+    ),
+    // A command that is refused has a reply like any other.
+    (
+        b"0 open\n10 put 0 a x\n5 put 0 a y\n5/7 put 0 a y\n5/12 put 0 a z\n12 put 0 a w",
+        b"handle 0\nwrite 0 number 1\nerror Invalid error: invalid clock tick, must be monotonic. last_tick=`10`, next_tick=`5`\nerror Invalid error: invalid clock tick, must be monotonic. last_tick=`10`, next_tick=`7`\nwrite 1 number 2\nwrite 2 number 3\n",
+    ),
+    (
+        b"1 put 0 a x\n1 flush 0\n1 get 0 a",
+        b"error unknown object\nerror unknown object\nerror unknown object\n",
+    ),
+    (
+        b"0 open\n1 put 0 % x\n2 put 1 a x\n3 get 0 %",
+        b"handle 0\nerror Data error: empty RowEntry key\nerror unknown object\nnone\n",
+    ),
+    // Carriage returns, blank lines, comments, and bytes that words spell.
+    (b"\r\n\n#\r\n# 0 fly\n", b""),
+    (
+        b"0 open\r\n\r\n# a note\n\n1 put 0 %20 a%20%0A\r\n2 get 0 %20\r",
+        b"handle 0\nwrite 0 number 1\nvalue a%20%0a number 1 created 1\n",
+    ),
+    (
+        b"00 open\n01 put 00 %61 %\n2 get 0 a",
+        b"handle 0\nwrite 0 number 1\nvalue % number 1 created 1\n",
+    ),
+];
 
 #[test]
 fn scripts(rt: HostRuntime) -> Result<(), Fail> {
-    for (script, want) in [
-        (b"".as_slice(), b"".as_slice()),
-        (
-            b"0 open\n1 put 0 a x\n2 get 0 a".as_slice(),
-            b"handle 0\nwrite 0 number 1\nvalue x number 1 created 1\n".as_slice(),
-        ),
-        (
-            b"0 open\n1 put 0 a x\n2 flush 0\n3 get 0 a\n".as_slice(),
-            b"handle 0\nwrite 0 number 1\nflushed\nvalue x number 1 created 1\n".as_slice(),
-        ),
-        (
-            b"0 open\n1 put 0 a x\n2 get 0 b\n3 flush 0\n4 flush 0".as_slice(),
-            b"handle 0\nwrite 0 number 1\nnone\nflushed\nflushed\n".as_slice(),
-        ),
-    ] {
-        let (status, line, text) = answer(rt.alloc(), script)?;
-        assert_eq!(rt; (status, line), (0, 0));
-        assert_eq!(rt; text.as_slice(), want);
+    for (script, want) in SCRIPTS {
+        let mut store = MemoryStore::new(rt.alloc());
+        let (finished, text) = play(rt.alloc(), &[], script, (0, 0), &mut store)?;
+        assert_eq!(rt;
+            (finished.status, finished.line, text.as_slice()),
+            (0, 0, want)
+        );
     }
     Ok(())
 }
 
-// A command that is refused has a reply like any other.
-#[test]
-fn refused_commands(rt: HostRuntime) -> Result<(), Fail> {
-    for (script, want) in [
-        (
-            b"0 open\n10 put 0 a x\n5 put 0 a y\n5/7 put 0 a y\n5/12 put 0 a z\n12 put 0 a w".as_slice(),
-            b"handle 0\nwrite 0 number 1\nerror Invalid error: invalid clock tick, must be monotonic. last_tick=`10`, next_tick=`5`\nerror Invalid error: invalid clock tick, must be monotonic. last_tick=`10`, next_tick=`7`\nwrite 1 number 2\nwrite 2 number 3\n".as_slice(),
-        ),
-        (
-            b"1 put 0 a x\n1 flush 0\n1 get 0 a".as_slice(),
-            b"error unknown object\nerror unknown object\nerror unknown object\n".as_slice(),
-        ),
-        (
-            b"0 open\n1 put 0 % x\n2 put 1 a x\n3 get 0 %".as_slice(),
-            b"handle 0\nerror Data error: empty RowEntry key\nerror unknown object\nnone\n".as_slice(),
-        ),
-    ] {
-        let (status, line, text) = answer(rt.alloc(), script)?;
-        assert_eq!(rt; (status, line), (0, 0));
-        assert_eq!(rt; text.as_slice(), want);
-    }
-    Ok(())
-}
-
-// Carriage returns, blank lines, comments, and bytes that words spell.
-#[test]
-fn spellings(rt: HostRuntime) -> Result<(), Fail> {
-    for (script, want) in [
-        (b"\r\n\n#\r\n# 0 fly\n".as_slice(), b"".as_slice()),
-        (
-            b"0 open\r\n\r\n# a note\n\n1 put 0 %20 a%20%0A\r\n2 get 0 %20\r".as_slice(),
-            b"handle 0\nwrite 0 number 1\nvalue a%20%0a number 1 created 1\n".as_slice(),
-        ),
-        (
-            b"00 open\n01 put 00 %61 %\n2 get 0 a".as_slice(),
-            b"handle 0\nwrite 0 number 1\nvalue % number 1 created 1\n".as_slice(),
-        ),
-    ] {
-        let (status, line, text) = answer(rt.alloc(), script)?;
-        assert_eq!(rt; (status, line), (0, 0));
-        assert_eq!(rt; text.as_slice(), want);
-    }
-    Ok(())
-}
-
-// Whether a session ran nothing and wrote nothing, and what its store has.
-fn stopped(alloc: Global, script: &[u8], read: u64) -> Result<(u8, u64, bool, Left), Fail> {
+// The status and the refused line of a session whose read with this number fails, whether it ran nothing and wrote
+// nothing, and what its store has.
+fn stop(
+    alloc: Global,
+    words: &[String],
+    script: &[u8],
+    read: u64,
+) -> Result<(u8, u64, bool, Left), Fail> {
     let mut store = MemoryStore::new(alloc);
-    let (finished, text) = play(alloc, script, (read, 0), &mut store)?;
+    let (finished, text) = play(alloc, words, script, (read, 0), &mut store)?;
     let nothing = finished.replies.as_slice().is_empty() && text.is_empty();
     Ok((
         finished.status,
@@ -124,64 +106,40 @@ fn stopped(alloc: Global, script: &[u8], read: u64) -> Result<(u8, u64, bool, Le
     ))
 }
 
-// The first line that isn't a script line ends a session before the lines above it are run.
-#[test]
-fn refused_lines(rt: HostRuntime) -> Result<(), Fail> {
-    for (script, line) in [
-        (b"0 open\n1 fly 0".as_slice(), 2),
-        (b"# c\n\n0 open\r\n1 fly 0\n2 fly 0\n".as_slice(), 4),
-        (b" ".as_slice(), 1),
-        (b"0 open\r\r\n".as_slice(), 1),
-        (b"0 open\n1 put 0 a%2 x".as_slice(), 2),
-    ] {
-        assert_eq!(rt; stopped(rt.alloc(), script, 0)?, (2, line, true, EMPTY));
-    }
-    Ok(())
-}
+// Scripts, the read that fails, and the status and the refused line.
+const STOPS: [(&[u8], u64, u8, u64); 8] = [
+    // The first line that isn't a script line.
+    (b"0 open\n1 fly 0", 0, 2, 2),
+    (b"# c\n\n0 open\r\n1 fly 0\n2 fly 0\n", 0, 2, 4),
+    (b" ", 0, 2, 1),
+    (b"0 open\r\r\n", 0, 2, 1),
+    (b"0 open\n1 put 0 a%2 x", 0, 2, 2),
+    // The first read, one between, and the one that would tell the end.
+    (b"0 open", 1, 3, 0),
+    (b"0 open", 4, 3, 0),
+    (b"0 open", 7, 3, 0),
+];
 
-// A source that fails ends a session before anything is run: at its first read, at one between, and at the one that
-// would tell the end.
 #[test]
-fn failing_reads(rt: HostRuntime) -> Result<(), Fail> {
-    for read in [1, 4, 7] {
+fn stops(rt: HostRuntime) -> Result<(), Fail> {
+    for (script, read, status, line) in STOPS {
         assert_eq!(rt;
-            stopped(rt.alloc(), b"0 open", read)?,
-            (3, 0, true, EMPTY),
-            "at read {read}"
+            stop(rt.alloc(), &[], script, read)?,
+            (status, line, true, EMPTY)
         );
     }
-    assert_eq!(rt;
-        stopped(rt.alloc(), b"0 open", 8)?,
-        (0, 0, false, (Some(1), 1, 0))
-    );
     Ok(())
 }
 
-// Words that spell no options end a session before anything is read.
+// Words that spell no options end a session before the first read, which would fail.
 #[test]
 fn words(rt: HostRuntime) -> Result<(), Fail> {
-    let alloc = rt.alloc();
-    let words = vec![in alloc; String::from_str(alloc, "--merge")?]?;
-    let mut source = source(alloc, b"0 open", 1, &[1])?;
-    let mut sink = sink(alloc, 1, &[])?;
-    let mut store = MemoryStore::new(alloc);
-    let finished = session(alloc, words.as_slice(), &mut source, &mut sink, &mut store);
-    assert_eq!(rt; (finished.status, finished.line), (64, 0));
-    assert!(rt; finished.replies.as_slice().is_empty() && sink.written().is_empty());
-    assert_eq!(rt; left_in(alloc, &mut store)?, EMPTY);
-    // The first read is still to come, and fails.
-    assert!(rt; read_whole(alloc, &mut source).is_err());
+    let words = vec![in rt.alloc(); String::from_str(rt.alloc(), "--merge")?]?;
     assert_eq!(rt;
-        read_whole(alloc, &mut source)?.as_slice(),
-        b"0 open".as_slice()
+        stop(rt.alloc(), words.as_slice(), b"0 open", 1)?,
+        (64, 0, true, EMPTY)
     );
     Ok(())
-}
-
-fn text_of(alloc: Global, replies: &[Reply]) -> Result<Vec<u8>, NoMemory> {
-    let mut text = Vec::new(alloc);
-    print_replies(&mut text, replies)?;
-    Ok(text)
 }
 
 // The status of a session whose write with this number fails, what it wrote, the text of its replies, and what its
@@ -189,8 +147,9 @@ fn text_of(alloc: Global, replies: &[Reply]) -> Result<Vec<u8>, NoMemory> {
 fn cut_short(alloc: Global, write: u64) -> Result<(u8, Vec<u8>, Vec<u8>, Left), Fail> {
     let mut store = MemoryStore::new(alloc);
     let script = b"0 open\n1 put 0 a x\n2 flush 0";
-    let (finished, text) = play(alloc, script, (0, write), &mut store)?;
-    let replies = text_of(alloc, finished.replies.as_slice())?;
+    let (finished, text) = play(alloc, &[], script, (0, write), &mut store)?;
+    let mut replies = Vec::new(alloc);
+    print_replies(&mut replies, finished.replies.as_slice())?;
     Ok((finished.status, text, replies, left_in(alloc, &mut store)?))
 }
 
@@ -205,19 +164,20 @@ fn failing_writes(rt: HostRuntime) -> Result<(), Fail> {
         (35, 0, whole),
     ] {
         let (status, text, replies, left) = cut_short(rt.alloc(), write)?;
-        assert_eq!(rt; (status, text.as_slice()), (want, written));
-        assert_eq!(rt; replies.as_slice(), whole);
-        assert_eq!(rt; left, (Some(1), 2, 1));
+        assert_eq!(rt;
+            (status, text.as_slice(), replies.as_slice(), left),
+            (want, written, whole, (Some(1), 2, 1))
+        );
     }
     Ok(())
 }
 
-// The status and the text of a session over a store whose call with this number fails, and what is stored then.
+// The text of a session over a store whose call with this number fails, and what is stored then.
 fn over(alloc: Global, at: u64, landed: bool) -> Result<(u8, Vec<u8>, Left), Fail> {
     let failing = Seq::of(vec![in alloc; FailingCall { at, landed }]?);
     let mut store = FaultyStore::new(MemoryStore::new(alloc), failing);
     let script = b"0 open\n1 put 0 a x\n2 flush 0\n3 get 0 a";
-    let (finished, text) = play(alloc, script, (0, 0), &mut store)?;
+    let (finished, text) = play(alloc, &[], script, (0, 0), &mut store)?;
     Ok((
         finished.status,
         text,
@@ -225,109 +185,85 @@ fn over(alloc: Global, at: u64, landed: bool) -> Result<(u8, Vec<u8>, Left), Fai
     ))
 }
 
+const UNOPENED: &[u8] =
+    b"error Unavailable error: object store error (unavailable)\nerror unknown object\nerror unknown object\nerror unknown object\n";
+
+const UNFLUSHED: &[u8] =
+    b"handle 0\nwrite 0 number 1\nerror Unavailable error: object store error (unavailable)\nerror Unavailable error: object store error (unavailable)\n";
+
+const WHOLE: &[u8] = b"handle 0\nwrite 0 number 1\nflushed\nvalue x number 1 created 1\n";
+
 // Each call of the store fails in turn, made and not made. The first four are those of the opening, which leaves no
 // handle then, and the next three those of the flush, which closes the handle then. A put that was made is stored.
 #[test]
 fn failing_calls(rt: HostRuntime) -> Result<(), Fail> {
-    let unopened =
-        b"error Unavailable error: object store error (unavailable)\nerror unknown object\nerror unknown object\nerror unknown object\n".as_slice();
-    let unflushed =
-        b"handle 0\nwrite 0 number 1\nerror Unavailable error: object store error (unavailable)\nerror Unavailable error: object store error (unavailable)\n".as_slice();
-    let whole = b"handle 0\nwrite 0 number 1\nflushed\nvalue x number 1 created 1\n".as_slice();
     let opened = (Some(1), 1, 0);
     for (at, want, lost, landed) in [
-        (1, unopened, EMPTY, EMPTY),
-        (2, unopened, EMPTY, EMPTY),
-        (3, unopened, EMPTY, (Some(1), 0, 0)),
-        (4, unopened, (Some(1), 0, 0), opened),
-        (5, unflushed, opened, opened),
-        (6, unflushed, opened, opened),
-        (7, unflushed, opened, (Some(1), 2, 1)),
-        (8, whole, (Some(1), 2, 1), (Some(1), 2, 1)),
+        (1, UNOPENED, EMPTY, EMPTY),
+        (2, UNOPENED, EMPTY, EMPTY),
+        (3, UNOPENED, EMPTY, (Some(1), 0, 0)),
+        (4, UNOPENED, (Some(1), 0, 0), opened),
+        (5, UNFLUSHED, opened, opened),
+        (6, UNFLUSHED, opened, opened),
+        (7, UNFLUSHED, opened, (Some(1), 2, 1)),
+        (8, WHOLE, (Some(1), 2, 1), (Some(1), 2, 1)),
     ] {
         for (made, left) in [(false, lost), (true, landed)] {
             let (status, text, stored) = over(rt.alloc(), at, made)?;
-            assert_eq!(rt; (status, text.as_slice()), (0, want), "at call {at}");
-            assert_eq!(rt; stored, left, "at call {at}");
+            assert_eq!(rt; (at, status, text.as_slice(), stored), (at, 0, want, left));
         }
     }
     Ok(())
 }
 
-// A run with an operator.
-#[test]
-fn runs(rt: HostRuntime) -> Result<(), Fail> {
-    let alloc = rt.alloc();
+// Does commands with an operator by one call, and tells the text of the replies.
+fn run_all(alloc: Global, commands: &[Command]) -> Result<Vec<u8>, NoMemory> {
+    let operator = Some(&ConcatOperator);
     let extractor: Option<&FixedPrefix> = None;
-    let commands = read_script(alloc, b"0 open\n1 put 0 a x\n2 get 0 a\n3 get 0 b")?;
     let mut store = MemoryStore::new(alloc);
-    let replies = run(
-        alloc,
-        &mut store,
-        &OPTIONS,
-        Some(&ConcatOperator),
-        extractor,
-        commands.as_slice(),
-    )?;
-    let text = text_of(alloc, replies.as_slice())?;
-    let want = b"handle 0\nwrite 0 number 1\nvalue x number 1 created 1\nnone\n";
-    assert_eq!(rt; text.as_slice(), want.as_slice());
-    Ok(())
+    let replies = run(alloc, &mut store, &OPTIONS, operator, extractor, commands)?;
+    let mut text = Vec::new(alloc);
+    print_replies(&mut text, replies.as_slice())?;
+    Ok(text)
 }
 
-// Does commands one after another on a state, and tells the text of their replies.
-fn applied(alloc: Global, commands: &[Command]) -> Result<Vec<u8>, NoMemory> {
+// Does the same one command after another.
+fn apply_each(alloc: Global, commands: &[Command]) -> Result<Vec<u8>, NoMemory> {
+    let operator = Some(&ConcatOperator);
     let extractor: Option<&FixedPrefix> = None;
     let mut store = MemoryStore::new(alloc);
     let mut live = LiveState::new(alloc, &OPTIONS);
     let mut text = Vec::new(alloc);
     for command in commands {
-        let reply = live.apply(alloc, &mut store, Some(&ConcatOperator), extractor, command);
+        let reply = live.apply(alloc, &mut store, operator, extractor, command);
         print_replies(&mut text, &[reply])?;
     }
     Ok(text)
 }
 
-fn put(alloc: Global, moment: i64, value: &[u8]) -> Result<Command, AllocError> {
-    Ok(Command {
-        moment,
-        second: None,
-        action: Action::Put {
-            handle: 0,
-            key: Bytes::copy_from_slice(alloc, b"a")?,
-            value: Bytes::copy_from_slice(alloc, value)?,
-            expire: Some(99),
-        },
-    })
+// What no script line says yet: a put expires, and a read is one from durable batches alone.
+fn extend(action: &mut Action) {
+    match action {
+        Action::Put { expire, .. } => *expire = Some(99),
+        Action::Get { remote, .. } => *remote = true,
+        Action::Open | Action::Flush { .. } => {}
+    }
 }
 
-fn get(alloc: Global, moment: i64, remote: bool) -> Result<Command, AllocError> {
-    Ok(Command {
-        moment,
-        second: None,
-        action: Action::Get {
-            object: 0,
-            key: Bytes::copy_from_slice(alloc, b"a")?,
-            remote,
-        },
-    })
-}
-
-// What no script line says yet: a read from durable batches alone doesn't see what isn't flushed, and a row keeps the
-// time of expiry of its put.
+// A read from durable batches doesn't see what isn't flushed, and a row keeps the time of expiry of its put.
 #[test]
-fn remote_reads(rt: HostRuntime) -> Result<(), Fail> {
-    let alloc = rt.alloc();
-    let mut commands = read_script(alloc, b"0 open")?;
-    commands.push(put(alloc, 1, b"x")?)?;
-    commands.push(get(alloc, 2, true)?)?;
-    commands.append(&mut read_script(alloc, b"3 flush 0")?)?;
-    commands.push(put(alloc, 4, b"y")?)?;
-    commands.push(get(alloc, 5, true)?)?;
-    commands.push(get(alloc, 6, false)?)?;
-    let text = applied(alloc, commands.as_slice())?;
+fn runs(rt: HostRuntime) -> Result<(), Fail> {
+    let script = b"0 open\n1 put 0 a x\n2 get 0 a\n3 flush 0\n4 put 0 a y\n5 get 0 a";
+    let mut commands = read_script(rt.alloc(), script)?;
+    for command in commands.iter_mut() {
+        extend(&mut command.action);
+    }
     let want =
-        b"handle 0\nwrite 0 number 1\nnone\nflushed\nwrite 1 number 2\nvalue x number 1 created 1 expires 99\nvalue y number 2 created 4 expires 99\n";
-    assert_eq!(rt; text.as_slice(), want.as_slice());
+        b"handle 0\nwrite 0 number 1\nnone\nflushed\nwrite 1 number 2\nvalue x number 1 created 1 expires 99\n".as_slice();
+    assert_eq!(rt; run_all(rt.alloc(), commands.as_slice())?.as_slice(), want);
+    assert_eq!(rt;
+        apply_each(rt.alloc(), commands.as_slice())?.as_slice(),
+        want
+    );
     Ok(())
 }

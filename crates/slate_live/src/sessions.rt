@@ -4,8 +4,7 @@ ghost use Rattle.slate_script.specs.Replies.{replies_text};
 ghost use Rattle.slate_live.specs.Session.{Ends, EndsWriting, IsGiven, ReadsScript, input_ending, refused_line, script_ending, status_of};
 
 use crate::run;
-use bytes::Bytes;
-use slate_rows::{MergeFault, MergeOperator, PrefixExtractor, Seq};
+use slate_rows::{ConcatOperator, FixedPrefix, Seq};
 use slate_script::{Command, Reply, ScriptFault, print_replies, read_script, read_words};
 use slate_store::Store;
 use slate_streams::{InputFault, Sink, Source, read_whole, write_whole};
@@ -104,50 +103,6 @@ impl Ending {
     }
 }
 
-/// No operator: a type without a value.
-enum NoOperator {}
-
-impl MergeOperator for NoOperator {
-    ghost use Rattle.std.specs.Prelude.{◌≡◌};
-    ghost use Rattle.std.specs.Option.{option_copied};
-    ghost use Rattle.slate_rows.specs.Operator.{Merges};
-
-    ghost may_answer = { λ operator key existing operand answer. ⊥ };
-
-    fn merge(
-        &self,
-        _alloc: Global,
-        _key: &[u8],
-        _existing: Option<&Bytes>,
-        _operand: &Bytes,
-    ) -> Result<Bytes, MergeFault>
-        ensures { Merges (λ answer. ⊥) result }
-    {
-        match *self {}
-    }
-}
-
-/// No extractor: a type without a value.
-enum NoExtractor {}
-
-impl PrefixExtractor for NoExtractor {
-    ghost may_name = { λ extractor name. ⊥ };
-
-    ghost may_extract = { λ extractor key prefix. ⊥ };
-
-    fn name(&self) -> &str
-        ensures { ⊥ }
-    {
-        match *self {}
-    }
-
-    fn prefix_of<'a>(&self, _key: &'a [u8]) -> Option<&'a [u8]>
-        ensures { ⊥ }
-    {
-        match *self {}
-    }
-}
-
 /// Reads the commands of a script from a source, to its end.
 fn read_commands<I: Source>(alloc: Global, source: &mut I) -> Result<Vec<Command>, Ending>
     ensures faults { I.faults source.old ≤ I.faults source.new }
@@ -207,8 +162,8 @@ pub fn session<I: Source, O: Sink, S: Store>(
         Ok(commands) => commands,
         Err(ending) => return ending.finished(Vec::new(alloc)),
     };
-    let operator: Option<&NoOperator> = None;
-    let extractor: Option<&NoExtractor> = None;
+    let operator: Option<&ConcatOperator> = None;
+    let extractor: Option<&FixedPrefix> = None;
     let Ok(replies) = run(
         alloc,
         store,

@@ -3,8 +3,8 @@ ghost use Rattle.std.specs.Prelude.{◌≡◌, None};
 use bytes::Bytes;
 use slate_rows::{
     Batch, ByteRange, CloseOptions, ConcatOperator, DbIterator, DurabilityLevel, FixedPrefix,
-    FlushType, IterationOrder, KeyBound, MergeFault, MergeOperator, MergeOptions, NoMemory, Op,
-    PrefixExtractor, PutOptions, ReadFault, ReadOptions, ScanOptions, SeekFault, Seq,
+    FlushType, IterationOrder, KeyBound, KeyOp, MergeFault, MergeOperator, MergeOptions, NoMemory,
+    Op, PrefixExtractor, PutOptions, ReadFault, ReadOptions, ScanOptions, SeekFault, Seq,
     ValueDeletable, VarintFault, WriteBatch, WriteOptions, compute_index_key, decode_varint,
     encode_varint, prepare_max_seq, read, recency, scan, varint_len,
 };
@@ -70,34 +70,57 @@ impl MergeOperator for Refusing {
     }
 }
 
+fn add_slices(alloc: Global, batch: &mut WriteBatch) -> Result<(), NoMemory> {
+    let expire_ts = Some(9);
+    batch.put(alloc, b"a", b"1")?;
+    batch.merge(alloc, b"a", b"2")?;
+    batch.put_with_options(alloc, b"b", b"3", &PutOptions { expire_ts })?;
+    batch.merge_with_options(alloc, b"b", b"4", &MergeOptions { expire_ts })?;
+    Ok(())
+}
+
+fn add_bytes(alloc: Global, batch: &mut WriteBatch) -> Result<(), NoMemory> {
+    let options = PutOptions { expire_ts: Some(9) };
+    batch.put_bytes(alloc, bytes(alloc, b"c")?, bytes(alloc, b"5")?)?;
+    batch.put_bytes_with_options(alloc, bytes(alloc, b"d")?, bytes(alloc, b"6")?, &options)?;
+    Ok(())
+}
+
+// Writes an operation: its key, a letter and its value, and a mark where it expires at 9.
+fn write_op(text: &mut Vec<u8>, key_op: &KeyOp) -> Result<(), NoMemory> {
+    let (letter, value, expire_ts) = match &key_op.op {
+        Op::Put(value, expire_ts) => (b'p', value.as_slice(), *expire_ts),
+        Op::Delete => (b'd', b"".as_slice(), None),
+        Op::Merge(operand, expire_ts) => (b'm', operand.as_slice(), *expire_ts),
+    };
+    text.extend_from_slice(key_op.key.as_slice())?;
+    text.push(letter)?;
+    text.extend_from_slice(value)?;
+    text.push(if expire_ts == Some(9) { b'!' } else { b' ' })?;
+    Ok(())
+}
+
+fn ops(alloc: Global, batch: &WriteBatch) -> Result<Vec<u8>, NoMemory> {
+    let mut text = Vec::new(alloc);
+    for key_op in batch.ops.as_slice() {
+        write_op(&mut text, key_op)?;
+    }
+    Ok(text)
+}
+
 #[test]
 fn batches(rt: HostRuntime) -> Result<(), Fail> {
     let alloc = rt.alloc();
     let mut written = WriteBatch::new(alloc);
-    let expires = Some(9);
-    written.put(alloc, b"a", b"1")?;
-    written.merge(alloc, b"a", b"2")?;
-    written.put_with_options(alloc, b"b", b"3", &PutOptions { expire_ts: expires })?;
-    written.merge_with_options(alloc, b"b", b"4", &MergeOptions { expire_ts: expires })?;
-    written.put_bytes(alloc, bytes(alloc, b"c")?, bytes(alloc, b"5")?)?;
-    let options = PutOptions { expire_ts: expires };
-    written.put_bytes_with_options(alloc, bytes(alloc, b"d")?, bytes(alloc, b"6")?, &options)?;
+    add_slices(alloc, &mut written)?;
+    add_bytes(alloc, &mut written)?;
     assert_eq!(rt; written.op_count(), 6);
     written.delete(alloc, b"a")?;
     assert_eq!(rt; written.op_count(), 5);
-    let mut text = Vec::new(alloc);
-    for key_op in written.ops.as_slice() {
-        text.extend_from_slice(key_op.key.as_slice())?;
-        let (letter, value, expire_ts) = match &key_op.op {
-            Op::Put(value, expire_ts) => (b'p', value.as_slice(), *expire_ts),
-            Op::Delete => (b'd', b"".as_slice(), None),
-            Op::Merge(operand, expire_ts) => (b'm', operand.as_slice(), *expire_ts),
-        };
-        text.push(letter)?;
-        text.extend_from_slice(value)?;
-        text.push(if expire_ts == expires { b'!' } else { b' ' })?;
-    }
-    assert_eq!(rt; text.as_slice(), b"bp3!bm4!cp5 dp6!ad ".as_slice());
+    assert_eq!(rt;
+        ops(alloc, &written)?.as_slice(),
+        b"bp3!bm4!cp5 dp6!ad ".as_slice()
+    );
     Ok(())
 }
 
@@ -141,51 +164,83 @@ fn reads(rt: HostRuntime) -> Result<(), Fail> {
     Ok(())
 }
 
-// Operands are folded oldest first, from the last put or delete on; a key whose merge is refused ends a scan.
+fn older_merges(alloc: Global) -> Result<Batch, NoMemory> {
+    let mut written = WriteBatch::new(alloc);
+    written.merge(alloc, b"a", b"0")?;
+    written.put(alloc, b"a", b"x")?;
+    written.merge(alloc, b"a", b"y")?;
+    written.merge(alloc, b"b", b"1")?;
+    written.put(alloc, b"c", b"2")?;
+    Ok(Batch {
+        number: 1,
+        create_ts: 10,
+        ops: written.ops,
+    })
+}
+
+fn newer_merges(alloc: Global) -> Result<Batch, NoMemory> {
+    let mut written = WriteBatch::new(alloc);
+    written.merge_with_options(alloc, b"a", b"z", &MergeOptions { expire_ts: Some(3) })?;
+    written.delete(alloc, b"b")?;
+    written.merge(alloc, b"b", b"4")?;
+    Ok(Batch {
+        number: 2,
+        create_ts: 20,
+        ops: written.ops,
+    })
+}
+
+// Operands are folded oldest first, from the last put or delete on.
 #[test]
 fn merges(rt: HostRuntime) -> Result<(), Fail> {
     let alloc = rt.alloc();
-    let mut first = WriteBatch::new(alloc);
-    first.merge(alloc, b"a", b"0")?;
-    first.put(alloc, b"a", b"x")?;
-    first.merge(alloc, b"a", b"y")?;
-    first.merge(alloc, b"b", b"1")?;
-    first.put(alloc, b"c", b"2")?;
-    let mut second = WriteBatch::new(alloc);
-    second.merge_with_options(alloc, b"a", b"z", &MergeOptions { expire_ts: Some(3) })?;
-    second.delete(alloc, b"b")?;
-    second.merge(alloc, b"b", b"4")?;
-    let batches = [
-        Batch {
-            number: 1,
-            create_ts: 10,
-            ops: first.ops,
-        },
-        Batch {
-            number: 2,
-            create_ts: 20,
-            ops: second.ops,
-        },
-    ];
-    let row = read(alloc, &batches, None, b"a", Some(&ConcatOperator))?.ok_or("a row")?;
-    assert_eq!(rt; row.value.as_slice(), b"xyz".as_slice());
-    assert_eq!(rt; (row.seq, row.create_ts, row.expire_ts), (2, 20, Some(3)));
-    let row = read(alloc, &batches, None, b"b", Some(&ConcatOperator))?.ok_or("a row")?;
-    assert_eq!(rt; row.value.as_slice(), b"4".as_slice());
+    let batches = [older_merges(alloc)?, newer_merges(alloc)?];
+    for (key, value, stamp) in [
+        (b"a".as_slice(), b"xyz".as_slice(), (2, 20, Some(3))),
+        (b"b".as_slice(), b"4".as_slice(), (2, 20, None)),
+        (b"c".as_slice(), b"2".as_slice(), (1, 10, None)),
+    ] {
+        let row = read(alloc, &batches, None, key, Some(&ConcatOperator))?.ok_or("a row")?;
+        assert_eq!(rt; row.value.as_slice(), value);
+        assert_eq!(rt; (row.seq, row.create_ts, row.expire_ts), stamp);
+    }
+    Ok(())
+}
+
+#[test]
+fn refused_merges(rt: HostRuntime) -> Result<(), Fail> {
+    let alloc = rt.alloc();
+    let batches = [older_merges(alloc)?, newer_merges(alloc)?];
     let refused = read(alloc, &batches, None, b"a", Some(&Refusing)).err();
     assert_eq!(rt; refused, Some(ReadFault::MergeOperatorError));
     let missing = read(alloc, &batches, None, b"a", NONE).err();
     assert_eq!(rt; missing, Some(ReadFault::MergeOperatorMissing));
-    let all = ByteRange::full();
+    Ok(())
+}
+
+// The keys of a scan from the greatest key down, and the fault that ends them.
+fn keys_down(
+    alloc: Global,
+    batches: &[Batch],
+    operator: Option<&ConcatOperator>,
+) -> Result<(Vec<u8>, Option<ReadFault>), NoMemory> {
     let order = IterationOrder::Descending;
-    let mut rows = scan(alloc, &batches, None, &all, order, NONE)?;
-    let (found, fault) = keys(alloc, &mut rows)?;
-    assert_eq!(rt; found.as_slice(), b"c ".as_slice());
-    assert_eq!(rt; fault, Some(ReadFault::MergeOperatorMissing));
-    let mut rows = scan(alloc, &batches, None, &all, order, Some(&ConcatOperator))?;
-    let (found, fault) = keys(alloc, &mut rows)?;
-    assert_eq!(rt; found.as_slice(), b"c b a ".as_slice());
-    assert_eq!(rt; fault, None);
+    let mut rows = scan(alloc, batches, None, &ByteRange::full(), order, operator)?;
+    keys(alloc, &mut rows)
+}
+
+// A key whose merge is refused ends a scan.
+#[test]
+fn scanned_merges(rt: HostRuntime) -> Result<(), Fail> {
+    let batches = [older_merges(rt.alloc())?, newer_merges(rt.alloc())?];
+    let missing = Some(ReadFault::MergeOperatorMissing);
+    for (operator, want, end) in [
+        (NONE, b"c ".as_slice(), missing),
+        (Some(&ConcatOperator), b"c b a ".as_slice(), None),
+    ] {
+        let (found, fault) = keys_down(rt.alloc(), &batches, operator)?;
+        assert_eq!(rt; (found.as_slice(), fault), (want, end));
+    }
     Ok(())
 }
 
@@ -219,9 +274,8 @@ fn prefixes(rt: HostRuntime) -> Result<(), Fail> {
     Ok(())
 }
 
-#[test]
-fn seeks(rt: HostRuntime) -> Result<(), Fail> {
-    let alloc = rt.alloc();
+// A scan of four keys in a range, from the least key up.
+fn four_rows(alloc: Global, range: &ByteRange) -> Result<DbIterator, NoMemory> {
     let batches = [puts(
         alloc,
         1,
@@ -232,32 +286,53 @@ fn seeks(rt: HostRuntime) -> Result<(), Fail> {
             (b"test_key4", b"test_value4"),
         ],
     )?];
-    let order = IterationOrder::Ascending;
+    scan(
+        alloc,
+        &batches,
+        None,
+        range,
+        IterationOrder::Ascending,
+        NONE,
+    )
+}
+
+#[test]
+fn crossed_bounds(rt: HostRuntime) -> Result<(), Fail> {
     let crossed = ByteRange {
-        low: KeyBound::Included(bytes(alloc, b"b")?),
-        high: KeyBound::Included(bytes(alloc, b"a")?),
+        low: KeyBound::Included(bytes(rt.alloc(), b"b")?),
+        high: KeyBound::Included(bytes(rt.alloc(), b"a")?),
     };
-    let mut rows = scan(alloc, &batches, None, &crossed, order, NONE)?;
-    assert!(rt; rows.next()?.is_none());
-    let mut rows = scan(alloc, &batches, None, &ByteRange::full(), order, NONE)?;
+    assert!(rt; four_rows(rt.alloc(), &crossed)?.next()?.is_none());
+    Ok(())
+}
+
+#[test]
+fn seeks(rt: HostRuntime) -> Result<(), Fail> {
+    let alloc = rt.alloc();
+    let mut rows = four_rows(alloc, &ByteRange::full())?;
     assert_eq!(rt; rows.seek(b"test_key4"), Ok(()));
     assert_eq!(rt;
         keys(alloc, &mut rows)?.0.as_slice(),
         b"test_key4 ".as_slice()
     );
-    let mut rows = scan(alloc, &batches, None, &ByteRange::full(), order, NONE)?;
+    let mut rows = four_rows(alloc, &from(alloc, b"b")?)?;
+    assert_eq!(rt; rows.seek(b"a"), Err(SeekFault::OutOfRange));
+    Ok(())
+}
+
+// After a row, a seek of its key is refused.
+#[test]
+fn seeks_after_a_row(rt: HostRuntime) -> Result<(), Fail> {
+    let alloc = rt.alloc();
+    let mut rows = four_rows(alloc, &ByteRange::full())?;
     assert!(rt; rows.next()?.is_some());
     assert_eq!(rt;
         rows.seek(b"test_key1"),
         Err(SeekFault::LessThanLastReturned)
     );
     assert_eq!(rt; rows.seek(b"test_key11"), Ok(()));
-    assert_eq!(rt;
-        keys(alloc, &mut rows)?.0.as_slice(),
-        b"test_key2 test_key3 test_key4 ".as_slice()
-    );
-    let mut rows = scan(alloc, &batches, None, &from(alloc, b"b")?, order, NONE)?;
-    assert_eq!(rt; rows.seek(b"a"), Err(SeekFault::OutOfRange));
+    let want = b"test_key2 test_key3 test_key4 ".as_slice();
+    assert_eq!(rt; keys(alloc, &mut rows)?.0.as_slice(), want);
     Ok(())
 }
 

@@ -135,7 +135,7 @@ impl LiveState {
 
 /// How the handles of a run write.
 fn writer_options(options: &Options) -> WriterOptions
-    ensures { result.wal_enabled ≡ true }
+    ensures { result ≡ record { wal_enabled = true; max_unflushed_bytes = options.now.max_unflushed_bytes; compactor = options.now.compactor; compaction_worker = options.now.compaction_worker; collector = options.now.collector } }
 {
     WriterOptions {
         wal_enabled: true,

@@ -244,24 +244,32 @@ fn scanned_merges(rt: HostRuntime) -> Result<(), Fail> {
     Ok(())
 }
 
-#[test]
-fn prefixes(rt: HostRuntime) -> Result<(), Fail> {
-    let alloc = rt.alloc();
+fn prefixed_rows(alloc: Global) -> Result<DbIterator, NoMemory> {
     let batches = [puts(alloc, 1, &[(b"ab", b"v0"), (b"aba", b"v1"), (b"b", b"v2")])?];
     let range = ByteRange::prefix_and_subrange(alloc, b"ab", &from(alloc, b"a")?)?;
-    let mut rows = scan(
+    scan(
         alloc,
         &batches,
         None,
         &range,
         IterationOrder::Ascending,
         NONE,
-    )?;
+    )
+}
+
+#[test]
+fn prefixed_scans(rt: HostRuntime) -> Result<(), Fail> {
+    let mut rows = prefixed_rows(rt.alloc())?;
     let row = rows.next()?.ok_or("a row")?;
     assert_eq!(rt; row.key.as_slice(), b"aba".as_slice());
     assert_eq!(rt; row.value.as_slice(), b"v1".as_slice());
     assert!(rt; rows.next()?.is_none());
-    let whole = ByteRange::prefix(alloc, b"a\xff")?;
+    Ok(())
+}
+
+#[test]
+fn prefixes(rt: HostRuntime) -> Result<(), Fail> {
+    let whole = ByteRange::prefix(rt.alloc(), b"a\xff")?;
     for (key, want) in [
         (b"a".as_slice(), false),
         (b"a\xff".as_slice(), true),
@@ -270,7 +278,7 @@ fn prefixes(rt: HostRuntime) -> Result<(), Fail> {
     ] {
         assert_eq!(rt; whole.contains(key), want);
     }
-    assert!(rt; ByteRange::prefix(alloc, b"\xff")?.contains(b"\xff\xff"));
+    assert!(rt; ByteRange::prefix(rt.alloc(), b"\xff")?.contains(b"\xff\xff"));
     Ok(())
 }
 
@@ -336,25 +344,35 @@ fn seeks_after_a_row(rt: HostRuntime) -> Result<(), Fail> {
     Ok(())
 }
 
-// After a row of a descending scan, a seek of that key or of one below is refused.
-#[test]
-fn descending(rt: HostRuntime) -> Result<(), Fail> {
-    let alloc = rt.alloc();
+// A scan of three keys up to a bound, from the greatest key down.
+fn three_rows(alloc: Global, bound: Option<u64>) -> Result<DbIterator, NoMemory> {
     let batches = [
         puts(alloc, 1, &[(b"a", b"1"), (b"c", b"3")])?,
         puts(alloc, 2, &[(b"b", b"2"), (b"c", b"4")])?,
     ];
-    let all = ByteRange::full();
     let order = IterationOrder::Descending;
-    let mut rows = scan(alloc, &batches, None, &all, order, NONE)?;
+    scan(alloc, &batches, bound, &ByteRange::full(), order, NONE)
+}
+
+// After a row of a descending scan, a seek of that key or of one below is refused.
+#[test]
+fn descending(rt: HostRuntime) -> Result<(), Fail> {
+    let alloc = rt.alloc();
+    let mut rows = three_rows(alloc, None)?;
     let row = rows.next()?.ok_or("a row")?;
     assert_eq!(rt; (row.key.as_slice(), row.seq), (b"c".as_slice(), 2));
-    assert_eq!(rt; rows.seek(b"c"), Err(SeekFault::LessThanLastReturned));
-    assert_eq!(rt; rows.seek(b"a"), Err(SeekFault::LessThanLastReturned));
+    for key in [b"c".as_slice(), b"a".as_slice()] {
+        assert_eq!(rt; rows.seek(key), Err(SeekFault::LessThanLastReturned));
+    }
     assert_eq!(rt; keys(alloc, &mut rows)?.0.as_slice(), b"b a ".as_slice());
-    let mut rows = scan(alloc, &batches, Some(1), &all, order, NONE)?;
+    Ok(())
+}
+
+#[test]
+fn descending_seeks(rt: HostRuntime) -> Result<(), Fail> {
+    let mut rows = three_rows(rt.alloc(), Some(1))?;
     assert_eq!(rt; rows.seek(b"bb"), Ok(()));
-    assert_eq!(rt; keys(alloc, &mut rows)?.0.as_slice(), b"a ".as_slice());
+    assert_eq!(rt; keys(rt.alloc(), &mut rows)?.0.as_slice(), b"a ".as_slice());
     Ok(())
 }
 

@@ -1,4 +1,4 @@
-use Rattle.std.proofs.Common.{◌≡◌, ℕ, ◌+◌, List, [], ◌∷◌, length, map, take, Option, Some, None, Result, Ok, Err, ◌≤◌, ◌⊎◌, inl, inr, refl, sym, subst, ap, ◌∙◌, max, zero, suc}
+use Rattle.std.proofs.Common.{◌≡◌, ℕ, ◌+◌, List, [], ◌∷◌, length, map, take, Option, Some, None, Result, Ok, Err, ◌≤◌, refl, sym, subst, ap, ◌∙◌, max, zero, suc}
 use Rattle.std.proofs.lemmas.List.{length-map}
 use Rattle.std.specs.Ordering.{nat_cmp}
 use Rattle.std.specs.declared.cmp.Ordering.{Ordering}
@@ -14,7 +14,7 @@ use Rattle.slate_status.specs.declared.errors.SlateError.TheVariants as errors
 use Rattle.slate_model.specs.Catalogue.{Span, span, Catalogue, catalogue_of}
 use Rattle.slate_model.specs.Changes.{PartMade, after_part}
 use Rattle.slate_model.specs.Flush.{flush_changes, flush_changes_by, log_changes, FlushAnswer, FlushCause, StoresBatches}
-use Rattle.slate_model.specs.Open.{open_changes, first_manifest, Opens, OpenAnswer, OpenCause}
+use Rattle.slate_model.specs.Open.{open_changes, next_manifest, mark_of, can_open, can_open_by, Opens, OpenAnswer, OpenCause}
 use Rattle.slate_model.specs.Write.{last_number}
 
 -- what a world knows of a log file under its id
@@ -72,7 +72,13 @@ flush_changes-known bs o = flush_by-known bs o (latest_manifest o)
 
 -- and those of an opening
 pub open_changes-known : (o : Objects) → map reduced (open_changes (λ xs. xs) o) ≡ open_changes span (catalogue_of o)
-open_changes-known o = ap (λ last. PutManifest 1 first_manifest ∷ PutLog (last + 1) None ∷ []) (sym (last_log-catalogue 0 o))
+open_changes-known o =
+    ap (λ last. PutManifest (next_manifest (latest_manifest o) last).id (next_manifest (latest_manifest o) last).manifest ∷ PutLog (last + 1) None ∷ [])
+    (sym (last_log-catalogue (mark_of (latest_manifest o)) o))
+
+-- whether a store can be opened is known
+pub can_open-known : (o : Objects) → can_open (catalogue_of o) ≡ can_open o
+can_open-known o = ap (can_open_by (latest_manifest o)) (last_log-catalogue (mark_of (latest_manifest o)) o)
 
 cause-known : (epoch : ℕ) (o : Objects) (e : SlateError) → FlushCause epoch o e → FlushCause epoch (catalogue_of o) e
 cause-known epoch o errors.LatestTransactionalObjectVersionMissing h = h
@@ -97,24 +103,23 @@ stores-known {epoch} {bs} {o} {r} {view} {view'} {made} {o'} s =
       after = ap catalogue_of s.after ∙ (catalogue-after made (flush_changes (λ xs. xs) bs o) o ∙ ap (λ cs. after_part made cs (catalogue_of o)) (flush_changes-known bs o));
     }
 
-open_cause-known : (o : Objects) (e : SlateError) → OpenCause o e → OpenCause (catalogue_of o) e
-open_cause-known o errors.InvalidDBState (inl h) = inl h
-open_cause-known o errors.InvalidDBState (inr h) = inr (subst (λ n. last_number ≤ n) (sym (last_log-catalogue 0 o)) h)
-open_cause-known o (errors.ObjectStoreError Unavailable) h = tt
-open_cause-known o errors.NoMemory h = tt
-open_cause-known o e h = absurd h
+open_cause-known : (unsound : SlateError → Type 0) (o : Objects) (e : SlateError) → (unsound e → ⊥) → OpenCause unsound o e → OpenCause (λ _. ⊥) (catalogue_of o) e
+open_cause-known unsound o errors.InvalidDBState none h = can_open-known o ∙ h
+open_cause-known unsound o (errors.ObjectStoreError Unavailable) none h = tt
+open_cause-known unsound o errors.NoMemory none h = tt
+open_cause-known unsound o e none h = absurd (none h)
 
-open_answer-known : {A : Type 0} (o : Objects) (r : Result A SlateError) → OpenAnswer o r → OpenAnswer (catalogue_of o) r
-open_answer-known o (Ok x) h = h
-open_answer-known o (Err e) h = open_cause-known o e h
+open_answer-known : {A : Type 0} (unsound : SlateError → Type 0) (o : Objects) (r : Result A SlateError) → ((e : SlateError) → unsound e → ⊥) → OpenAnswer unsound o r → OpenAnswer (λ _. ⊥) (catalogue_of o) r
+open_answer-known unsound o (Ok x) none h = can_open-known o ∙ h
+open_answer-known unsound o (Err e) none h = open_cause-known unsound o e (none e) h
 
--- an opening of the objects is an opening of what is known of them
-pub opens-known : {A : Type 0} (o : Objects) (r : Result A SlateError) (made : ℕ) (o' : Objects) → Opens (λ xs. xs) o r made o' → Opens span (catalogue_of o) r made (catalogue_of o')
-opens-known o r made o' s =
+-- an opening of sound objects is an opening of what is known of them
+pub opens-known : {A : Type 0} (unsound : SlateError → Type 0) (o : Objects) (r : Result A SlateError) (made : ℕ) (o' : Objects) → ((e : SlateError) → unsound e → ⊥) → Opens (λ xs. xs) unsound o r made o' → Opens span (λ _. ⊥) (catalogue_of o) r made (catalogue_of o')
+opens-known unsound o r made o' none s =
     record {
-      answer = open_answer-known o r s.answer;
+      answer = open_answer-known unsound o r none s.answer;
       part = s.part;
       only = s.only;
-      new = s.new;
+      can = λ some. can_open-known o ∙ s.can some;
       after = ap catalogue_of s.after ∙ (catalogue-after made (open_changes (λ xs. xs) o) o ∙ ap (λ cs. after_part made cs (catalogue_of o)) (open_changes-known o));
     }

@@ -30,7 +30,7 @@ insert-last k n x (e ∷ es) h =
     let rest : greatest n (map (λ e. e.0) es) < k = omega arith in
     rw (greater k e.0 above) (ap (λ xs. e ∷ xs) (insert-last k n x es rest))
 
-last-at : {X : Type 0} (x : X) (xs : List X) → slice_get (x ∷ xs) (length xs) ≡ Some (get_or (x ∷ xs) (length xs) x)
+pub last-at : {X : Type 0} (x : X) (xs : List X) → slice_get (x ∷ xs) (length xs) ≡ Some (get_or (x ∷ xs) (length xs) x)
 last-at x xs = slice_get-get_or (x ∷ xs) (length xs) x (omega arith)
 
 -- a list without a last element has none

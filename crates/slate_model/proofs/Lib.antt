@@ -1,4 +1,6 @@
 pub mod Catalogued
 pub mod Entries
 pub mod Flushed
+pub mod Newest
+pub mod Reopened
 pub mod Sound

@@ -19,7 +19,7 @@ greatest-max : (n k : ℕ) (xs : List ℕ) → n ≤ k → greatest k xs ≡ max
 greatest-max n k [] h = omega arith
 greatest-max n k (x ∷ xs) h = let e = greatest-max n k xs h in omega (arith, e)
 
-at_least : (n : ℕ) (xs : List ℕ) → n ≤ greatest n xs
+pub at_least : (n : ℕ) (xs : List ℕ) → n ≤ greatest n xs
 at_least n [] = omega arith
 at_least n (x ∷ xs) = let h = at_least n xs in omega arith
 
@@ -50,7 +50,7 @@ numbered-append floor (x ∷ xs) ys h k =
     (h.0, numbered-append (floor + 1) xs ys h.1 (let e : floor + length (x ∷ xs) ≡ (floor + 1) + length xs = omega arith in subst (λ n. AreNumberedFrom n ys) e k))
 
 -- ids without gaps go on by the next one
-gapless-push : (before : ℕ) (ids : List ℕ) (id : ℕ) → AreGapless before ids → id ≡ before + length ids + 1 → AreGapless before (ids ++ id ∷ [])
+pub gapless-push : (before : ℕ) (ids : List ℕ) (id : ℕ) → AreGapless before ids → id ≡ before + length ids + 1 → AreGapless before (ids ++ id ∷ [])
 gapless-push before [] id h next = (omega arith, tt)
 gapless-push before (x ∷ ids) id h next = (h.0, gapless-push x ids id h.1 (let first : x ≡ before + 1 = h.0 in omega arith))
 
@@ -60,10 +60,10 @@ with_log o m bs = changed (PutLog (last_log m.replay_after_wal_id o + 1) bs) o
 
 module _ (o : Objects) (m : Manifest) (bs : List Batch) where
   -- the next log file goes to the end
-  logs-after : (with_log o m bs).logs ≡ o.logs ++ (last_log m.replay_after_wal_id o + 1, bs) ∷ []
+  pub logs-after : (with_log o m bs).logs ≡ o.logs ++ (last_log m.replay_after_wal_id o + 1, bs) ∷ []
   logs-after = insert-last (last_log m.replay_after_wal_id o + 1) m.replay_after_wal_id bs o.logs (omega arith)
 
-  above-after : logs_above m.replay_after_wal_id (with_log o m bs) ≡ logs_above m.replay_after_wal_id o ++ (last_log m.replay_after_wal_id o + 1, bs) ∷ []
+  pub above-after : logs_above m.replay_after_wal_id (with_log o m bs) ≡ logs_above m.replay_after_wal_id o ++ (last_log m.replay_after_wal_id o + 1, bs) ∷ []
   above-after =
       let next = last_log m.replay_after_wal_id o + 1 in
       let over : m.replay_after_wal_id < next = let h = at_least m.replay_after_wal_id (map (λ e. e.0) o.logs) in omega arith in

@@ -14,6 +14,7 @@ CloseResult = Option (Result (Unit {0}) CloseFault)
 -- A handle that writes. A world has its whole line; the code keeps the end of it.
 pub record Handle : Type 0 where
   pub keeps_log : Bool
+  pub limit : ℕ  -- from how many bytes that aren't stored a write is held up
   pub line : Line  -- the batches that it sees
   pub durable : ℕ  -- its batches up to this number are stored
   pub epoch : ℕ

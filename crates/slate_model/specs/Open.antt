@@ -1,9 +1,11 @@
-use Rattle.std.specs.Prelude.{◌≡◌, ◌≢◌, ℕ, ℤ, ◌+◌, ◌<◌, ◌≤◌, ◌⊎◌, negsuc, Bool, true, List, [], ◌∷◌, is_some, Option, Some, None, Result, Ok, Err}
+use Rattle.std.specs.Prelude.{◌≡◌, ℕ, ℤ, ◌+◌, ◌==◌, ◌&&◌, ◌<◌, negsuc, nat_lt, int_lt, if◌then◌else◌, Bool, true, false, List, [], ◌∷◌, length, Option, Some, None, Result, Ok, Err}
 use Rattle.slate_rows.specs.declared.batches.Batch.{Batch}
+use Rattle.slate_rows.specs.Line.{Line, end, batches_above}
 use Rattle.slate_store.specs.declared.objects.Manifest.{Manifest}
 use Rattle.slate_store.specs.declared.objects.VersionedManifest.{VersionedManifest}
-use Rattle.slate_store.specs.declared.errors.StoreFault.TheVariants.{NotFound, Unavailable}
-use Rattle.slate_store.specs.Objects.{ObjectsOf, ChangeOf, PutManifest, PutLog, latest_manifest, last_log}
+use Rattle.slate_store.specs.declared.errors.StoreFault.TheVariants.{Unavailable}
+use Rattle.slate_store.specs.Objects.{Objects, ObjectsOf, ChangeOf, PutManifest, PutLog, is_taken, latest_manifest, last_log}
+use Rattle.slate_replay.specs.Replay.{IsReplayable}
 use Rattle.slate_status.specs.declared.errors.SlateError.{SlateError}
 use Rattle.slate_status.specs.declared.errors.SlateError.TheVariants as errors
 use Rattle.slate_model.specs.Changes.{PartMade, after_part}
@@ -30,46 +32,105 @@ first_manifest =
       extractor_name = None;
     }
 
--- The changes of an opening: the first manifest, and an empty log file, the fence, after the last one. `told` gives
--- what is told of the batches of a log file.
-abbrev pub open_changes : {L : Type 0} → (List Batch → L) → ObjectsOf L → List (ChangeOf L)
-open_changes told objects = PutManifest 1 first_manifest ∷ PutLog (last_log 0 objects + 1) (told []) ∷ []
+-- after which log file those that an opening replays begin
+abbrev pub mark_of : Option VersionedManifest → ℕ
+mark_of None = 0
+mark_of (Some latest) = latest.manifest.replay_after_wal_id
 
--- the handle that an opening of a new database gives
-abbrev pub first_handle : Bool → Handle
-first_handle keeps_log =
+-- the last log file that an opening finds
+abbrev pub found_log : {L : Type 0} → ObjectsOf L → ℕ
+found_log objects = last_log (mark_of (latest_manifest objects)) objects
+
+-- the manifest that an opening commits after the latest one, where this log file is the last: the first, or a copy of
+-- the latest with the next epoch
+abbrev pub next_manifest : Option VersionedManifest → ℕ → VersionedManifest
+next_manifest None last = record { id = 1; manifest = first_manifest }
+next_manifest (Some latest) last =
+    record {
+      id = latest.id + 1;
+      manifest = record latest.manifest { writer_epoch = latest.manifest.writer_epoch + 1; initialized = true; next_wal_id = last + 1 };
+    }
+
+abbrev pub opened_manifest : {L : Type 0} → ObjectsOf L → VersionedManifest
+opened_manifest objects = next_manifest (latest_manifest objects) (found_log objects)
+
+-- The changes of an opening: its manifest, and an empty log file, the fence, after the last one. `told` gives what is
+-- told of the batches of a log file.
+abbrev pub open_changes : {L : Type 0} → (List Batch → L) → ObjectsOf L → List (ChangeOf L)
+open_changes told objects =
+    PutManifest (opened_manifest objects).id (opened_manifest objects).manifest ∷ PutLog (found_log objects + 1) (told []) ∷ []
+
+-- Whether a database can be opened by its latest manifest: it is initialised, and its id and its epoch aren't the last.
+-- Until tables are built, it names none.
+abbrev pub can_reopen : VersionedManifest → Bool
+can_reopen latest =
+    latest.manifest.initialized && (length latest.manifest.tables == 0) && nat_lt latest.id last_number && nat_lt latest.manifest.writer_epoch last_number
+
+-- whether a store can be opened, where this log file is the last: it isn't the last one that there can be
+abbrev pub can_open_by : Option VersionedManifest → ℕ → Bool
+can_open_by None last = nat_lt last last_number
+can_open_by (Some latest) last = can_reopen latest && nat_lt last last_number
+
+abbrev pub can_open : {L : Type 0} → ObjectsOf L → Bool
+can_open objects = can_open_by (latest_manifest objects) (found_log objects)
+
+-- the later of two moments
+abbrev pub later : ℤ → ℤ → ℤ
+later tick moment = if int_lt tick moment then moment else tick
+
+-- the latest of a tick and the creation times of batches
+abbrev pub latest_tick : ℤ → List Batch → ℤ
+latest_tick tick [] = tick
+latest_tick tick (batch ∷ batches) = latest_tick (later tick batch.create_ts) batches
+
+-- The handle that an opening gives under the manifest that it committed, where this line is stored: it sees the line,
+-- and all of it is durable.
+abbrev pub opened_handle : (keeps_log : Bool) (limit : ℕ) → VersionedManifest → Line → Handle
+opened_handle keeps_log limit view stored =
     record {
       keeps_log = keeps_log;
-      line = record { floor = 0; batches = [] };
-      durable = 0;
-      epoch = 1;
-      tick = first_tick;
-      view = record { id = 1; manifest = first_manifest };
+      limit = limit;
+      line = stored;
+      durable = end stored;
+      epoch = view.manifest.writer_epoch;
+      tick = latest_tick view.manifest.last_tick (batches_above view.manifest.last_l0_seq stored.batches);
+      view = view;
       result = None;
     }
 
--- Why an opening answers an error, over a store that tells its objects. Until a database can be opened again,
--- InvalidDBState says that there is one.
-abbrev pub OpenCause : {L : Type 0} → ObjectsOf L → SlateError → Type 0
-OpenCause objects errors.InvalidDBState = (latest_manifest objects ≢ None) ⊎ (last_number ≤ last_log 0 objects)
-OpenCause objects (errors.ObjectStoreError Unavailable) = Unit {0}
-OpenCause objects errors.NoMemory = Unit {0}
-OpenCause objects error = ⊥
+-- What only objects bring about that aren't sound: an error that the replay is torn, where log files or batches are
+-- missing, or that an object is there already.
+abbrev pub OpenFault : Objects → SlateError → Type 0
+OpenFault objects (errors.WalTruncated id) =
+    let m = (opened_manifest objects).manifest in
+    IsReplayable m.replay_after_wal_id (found_log objects) m.last_l0_seq objects → ⊥
+OpenFault objects errors.TransactionalObjectVersionExists =
+    is_taken (PutManifest (opened_manifest objects).id (opened_manifest objects).manifest) objects ≡ true
+OpenFault objects error = ⊥
 
--- an opening that answers Ok found no database
-abbrev pub OpenAnswer : {A L : Type 0} → ObjectsOf L → Result A SlateError → Type 0
-OpenAnswer objects (Ok _) = latest_manifest objects ≡ None
-OpenAnswer objects (Err error) = OpenCause objects error
+-- Why an opening answers an error, over a store that tells its objects. `unsound` says it of the errors that only
+-- objects bring about that aren't sound.
+abbrev pub OpenCause : {L : Type 0} → (SlateError → Type 0) → ObjectsOf L → SlateError → Type 0
+OpenCause unsound objects errors.InvalidDBState = can_open objects ≡ false
+OpenCause unsound objects (errors.ObjectStoreError Unavailable) = Unit {0}
+OpenCause unsound objects errors.NoMemory = Unit {0}
+OpenCause unsound objects error = unsound error
 
--- nothing is put where a database is found, or no id is left
+-- an opening that answers Ok found that the store can be opened
+abbrev pub OpenAnswer : {A L : Type 0} → (SlateError → Type 0) → ObjectsOf L → Result A SlateError → Type 0
+OpenAnswer unsound objects (Ok _) = can_open objects ≡ true
+OpenAnswer unsound objects (Err error) = OpenCause unsound objects error
+
+-- nothing is put where the store can't be opened, and both before the log files are replayed
 abbrev pub OpensOnly : {A : Type 0} → Result A SlateError → ℕ → Type 0
 OpensOnly (Err errors.InvalidDBState) made = made ≡ 0
+OpensOnly (Err (errors.WalTruncated id)) made = made ≡ 2
 OpensOnly result made = Unit {0}
 
--- An opening: its answer has its cause, and so many of its changes were made, none where there is a manifest.
-pub record Opens {A L : Type 0} (told : List Batch → L) (objects : ObjectsOf L) (result : Result A SlateError) (made : ℕ) (objects' : ObjectsOf L) : Type 0 where
-  pub answer : OpenAnswer objects result
+-- An opening: its answer has its cause, and so many of its changes were made, none where the store can't be opened.
+pub record Opens {A L : Type 0} (told : List Batch → L) (unsound : SlateError → Type 0) (objects : ObjectsOf L) (result : Result A SlateError) (made : ℕ) (objects' : ObjectsOf L) : Type 0 where
+  pub answer : OpenAnswer unsound objects result
   pub part : PartMade result 2 made
   pub only : OpensOnly result made
-  pub new : 0 < made → latest_manifest objects ≡ None
+  pub can : 0 < made → can_open objects ≡ true
   pub after : objects' ≡ after_part made (open_changes told objects) objects

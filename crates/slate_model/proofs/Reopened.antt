@@ -1,0 +1,317 @@
+use Rattle.std.proofs.Common.{◌≡◌, ℕ, zero, suc, ◌+◌, ◌-◌, ◌<◌, ◌≤◌, List, [], ◌∷◌, ◌++◌, length, map, take, max, Bool, true, false, Option, Some, None, refl, sym, subst, ap, ◌∙◌, arith, sub-one, length-append, ◌&&◌, ◌==◌, ltb}
+use Rattle.std.proofs.Math.Dec.{eqb-suc-zero}
+use Rattle.std.specs.List.{AllByRecursion, filter, flat_map, slice_get}
+use Rattle.std.specs.Option.{IfSome, option_map}
+use Rattle.std.specs.BTreeMap.{insert_entry}
+use Rattle.std.specs.Ordering.{nat_cmp}
+use Rattle.std.proofs.lemmas.List.{append-nil, length-map, map-append, take_all, take_at}
+use Rattle.slate_rows.specs.declared.batches.Batch.{Batch}
+use Rattle.slate_rows.specs.Line.{AreNumberedFrom, IsLine, Line, batches_above, extended}
+use Rattle.slate_rows.proofs.Lines.{above-all}
+use Rattle.slate_store.specs.declared.objects.Manifest.{Manifest}
+use Rattle.slate_store.specs.declared.objects.VersionedManifest.{VersionedManifest}
+use Rattle.slate_store.specs.Objects.{Objects, PutManifest, PutLog, changed, empty, greatest, is_taken, last, last_log, latest_manifest, versioned}
+use Rattle.slate_store.specs.Content.{AreGapless, AreRising, HasItsLogs, HasItsTables, IsSound, content, content_by, logged, logs_above, number_before, table_batches}
+use Rattle.slate_replay.specs.Replay.{IsReplayable, replayed}
+use Rattle.slate_status.specs.declared.errors.SlateError.{SlateError}
+use Rattle.slate_status.specs.declared.errors.SlateError.TheVariants as errors
+use Rattle.slate_model.specs.Changes.{after_part}
+use Rattle.slate_model.specs.Handle.{Handle}
+use Rattle.slate_model.specs.Open.{OpenFault, can_open, can_open_by, first_manifest, can_reopen, found_log, latest_tick, mark_of, next_manifest, open_changes, opened_handle, opened_manifest}
+use Rattle.slate_model.proofs.Entries.{absent, insert-last, last-push, nil-from-last}
+use Rattle.slate_model.proofs.Sound.{above-after, appended, at_least, gapless-greatest, gapless-push, with_log}
+
+no_last : {X Y : Type 0} (f : X → Y) (o : Option X) → option_map f o ≡ None → o ≡ None
+no_last f None h = refl
+no_last f (Some x) h = absurd (cc)
+
+-- sound objects without a manifest are none at all
+pub nothing_there : (o : Objects) → IsSound o → latest_manifest o ≡ None → o ≡ empty
+nothing_there o sound none =
+    let manifests = nil-from-last o.manifests (no_last versioned (last o.manifests) none) in
+    let others = sound.nothing none in
+    λ i. record { manifests = manifests i; logs = others.0 i; tables = others.1 i }
+
+pub last-cons : {X : Type 0} (x y : X) (xs : List X) → last (x ∷ y ∷ xs) ≡ last (y ∷ xs)
+last-cons x y xs = rw (sub-one, sub-one) refl
+
+-- the last of rising ids is the greatest
+rising-last : {X : Type 0} (e : ℕ × X) (es : List (ℕ × X)) → AreRising (map (λ e. e.0) es) → last es ≡ Some e → AllByRecursion (λ id. id ≤ e.0) (map (λ e. e.0) es)
+rising-last e [] rising is = absurd (cc)
+rising-last {X} e (x ∷ []) rising is =
+    let same : x ≡ e = cc in
+    (subst (λ (y : ℕ × X). x.0 ≤ y.0) same (omega arith), tt)
+rising-last e (x ∷ y ∷ es) rising is =
+    let rest = rising-last e (y ∷ es) rising.1 (sym (last-cons x y es) ∙ is) in
+    (let below : x.0 < y.0 = (rising.0).0 in let top : y.0 ≤ e.0 = rest.0 in omega (arith, below, top), rest)
+
+all-greatest : (k n : ℕ) (ids : List ℕ) → AllByRecursion (λ id. id ≤ k) ids → greatest n ids ≤ max n k
+all-greatest k n [] h = omega arith
+all-greatest k n (x ∷ ids) h = let rest = all-greatest k n ids h.1 in let first : x ≤ k = h.0 in omega (arith, rest, first)
+
+all-push : (x id : ℕ) (ids : List ℕ) → AllByRecursion (λ later. x < later) ids → x < id → AllByRecursion (λ later. x < later) (ids ++ id ∷ [])
+all-push x id [] h less = (less, tt)
+all-push x id (y ∷ ids) h less = (h.0, all-push x id ids h.1 less)
+
+-- rising ids go on by a greater one
+rising-push : (k id : ℕ) (ids : List ℕ) → AreRising ids → AllByRecursion (λ x. x ≤ k) ids → k < id → AreRising (ids ++ id ∷ [])
+rising-push k id [] rising top less = (tt, tt)
+rising-push k id (x ∷ ids) rising top less =
+    let first : x ≤ k = top.0 in
+    (all-push x id ids rising.0 (omega (arith, first, less)), rising-push k id ids rising.1 top.1 less)
+
+-- What putting the manifest of an opening leaves: the content is the same, under that manifest.
+record Begun (o : Objects) (v : VersionedManifest) (o' : Objects) : Type 0 where
+  sound : IsSound o'
+  content : content o' ≡ content o
+  latest : latest_manifest o' ≡ Some v
+
+begun-new : Begun empty (record { id = 1; manifest = first_manifest }) (changed (PutManifest 1 first_manifest) empty)
+begun-new =
+    record {
+      sound = record {
+        manifests = (tt, tt);
+        nothing = λ none. absurd (cc);
+        joined = refl;
+        logs = record { gapless = tt; next = omega arith; stored = omega arith };
+        line = tt;
+      };
+      content = refl;
+      latest = refl;
+    }
+
+some-versioned : (entry : Option (ℕ × Manifest)) (latest : VersionedManifest) → option_map versioned entry ≡ Some latest → entry ≡ Some (latest.id, latest.manifest)
+some-versioned None latest h = absurd (cc)
+some-versioned (Some e) latest h = let same : versioned e ≡ latest = cc in ap (λ (v : VersionedManifest). Some (v.id, v.manifest)) same
+
+module _ (o : Objects) (latest : VersionedManifest) (sound : IsSound o) (is : latest_manifest o ≡ Some latest) where
+  abbrev the_last : ℕ
+  the_last = last_log latest.manifest.replay_after_wal_id o
+
+  abbrev next : VersionedManifest
+  next = next_manifest (Some latest) the_last
+
+  abbrev o1 : Objects
+  o1 = changed (PutManifest next.id next.manifest) o
+
+  below : AllByRecursion (λ id. id ≤ latest.id) (map (λ e. e.0) o.manifests)
+  below = rising-last (latest.id, latest.manifest) o.manifests sound.manifests (some-versioned (last o.manifests) latest is)
+
+  manifests-after : o1.manifests ≡ o.manifests ++ (next.id, next.manifest) ∷ []
+  manifests-after =
+      let top = all-greatest latest.id 0 (map (λ e. e.0) o.manifests) below in
+      insert-last next.id 0 next.manifest o.manifests (omega (arith, top))
+
+  latest-after : latest_manifest o1 ≡ Some next
+  latest-after = ap (λ es. option_map versioned (last es)) manifests-after ∙ ap (option_map versioned) (last-push o.manifests (next.id, next.manifest))
+
+  content-after : content o1 ≡ content o
+  content-after = ap (content_by o1) latest-after ∙ sym (ap (content_by o) is)
+
+  begun-again : Begun o next o1
+  begun-again =
+      let rising = rising-push latest.id next.id (map (λ e. e.0) o.manifests) sound.manifests below (omega arith) in
+      let logs = subst (λ x. IfSome x (λ l. HasItsLogs o l.manifest)) is sound.logs in
+      let mark = latest.manifest.replay_after_wal_id in
+      let least = at_least mark (map (λ e. e.0) o.logs) in
+      let count = gapless-greatest mark mark o.logs (omega arith) logs.gapless in
+      record {
+        sound = record {
+          manifests = subst AreRising (sym (ap (map (λ e. e.0)) manifests-after ∙ map-append (λ e. e.0) o.manifests ((next.id, next.manifest) ∷ []))) rising;
+          nothing = λ none. absurd (let some = latest-after in cc);
+          joined = subst (λ x. IfSome x (λ l. HasItsTables o1 l.manifest)) (sym latest-after) (subst (λ x. IfSome x (λ l. HasItsTables o l.manifest)) is sound.joined);
+          logs = subst (λ x. IfSome x (λ l. HasItsLogs o1 l.manifest)) (sym latest-after)
+              (record { gapless = logs.gapless; next = omega (arith, least); stored = omega (arith, count) });
+          line = subst IsLine (sym content-after) sound.line;
+        };
+        content = content-after;
+        latest = latest-after;
+      }
+
+-- one or both of the changes leave the content, under the manifest of the opening
+pub record Opened (o o' : Objects) : Type 0 where
+  pub sound : IsSound o'
+  pub content : content o' ≡ content o
+  pub latest : latest_manifest o' ≡ Some (opened_manifest o)
+
+fence-after : (o o1 : Objects) (v : VersionedManifest) → Begun o v o1 → Begun o v (with_log o1 v.manifest [])
+fence-after o o1 v b =
+    let put = appended o1 v [] b.sound b.latest tt in
+    record {
+      sound = put.sound;
+      content = put.content ∙ (ap (λ bs. record { floor = (content o1).floor; batches = bs }) (append-nil (content o1).batches) ∙ b.content);
+      latest = b.latest;
+    }
+
+begun : (o : Objects) (latest : Option VersionedManifest) → IsSound o → latest_manifest o ≡ latest → Begun o (opened_manifest o) (changed (PutManifest (opened_manifest o).id (opened_manifest o).manifest) o)
+begun o None sound is =
+    subst (λ o. Begun o (opened_manifest o) (changed (PutManifest (opened_manifest o).id (opened_manifest o).manifest) o)) (sym (nothing_there o sound is)) begun-new
+begun o (Some latest) sound is =
+    subst (λ x. let v = next_manifest x (last_log (mark_of x) o) in Begun o v (changed (PutManifest v.id v.manifest) o)) (sym is) (begun-again o latest sound is)
+
+-- the replay mark stays
+mark-kept : (latest : Option VersionedManifest) (last : ℕ) → (next_manifest latest last).manifest.replay_after_wal_id ≡ mark_of latest
+mark-kept None last = refl
+mark-kept (Some latest) last = refl
+
+pub opened : (o : Objects) (made : ℕ) → IsSound o → 0 < made → made ≤ 2 → Opened o (after_part made (open_changes (λ xs. xs) o) o)
+opened o zero sound some few = absurd (omega arith)
+opened o (suc zero) sound some few =
+    let b = begun o (latest_manifest o) sound refl in
+    record { sound = b.sound; content = b.content; latest = b.latest }
+opened o (suc (suc zero)) sound some few =
+    let v = opened_manifest o in
+    let o1 = changed (PutManifest v.id v.manifest) o in
+    let b = fence-after o o1 v (begun o (latest_manifest o) sound refl) in
+    let same : with_log o1 v.manifest [] ≡ changed (PutLog (found_log o + 1) []) o1 = ap (λ mark. changed (PutLog (last_log mark o + 1) []) o1) (mark-kept (latest_manifest o) (found_log o)) in
+    subst (Opened o) same (record { sound = b.sound; content = b.content; latest = b.latest })
+opened o (suc (suc (suc made))) sound some few = absurd (omega arith)
+
+-- the id of the manifest of an opening is free
+free-by : (o : Objects) (latest : Option VersionedManifest) (last : ℕ) → IsSound o → latest_manifest o ≡ latest → is_taken (PutManifest (next_manifest latest last).id (next_manifest latest last).manifest) o ≡ false
+free-by o None last sound is = rw (nothing_there o sound is) refl
+free-by o (Some latest) last sound is =
+    let top = all-greatest latest.id 0 (map (λ e. e.0) o.manifests) (below o latest sound is) in
+    rw (absent (latest.id + 1) 0 o.manifests (omega (arith, top))) refl
+
+-- what follows the first batches of a line is numbered from their end
+pub numbered_rest : (floor : ℕ) (xs ys : List Batch) → AreNumberedFrom floor (xs ++ ys) → AreNumberedFrom (floor + length xs) ys
+numbered_rest floor [] ys h = subst (λ n. AreNumberedFrom n ys) (omega arith) h
+numbered_rest floor (x ∷ xs) ys h =
+    let e : (floor + 1) + length xs ≡ floor + length (x ∷ xs) = omega arith in
+    subst (λ n. AreNumberedFrom n ys) e (numbered_rest (floor + 1) xs ys h.1)
+
+-- what is replayed of log files without a gap is what is logged
+replayed-logged : (o : Objects) (m : Manifest) → HasItsLogs o m → replayed m.replay_after_wal_id (last_log m.replay_after_wal_id o) m.last_l0_seq o ≡ logged o m
+replayed-logged o m has =
+    let mark = m.replay_after_wal_id in
+    let count = gapless-greatest mark mark o.logs (omega arith) has.gapless in
+    ap (λ logs. batches_above m.last_l0_seq (flat_map (λ log. log.1) logs)) (take_all (last_log mark o - mark) (logs_above mark o) (omega (arith, count)))
+
+-- the log files of sound objects can be replayed
+replayable-by : (o : Objects) (latest : VersionedManifest) → IsSound o → latest_manifest o ≡ Some latest → IsReplayable latest.manifest.replay_after_wal_id (last_log latest.manifest.replay_after_wal_id o) latest.manifest.last_l0_seq o
+replayable-by o latest sound is =
+    let m = latest.manifest in
+    let has = subst (λ x. IfSome x (λ l. HasItsLogs o l.manifest)) is sound.logs in
+    let joined = subst (λ x. IfSome x (λ l. HasItsTables o l.manifest)) is sound.joined in
+    let line = subst (λ x. IsLine (content_by o x)) is sound.line in
+    let tables = table_batches o m.tables in
+    let rest = numbered_rest (number_before tables m.last_l0_seq) tables (logged o m) line in
+    let count = gapless-greatest m.replay_after_wal_id m.replay_after_wal_id o.logs (omega arith) has.gapless in
+    record {
+      gapless = has.gapless;
+      stored = omega (arith, count);
+      numbered = subst (AreNumberedFrom m.last_l0_seq) (sym (replayed-logged o m has)) (subst (λ n. AreNumberedFrom n (logged o m)) joined rest);
+    }
+
+replayable-from : (o : Objects) (latest : Option VersionedManifest) → IsSound o → latest_manifest o ≡ latest → let last = last_log (mark_of latest) o in let m = (next_manifest latest last).manifest in IsReplayable m.replay_after_wal_id last m.last_l0_seq o
+replayable-from o None sound is = subst (λ o. IsReplayable 0 (last_log 0 o) 0 o) (sym (nothing_there o sound is)) (record { gapless = tt; stored = omega arith; numbered = tt })
+replayable-from o (Some latest) sound is = replayable-by o latest sound is
+
+-- no error of an opening comes of sound objects alone
+pub no-fault : (o : Objects) (e : SlateError) → IsSound o → OpenFault o e → ⊥
+no-fault o (errors.WalTruncated id) sound fault = fault (replayable-from o (latest_manifest o) sound refl)
+no-fault o errors.TransactionalObjectVersionExists sound fault =
+    let free = free-by o (latest_manifest o) (found_log o) sound refl in absurd (cc)
+no-fault o e sound fault = absurd fault
+
+-- What can be replayed after the changes of an opening is what could be replayed before.
+pub record SameReplay (mark last number : ℕ) (o o' : Objects) : Type 0 where
+  pub replayable : IsReplayable mark last number o'
+  pub batches : replayed mark last number o' ≡ replayed mark last number o
+
+same-replay : (o o1 : Objects) (m : Manifest) (number : ℕ) → o1.logs ≡ o.logs → let mark = m.replay_after_wal_id in let last = last_log mark o in IsReplayable mark last number o → SameReplay mark last number o (with_log o1 m [])
+same-replay o o1 m number logs can =
+    let mark = m.replay_after_wal_id in
+    let last = last_log mark o in
+    let same_last : last_log mark o1 ≡ last = ap (λ ls. greatest mark (map (λ e. e.0) ls)) logs in
+    let same_above : logs_above mark o1 ≡ logs_above mark o = ap (filter (λ log. ltb mark log.0)) logs in
+    let count = gapless-greatest mark mark o.logs (omega arith) can.gapless in
+    let above : logs_above mark (with_log o1 m []) ≡ logs_above mark o ++ (last + 1, []) ∷ [] =
+    above-after o1 m [] ∙ (ap (λ ls. ls ++ (last_log mark o1 + 1, []) ∷ []) same_above ∙ ap (λ n. logs_above mark o ++ (n + 1, []) ∷ []) same_last) in
+    let front : take (last - mark) (logs_above mark (with_log o1 m [])) ≡ take (last - mark) (logs_above mark o) =
+    ap (take (last - mark)) above
+    ∙ (take_at (logs_above mark o) ((last + 1, []) ∷ []) (last - mark) (omega (arith, count))
+    ∙ sym (take_all (last - mark) (logs_above mark o) (omega (arith, count)))) in
+    let batches : replayed mark last number (with_log o1 m []) ≡ replayed mark last number o = ap (λ ls. batches_above number (flat_map (λ log. log.1) ls)) front in
+    let ids = map (λ (log : ℕ × List Batch). log.0) (logs_above mark o) in
+    let ids-after : map (λ (log : ℕ × List Batch). log.0) (logs_above mark (with_log o1 m [])) ≡ ids ++ (last + 1) ∷ [] =
+    ap (map (λ log. log.0)) above ∙ map-append (λ log. log.0) (logs_above mark o) ((last + 1, []) ∷ []) in
+    let many = length-map (logs_above mark o) (λ log. log.0) in
+    let longer = ap length above ∙ length-append (logs_above mark o) ((last + 1, []) ∷ []) in
+    record {
+      replayable = record {
+        gapless = subst (AreGapless mark) (sym ids-after) (gapless-push mark ids (last + 1) can.gapless (omega (arith, count, many)));
+        stored = let h = can.stored in omega (arith, h, longer);
+        numbered = subst (AreNumberedFrom number) (sym batches) can.numbered;
+      };
+      batches = batches;
+    }
+
+pub opening-replays : (o : Objects) → let m = (opened_manifest o).manifest in let last = found_log o in IsReplayable m.replay_after_wal_id last m.last_l0_seq o → SameReplay m.replay_after_wal_id last m.last_l0_seq o (after_part 2 (open_changes (λ xs. xs) o) o)
+opening-replays o =
+    let v = opened_manifest o in
+    let m = v.manifest in
+    let o1 = changed (PutManifest v.id m) o in
+    subst (λ last. IsReplayable m.replay_after_wal_id last m.last_l0_seq o → SameReplay m.replay_after_wal_id last m.last_l0_seq o (changed (PutLog (last + 1) []) o1))
+    (ap (λ mark. last_log mark o) (mark-kept (latest_manifest o) (found_log o)))
+    (same-replay o o1 m m.last_l0_seq refl)
+
+and_left : (a b : Bool) → (a && b) ≡ true → a ≡ true
+and_left true b h = refl
+and_left false b h = absurd (cc)
+
+and_right : (a b : Bool) → (a && b) ≡ true → b ≡ true
+and_right true b h = h
+and_right false b h = absurd (cc)
+
+no-tables : {X : Type 0} (tables : List X) → (length tables == 0) ≡ true → tables ≡ []
+no-tables [] h = refl
+no-tables (t ∷ tables) h = absurd (let no = eqb-suc-zero (length tables) in cc)
+
+-- a database that can be opened again, until tables are built, names none
+pub names-none : (latest : VersionedManifest) → can_reopen latest ≡ true → latest.manifest.tables ≡ []
+names-none latest can =
+    let three = and_left _ _ can in
+    let two = and_left _ _ three in
+    no-tables latest.manifest.tables (and_right _ _ two)
+
+abbrev line_from : ℕ → List Batch → Line
+line_from floor bs = record { floor = floor; batches = bs }
+
+-- the content of a store that can be opened is what its log files have above the last number in tables
+content-by : (o : Objects) (latest : Option VersionedManifest) → IsSound o → latest_manifest o ≡ latest → can_open_by latest (last_log (mark_of latest) o) ≡ true → let last = last_log (mark_of latest) o in let m = (next_manifest latest last).manifest in content_by o latest ≡ line_from m.last_l0_seq (replayed m.replay_after_wal_id last m.last_l0_seq o)
+content-by o None sound is can =
+    let nothing = nothing_there o sound is in
+    subst (λ o. line_from 0 [] ≡ line_from 0 (replayed 0 (last_log 0 o) 0 o)) (sym nothing) refl
+content-by o (Some latest) sound is can =
+    let m = latest.manifest in
+    let none = names-none latest (and_left _ _ can) in
+    let has = subst (λ x. IfSome x (λ l. HasItsLogs o l.manifest)) is sound.logs in
+    ap (λ ids. line_from (number_before (table_batches o ids) m.last_l0_seq) (table_batches o ids ++ logged o m)) none
+    ∙ ap (line_from m.last_l0_seq) (sym (replayed-logged o m has))
+
+-- the handle of an opening that replayed these batches
+abbrev pub recovered : Bool → ℕ → VersionedManifest → List Batch → Handle
+recovered keeps_log limit v bs =
+    record {
+      keeps_log = keeps_log;
+      limit = limit;
+      line = line_from v.manifest.last_l0_seq bs;
+      durable = v.manifest.last_l0_seq + length bs;
+      epoch = v.manifest.writer_epoch;
+      tick = latest_tick v.manifest.last_tick bs;
+      view = v;
+      result = None;
+    }
+
+-- over sound objects that can be opened its line is their content
+pub recovered-is : (keeps_log : Bool) (limit : ℕ) (o : Objects) → IsSound o → can_open o ≡ true → let v = opened_manifest o in recovered keeps_log limit v (replayed v.manifest.replay_after_wal_id (found_log o) v.manifest.last_l0_seq o) ≡ opened_handle keeps_log limit v (content o)
+recovered-is keeps_log limit o sound can =
+    let v = opened_manifest o in
+    let number = v.manifest.last_l0_seq in
+    let bs = replayed v.manifest.replay_after_wal_id (found_log o) number o in
+    let replayable = replayable-from o (latest_manifest o) sound refl in
+    let all : batches_above number bs ≡ bs = above-all number number bs replayable.numbered (omega arith) in
+    sym (ap (opened_handle keeps_log limit v) (content-by o (latest_manifest o) sound refl can)
+    ∙ ap (λ xs. record (recovered keeps_log limit v bs) { tick = latest_tick v.manifest.last_tick xs }) all)

@@ -1,4 +1,3 @@
 pub mod Appending
 pub mod Flushing
-pub mod Opening
 pub mod Telling

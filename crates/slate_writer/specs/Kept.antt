@@ -8,6 +8,7 @@ abbrev pub kept_handle : Inside → Handle
 kept_handle a =
     record {
       keeps_log = a.keeps_log;
+      limit = a.limit;
       line = record { floor = a.floor; batches = a.memory };
       durable = a.durable;
       epoch = a.epoch;

@@ -1,3 +1,3 @@
 pub mod Appends
-pub mod Firsts
+pub mod Opening
 pub mod Kept

@@ -1,12 +1,16 @@
-ghost use Rattle.std.specs.Prelude.{◌≡◌, ℕ, ◌<◌, None, IfOk, IfSome};
-ghost use Rattle.slate_model.specs.Write.{last_number};
-ghost use Rattle.slate_writer.specs.Firsts.{FindsNew, PutsFirst};
+ghost use Rattle.std.specs.Prelude.{◌≡◌, ℕ, ◌+◌, ◌<◌, ◌^◌, true, None, Some, length, IfOk, IfSome};
+ghost use Rattle.slate_rows.specs.Line.{AreNumberedFrom};
 ghost use Rattle.slate_store.specs.Calls.{Told};
+ghost use Rattle.slate_store.specs.Content.{IsSound, content};
+ghost use Rattle.slate_store.specs.Objects.{Objects};
 ghost use Rattle.slate_model.specs.Flush.{TellsFaults};
-ghost use Rattle.slate_model.specs.Open.{Opens, first_handle, first_manifest};
+ghost use Rattle.slate_model.specs.Open.{OpenFault, Opens, can_open_by, can_reopen, first_manifest, latest_tick, mark_of, next_manifest, opened_handle, opened_manifest};
+ghost use Rattle.slate_model.specs.Write.{last_number};
+ghost use Rattle.slate_writer.specs.Opening.{FindsNext, PutsOpening, Recovers};
 
 use crate::WriterState;
-use slate_rows::{IndexedTable, PrefixExtractor, Seq};
+use slate_replay::{Replayed, replay};
+use slate_rows::{Batch, IndexedTable, PrefixExtractor, Seq};
 use slate_status::SlateError;
 use slate_store::{Manifest, Store, VersionedManifest};
 use std::alloc::Global;
@@ -40,11 +44,17 @@ impl Default for WriterOptions {
 }
 
 impl WriterState {
-    /// Opens a new database: it commits the first manifest, and puts an empty log file. SlateDB's `Db::open`.
+    /// Opens a database, a new one where the store has no manifest. It commits the next manifest, with an epoch above
+    /// those of the handles that were opened before, and puts an empty log file: from then on their flushes answer
+    /// `Fenced`. Then it replays the log files above the manifest's replay mark. The handle sees all batches that are
+    /// stored, and all of them are durable. It takes time linear in the batches of the log files. SlateDB's `Db::open`.
     ///
-    /// It answers `InvalidDBState` where the store has a manifest already, until databases can be opened again, and
-    /// where the next log file would pass the greatest id. A fault of the store (`ObjectStoreError`) or `NoMemory`
-    /// may leave the manifest, or the manifest and the log file.
+    /// It answers `InvalidDBState` where the latest manifest isn't initialised, and where the next manifest, epoch or
+    /// log file would pass the greatest number; nothing is put then. Until tables are built it answers so too where
+    /// the manifest names one. A fault of the store (`ObjectStoreError`) or `NoMemory` may leave the manifest, or the manifest
+    /// and the log file. `WalTruncated` comes where log files or batches of the replay are missing, and `Fenced` where
+    /// another handle was opened meanwhile; none of the two, nor `TransactionalObjectVersionExists`, comes over a store
+    /// that only handles wrote.
     pub fn open<S: Store, E: PrefixExtractor>(
         alloc: Global,
         store: &mut S,
@@ -52,23 +62,24 @@ impl WriterState {
         extractor: Option<&E>,
     ) -> Result<WriterState, SlateError>
         requires { extractor ≡ None }
-        ensures handle { IfOk result (λ w. w ≡ first_handle options.now.wal_enabled) }
+        ensures fresh { IfOk result (λ w. (w.keeps_log ≡ options.now.wal_enabled) × (w.limit ≡ options.now.max_unflushed_bytes) × (w.result ≡ None)) }
+        ensures handle { IfOk result (λ w. (o : Objects) → S.objects store.old ≡ Some o → IsSound o →
+            w ≡ opened_handle options.now.wal_enabled options.now.max_unflushed_bytes (opened_manifest o) (content o)) }
         ensures faults { TellsFaults (S.faults store.old) (S.faults store.new) result }
-        ensures told { Told (λ o o'. (made : ℕ) × Opens (λ batches. batches) o result made o') (S.objects store.old) (S.objects store.new) }
+        ensures told { Told (λ o o'. (made : ℕ) × Opens (λ batches. batches) (OpenFault o) o result made o') (S.objects store.old) (S.objects store.new) }
     {
-        let last = last_log_of_new(alloc, store)?;
-        let view = VersionedManifest {
-            id: 1,
-            manifest: first_manifest(alloc),
-        };
-        put_first(alloc, store, &view.manifest, last + 1)?;
+        let (view, last) = find_next(alloc, store)?;
+        put_opening(alloc, store, &view, last + 1)?;
+        let memory = recover(alloc, store, &view, last)?;
+        let floor = view.manifest.last_l0_seq;
         Ok(WriterState {
             keeps_log: options.wal_enabled,
-            floor: 0,
-            memory: IndexedTable::new(alloc),
-            durable: 0,
-            epoch: 1,
-            tick: i64::MIN,
+            limit: options.max_unflushed_bytes,
+            floor,
+            durable: floor + memory.batches().len() as u64,
+            epoch: view.manifest.writer_epoch,
+            tick: latest_tick(view.manifest.last_tick, memory.batches()),
+            memory,
             view,
             result: None,
         })
@@ -93,33 +104,119 @@ fn first_manifest(alloc: Global) -> Manifest
     }
 }
 
-/// The id of the last log file of a store without a manifest. There is one more id after it.
-fn last_log_of_new<S: Store>(alloc: Global, store: &mut S) -> Result<u64, SlateError>
+/// Whether a database can be opened by its latest manifest.
+fn can_reopen(latest: &VersionedManifest) -> bool
+    ensures { result ≡ can_reopen latest.now }
+{
+    let manifest = &latest.manifest;
+    manifest.initialized
+        && manifest.tables.as_slice().is_empty()
+        && latest.id < u64::MAX
+        && manifest.writer_epoch < u64::MAX
+}
+
+/// The manifest that an opening commits after the latest one, where `last` is the last log file.
+fn next_manifest(alloc: Global, latest: Option<VersionedManifest>, last: u64) -> VersionedManifest
+    requires { can_open_by latest last ≡ true }
+    ensures { result ≡ next_manifest latest last }
+{
+    let Some(latest) = latest else {
+        return VersionedManifest {
+            id: 1,
+            manifest: first_manifest(alloc),
+        };
+    };
+    VersionedManifest {
+        id: latest.id + 1,
+        manifest: Manifest {
+            writer_epoch: latest.manifest.writer_epoch + 1,
+            initialized: true,
+            next_wal_id: last + 1,
+            ..latest.manifest
+        },
+    }
+}
+
+/// The manifest that an opening commits, and the id of the last log file. There is one more id after it.
+fn find_next<S: Store>(
+    alloc: Global,
+    store: &mut S,
+) -> Result<(VersionedManifest, u64), SlateError>
     ensures faults { TellsFaults (S.faults store.old) (S.faults store.new) result }
     ensures kept { S.objects store.new ≡ S.objects store.old }
-    ensures told { IfSome (S.objects store.old) (λ o. FindsNew o result) }
-    ensures below { IfOk result (λ last. last < last_number) }
+    ensures told { IfSome (S.objects store.old) (λ o. FindsNext o result) }
+    ensures below { IfOk result (λ found. found.1 < last_number) }
 {
-    if store.latest_manifest(alloc)?.is_some() {
-        return Err(SlateError::InvalidDBState);
-    }
-    let last = store.last_log(alloc, 0)?;
+    let latest = store.latest_manifest(alloc)?;
+    let mark = match &latest {
+        Some(latest) if !can_reopen(latest) => return Err(SlateError::InvalidDBState),
+        Some(latest) => latest.manifest.replay_after_wal_id,
+        None => 0,
+    };
+    let last = store.last_log(alloc, mark)?;
     if last == u64::MAX {
         return Err(SlateError::InvalidDBState);
     }
-    Ok(last)
+    Ok((next_manifest(alloc, latest, last), last))
 }
 
-/// Puts the first manifest, and then the fence.
-fn put_first<S: Store>(
+/// Puts the manifest of an opening, and then the fence.
+fn put_opening<S: Store>(
     alloc: Global,
     store: &mut S,
-    manifest: &Manifest,
+    view: &VersionedManifest,
     fence: u64,
 ) -> Result<(), SlateError>
     ensures faults { TellsFaults (S.faults store.old) (S.faults store.new) result }
-    ensures told { Told (PutsFirst manifest.now fence result) (S.objects store.old) (S.objects store.new) }
+    ensures told { Told (PutsOpening view.now fence result) (S.objects store.old) (S.objects store.new) }
 {
-    store.put_manifest(alloc, 1, manifest)?;
+    store.put_manifest(alloc, view.id, &view.manifest)?;
     Ok(store.put_log(alloc, fence, &[])?)
+}
+
+/// The batches of the log files above the replay mark of a manifest, up to `last`.
+fn recover<S: Store>(
+    alloc: Global,
+    store: &mut S,
+    view: &VersionedManifest,
+    last: u64,
+) -> Result<IndexedTable, SlateError>
+    ensures faults { TellsFaults (S.faults store.old) (S.faults store.new) result }
+    ensures kept { S.objects store.new ≡ S.objects store.old }
+    ensures numbered { IfOk result (λ batches. AreNumberedFrom view.now.manifest.last_l0_seq batches) }
+    ensures fits { IfOk result (λ batches. view.now.manifest.last_l0_seq + length batches < 2 ^ 64) }
+    ensures told { IfSome (S.objects store.old) (λ o. Recovers view.now last o result) }
+{
+    let manifest = &view.manifest;
+    let mut memory = IndexedTable::new(alloc);
+    let replayed = replay(
+        alloc,
+        store,
+        &mut memory,
+        manifest.last_l0_seq,
+        manifest.replay_after_wal_id,
+        last,
+    )?;
+    let Replayed::Torn(id) = replayed else {
+        return Ok(memory);
+    };
+    match store.latest_manifest(alloc)? {
+        Some(latest) if latest.manifest.writer_epoch > manifest.writer_epoch => {
+            Err(SlateError::Fenced)
+        }
+        _ => Err(SlateError::WalTruncated(id)),
+    }
+}
+
+/// The latest of a tick and the creation times of batches.
+fn latest_tick(tick: i64, batches: &[Batch]) -> i64
+    ensures { result ≡ latest_tick tick batches.now }
+{
+    let mut latest = tick;
+    for batch in batches {
+        if latest < batch.create_ts {
+            latest = batch.create_ts;
+        }
+    }
+    latest
 }

@@ -12,6 +12,7 @@ use std::marker::Model;
 #[derive(Drop)]
 pub struct WriterState {
     pub(crate) keeps_log: bool,
+    pub(crate) limit: u64,
     pub(crate) floor: u64,
     pub(crate) memory: IndexedTable,
     pub(crate) durable: u64,

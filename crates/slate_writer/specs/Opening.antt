@@ -1,0 +1,45 @@
+use Rattle.std.specs.Prelude.{◌≡◌, ℕ, ◌≤◌, ◌<◌, ◌⊎◌, List, [], ◌∷◌, true, Some, Result, Ok, Err}
+use Rattle.slate_rows.specs.declared.batches.Batch.{Batch}
+use Rattle.slate_store.specs.declared.objects.VersionedManifest.{VersionedManifest}
+use Rattle.slate_store.specs.declared.errors.StoreFault.TheVariants.{Unavailable}
+use Rattle.slate_store.specs.Objects.{Objects, Change, PutManifest, PutLog, is_taken, latest_manifest}
+use Rattle.slate_replay.specs.Replay.{IsReplayable, replayed}
+use Rattle.slate_status.specs.declared.errors.SlateError.{SlateError}
+use Rattle.slate_status.specs.declared.errors.SlateError.TheVariants as errors
+use Rattle.slate_model.specs.Changes.{after_part}
+use Rattle.slate_model.specs.Open.{OpenCause, can_open, found_log, opened_manifest}
+
+-- the manifest that an opening commits, and the last log file; or why it can't
+abbrev pub FindsNext : Objects → Result (VersionedManifest × ℕ) SlateError → Type 0
+FindsNext objects (Ok found) = (can_open objects ≡ true) × (found.0 ≡ opened_manifest objects) × (found.1 ≡ found_log objects)
+FindsNext objects (Err error) = OpenCause (λ _. ⊥) objects error
+
+-- a manifest, and then an empty log file
+abbrev pub opening_puts : VersionedManifest → ℕ → List Change
+opening_puts view fence = PutManifest view.id view.manifest ∷ PutLog fence [] ∷ []
+
+-- what putting the two leaves: so many of them
+abbrev pub PutsOpening : VersionedManifest → ℕ → Result (Unit {0}) SlateError → Objects → Objects → Type 0
+PutsOpening view fence (Ok _) old new = new ≡ after_part 2 (opening_puts view fence) old
+PutsOpening view fence (Err errors.TransactionalObjectVersionExists) old new =
+    ((is_taken (PutManifest view.id view.manifest) old ≡ true) × (new ≡ old))
+    ⊎ ((is_taken (PutLog fence []) old ≡ true) × (new ≡ after_part 1 (opening_puts view fence) old))
+PutsOpening view fence (Err (errors.ObjectStoreError Unavailable)) old new =
+    (made : ℕ) × (made ≤ 2) × (new ≡ after_part made (opening_puts view fence) old)
+PutsOpening view fence (Err errors.NoMemory) old new =
+    (made : ℕ) × (made ≤ 2) × (new ≡ after_part made (opening_puts view fence) old)
+PutsOpening view fence (Err error) old new = ⊥
+
+-- what the log files of a manifest give up to one of them, or why they give nothing
+abbrev pub Recovers : VersionedManifest → ℕ → Objects → Result (List Batch) SlateError → Type 0
+Recovers view last objects (Ok batches) =
+    let m = view.manifest in
+    IsReplayable m.replay_after_wal_id last m.last_l0_seq objects → batches ≡ replayed m.replay_after_wal_id last m.last_l0_seq objects
+Recovers view last objects (Err (errors.WalTruncated id)) =
+    let m = view.manifest in
+    IsReplayable m.replay_after_wal_id last m.last_l0_seq objects → ⊥
+Recovers view last objects (Err errors.Fenced) =
+    (latest : VersionedManifest) × (latest_manifest objects ≡ Some latest) × (view.manifest.writer_epoch < latest.manifest.writer_epoch)
+Recovers view last objects (Err (errors.ObjectStoreError Unavailable)) = Unit {0}
+Recovers view last objects (Err errors.NoMemory) = Unit {0}
+Recovers view last objects (Err error) = ⊥

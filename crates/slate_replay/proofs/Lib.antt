@@ -1,0 +1,3 @@
+pub mod Logs
+pub mod Appending
+pub mod Replaying

@@ -1,0 +1,159 @@
+use Rattle.std.proofs.Common.{◌≡◌, ℕ, ◌+◌, ◌-◌, ◌<◌, ◌≤◌, inl, inr, List, ◌++◌, length, max, take, drop, Option, Some, None, Ok, true, false, sym, subst, ap, ◌∙◌, arith, add-one, length-append, append_assoc, ltb}
+use Rattle.std.proofs.Math.Seq.{take-add}
+use Rattle.std.proofs.lemmas.Bool.{cases_lt}
+use Rattle.std.proofs.lemmas.List.Elements.{filter-append}
+use Rattle.std.proofs.lemmas.Grind.{flat_map-append}
+use Rattle.std.specs.List.{flat_map}
+use Rattle.std.specs.Option.{MatchOption, IfSome}
+use Rattle.slate_rows.specs.declared.batches.Batch.{Batch}
+use Rattle.slate_rows.specs.Line.{AreNumberedFrom, batches_above}
+use Rattle.slate_store.specs.Objects.{Objects, entry_at, log_at}
+use Rattle.slate_store.specs.Content.{logs_above}
+use Rattle.slate_replay.specs.Replay.{IsReplayable, replayed, EndBy, IsWhole, IsTornAt, ComeNext, AppendsNext}
+use Rattle.slate_replay.proofs.Logs.{numbered-parts, above-same, entry-above, gapless-stored, gapless-next}
+
+-- the batches of the log files above a mark, up to an id
+abbrev read : (mark last : ℕ) → Objects → List Batch
+read mark last o = flat_map (λ log. log.1) (take (last - mark) (logs_above mark o))
+
+-- those up to a later one have more
+read-more : (mark before last : ℕ) (o : Objects) → mark ≤ before → before ≤ last → (more : List Batch) × (read mark last o ≡ read mark before o ++ more)
+read-more mark before last o low high =
+    let logs = logs_above mark o in
+    let k = before - mark in
+    let n = last - before in
+    let e : last - mark ≡ k + n = omega arith in (
+      flat_map (λ log. log.1) (take n (drop k logs)),
+      ap (λ i. flat_map (λ log. log.1) (take i logs)) e
+          ∙ (ap (flat_map (λ log. log.1)) (take-add k n logs) ∙ flat_map-append (λ log. log.1) (take k logs) (take n (drop k logs))),
+    )
+
+-- what can be replayed up to an id can be up to an earlier one
+pub replayable-front : (mark before last n : ℕ) (o : Objects) → mark ≤ before → before ≤ last → IsReplayable mark last n o → IsReplayable mark before n o
+replayable-front mark before last n o low high is =
+    let more = read-more mark before last o low high in
+    let parts = ap (batches_above n) more.1 ∙ filter-append (λ b. ltb n b.number) (read mark before o) more.0 in
+    record {
+      gapless = is.gapless;
+      stored = let h = is.stored in omega arith;
+      numbered = (numbered-parts n (replayed mark before n o) (batches_above n more.0) (subst (AreNumberedFrom n) parts is.numbered)).0;
+    }
+
+module _ (mark before n : ℕ) (o : Objects) (low : mark ≤ before) (is : IsReplayable mark (before + 1) n o) where
+  -- the place of the next log file
+  at : mark + (before - mark) + 1 ≡ before + 1
+  at = omega arith
+
+  here : entry_at (before + 1) (logs_above mark o) ≡ log_at (before + 1) o
+  here = entry-above mark (before + 1) o.logs (omega arith)
+
+  -- the next log file is stored
+  pub is-stored : log_at (before + 1) o ≡ None → ⊥
+  is-stored none =
+      let h = is.stored in
+      gapless-stored mark (before - mark) (logs_above mark o) is.gapless (omega arith) (subst (λ k. entry_at k (logs_above mark o) ≡ None) (sym at) (here ∙ none))
+
+  module _ (log : List Batch) (found : log_at (before + 1) o ≡ Some log) where
+    read-next : read mark (before + 1) o ≡ read mark before o ++ log
+    read-next =
+        let logs = logs_above mark o in
+        let i = before - mark in
+        let e : before + 1 - mark ≡ i + 1 = omega arith in
+        ap (λ k. flat_map (λ log. log.1) (take k logs)) (e ∙ add-one i)
+        ∙ gapless-next mark i log logs is.gapless (subst (λ k. entry_at k logs ≡ Some log) (sym at) (here ∙ found))
+
+    pub replayed-next : replayed mark (before + 1) n o ≡ replayed mark before n o ++ batches_above n log
+    replayed-next = ap (batches_above n) read-next ∙ filter-append (λ b. ltb n b.number) (read mark before o) log
+
+    -- what it has above the number comes next after what was replayed
+    module _ (end : ℕ) (ends : end ≡ n + length (replayed mark before n o)) where
+      next-numbered : AreNumberedFrom end (batches_above n log)
+      next-numbered =
+          let parts = numbered-parts n (replayed mark before n o) (batches_above n log) (subst (AreNumberedFrom n) replayed-next is.numbered) in
+          subst (λ k. AreNumberedFrom k (batches_above n log)) (sym ends) parts.1
+
+      pub above-next : batches_above end log ≡ batches_above n log
+      above-next = above-same n end end log (omega arith) (omega arith) next-numbered
+
+      pub comes-next : ComeNext end log
+      comes-next = subst (AreNumberedFrom end) (sym above-next) next-numbered
+
+-- a stored log file that has no batch past a number has none past a later one
+stored-more : (end more : ℕ) (log : Option (List Batch)) → end ≤ more → MatchOption log ⊥ (EndBy end) → MatchOption log ⊥ (EndBy more)
+stored-more end more None low h = h
+stored-more end more (Some log) low h = λ k d less. let it = h k d less in omega arith
+
+module _ (mark before floor : ℕ) (old m : List Batch) (o : Objects) (low : mark ≤ before) (so_far : IsWhole mark before floor old m o) where
+  -- a log file that isn't stored
+  pub missing-torn : (last : ℕ) → before < last → log_at (before + 1) o ≡ None → IsTornAt (before + 1) mark last floor old m o
+  missing-torn last less none =
+      let n = floor + length old in
+      record {
+        above = omega arith;
+        within = omega arith;
+        earlier = λ id over within. so_far.stored id over (omega arith);
+        torn = rw none tt;
+        missing = λ is. is-stored mark before n o low (replayable-front mark (before + 1) last n o (omega arith) (omega arith) is) none;
+      }
+
+  appended : IsReplayable mark (before + 1) (floor + length old) o → m ≡ old ++ replayed mark before (floor + length old) o
+  appended is = so_far.appended (replayable-front mark before (before + 1) (floor + length old) o low (omega arith) is)
+
+  ends : IsReplayable mark (before + 1) (floor + length old) o → floor + length m ≡ (floor + length old) + length (replayed mark before (floor + length old) o)
+  ends is = let l = ap length (appended is) ∙ length-append old (replayed mark before (floor + length old) o) in omega (arith, l)
+
+  module _ (m' log : List Batch) (longer : length m ≤ length m') (found : log_at (before + 1) o ≡ Some log) where
+    pub gap-torn : (last : ℕ) → before < last → AppendsNext floor m m' log (Ok false) → IsTornAt (before + 1) mark last floor old m' o
+    gap-torn last less gap =
+        let n = floor + length old in
+        record {
+          above = omega arith;
+          within = omega arith;
+          earlier = λ id over within. stored-more (floor + length m) (floor + length m') (log_at id o) (omega arith) (so_far.stored id over (omega arith));
+          torn = rw found gap.0;
+          missing = λ all.
+              let is = replayable-front mark (before + 1) last n o (omega arith) (omega arith) all in
+              gap.1 (comes-next mark before n o low is log found (floor + length m) (ends is));
+        }
+
+    pub whole-next : AppendsNext floor m m' log (Ok true) → IsWhole mark (before + 1) floor old m' o
+    whole-next next =
+        let n = floor + length old in
+        record {
+          stored = λ id over within.
+              elim (cases_lt before id) [
+                | inl above ↦
+                    let same : before + 1 ≡ id = omega arith in
+                    subst (λ k. MatchOption (log_at k o) ⊥ (EndBy (floor + length m'))) same (rw found next.0)
+                | inr below ↦ stored-more (floor + length m) (floor + length m') (log_at id o) (omega arith) (so_far.stored id over below)
+              ];
+          appended = λ is.
+              next.1 (comes-next mark before n o low is log found (floor + length m) (ends is))
+              ∙ (ap (λ xs. m ++ xs) (above-next mark before n o low is log found (floor + length m) (ends is))
+              ∙ (ap (λ xs. xs ++ batches_above n log) (appended is)
+              ∙ (append_assoc old (replayed mark before n o) (batches_above n log)
+              ∙ ap (λ xs. old ++ xs) (sym (replayed-next mark before n o low is log found)))));
+        }
+
+-- the end of the ids
+pub whole-end : (mark before last floor : ℕ) (old m : List Batch) (o : Objects) → before ≤ max mark last → last ≤ before → IsWhole mark before floor old m o → IsWhole mark last floor old m o
+whole-end mark before last floor old m o within done whole =
+    let n = floor + length old in
+    let e : before - mark ≡ last - mark = omega arith in
+    let same = ap (λ k. batches_above n (flat_map (λ log. log.1) (take k (logs_above mark o)))) e in
+    record {
+      stored = λ id over low. whole.stored id over (omega arith);
+      appended = λ is.
+          whole.appended
+          (record {
+            gapless = is.gapless;
+            stored = let h = is.stored in omega arith;
+            numbered = subst (AreNumberedFrom n) (sym same) is.numbered;
+          })
+          ∙ ap (λ xs. old ++ xs) same;
+    }
+
+-- what is known of objects that are told
+pub known : {X : Type 0} {P Q R : X → Type 0} (a b : Option X) → b ≡ a → IfSome a P → IfSome b Q → ((x : X) → P x → Q x → R x) → IfSome a R
+known None b same p q f = tt
+known {X} {P} {Q} {R} (Some x) b same p q f = f x p (subst (λ c. IfSome c Q) same q)

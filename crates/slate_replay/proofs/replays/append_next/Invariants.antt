@@ -1,0 +1,13 @@
+use Rattle.std.proofs.Common.{◌≡◌, ◌+◌, ◌<◌, ◌^◌, ◌++◌, List, Ok, true, length}
+use Rattle.slate_rows.specs.Line.{AreNumberedFrom}
+use Rattle.slate_rows.specs.declared.batches.Batch.{Batch}
+use Rattle.slate_replay.specs.Replay.{AppendsNext}
+use Rattle.slate_replay.proofs.replays.append_next.Given as goal
+
+abbrev pub invariant-loop-batch : goal.invariant-loop-batch
+invariant-loop-batch l = record {
+  numbered : AreNumberedFrom l.floor l.memory;
+  fits : l.floor + length l.memory < 2 ^ 64;
+  grows : (added : List Batch) × (l.memory ≡ l.fn.memory ++ added);
+  appended : AppendsNext l.floor l.fn.memory l.memory l.yielded (Ok true);
+}

@@ -1,0 +1,39 @@
+use Rattle.std.proofs.Common.{◌++◌, length, refl, ap, ◌∙◌, arith, length-append, append_assoc}
+use Rattle.slate_replay.proofs.Replaying.{missing-torn, gap-torn, whole-next, whole-end, known}
+use Rattle.slate_replay.proofs.replays.replay.Goals as goal
+
+pub returns-in-Err-NotFound-clause-told : goal.returns-in-Err-NotFound-clause-told
+returns-in-Err-NotFound-clause-told g c =
+    let i = c.loop-before.invariant in
+    known _ _ i.kept i.whole c.in-Err-NotFound.ensures.found
+    (λ o whole found. missing-torn c.args.mark c.loop-before.before c.args.floor c.args.memory.now c.loop-before.memory o (omega arith) whole c.args.last (omega arith) (rw c.in-Err-NotFound.field-0-is at found))
+
+pub returns-then-not-branch-clause-told : goal.returns-then-not-branch-clause-told
+returns-then-not-branch-clause-told g c =
+    let i = c.loop-before.invariant in
+    let grows = c.in_ok-append_next.ensures.grows in
+    let l = ap length grows.1 ∙ length-append c.loop-before.memory grows.0 in
+    known _ _ i.kept i.whole c.in-Ok.ensures.found
+    (λ o whole found. gap-torn c.args.mark c.loop-before.before c.args.floor c.args.memory.now c.loop-before.memory o (omega arith) whole c.append_next.new.memory c.in-Ok.log (omega (arith, l)) found c.args.last (omega arith) (rw (c.if-not-branch.true, c.into_vec.ensures) at c.in_ok-append_next.ensures.appended))
+
+pub loop-before-preserved : goal.loop-before-preserved
+loop-before-preserved g c =
+    let i = c.loop-before.invariant in
+    let e = c.in_ok-append_next.ensures in
+    let l = ap length e.grows.1 ∙ length-append c.loop-before.memory e.grows.0 in
+    record {
+      numbered = e.numbered;
+      fits = e.fits;
+      grows = (i.grows.0 ++ e.grows.0, e.grows.1 ∙ (ap (λ xs. xs ++ e.grows.0) i.grows.1 ∙ append_assoc c.args.memory.now i.grows.0 e.grows.0));
+      kept = c.read_log.ensures.kept ∙ i.kept;
+      count = let n = c.read_log.ensures.counts.fault_count in omega (arith, n, i.count);
+      within = omega arith;
+      whole = known _ _ i.kept i.whole c.in-Ok.ensures.found
+          (λ o whole found. whole-next c.args.mark c.loop-before.before c.args.floor c.args.memory.now c.loop-before.memory o (omega arith) whole c.append_next.new.memory c.in-Ok.log (omega (arith, l)) found (rw (c.if-not-branch.false, c.into_vec.ensures) at e.appended));
+    }
+
+pub returns-clause-told : goal.returns-clause-told
+returns-clause-told g c =
+    let i = c.loop-before.invariant in
+    known _ _ refl i.whole i.whole
+    (λ o whole again. whole-end c.args.mark c.loop-before.before c.args.last c.args.floor c.args.memory.now c.loop-before.memory o (omega arith) (omega arith) whole)

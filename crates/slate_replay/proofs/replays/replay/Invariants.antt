@@ -1,0 +1,17 @@
+use Rattle.std.proofs.Common.{◌≡◌, ◌+◌, ◌<◌, ◌≤◌, ◌^◌, ◌++◌, List, length, max}
+use Rattle.std.specs.Option.{IfSome}
+use Rattle.slate_rows.specs.Line.{AreNumberedFrom}
+use Rattle.slate_rows.specs.declared.batches.Batch.{Batch}
+use Rattle.slate_replay.specs.Replay.{IsWhole}
+use Rattle.slate_replay.proofs.replays.replay.Given as goal
+
+abbrev pub invariant-loop-before : goal.invariant-loop-before
+invariant-loop-before g l = record {
+  numbered : AreNumberedFrom l.floor l.memory;
+  fits : l.floor + length l.memory < 2 ^ 64;
+  grows : (added : List Batch) × (l.memory ≡ l.fn.memory ++ added);
+  kept : g.S.Store.objects l.store ≡ g.S.Store.objects l.fn.store;
+  count : g.S.Store.faults l.fn.store ≤ g.S.Store.faults l.store;
+  within : l.before ≤ max l.mark l.last;
+  whole : IfSome (g.S.Store.objects l.fn.store) (λ o. IsWhole l.mark l.before l.floor l.fn.memory l.memory o);
+}

@@ -1,0 +1,67 @@
+use Rattle.std.specs.Prelude.{◌≡◌, ℕ, ◌+◌, ◌-◌, ◌<◌, ◌≤◌, Bool, true, false, All, List, ◌++◌, length, map, take, MatchOption, Result, Ok, Err}
+use Rattle.std.specs.List.{flat_map, Any}
+use Rattle.slate_rows.specs.declared.batches.Batch.{Batch}
+use Rattle.slate_rows.specs.Line.{AreNumberedFrom, batches_above}
+use Rattle.slate_store.specs.Objects.{Objects, log_at}
+use Rattle.slate_store.specs.Content.{AreGapless, logs_above}
+use Rattle.slate_store.specs.declared.errors.StoreError.{StoreError}
+use Rattle.slate_store.specs.declared.errors.StoreError.TheVariants.{NoMemory}
+use Rattle.slate_replay.specs.declared.replays.Replayed.{Replayed}
+use Rattle.slate_replay.specs.declared.replays.Replayed.TheVariants.{Whole, Torn}
+
+-- the batches above a number that the log files above a mark, up to an id, have
+abbrev pub replayed : (mark last number : ℕ) → Objects → List Batch
+replayed mark last number objects = batches_above number (flat_map (λ log. log.1) (take (last - mark) (logs_above mark objects)))
+
+-- The log files above a mark are stored without a gap, up to an id at least, and what they have above a number are
+-- batches one after another from it on.
+pub record IsReplayable (mark last number : ℕ) (objects : Objects) : Type 0 where
+  pub gapless : AreGapless mark (map (λ log. log.0) (logs_above mark objects))
+  pub stored : last ≤ mark + length (logs_above mark objects)
+  pub numbered : AreNumberedFrom number (replayed mark last number objects)
+
+-- no batch is past this number
+abbrev pub EndBy : ℕ → List Batch → Type 0
+EndBy end batches = All (λ batch. batch.number ≤ end) batches
+
+-- a batch is past the next number
+abbrev pub HaveGapAfter : ℕ → List Batch → Type 0
+HaveGapAfter end batches = Any (λ batch. end + 1 < batch.number) batches
+
+-- each log file above a mark, up to an id, is stored, and has no batch past this number
+abbrev pub AreStoredBy : (mark last end : ℕ) → Objects → Type 0
+AreStoredBy mark last end objects = (id : ℕ) → mark < id → id ≤ last → MatchOption (log_at id objects) ⊥ (EndBy end)
+
+-- All log files were there and have no batch past the end. Where their batches come one after another, these were
+-- appended, all and in order.
+pub record IsWhole (mark last floor : ℕ) (old new : List Batch) (objects : Objects) : Type 0 where
+  pub stored : AreStoredBy mark last (floor + length new) objects
+  pub appended : IsReplayable mark last (floor + length old) objects → new ≡ old ++ replayed mark last (floor + length old) objects
+
+-- The log file with this id is the first that isn't stored, or that has a batch past the next number. That comes only
+-- where log files or batches are missing.
+pub record IsTornAt (id mark last floor : ℕ) (old new : List Batch) (objects : Objects) : Type 0 where
+  pub above : mark < id
+  pub within : id ≤ last
+  pub earlier : AreStoredBy mark (id - 1) (floor + length new) objects
+  pub torn : MatchOption (log_at id objects) (Unit {0}) (HaveGapAfter (floor + length new))
+  pub missing : IsReplayable mark last (floor + length old) objects → ⊥
+
+-- what a replay leaves of the batches that it found
+abbrev pub Replays : (mark last floor : ℕ) → (old new : List Batch) → Objects → Result Replayed StoreError → Type 0
+Replays mark last floor old new objects (Ok Whole) = IsWhole mark last floor old new objects
+Replays mark last floor old new objects (Ok (Torn id)) = IsTornAt id mark last floor old new objects
+Replays mark last floor old new objects (Err error) = Unit {0}
+
+-- Batches come next after a number: those of them above it are numbered from it on.
+abbrev pub ComeNext : ℕ → List Batch → Type 0
+ComeNext end batches = AreNumberedFrom end (batches_above end batches)
+
+-- what appending the batches of one log file leaves: true where there was no gap
+abbrev pub AppendsNext : (floor : ℕ) → (old new batches : List Batch) → Result Bool StoreError → Type 0
+AppendsNext floor old new batches (Ok true) =
+    EndBy (floor + length new) batches
+    × (ComeNext (floor + length old) batches → new ≡ old ++ batches_above (floor + length old) batches)
+AppendsNext floor old new batches (Ok false) =
+    HaveGapAfter (floor + length new) batches × (ComeNext (floor + length old) batches → ⊥)
+AppendsNext floor old new batches (Err error) = error ≡ NoMemory

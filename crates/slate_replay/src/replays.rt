@@ -1,0 +1,87 @@
+ghost use Rattle.std.specs.Prelude.{◌≡◌, ◌≢◌, ◌+◌, ◌<◌, ◌≤◌, ◌^◌, ◌++◌, ℕ, List, Err, length, IfSome};
+ghost use Rattle.slate_rows.specs.Counts.{HasRisen};
+ghost use Rattle.slate_rows.specs.Line.{AreNumberedFrom};
+ghost use Rattle.slate_rows.specs.declared.batches.Batch.{Batch};
+ghost use Rattle.slate_replay.specs.Replay.{Replays, AppendsNext};
+
+use slate_rows::{Batch, IndexedTable};
+use slate_store::{Store, StoreError};
+use std::alloc::Global;
+
+/// How a replay ended.
+#[derive(Clone, Copy, Debug, PartialEq, Eq)]
+pub enum Replayed {
+    /// All log files were there, and their batches come one after another.
+    Whole,
+    /// The log file with this id isn't stored, or it has a batch that comes too late: one before it is missing.
+    Torn(u64),
+}
+
+/// Appends to `memory` the batches of the log files above `mark` up to `last`, in order, and passes those that it has
+/// already. `floor` is the number before the first batch of `memory`.
+///
+/// It ends at the first log file that isn't stored, or that has a batch past the next number; `memory` has the batches
+/// before it then. It answers `Failed` where a read of the store failed, and `NoMemory`; `memory` may have grown by
+/// some batches then. It takes time linear in the batches that it reads, and copies none.
+pub fn replay<S: Store>(
+    alloc: Global,
+    store: &mut S,
+    memory: &mut IndexedTable,
+    floor: u64,
+    mark: u64,
+    last: u64,
+) -> Result<Replayed, StoreError>
+    requires numbered { AreNumberedFrom floor memory.old }
+    requires fits { floor + length memory.old < 2 ^ 64 }
+    ensures numbered { AreNumberedFrom floor memory.new }
+    ensures fits { floor + length memory.new < 2 ^ 64 }
+    ensures grows { (added : List Batch) × (memory.new ≡ memory.old ++ added) }
+    ensures kept { S.objects store.new ≡ S.objects store.old }
+    ensures count { S.faults store.old ≤ S.faults store.new }
+    ensures failed { result ≡ Err StoreError.Failed → HasRisen (S.faults store.old) (S.faults store.new) }
+    ensures none_missing { result ≢ Err StoreError.NotFound }
+    ensures none_exists { result ≢ Err StoreError.Exists }
+    ensures told { IfSome (S.objects store.old) (λ o. Replays mark last floor memory.old memory.new o result) }
+{
+    for before in mark..last {
+        let id = before + 1;
+        let log = match store.read_log(alloc, id) {
+            Ok(log) => log,
+            Err(StoreError::NotFound) => return Ok(Replayed::Torn(id)),
+            Err(error) => return Err(error),
+        };
+        if !append_next(memory, floor, log.into_vec())? {
+            return Ok(Replayed::Torn(id));
+        }
+    }
+    Ok(Replayed::Whole)
+}
+
+/// Appends the batches of a log file that come next, in order, and passes those that are there already. It answers
+/// whether all did: it ends at one past the next number.
+fn append_next(
+    memory: &mut IndexedTable,
+    floor: u64,
+    batches: Vec<Batch>,
+) -> Result<bool, StoreError>
+    requires numbered { AreNumberedFrom floor memory.old }
+    requires fits { floor + length memory.old < 2 ^ 64 }
+    ensures numbered { AreNumberedFrom floor memory.new }
+    ensures fits { floor + length memory.new < 2 ^ 64 }
+    ensures grows { (added : List Batch) × (memory.new ≡ memory.old ++ added) }
+    ensures appended { AppendsNext floor memory.old memory.new batches.items result }
+{
+    for batch in batches {
+        let end = floor + memory.batches().len() as u64;
+        if batch.number <= end {
+            continue;
+        }
+        if batch.number - 1 != end {
+            return Ok(false);
+        }
+        if memory.push(batch).is_err() {
+            return Err(StoreError::NoMemory);
+        }
+    }
+    Ok(true)
+}

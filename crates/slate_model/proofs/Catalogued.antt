@@ -1,4 +1,4 @@
-use Rattle.std.proofs.Common.{◌≡◌, ℕ, ◌+◌, List, [], ◌∷◌, length, map, take, Option, Some, None, Result, Ok, Err, ◌≤◌, refl, sym, subst, ap, ◌∙◌, max, zero, suc}
+use Rattle.std.proofs.Common.{◌≡◌, ℕ, ◌+◌, List, [], ◌∷◌, length, map, Option, Some, None, Result, Ok, Err, ◌≤◌, refl, sym, subst, ap, ◌∙◌, zero, suc}
 use Rattle.std.proofs.lemmas.List.{length-map}
 use Rattle.std.specs.Ordering.{nat_cmp}
 use Rattle.std.specs.declared.cmp.Ordering.{Ordering}
@@ -7,11 +7,11 @@ use Rattle.std.specs.Ordering.{match_ordering}
 use Rattle.std.specs.BTreeMap.{insert_entry}
 use Rattle.slate_rows.specs.declared.batches.Batch.{Batch}
 use Rattle.slate_store.specs.declared.objects.VersionedManifest.{VersionedManifest}
-use Rattle.slate_store.specs.declared.errors.StoreFault.TheVariants.{NotFound, Unavailable}
-use Rattle.slate_store.specs.Objects.{Objects, ObjectsOf, Change, ChangeOf, PutManifest, PutLog, changed, changed_all, latest_manifest, last_log, greatest}
+use Rattle.slate_store.specs.declared.errors.StoreFault.TheVariants.{Unavailable}
+use Rattle.slate_store.specs.Objects.{Objects, Change, ChangeOf, PutManifest, PutLog, changed, latest_manifest, last_log, greatest}
 use Rattle.slate_status.specs.declared.errors.SlateError.{SlateError}
 use Rattle.slate_status.specs.declared.errors.SlateError.TheVariants as errors
-use Rattle.slate_model.specs.Catalogue.{Span, span, Catalogue, catalogue_of}
+use Rattle.slate_model.specs.Catalogue.{Span, span, catalogue_of}
 use Rattle.slate_model.specs.Changes.{PartMade, after_part}
 use Rattle.slate_model.specs.Flush.{flush_changes, flush_changes_by, log_changes, FlushAnswer, FlushCause, StoresBatches}
 use Rattle.slate_model.specs.Open.{open_changes, next_manifest, mark_of, can_open, can_open_by, Opens, OpenAnswer, OpenCause}

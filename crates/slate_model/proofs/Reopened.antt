@@ -1,12 +1,10 @@
 use Rattle.std.proofs.Common.{◌≡◌, ℕ, zero, suc, ◌+◌, ◌-◌, ◌<◌, ◌≤◌, List, [], ◌∷◌, ◌++◌, length, map, take, max, Bool, true, false, Option, Some, None, refl, sym, subst, ap, ◌∙◌, arith, sub-one, length-append, ◌&&◌, ◌==◌, ltb}
 use Rattle.std.proofs.Math.Dec.{eqb-suc-zero}
-use Rattle.std.specs.List.{AllByRecursion, filter, flat_map, slice_get}
+use Rattle.std.specs.List.{AllByRecursion, filter, flat_map}
 use Rattle.std.specs.Option.{IfSome, option_map}
-use Rattle.std.specs.BTreeMap.{insert_entry}
-use Rattle.std.specs.Ordering.{nat_cmp}
 use Rattle.std.proofs.lemmas.List.{append-nil, length-map, map-append, take_all, take_at}
 use Rattle.slate_rows.specs.declared.batches.Batch.{Batch}
-use Rattle.slate_rows.specs.Line.{AreNumberedFrom, IsLine, Line, batches_above, extended}
+use Rattle.slate_rows.specs.Line.{AreNumberedFrom, IsLine, Line, batches_above}
 use Rattle.slate_rows.proofs.Lines.{above-all}
 use Rattle.slate_store.specs.declared.objects.Manifest.{Manifest}
 use Rattle.slate_store.specs.declared.objects.VersionedManifest.{VersionedManifest}
@@ -315,3 +313,7 @@ recovered-is keeps_log limit o sound can =
     let all : batches_above number bs ≡ bs = above-all number number bs replayable.numbered (omega arith) in
     sym (ap (opened_handle keeps_log limit v) (content-by o (latest_manifest o) sound refl can)
     ∙ ap (λ xs. record (recovered keeps_log limit v bs) { tick = latest_tick v.manifest.last_tick xs }) all)
+
+-- the log files of sound objects can be replayed by an opening
+pub replayable : (o : Objects) → IsSound o → IsReplayable (opened_manifest o).manifest.replay_after_wal_id (found_log o) (opened_manifest o).manifest.last_l0_seq o
+replayable o sound = replayable-from o (latest_manifest o) sound refl

@@ -1,6 +1,6 @@
-use Rattle.std.specs.Prelude.{◌≡◌, ℕ, ℤ, ◌≤◌, Bool, List, Option, Some, None, Result, Ok, Err}
+use Rattle.std.specs.Prelude.{ℕ, ℤ, Bool, List, Option, Result, Ok, Err}
 use Rattle.slate_rows.specs.declared.batches.Batch.{Batch}
-use Rattle.slate_rows.specs.Line.{Line, IsLine, end, batches_above}
+use Rattle.slate_rows.specs.Line.{Line, end, batches_above}
 use Rattle.slate_store.specs.declared.objects.VersionedManifest.{VersionedManifest}
 use Rattle.slate_status.specs.declared.closing.CloseFault.{CloseFault}
 use Rattle.slate_status.specs.declared.errors.SlateError.{SlateError}

@@ -1,3 +1,4 @@
 pub mod Appending
 pub mod Flushing
+pub mod Openings
 pub mod Telling

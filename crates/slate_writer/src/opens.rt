@@ -138,10 +138,7 @@ fn next_manifest(alloc: Global, latest: Option<VersionedManifest>, last: u64) ->
 }
 
 /// The manifest that an opening commits, and the id of the last log file. There is one more id after it.
-fn find_next<S: Store>(
-    alloc: Global,
-    store: &mut S,
-) -> Result<(VersionedManifest, u64), SlateError>
+fn find_next<S: Store>(alloc: Global, store: &mut S) -> Result<(VersionedManifest, u64), SlateError>
     ensures faults { TellsFaults (S.faults store.old) (S.faults store.new) result }
     ensures kept { S.objects store.new ≡ S.objects store.old }
     ensures told { IfSome (S.objects store.old) (λ o. FindsNext o result) }

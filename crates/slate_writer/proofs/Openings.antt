@@ -1,0 +1,120 @@
+use Rattle.std.proofs.Common.{◌≡◌, ℕ, ℤ, ◌+◌, Bool, List, [], length, Option, Some, Result, Ok, Err, true, false, refl, subst, ap, inl, inr, ◌∙◌, arith}
+use Rattle.std.specs.Option.{IfSome}
+use Rattle.slate_rows.specs.declared.batches.Batch.{Batch}
+use Rattle.slate_store.specs.declared.objects.VersionedManifest.{VersionedManifest}
+use Rattle.slate_store.specs.declared.errors.StoreError.{StoreError}
+use Rattle.slate_store.specs.declared.errors.StoreError.TheVariants as refusals
+use Rattle.slate_store.specs.declared.errors.StoreFault.TheVariants.{Unavailable}
+use Rattle.slate_store.specs.Calls.{Puts, Told}
+use Rattle.slate_store.specs.Content.{IsSound, content}
+use Rattle.slate_store.specs.Objects.{Objects, Change, PutManifest, PutLog, is_taken}
+use Rattle.slate_status.specs.Errors.{error_of_store}
+use Rattle.slate_status.specs.declared.errors.SlateError.{SlateError}
+use Rattle.slate_status.specs.declared.errors.SlateError.TheVariants as errors
+use Rattle.slate_model.specs.Changes.{after_part}
+use Rattle.slate_model.specs.Open.{OpenFault, Opens, found_log, mark_of, latest_tick, open_changes, opened_handle, opened_manifest}
+use Rattle.slate_store.specs.Objects.{changed, latest_manifest}
+use Rattle.slate_model.proofs.Entries.{absent}
+use Rattle.slate_model.proofs.Newest.{newest}
+use Rattle.slate_model.proofs.Reopened.{opening-replays, recovered, recovered-is, replayable}
+use Rattle.slate_writer.proofs.Telling.{told_from}
+use Rattle.slate_writer.specs.Opening.{FindsNext, PutsOpening, Recovers, opening_puts}
+
+-- a put of the fence that was refused, after that of the manifest
+pub puts_fence : (view : VersionedManifest) (fence : ℕ) (o o1 o2 : Objects) (e : StoreError) → o1 ≡ changed (PutManifest view.id view.manifest) o → Puts (PutLog fence []) (Err e) o1 o2 → PutsOpening view fence (Err (error_of_store e)) o o2
+puts_fence view fence o o1 o2 refusals.Exists first h =
+    inr (subst (λ x. is_taken (PutLog fence []) x ≡ true) first h.0, h.1 ∙ first)
+puts_fence view fence o o1 o2 refusals.Failed first (inl h) = (1, omega arith, h ∙ first)
+puts_fence view fence o o1 o2 refusals.Failed first (inr h) = (2, omega arith, h.1 ∙ ap (changed (PutLog fence [])) first)
+puts_fence view fence o o1 o2 refusals.NotFound first h = absurd h
+puts_fence view fence o o1 o2 refusals.NoMemory first h = (1, omega arith, h ∙ first)
+
+-- nothing stands under the id after the last log file
+fence_free : (o : Objects) → is_taken (PutLog (found_log o + 1) []) o ≡ false
+fence_free o = rw (absent (found_log o + 1) (mark_of (latest_manifest o)) o.logs (omega arith)) refl
+
+-- an opening over a store whose log files are told by their batches
+abbrev pub OpensTold : {A : Type 0} → Objects → Result A SlateError → Objects → Type 0
+OpensTold o r o' = (made : ℕ) × Opens (λ batches. batches) (OpenFault o) o r made o'
+
+module _ (o : Objects) (view : VersionedManifest) (last : ℕ) (found : FindsNext o (Ok (view, last))) where
+  changes-are : opening_puts view (last + 1) ≡ open_changes (λ xs. xs) o
+  changes-are = ap (λ v. opening_puts v (last + 1)) found.1 ∙ ap (λ n. opening_puts (opened_manifest o) (n + 1)) found.2
+
+  after-are : (made : ℕ) → after_part made (opening_puts view (last + 1)) o ≡ after_part made (open_changes (λ xs. xs) o) o
+  after-are made = ap (λ (cs : List Change). after_part made cs o) changes-are
+
+  -- an opening that broke off in its puts
+  pub opens_by_puts : {A : Type 0} (o' : Objects) (e : SlateError) → PutsOpening view (last + 1) (Err e) o o' → OpensTold {A = A} o (Err e) o'
+  opens_by_puts o' errors.TransactionalObjectVersionExists (inl taken) =
+      (0, record { answer = subst (λ (v : VersionedManifest). is_taken (PutManifest v.id v.manifest) o ≡ true) found.1 taken.0; part = omega arith; only = tt; can = λ _. found.0; after = taken.1 })
+  opens_by_puts o' errors.TransactionalObjectVersionExists (inr taken) =
+      let free = fence_free o in
+      let taken_at : is_taken (PutLog (found_log o + 1) []) o ≡ true = subst (λ n. is_taken (PutLog (n + 1) []) o ≡ true) found.2 taken.0 in
+      absurd (cc)
+  opens_by_puts o' (errors.ObjectStoreError Unavailable) part =
+      (part.0, record { answer = tt; part = part.1; only = tt; can = λ _. found.0; after = part.2 ∙ after-are part.0 })
+  opens_by_puts o' errors.NoMemory part =
+      (part.0, record { answer = tt; part = part.1; only = tt; can = λ _. found.0; after = part.2 ∙ after-are part.0 })
+  opens_by_puts o' e h = absurd h
+
+  -- both were put
+  module _ (o1 : Objects) (after : o1 ≡ after_part 2 (opening_puts view (last + 1)) o) where
+    both : o1 ≡ after_part 2 (open_changes (λ xs. xs) o) o
+    both = after ∙ after-are 2
+
+    recovers-after : (r : Result (List Batch) SlateError) → Recovers view last o1 r → Recovers (opened_manifest o) (found_log o) (after_part 2 (open_changes (λ xs. xs) o) o) r
+    recovers-after r h =
+        subst (λ x. Recovers (opened_manifest o) (found_log o) x r) both
+        (subst (λ n. Recovers (opened_manifest o) n o1 r) found.2 (subst (λ v. Recovers v last o1 r) found.1 h))
+
+    -- an opening that broke off in its replay
+    pub opens_by_recovery : {A : Type 0} (e : SlateError) → Recovers view last o1 (Err e) → OpensTold {A = A} o (Err e) o1
+    opens_by_recovery (errors.WalTruncated id) h =
+        let gone = recovers-after (Err (errors.WalTruncated id)) h in
+        (2, record { answer = λ can. gone (opening-replays o can).replayable; part = omega arith; only = refl; can = λ _. found.0; after = both })
+    opens_by_recovery errors.Fenced h =
+        let newer = recovers-after (Err errors.Fenced) h in
+        let top = newest o newer.0 newer.1 in
+        let above = newer.2 in
+        absurd (omega (arith, top, above))
+    opens_by_recovery (errors.ObjectStoreError Unavailable) h =
+        (2, record { answer = tt; part = omega arith; only = tt; can = λ _. found.0; after = both })
+    opens_by_recovery errors.NoMemory h =
+        (2, record { answer = tt; part = omega arith; only = tt; can = λ _. found.0; after = both })
+    opens_by_recovery e h = absurd h
+
+    -- and one that replayed the content
+    pub opened_by_recovery : (keeps_log : Bool) (limit : ℕ) (batches : List Batch) → Recovers view last o1 (Ok batches) → IsSound o → recovered keeps_log limit view batches ≡ opened_handle keeps_log limit (opened_manifest o) (content o)
+    opened_by_recovery keeps_log limit batches h sound =
+        let can = replayable o sound in
+        let same = opening-replays o can in
+        let all = recovers-after (Ok batches) h same.replayable in
+        ap (λ v. recovered keeps_log limit v batches) found.1
+        ∙ (ap (recovered keeps_log limit (opened_manifest o)) (all ∙ same.batches) ∙ recovered-is keeps_log limit o sound found.0)
+
+-- the same of what the calls of an opening tell, one after the other
+pub puts_told : {A : Type 0} {t t0 t1 : Option Objects} (view : VersionedManifest) (last : ℕ) (e : SlateError) → IfSome t (λ o. FindsNext o (Ok (view, last))) → t0 ≡ t → Told (PutsOpening view (last + 1) (Err e)) t0 t1 → Told (λ o o'. OpensTold {A = A} o (Err e) o') t t1
+puts_told view last e found kept puts =
+    told_from kept puts (λ o o' is h. opens_by_puts o view last (subst (λ x. IfSome x (λ o. FindsNext o (Ok (view, last)))) is found) o' e h)
+
+module _ {t t0 t1 : Option Objects} (view : VersionedManifest) (last : ℕ) (found : IfSome t (λ o. FindsNext o (Ok (view, last)))) (kept : t0 ≡ t) (puts : Told (PutsOpening view (last + 1) (Ok tt)) t0 t1) where
+  found_at : (o : Objects) → t ≡ Some o → FindsNext o (Ok (view, last))
+  found_at o is = subst (λ x. IfSome x (λ o. FindsNext o (Ok (view, last)))) is found
+
+  pub recovery_told : {A : Type 0} {t2 : Option Objects} (e : SlateError) → t2 ≡ t1 → IfSome t1 (λ o. Recovers view last o (Err e)) → Told (λ o o'. OpensTold {A = A} o (Err e) o') t t2
+  recovery_told e kept2 recovers = record {
+    none = λ h. kept2 ∙ puts.none (kept ∙ h);
+    some = λ o is.
+        let p = puts.some o (kept ∙ is) in
+        (p.0, kept2 ∙ p.1, opens_by_recovery o view last (found_at o is) p.0 p.2 e (subst (λ x. IfSome x (λ o. Recovers view last o (Err e))) p.1 recovers));
+  }
+
+  pub recovered_told : (keeps_log : Bool) (limit : ℕ) (batches : List Batch) → IfSome t1 (λ o. Recovers view last o (Ok batches)) → (o : Objects) → t ≡ Some o → IsSound o → recovered keeps_log limit view batches ≡ opened_handle keeps_log limit (opened_manifest o) (content o)
+  recovered_told keeps_log limit batches recovers o is sound =
+      let p = puts.some o (kept ∙ is) in
+      opened_by_recovery o view last (found_at o is) p.0 p.2 keeps_log limit batches (subst (λ x. IfSome x (λ o. Recovers view last o (Ok batches))) p.1 recovers) sound
+
+-- the fields of the handle of an opening
+pub recovered_at : (keeps_log : Bool) (limit : ℕ) (view : VersionedManifest) (batches bs : List Batch) (tick : ℤ) → bs ≡ batches → tick ≡ latest_tick view.manifest.last_tick batches → record (recovered keeps_log limit view batches) { durable = view.manifest.last_l0_seq + length bs; tick = tick } ≡ recovered keeps_log limit view batches
+recovered_at keeps_log limit view batches bs tick same is = rw (same, is) refl

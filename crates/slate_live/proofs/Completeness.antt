@@ -18,11 +18,13 @@ use Rattle.slate_model.specs.Write.{accepted_moment, batch_refusal, clock_refusa
 use Rattle.slate_script.specs.declared.commands.Action.{Action}
 use Rattle.slate_script.specs.declared.commands.Action.TheVariants as actions
 use Rattle.slate_script.specs.declared.commands.Command.{Command}
+use Rattle.slate_script.specs.declared.options.Options.{Options}
 use Rattle.slate_script.specs.declared.replies.Reply.{Reply}
 use Rattle.slate_script.specs.declared.replies.Reply.TheVariants as replies
 use Rattle.slate_live.specs.declared.states.Object.TheVariants as objects
 use Rattle.slate_live.specs.Next.{AtHandle, FlushesUnless, IsReadReply, Next, NextBy, OpensIn, ReadsUnless, WritesIn, WritesUnless, done_or_refused, put_op, refusal}
 use Rattle.slate_live.specs.Valid.{CanOpen, CanPut, CanRead, CanStore, IsOkOrNoMemory, IsValidAction, IsValidCommand}
+use Rattle.slate_live.specs.Settings.{Settings}
 use Rattle.slate_live.specs.World.{World}
 
 none-some : {A : Type 0} (o : Option A) (x : A) → o ≡ None → o ≡ Some x → ⊥
@@ -35,7 +37,7 @@ beyond : (a b : ℕ) → a < b → b ≤ a → ⊥
 beyond a b under over = omega (arith, under, over)
 
 -- an opening that nothing stands against, and that met no fault, answers no error but want of memory
-open-cause : (w : World) (faults : ℕ) (error : SlateError) → OpenCause w.catalogue error → TellsFaults {A = Unit {0}} w.faults faults (Err error) → CanOpen w → (HasRisen w.faults faults → ⊥) → IsOkOrNoMemory (refusal error)
+open-cause : (w : World) (faults : ℕ) (error : SlateError) → OpenCause (λ _. ⊥) w.catalogue error → TellsFaults {A = Unit {0}} w.faults faults (Err error) → CanOpen w → (HasRisen w.faults faults → ⊥) → IsOkOrNoMemory (refusal error)
 open-cause w faults errors.EmptyKey cause fault can calm = absurd cause
 open-cause w faults errors.EmptyBatch cause fault can calm = absurd cause
 open-cause w faults (errors.ObjectStoreError NotFound) cause fault can calm = absurd cause
@@ -49,12 +51,11 @@ open-cause w faults errors.MergeOperatorMissing cause fault can calm = absurd ca
 open-cause w faults errors.WalDisabled cause fault can calm = absurd cause
 open-cause w faults errors.Fenced cause fault can calm = absurd cause
 open-cause w faults errors.LatestTransactionalObjectVersionMissing cause fault can calm = absurd cause
-open-cause w faults errors.InvalidDBState (inl found) fault can calm = absurd (found can.0)
-open-cause w faults errors.InvalidDBState (inr full) fault can calm = absurd (beyond (last_log 0 w.catalogue) last_number can.1 full)
+open-cause w faults errors.InvalidDBState cause fault can calm = absurd (cc)
 open-cause w faults (errors.ObjectStoreError Unavailable) cause fault can calm = absurd (calm (fault.unavailable refl))
 open-cause w faults errors.NoMemory cause fault can calm = tt
 
-open-answer : (w : World) (faults : ℕ) (n : ℕ) (result : Result (Unit {0}) SlateError) → OpenAnswer w.catalogue result → TellsFaults w.faults faults result → CanOpen w → (HasRisen w.faults faults → ⊥) → IsOkOrNoMemory (done_or_refused (replies.Handle n) result)
+open-answer : (w : World) (faults : ℕ) (n : ℕ) (result : Result (Unit {0}) SlateError) → OpenAnswer (λ _. ⊥) w.catalogue result → TellsFaults w.faults faults result → CanOpen w → (HasRisen w.faults faults → ⊥) → IsOkOrNoMemory (done_or_refused (replies.Handle n) result)
 open-answer w faults n (Ok _) answer fault can calm = tt
 open-answer w faults n (Err error) answer fault can calm = open-cause w faults error answer fault can calm
 
@@ -103,8 +104,8 @@ flush-completes w n handle reply w' unclosed can next calm =
     subst (λ k. FlushesUnless None k w n handle reply w') can.0 (subst (λ r. FlushesUnless r handle.keeps_log w n handle reply w') unclosed next) in
     subst IsOkOrNoMemory (sym flushes.answered) (flush-answer w handle w'.faults handle.view flushes.view flushes.result flushes.stores.answer flushes.fault can calm)
 
-open-completes : (w : World) (reply : Reply) (w' : World) → OpensIn w reply w' → CanOpen w → (HasRisen w.faults w'.faults → ⊥) → IsOkOrNoMemory reply
-open-completes w reply w' opens can calm =
+open-completes : (options : Options) (w : World) (reply : Reply) (w' : World) → OpensIn options w reply w' → CanOpen w → (HasRisen w.faults w'.faults → ⊥) → IsOkOrNoMemory reply
+open-completes options w reply w' opens can calm =
     subst IsOkOrNoMemory (sym opens.answered) (open-answer w w'.faults (length w.objects) opens.result opens.opens.answer opens.fault can calm)
 
 -- a put that nothing stands against isn't refused
@@ -162,15 +163,15 @@ get-completes merge w handle key remote reply w' unclosed can next =
 at-open : (object : Option objects.the_data) (handle : Handle) (said : Handle → Type 0) (unknown : Type 0) → object ≡ Some (objects.Handle handle) → AtHandle object said unknown → said handle
 at-open object handle said unknown is at = subst (λ o. AtHandle o said unknown) is at
 
-action-completes : (merge : Option Merge) (w : World) (moment : ℤ) (second : Option ℤ) (action : Action) (reply : Reply) (w' : World) → NextBy merge w moment second action reply w' → IsValidAction merge w moment second action → (HasRisen w.faults w'.faults → ⊥) → IsOkOrNoMemory reply
-action-completes merge w moment second actions.Open reply w' next valid calm = open-completes w reply w' next valid calm
-action-completes merge w moment second (actions.Put n key value expire) reply w' next valid calm =
+action-completes : (settings : Settings) (w : World) (moment : ℤ) (second : Option ℤ) (action : Action) (reply : Reply) (w' : World) → NextBy settings w moment second action reply w' → IsValidAction settings.merge w moment second action → (HasRisen w.faults w'.faults → ⊥) → IsOkOrNoMemory reply
+action-completes settings w moment second actions.Open reply w' next valid calm = open-completes settings.options w reply w' next valid calm
+action-completes settings w moment second (actions.Put n key value expire) reply w' next valid calm =
     put-completes w n valid.0 key value expire moment second reply w' valid.2 valid.3 (at-open (slice_get w.objects n) valid.0 _ _ valid.1 next)
-action-completes merge w moment second (actions.Flush n) reply w' next valid calm =
+action-completes settings w moment second (actions.Flush n) reply w' next valid calm =
     flush-completes w n valid.0 reply w' valid.2 valid.3 (at-open (slice_get w.objects n) valid.0 _ _ valid.1 next) calm
-action-completes merge w moment second (actions.Get n key remote) reply w' next valid calm =
-    get-completes merge w valid.0 key remote reply w' valid.2 valid.3 (at-open (slice_get w.objects n) valid.0 _ _ valid.1 next)
+action-completes settings w moment second (actions.Get n key remote) reply w' next valid calm =
+    get-completes settings.merge w valid.0 key remote reply w' valid.2 valid.3 (at-open (slice_get w.objects n) valid.0 _ _ valid.1 next)
 
 -- a valid command that meets no fault is refused nothing
-pub completes : (merge : Option Merge) (w : World) (command : Command) (reply : Reply) (w' : World) → Next merge w command reply w' → IsValidCommand merge w command → (HasRisen w.faults w'.faults → ⊥) → IsOkOrNoMemory reply
-completes merge w command reply w' next valid calm = action-completes merge w command.moment command.second command.action reply w' next valid calm
+pub completes : (settings : Settings) (w : World) (command : Command) (reply : Reply) (w' : World) → Next settings w command reply w' → IsValidCommand settings.merge w command → (HasRisen w.faults w'.faults → ⊥) → IsOkOrNoMemory reply
+completes settings w command reply w' next valid calm = action-completes settings w command.moment command.second command.action reply w' next valid calm

@@ -102,7 +102,7 @@ epoch-kept h view (Ok x) = refl
 epoch-kept h view (Err e) = refl
 
 -- a flush of an open handle that keeps a log leads to a world that the live state stands for
-flush_now : (live : Live) (told told' : Option Objects) (faults faults' : ℕ) (n : ℕ) (h new : Handle) (r : Result (Unit {0}) SlateError) → FlushesObject h new r told told' faults faults' → CanFlush h → IsHandleAt live.objects n h → (w : World) → StandsFor live told faults w → (w' : World) × FlushesIn w n h (done_or_refused replies.Flushed r) w' × StandsFor (record { objects = set live.objects n (objects.Handle new); writes = live.writes }) told' faults' w'
+flush_now : (live : Live) (told told' : Option Objects) (faults faults' : ℕ) (n : ℕ) (h new : Handle) (r : Result (Unit {0}) SlateError) → FlushesObject h new r told told' faults faults' → CanFlush h → IsHandleAt live.objects n h → (w : World) → StandsFor live told faults w → (w' : World) × FlushesIn w n h (done_or_refused replies.Flushed r) w' × StandsFor (record { options = live.options; objects = set live.objects n (objects.Handle new); writes = live.writes }) told' faults' w'
 flush_now live told told' faults faults' n h new r f can at w stands =
     let held = stands.held in
     let o = held.0 in
@@ -145,7 +145,7 @@ flush_now live told told' faults faults' n h new r f can at w stands =
     )
 
 -- a flush that is refused by the handle leaves everything as it was
-flush_kept : (live : Live) (told told' : Option Objects) (faults faults' : ℕ) (n : ℕ) (h new : Handle) → new ≡ h → told' ≡ told → faults' ≡ faults → IsHandleAt live.objects n h → (w : World) → StandsFor live told faults w → StandsFor (record { objects = set live.objects n (objects.Handle new); writes = live.writes }) told' faults' w
+flush_kept : (live : Live) (told told' : Option Objects) (faults faults' : ℕ) (n : ℕ) (h new : Handle) → new ≡ h → told' ≡ told → faults' ≡ faults → IsHandleAt live.objects n h → (w : World) → StandsFor live told faults w → StandsFor (record { options = live.options; objects = set live.objects n (objects.Handle new); writes = live.writes }) told' faults' w
 flush_kept live told told' faults faults' n h new same same_told same_faults at w stands =
     let held = stands.held in
     record {
@@ -158,7 +158,7 @@ flush_kept live told told' faults faults' n h new same same_told same_faults at 
 
 module _ (live : Live) (told told' : Option Objects) (faults faults' : ℕ) (n : ℕ) (h new : Handle) (r : Result (Unit {0}) SlateError) (f : FlushesObject h new r told told' faults faults') (at : IsHandleAt live.objects n h) (w : World) (stands : StandsFor live told faults w) where
   Linked : (World → Type 0) → Type 0
-  Linked next = (w' : World) × next w' × StandsFor (record { objects = set live.objects n (objects.Handle new); writes = live.writes }) told' faults' w'
+  Linked next = (w' : World) × next w' × StandsFor (record { options = live.options; objects = set live.objects n (objects.Handle new); writes = live.writes }) told' faults' w'
 
   linked-log : (keeps : Bool) → h.result ≡ None → h.keeps_log ≡ keeps → Linked (FlushesUnless None keeps w n h (done_or_refused replies.Flushed r))
   unfolding Linked
@@ -175,7 +175,7 @@ module _ (live : Live) (told told' : Option Objects) (faults faults' : ℕ) (n :
       (w, (ap (done_or_refused replies.Flushed) d.0 ∙ closed-refused q, refl), flush_kept live told told' faults faults' n h new d.1 d.2 d.3 at w stands)
 
   -- every flush of a handle that stands there leads to a world that the live state stands for
-  pub flush_links : (w' : World) × Flushes w n (done_or_refused replies.Flushed r) w' × StandsFor (record { objects = set live.objects n (objects.Handle new); writes = live.writes }) told' faults' w'
+  pub flush_links : (w' : World) × Flushes w n (done_or_refused replies.Flushed r) w' × StandsFor (record { options = live.options; objects = set live.objects n (objects.Handle new); writes = live.writes }) told' faults' w'
   unfolding Linked
   flush_links =
       let there : slice_get w.objects n ≡ Some (objects.Handle h) = subst (λ os. IsHandleAt os n h) stands.objects at in
@@ -189,8 +189,8 @@ unknown_links live told faults n none w stands =
     rw nothing (refl, refl)
 
 -- the same of the object at a place
-pub flush_object : (live : Live) (told told' : Option Objects) (faults faults' : ℕ) (n : ℕ) (x x' : Object) (r : Result (Unit {0}) SlateError) (reply : Reply) → FlushesObject (handle_of x) (handle_of x') r told told' faults faults' → x' ≡ objects.Handle (handle_of x') → n < length live.objects → x ≡ get_or live.objects n x → reply ≡ done_or_refused replies.Flushed r → Links (λ w reply w'. Flushes w n reply w') live told faults reply (record { objects = set live.objects n x'; writes = live.writes }) told' faults'
+pub flush_object : (live : Live) (told told' : Option Objects) (faults faults' : ℕ) (n : ℕ) (x x' : Object) (r : Result (Unit {0}) SlateError) (reply : Reply) → FlushesObject (handle_of x) (handle_of x') r told told' faults faults' → x' ≡ objects.Handle (handle_of x') → n < length live.objects → x ≡ get_or live.objects n x → reply ≡ done_or_refused replies.Flushed r → Links (λ w reply w'. Flushes w n reply w') live told faults reply (record { options = live.options; objects = set live.objects n x'; writes = live.writes }) told' faults'
 flush_object live told told' faults faults' n (objects.Handle h) x' r reply f kind low at answer w stands =
     let there : IsHandleAt live.objects n h = get_read live.objects n (objects.Handle h) low at in
     let l = flush_links live told told' faults faults' n h (handle_of x') r f there w stands in
-    (l.0, subst (λ a. Flushes w n a l.0) (sym answer) l.1, subst (λ y. StandsFor (record { objects = set live.objects n y; writes = live.writes }) told' faults' l.0) (sym kind) l.2)
+    (l.0, subst (λ a. Flushes w n a l.0) (sym answer) l.1, subst (λ y. StandsFor (record { options = live.options; objects = set live.objects n y; writes = live.writes }) told' faults' l.0) (sym kind) l.2)

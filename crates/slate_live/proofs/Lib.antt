@@ -1,4 +1,5 @@
 pub mod Chains
+pub mod Completed
 pub mod Completeness
 pub mod FlushLinks
 pub mod Flushing

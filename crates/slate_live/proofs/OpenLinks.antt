@@ -1,73 +1,30 @@
-use Rattle.std.proofs.Common.{◌≡◌, ◌⊎◌, inl, inr, ℕ, zero, suc, ◌<◌, ◌≤◌, List, [], ◌∷◌, ◌++◌, length, Option, Some, None, Result, Ok, Err, true, refl, sym, subst, ap, ◌∙◌, arith}
+use Rattle.std.proofs.Common.{◌≡◌, ◌⊎◌, inl, inr, ℕ, zero, suc, ◌+◌, ◌<◌, ◌≤◌, List, [], ◌∷◌, ◌++◌, length, Option, Some, None, Result, Ok, Err, true, refl, sym, subst, ap, ◌∙◌, arith}
 use Rattle.std.specs.List.{slice_get}
-use Rattle.std.specs.Option.{option_map}
 use Rattle.std.proofs.lemmas.List.{append-nil}
-use Rattle.slate_rows.specs.Line.{IsLine, end, extended}
+use Rattle.slate_rows.specs.Line.{Line, IsLine, end, extended}
 use Rattle.slate_rows.proofs.Lines.{above-none}
-use Rattle.slate_store.specs.Objects.{Objects, empty, last, versioned, latest_manifest}
+use Rattle.slate_store.specs.declared.objects.VersionedManifest.{VersionedManifest}
+use Rattle.slate_store.specs.Objects.{Objects, latest_manifest}
 use Rattle.slate_store.specs.Calls.{Told}
-use Rattle.slate_store.specs.Content.{IsSound, content, content_by}
+use Rattle.slate_store.specs.Content.{IsSound, content}
 use Rattle.slate_status.specs.declared.errors.SlateError.{SlateError}
 use Rattle.slate_status.specs.declared.errors.SlateError.TheVariants as errors
 use Rattle.slate_model.specs.Catalogue.{catalogue_of, span}
 use Rattle.slate_model.specs.Changes.{after_part}
 use Rattle.slate_model.specs.Handle.{Handle, unstored}
 use Rattle.slate_model.specs.Flush.{TellsFaults}
-use Rattle.slate_model.specs.Open.{Opens, OpensOnly, first_handle, first_manifest, open_changes}
-use Rattle.slate_model.proofs.Catalogued.{opens-known}
-use Rattle.slate_model.proofs.Entries.{nil-from-last}
+use Rattle.slate_model.specs.Open.{OpenFault, Opens, OpensOnly, found_log, next_manifest, open_changes, opened_handle, opened_manifest}
+use Rattle.slate_model.proofs.Catalogued.{opened_manifest-known, opens-known}
 use Rattle.slate_model.proofs.Flushed.{part_le}
+use Rattle.slate_model.proofs.Reopened.{no-fault, opened}
+use Rattle.slate_script.specs.declared.options.Options.{Options}
 use Rattle.slate_script.specs.declared.replies.Reply.TheVariants as replies
+use Rattle.slate_live.specs.declared.states.Object.{Object}
 use Rattle.slate_live.specs.declared.states.Object.TheVariants as objects
 use Rattle.slate_live.specs.Live.{Live}
-use Rattle.slate_live.specs.Next.{OpensIn, opened_handle, refusal}
+use Rattle.slate_live.specs.Next.{OpensIn, done_or_refused, new_handle, objects_after_open, refusal}
 use Rattle.slate_live.specs.Stands.{IsValidHandle, IsHandleAt, StandsFor}
 use Rattle.slate_live.specs.World.{World}
-
-no_last : {X Y : Type 0} (f : X → Y) (o : Option X) → option_map f o ≡ None → o ≡ None
-no_last f None h = refl
-no_last f (Some x) h = absurd (cc)
-
--- sound objects without a manifest are none at all
-nothing_there : (o : Objects) → IsSound o → latest_manifest o ≡ None → o ≡ empty
-nothing_there o sound none =
-    let manifests = nil-from-last o.manifests (no_last versioned (last o.manifests) none) in
-    let others = sound.nothing none in
-    λ i. record { manifests = manifests i; logs = others.0 i; tables = others.1 i }
-
--- what the first changes of an opening leave of an empty store
-record Begun (o : Objects) : Type 0 where
-  sound : IsSound o
-  content : content o ≡ record { floor = 0; batches = [] }
-  latest : latest_manifest o ≡ Some (record { id = 1; manifest = first_manifest })
-
-begun : (made : ℕ) → 0 < made → made ≤ 2 → Begun (after_part made (open_changes (λ xs. xs) empty) empty)
-begun zero some few = absurd (omega arith)
-begun (suc zero) some few =
-    record {
-      sound = record {
-        manifests = (tt, tt);
-        nothing = λ none. absurd (cc);
-        joined = refl;
-        logs = record { gapless = tt; next = omega arith; stored = omega arith };
-        line = tt;
-      };
-      content = refl;
-      latest = refl;
-    }
-begun (suc (suc zero)) some few =
-    record {
-      sound = record {
-        manifests = (tt, tt);
-        nothing = λ none. absurd (cc);
-        joined = refl;
-        logs = record { gapless = (refl, tt); next = omega arith; stored = omega arith };
-        line = tt;
-      };
-      content = refl;
-      latest = refl;
-    }
-begun (suc (suc (suc made))) some few = absurd (omega arith)
 
 -- what stands in a list with one more at its end
 get-push : {X : Type 0} (xs : List X) (x y : X) (m : ℕ) → slice_get (xs ++ x ∷ []) m ≡ Some y → (slice_get xs m ≡ Some y) ⊎ ((m ≡ length xs) × (x ≡ y))
@@ -80,158 +37,189 @@ get-push (z ∷ xs) x y (suc m) h =
       | inr at ↦ inr (ap suc at.0, at.1)
     ]
 
+-- an opening's answer without its handle
+abbrev erased : {A : Type 0} → Result A SlateError → Result (Unit {0}) SlateError
+erased (Ok x) = Ok tt
+erased (Err e) = Err e
+
 opens_only : (A : Type 0) (e : SlateError) (made : ℕ) → OpensOnly {A = A} (Err e) made → OpensOnly {A = Unit {0}} (Err e) made
 opens_only A errors.InvalidDBState made h = h
+opens_only A (errors.WalTruncated id) made h = h
 opens_only A e made h = tt
+
+opens-erased : {A : Type 0} (o : Objects) (r : Result A SlateError) (made : ℕ) (o' : Objects) → Opens (λ xs. xs) (OpenFault o) o r made o' → Opens (λ xs. xs) (OpenFault o) o (erased r) made o'
+opens-erased o (Ok x) made o' s = record { answer = s.answer; part = s.part; only = tt; can = s.can; after = s.after }
+opens-erased {A} o (Err e) made o' s = record { answer = s.answer; part = s.part; only = opens_only A e made s.only; can = s.can; after = s.after }
 
 same_error : {A : Type 0} (e : SlateError) {f : SlateError} → ◌≡◌ {A = Result (Unit {0}) SlateError} (Err e) (Err f) → ◌≡◌ {A = Result A SlateError} (Err e) (Err f)
 same_error e {f} h = let same : e ≡ f = cc in ap (λ x. Err x) same
 
--- the handle of an opening, over what is stored and under the first manifest
-valid-opened : (w : World) → IsLine w.stored → IsValidHandle w.stored (Some (record { id = 1; manifest = first_manifest })) (opened_handle w)
-valid-opened w line =
-    let none : unstored (opened_handle w) ≡ [] = above-none w.stored.floor (end w.stored) w.stored.batches line (omega arith) in
+faults-erased : {A : Type 0} (faults faults' : ℕ) (r : Result A SlateError) → TellsFaults faults faults' r → TellsFaults faults faults' (erased r)
+faults-erased faults faults' (Ok x) fault = record { count = fault.count; unavailable = λ h. absurd (cc); none_missing = λ h. absurd (cc) }
+faults-erased faults faults' (Err e) fault = record { count = fault.count; unavailable = λ h. fault.unavailable (same_error e h); none_missing = λ h. fault.none_missing (same_error e h) }
+
+-- a handle of an older epoch is fenced
+fenced : (stored : Line) (latest latest' : Option VersionedManifest) (v : VersionedManifest) (h : Handle) → latest' ≡ Some v → h.epoch < v.manifest.writer_epoch → IsValidHandle stored latest h → IsValidHandle stored latest' h
+fenced stored latest latest' v h is older valid =
+    record {
+      numbered = valid.numbered;
+      floor = valid.floor;
+      durable = valid.durable;
+      behind = (v, is, omega (arith, older));
+      current = λ manifest live known above.
+          let same : manifest ≡ v = cc in
+          let epoch = ap (λ (m : VersionedManifest). m.manifest.writer_epoch) same in
+          absurd (omega (arith, epoch, above, older));
+    }
+
+-- the handle of an opening is valid over what is stored, under the manifest that it committed
+valid-opened : (stored : Line) (limit : ℕ) (latest : Option VersionedManifest) (v : VersionedManifest) → latest ≡ Some v → IsLine stored → IsValidHandle stored latest (opened_handle true limit v stored)
+valid-opened stored limit latest v is line =
+    let none : unstored (opened_handle true limit v stored) ≡ [] = above-none stored.floor (end stored) stored.batches line (omega arith) in
     record {
       numbered = line;
       floor = omega arith;
       durable = omega arith;
-      behind = (record { id = 1; manifest = first_manifest }, refl, omega arith);
-      current = λ manifest live latest current. ap (extended w.stored) none ∙ ap (λ bs. record { floor = w.stored.floor; batches = bs }) (append-nil w.stored.batches);
+      behind = (v, is, omega arith);
+      current = λ manifest live known current. ap (extended stored) none ∙ ap (λ bs. record { floor = stored.floor; batches = bs }) (append-nil stored.batches);
     }
 
-module _ (live : Live) (told told' : Option Objects) (faults faults' : ℕ) (w : World) (stands : StandsFor live told faults w) where
-  -- no handle is there before the first manifest is
-  no_handle : latest_manifest (stands.held).0 ≡ None → (m : ℕ) (h : Handle) → IsHandleAt w.objects m h → ⊥
-  no_handle none m h at =
-      let behind = (stands.valid.handles m h at).behind in
-      let known : latest_manifest w.catalogue ≡ None = ap latest_manifest (sym (stands.held).3.catalogue) ∙ none in
-      let some = behind.1 in
-      absurd (cc)
+module _ (options : Options) (live : Live) (told told' : Option Objects) (faults faults' : ℕ) (w : World) (stands : StandsFor live told faults w) where
+  abbrev o : Objects
+  o = (stands.held).0
 
-  -- what an opening that gives no handle leaves
-  record Kept (o' : Objects) : Type 0 where
+  abbrev v : VersionedManifest
+  v = opened_manifest o
+
+  latest-known : latest_manifest w.catalogue ≡ latest_manifest o
+  latest-known = ap latest_manifest (sym (stands.held).3.catalogue)
+
+  valid-over : (m : ℕ) (h : Handle) → IsHandleAt w.objects m h → IsValidHandle w.stored (latest_manifest o) h
+  valid-over m h at = subst (λ l. IsValidHandle w.stored l h) latest-known (stands.valid.handles m h at)
+
+  -- the epoch of each handle is below that of the opening
+  older : (m : ℕ) (h : Handle) → IsHandleAt w.objects m h → h.epoch < v.manifest.writer_epoch
+  older m h at =
+      let behind = (valid-over m h at).behind in
+      let next : v.manifest.writer_epoch ≡ behind.0.manifest.writer_epoch + 1 = ap (λ x. (next_manifest x (found_log o)).manifest.writer_epoch) behind.1 in
+      let below = behind.2 in
+      omega (arith, next, below)
+
+  -- what an opening leaves that made so many of its changes
+  record After (made : ℕ) (o' : Objects) : Type 0 where
     sound : IsSound o'
     content : content o' ≡ w.stored
     handles : (m : ℕ) (h : Handle) → IsHandleAt w.objects m h → IsValidHandle w.stored (latest_manifest o') h
+    latest : 0 < made → latest_manifest o' ≡ Some v
 
-  kept_after : (o' : Objects) (made : ℕ) → (0 < made → latest_manifest (stands.held).0 ≡ None) → made ≤ 2 → o' ≡ after_part made (open_changes (λ xs. xs) (stands.held).0) (stands.held).0 → Kept o'
-  kept_after o' zero new few after =
-      let held = stands.held in
-      subst Kept (sym after) (record {
-        sound = held.2;
-        content = held.3.stored;
-        handles = λ m h at. subst (λ l. IsValidHandle w.stored l h) (ap latest_manifest (sym held.3.catalogue)) (stands.valid.handles m h at);
-      })
-  kept_after o' (suc made) new few after =
-      let held = stands.held in
-      let o = held.0 in
-      let none = new (omega arith) in
-      let nothing = nothing_there o held.2 none in
-      let is : o' ≡ after_part (suc made) (open_changes (λ xs. xs) empty) empty = after ∙ ap (λ y. after_part (suc made) (open_changes (λ xs. xs) y) y) nothing in
-      let b = subst Begun (sym is) (begun (suc made) (omega arith) few) in
+  after-part : (made : ℕ) → made ≤ 2 → After made (after_part made (open_changes (λ xs. xs) o) o)
+  after-part zero few =
+      record {
+        sound = (stands.held).2;
+        content = (stands.held).3.stored;
+        handles = valid-over;
+        latest = λ some. absurd (omega (arith, some));
+      }
+  after-part (suc made) few =
+      let b = opened o (suc made) (stands.held).2 (omega arith) few in
       record {
         sound = b.sound;
-        content = b.content ∙ sym (sym held.3.stored ∙ ap (content_by o) none);
-        handles = λ m h at. absurd (no_handle none m h at);
+        content = b.content ∙ (stands.held).3.stored;
+        handles = λ m h at. fenced w.stored (latest_manifest o) (latest_manifest (after_part (suc made) (open_changes (λ xs. xs) o) o)) v h b.latest (older m h at) (valid-over m h at);
+        latest = λ some. b.latest;
       }
 
-  opens_ok : {A : Type 0} (x : A) (o' : Objects) (made : ℕ) → told' ≡ Some o' → faults ≤ faults' → Opens {A = A} (λ xs. xs) (stands.held).0 (Ok x) made o' → (w' : World) × OpensIn w (replies.Handle (length w.objects)) w' × StandsFor (record { objects = live.objects ++ objects.Handle (first_handle true) ∷ []; writes = live.writes }) told' faults' w'
-  opens_ok x o' made is count s =
-      let held = stands.held in
-      let o = held.0 in
-      let nothing = nothing_there o held.2 s.answer in
-      let two : made ≡ 2 = s.part in
-      let after : o' ≡ after_part made (open_changes (λ xs. xs) empty) empty = s.after ∙ ap (λ y. after_part made (open_changes (λ xs. xs) y) y) nothing in
-      let b = subst Begun (sym after) (begun made (omega arith) (omega arith)) in
-      let stored_none : w.stored ≡ record { floor = 0; batches = [] } = sym held.3.stored ∙ ap (content_by o) s.answer in
-      let same : content o' ≡ w.stored = b.content ∙ sym stored_none in
-      let unit : Opens {A = Unit {0}} (λ xs. xs) o (Ok tt) made o' = record { answer = s.answer; part = s.part; only = tt; new = s.new; after = s.after } in
-      let known = opens-known {A = Unit {0}} o (Ok tt) made o' unit in
-      let opened : first_handle true ≡ opened_handle w = ap (λ l. record (first_handle true) { line = l; durable = end l }) (sym stored_none) in
-      let line = subst IsLine held.3.stored held.2.line in
-      let new_one : IsValidHandle w.stored (latest_manifest o') (opened_handle w) = subst (λ l. IsValidHandle w.stored l (opened_handle w)) (sym b.latest) (valid-opened w line) in
-      let only_one : (m : ℕ) (h : Handle) → IsHandleAt (w.objects ++ objects.Handle (opened_handle w) ∷ []) m h → (m ≡ length w.objects) × (objects.Handle (opened_handle w) ≡ objects.Handle h) =
-      λ m h at. elim (get-push w.objects (objects.Handle (opened_handle w)) (objects.Handle h) m at) [
-        | inl before ↦ absurd (no_handle s.answer m h before)
-        | inr last_one ↦ last_one
-      ] in
-      let w' : World = record {
-        stored = w.stored;
-        catalogue = catalogue_of o';
-        objects = w.objects ++ objects.Handle (opened_handle w) ∷ [];
-        writes = w.writes;
-        faults = faults';
-      } in (
-        w',
-        record {
-          result = Ok tt;
-          made = made;
-          answered = refl;
-          opens = subst (λ c. Opens {A = Unit {0}} span c (Ok tt) made (catalogue_of o')) held.3.catalogue known;
-          fault = subst (λ k. TellsFaults {A = Unit {0}} k faults' (Ok tt)) stands.faults (record { count = count; unavailable = λ h. absurd (cc); none_missing = λ h. absurd (cc) });
-          stored = refl;
-          objects_after = refl;
-          writes = refl;
-        },
-        record {
-          held = (o', is, b.sound, record { stored = same; catalogue = refl });
-          faults = refl;
-          objects = ap (λ xs. xs ++ objects.Handle (first_handle true) ∷ []) stands.objects ∙ ap (λ h. w.objects ++ objects.Handle h ∷ []) opened;
-          writes = stands.writes;
-          valid = record {
-            handles = λ m h at.
-                let p = (only_one m h at).1 in
-                let e : opened_handle w ≡ h = cc in
-                subst (IsValidHandle w.stored (latest_manifest o')) e new_one;
-            distinct = λ i j a c at_i at_j epochs. (only_one i a at_i).0 ∙ sym (only_one j c at_j).0;
-          };
-        },
-      )
+  -- the handle that an opening gives in the world
+  new-is : opened_handle true options.max_unflushed_bytes v (content o) ≡ new_handle options w
+  new-is =
+      ap (opened_handle true options.max_unflushed_bytes v) (stands.held).3.stored
+      ∙ ap (λ m. opened_handle true options.max_unflushed_bytes m w.stored) (sym (opened_manifest-known o) ∙ ap opened_manifest (stands.held).3.catalogue)
 
-  opens_err : {A : Type 0} (e : SlateError) (o' : Objects) (made : ℕ) → told' ≡ Some o' → TellsFaults {A = A} faults faults' (Err e) → Opens {A = A} (λ xs. xs) (stands.held).0 (Err e) made o' → (w' : World) × OpensIn w (refusal e) w' × StandsFor live told' faults' w'
-  opens_err {A} e o' made is fault s =
+  new-epoch : (new_handle options w).epoch ≡ v.manifest.writer_epoch
+  new-epoch = ap (λ (h : Handle). h.epoch) (sym new-is)
+
+  new-valid : (o' : Objects) → latest_manifest o' ≡ Some v → IsValidHandle w.stored (latest_manifest o') (new_handle options w)
+  new-valid o' is =
+      let line = subst IsLine (stands.held).3.stored ((stands.held).2.line) in
+      subst (IsValidHandle w.stored (latest_manifest o')) new-is
+      (subst (λ s. IsValidHandle w.stored (latest_manifest o') (opened_handle true options.max_unflushed_bytes v s)) (sym (stands.held).3.stored)
+      (valid-opened w.stored options.max_unflushed_bytes (latest_manifest o') v is line))
+
+  same_handle : (h : Handle) → objects.Handle (new_handle options w) ≡ objects.Handle h → new_handle options w ≡ h
+  same_handle h is = cc
+
+  handles-after : (r : Result (Unit {0}) SlateError) (made : ℕ) (o' : Objects) → (r ≡ Ok tt → 0 < made) → After made o' → (m : ℕ) (h : Handle) → IsHandleAt (objects_after_open options w r) m h → IsValidHandle w.stored (latest_manifest o') h
+  handles-after (Err e) made o' some after m h at = after.handles m h at
+  handles-after (Ok x) made o' some after m h at =
+      elim (get-push w.objects (objects.Handle (new_handle options w)) (objects.Handle h) m at) [
+        | inl before ↦ after.handles m h before
+        | inr last_one ↦ subst (IsValidHandle w.stored (latest_manifest o')) (same_handle h last_one.1) (new-valid o' (after.latest (some refl)))
+      ]
+
+  newer : (m : ℕ) (a b : Handle) → IsHandleAt w.objects m a → new_handle options w ≡ b → a.epoch ≡ b.epoch → ⊥
+  newer m a b at is epochs =
+      let below = older m a at in
+      let epoch = ap (λ (h : Handle). h.epoch) is in
+      omega (arith, below, epoch, new-epoch, epochs)
+
+  distinct-after : (r : Result (Unit {0}) SlateError) (m n : ℕ) (a b : Handle) → IsHandleAt (objects_after_open options w r) m a → IsHandleAt (objects_after_open options w r) n b → a.epoch ≡ b.epoch → m ≡ n
+  distinct-after (Err e) m n a b at_m at_n epochs = stands.valid.distinct m n a b at_m at_n epochs
+  distinct-after (Ok x) m n a b at_m at_n epochs =
+      elim (get-push w.objects (objects.Handle (new_handle options w)) (objects.Handle a) m at_m) [
+        | inl first ↦
+            elim (get-push w.objects (objects.Handle (new_handle options w)) (objects.Handle b) n at_n) [
+              | inl second ↦ stands.valid.distinct m n a b first second epochs
+              | inr last_one ↦ absurd (newer m a b first (same_handle b last_one.1) epochs)
+            ]
+        | inr last_first ↦
+            elim (get-push w.objects (objects.Handle (new_handle options w)) (objects.Handle b) n at_n) [
+              | inl second ↦ absurd (newer n b a second (same_handle a last_first.1) (sym epochs))
+              | inr last_one ↦ last_first.0 ∙ sym last_one.0
+            ]
+      ]
+
+  -- an opening leads to a world that the live state stands for, where it has the handle that the opening gave
+  opens_now : (live' : Live) (r : Result (Unit {0}) SlateError) (made : ℕ) (o' : Objects) → told' ≡ Some o' → TellsFaults faults faults' r → Opens (λ xs. xs) (OpenFault o) o r made o' → (r ≡ Ok tt → 0 < made) → live'.objects ≡ objects_after_open options w r → live'.writes ≡ w.writes → (w' : World) × OpensIn options w (done_or_refused (replies.Handle (length w.objects)) r) w' × StandsFor live' told' faults' w'
+  opens_now live' r made o' is fault s some same_objects same_writes =
       let held = stands.held in
-      let o = held.0 in
-      let unit : Opens {A = Unit {0}} (λ xs. xs) o (Err e) made o' = record { answer = s.answer; part = s.part; only = opens_only A e made s.only; new = s.new; after = s.after } in
-      let known = opens-known {A = Unit {0}} o (Err e) made o' unit in
-      let le = part_le {A = Unit {0}} (Err e) 2 made s.part in
-      let kept = kept_after o' made s.new le s.after in
+      let known = opens-known (OpenFault o) o r made o' (λ e. no-fault o e held.2) s in
+      let after = subst (After made) (sym s.after) (after-part made (part_le r 2 made s.part)) in
       let w' : World = record {
         stored = w.stored;
         catalogue = catalogue_of o';
-        objects = w.objects;
+        objects = objects_after_open options w r;
         writes = w.writes;
         faults = faults';
       } in (
         w',
         record {
-          result = Err e;
+          result = r;
           made = made;
           answered = refl;
-          opens = subst (λ c. Opens {A = Unit {0}} span c (Err e) made (catalogue_of o')) held.3.catalogue known;
-          fault = subst (λ k. TellsFaults {A = Unit {0}} k faults' (Err e)) stands.faults (record { count = fault.count; unavailable = λ h. fault.unavailable (same_error e h); none_missing = λ h. fault.none_missing (same_error e h) });
+          opens = subst (λ c. Opens span (λ _. ⊥) c r made (catalogue_of o')) held.3.catalogue known;
+          fault = subst (λ k. TellsFaults k faults' r) stands.faults fault;
           stored = refl;
           objects_after = refl;
           writes = refl;
         },
         record {
-          held = (o', is, kept.sound, record { stored = kept.content; catalogue = refl });
+          held = (o', is, after.sound, record { stored = after.content; catalogue = refl });
           faults = refl;
-          objects = stands.objects;
-          writes = stands.writes;
-          valid = record { handles = kept.handles; distinct = stands.valid.distinct };
+          objects = same_objects;
+          writes = same_writes;
+          valid = record { handles = handles-after r made o' some after; distinct = distinct-after r };
         },
       )
 
 -- an opening that finds no room for its handle touches no store
-pub opens_nothing : (live live' : Live) (told : Option Objects) (faults : ℕ) (w : World) → live' ≡ live → StandsFor live told faults w → (w' : World) × OpensIn w replies.NoMemory w' × StandsFor live' told faults w'
-opens_nothing live live' told faults w same stands = (
+pub opens_nothing : (options : Options) (live live' : Live) (told : Option Objects) (faults : ℕ) (w : World) → live' ≡ live → StandsFor live told faults w → (w' : World) × OpensIn options w replies.NoMemory w' × StandsFor live' told faults w'
+opens_nothing options live live' told faults w same stands = (
   w,
   record {
     result = Err errors.NoMemory;
     made = 0;
     answered = refl;
-    opens = record { answer = tt; part = omega arith; only = tt; new = λ h. absurd (omega arith); after = refl };
+    opens = record { answer = tt; part = omega arith; only = tt; can = λ h. absurd (omega arith); after = refl };
     fault = record { count = omega arith; unavailable = λ h. absurd (cc); none_missing = λ h. absurd (cc) };
     stored = refl;
     objects_after = refl;
@@ -241,15 +229,25 @@ opens_nothing live live' told faults w same stands = (
 )
 
 -- an opening leads to a world that the live state stands for, with its handle
-pub open_ok : (live : Live) (told told' : Option Objects) (faults faults' : ℕ) (h : Handle) (n : ℕ) → h ≡ first_handle true → n ≡ length live.objects → faults ≤ faults' → Told (λ o o'. (made : ℕ) × Opens {A = Handle} (λ xs. xs) o (Ok h) made o') told told' → (w : World) → StandsFor live told faults w → (w' : World) × OpensIn w (replies.Handle n) w' × StandsFor (record { objects = live.objects ++ objects.Handle h ∷ []; writes = live.writes }) told' faults' w'
-open_ok live told told' faults faults' h n is_first at count t w stands =
-    let step = t.some (stands.held).0 (stands.held).1 in
-    let l = opens_ok live told told' faults faults' w stands h step.0 step.2.0 step.1 count step.2.1 in
-    (l.0, subst (λ k. OpensIn w (replies.Handle k) l.0) (sym (at ∙ ap length stands.objects)) l.1, subst (λ x. StandsFor (record { objects = live.objects ++ objects.Handle x ∷ []; writes = live.writes }) told' faults' l.0) (sym is_first) l.2)
+pub open_ok : (options : Options) (live : Live) (told told' : Option Objects) (faults faults' : ℕ) (h : Handle) (n : ℕ) → ((o : Objects) → told ≡ Some o → IsSound o → h ≡ opened_handle true options.max_unflushed_bytes (opened_manifest o) (content o)) → n ≡ length live.objects → TellsFaults faults faults' (Ok h) → Told (λ o o'. (made : ℕ) × Opens (λ xs. xs) (OpenFault o) o (Ok h) made o') told told' → (w : World) → StandsFor live told faults w → (w' : World) × OpensIn options w (replies.Handle n) w' × StandsFor (record { options = options; objects = live.objects ++ objects.Handle h ∷ []; writes = live.writes }) told' faults' w'
+open_ok options live told told' faults faults' h n is_new at fault t w stands =
+    let o = (stands.held).0 in
+    let step = t.some o (stands.held).1 in
+    let s = opens-erased o (Ok h) step.2.0 step.0 step.2.1 in
+    let two : step.2.0 ≡ 2 = step.2.1.part in
+    let is : h ≡ new_handle options w = is_new o (stands.held).1 (stands.held).2 ∙ new-is options live told told' faults faults' w stands in
+    let l = opens_now options live told told' faults faults' w stands
+    (record { options = options; objects = live.objects ++ objects.Handle h ∷ []; writes = live.writes }) (Ok tt) step.2.0 step.0 step.1
+    (faults-erased faults faults' (Ok h) fault) s (λ _. omega (arith, two))
+    (ap (λ xs. xs ++ objects.Handle h ∷ []) stands.objects ∙ ap (λ x. w.objects ++ objects.Handle x ∷ []) is) stands.writes in
+    (l.0, subst (λ k. OpensIn options w (replies.Handle k) l.0) (sym (at ∙ ap length stands.objects)) l.1, l.2)
 
 -- and so does one that gives none
-pub open_err : (live live' : Live) (told told' : Option Objects) (faults faults' : ℕ) (e : SlateError) → live' ≡ live → TellsFaults {A = Handle} faults faults' (Err e) → Told (λ o o'. (made : ℕ) × Opens {A = Handle} (λ xs. xs) o (Err e) made o') told told' → (w : World) → StandsFor live told faults w → (w' : World) × OpensIn w (refusal e) w' × StandsFor live' told' faults' w'
-open_err live live' told told' faults faults' e same fault t w stands =
-    let step = t.some (stands.held).0 (stands.held).1 in
-    let l = opens_err live told told' faults faults' w stands e step.0 step.2.0 step.1 fault step.2.1 in
-    (l.0, l.1, subst (λ x. StandsFor x told' faults' l.0) (sym same) l.2)
+pub open_err : (options : Options) (live live' : Live) (told told' : Option Objects) (faults faults' : ℕ) (e : SlateError) → live' ≡ live → TellsFaults {A = Handle} faults faults' (Err e) → Told (λ o o'. (made : ℕ) × Opens {A = Handle} (λ xs. xs) (OpenFault o) o (Err e) made o') told told' → (w : World) → StandsFor live told faults w → (w' : World) × OpensIn options w (refusal e) w' × StandsFor live' told' faults' w'
+open_err options live live' told told' faults faults' e same fault t w stands =
+    let o = (stands.held).0 in
+    let step = t.some o (stands.held).1 in
+    let s = opens-erased {A = Handle} o (Err e) step.2.0 step.0 step.2.1 in
+    opens_now options live told told' faults faults' w stands live' (Err e) step.2.0 step.0 step.1
+    (faults-erased {A = Handle} faults faults' (Err e) fault) s (λ h. absurd (cc))
+    (ap (λ (l : Live). l.objects) same ∙ stands.objects) (ap (λ (l : Live). l.writes) same ∙ stands.writes)

@@ -3,6 +3,7 @@ pub mod Live
 pub mod Next
 pub mod Run
 pub mod Session
+pub mod Settings
 pub mod Stands
 pub mod Valid
 pub mod World

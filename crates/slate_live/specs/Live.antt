@@ -5,12 +5,14 @@ use Rattle.slate_status.specs.declared.errors.SlateError.{SlateError}
 use Rattle.slate_status.specs.declared.errors.SlateError.TheVariants as errors
 use Rattle.slate_model.specs.Flush.{CanFlush, StoresBatches, TellsFaults, flushed}
 use Rattle.slate_model.specs.Handle.{Handle, closed_error, unstored}
+use Rattle.slate_script.specs.declared.options.Options.{Options}
 use Rattle.slate_live.specs.declared.states.Object.{Object}
 use Rattle.slate_live.specs.declared.states.Object.TheVariants as objects
 use Rattle.slate_live.specs.declared.states.Write.{Write}
 
--- what a contract sees of the live state: the objects and the accepted writes, by their numbers
+-- what a contract sees of the live state: its options, and the objects and the accepted writes, by their numbers
 pub record Live : Type 0 where
+  pub options : Options
   pub objects : List Object
   pub writes : List Write
 

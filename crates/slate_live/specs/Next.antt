@@ -15,17 +15,19 @@ use Rattle.slate_status.specs.declared.errors.SlateError.{SlateError}
 use Rattle.slate_status.specs.declared.errors.SlateError.TheVariants as errors
 use Rattle.slate_model.specs.Catalogue.{span}
 use Rattle.slate_model.specs.Handle.{Handle, CloseResult, accepted, unstored, closed_error}
-use Rattle.slate_model.specs.Open.{Opens, first_handle}
+use Rattle.slate_model.specs.Open.{Opens, opened_handle, opened_manifest}
 use Rattle.slate_model.specs.Write.{write_refusal, accepted_moment, written}
 use Rattle.slate_model.specs.Flush.{StoresBatches, TellsFaults, flushed}
 use Rattle.slate_model.specs.Read.{cut}
 use Rattle.slate_script.specs.declared.commands.Action.{Action}
 use Rattle.slate_script.specs.declared.commands.Action.TheVariants as actions
 use Rattle.slate_script.specs.declared.commands.Command.{Command}
+use Rattle.slate_script.specs.declared.options.Options.{Options}
 use Rattle.slate_script.specs.declared.replies.Reply.{Reply}
 use Rattle.slate_script.specs.declared.replies.Reply.TheVariants as replies
 use Rattle.slate_live.specs.declared.states.Object.{Object}
 use Rattle.slate_live.specs.declared.states.Object.TheVariants as objects
+use Rattle.slate_live.specs.Settings.{Settings}
 use Rattle.slate_live.specs.World.{World}
 
 -- the reply to a command that answers an error
@@ -43,22 +45,22 @@ abbrev pub OnlyAnswers : Reply → World → Reply → World → Type 0
 OnlyAnswers answer w reply w' = (reply ≡ answer) × (w' ≡ w)
 
 -- the handle that an opening gives: it sees what is stored, and all of it is durable
-abbrev pub opened_handle : World → Handle
-opened_handle w = record (first_handle true) { line = w.stored; durable = end w.stored }
+abbrev pub new_handle : Options → World → Handle
+new_handle options w = opened_handle true options.max_unflushed_bytes (opened_manifest w.catalogue) w.stored
 
-abbrev pub objects_after_open : World → Result (Unit {0}) SlateError → List Object
-objects_after_open w (Ok _) = w.objects ++ objects.Handle (opened_handle w) ∷ []
-objects_after_open w (Err error) = w.objects
+abbrev pub objects_after_open : Options → World → Result (Unit {0}) SlateError → List Object
+objects_after_open options w (Ok _) = w.objects ++ objects.Handle (new_handle options w) ∷ []
+objects_after_open options w (Err error) = w.objects
 
 -- An opening adds a handle, or answers why not.
-pub record OpensIn (w : World) (reply : Reply) (w' : World) : Type 0 where
+pub record OpensIn (options : Options) (w : World) (reply : Reply) (w' : World) : Type 0 where
   pub result : Result (Unit {0}) SlateError
   pub made : ℕ
   pub answered : reply ≡ done_or_refused (replies.Handle (length w.objects)) result
-  pub opens : Opens span w.catalogue result made w'.catalogue
+  pub opens : Opens span (λ _. ⊥) w.catalogue result made w'.catalogue
   pub fault : TellsFaults w.faults w'.faults result
   pub stored : w'.stored ≡ w.stored
-  pub objects_after : w'.objects ≡ objects_after_open w result
+  pub objects_after : w'.objects ≡ objects_after_open options w result
   pub writes : w'.writes ≡ w.writes
 
 -- A write of these operations to the handle with this number adds a batch to its line, where nothing refuses it.
@@ -140,12 +142,12 @@ Reads merge w n key remote reply w' =
     AtHandle (slice_get w.objects n) (λ handle. ReadsUnless handle.result merge w handle key remote reply w') (OnlyAnswers replies.Unknown w reply w')
 
 -- what a command may be answered, and the world that it leads to: one case for each command
-abbrev pub NextBy : Option Merge → World → ℤ → Option ℤ → Action → Reply → World → Type 0
-NextBy merge w moment second actions.Open reply w' = OpensIn w reply w'
-NextBy merge w moment second (actions.Put n key value expire) reply w' = Writes w n (put_op key value expire ∷ []) moment second reply w'
-NextBy merge w moment second (actions.Flush n) reply w' = Flushes w n reply w'
-NextBy merge w moment second (actions.Get n key remote) reply w' = Reads merge w n key remote reply w'
+abbrev pub NextBy : Settings → World → ℤ → Option ℤ → Action → Reply → World → Type 0
+NextBy settings w moment second actions.Open reply w' = OpensIn settings.options w reply w'
+NextBy settings w moment second (actions.Put n key value expire) reply w' = Writes w n (put_op key value expire ∷ []) moment second reply w'
+NextBy settings w moment second (actions.Flush n) reply w' = Flushes w n reply w'
+NextBy settings w moment second (actions.Get n key remote) reply w' = Reads settings.merge w n key remote reply w'
 
--- From a world, a command may be answered so, and leave the other world. `merge` is the operator, where there is one.
-abbrev pub Next : Option Merge → World → Command → Reply → World → Type 0
-Next merge w command reply w' = NextBy merge w command.moment command.second command.action reply w'
+-- From a world, a command that is run with these settings may be answered so, and leave the other world.
+abbrev pub Next : Settings → World → Command → Reply → World → Type 0
+Next settings w command reply w' = NextBy settings w command.moment command.second command.action reply w'

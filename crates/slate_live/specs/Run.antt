@@ -1,18 +1,18 @@
 use Rattle.std.specs.Prelude.{◌≡◌, ℕ, List, Option, Some}
-use Rattle.slate_rows.specs.Operator.{Merge}
 use Rattle.slate_store.specs.Objects.{Objects}
 use Rattle.slate_store.specs.Content.{IsSound}
 use Rattle.slate_script.specs.declared.commands.Command.{Command}
 use Rattle.slate_script.specs.declared.replies.Reply.{Reply}
 use Rattle.slate_live.specs.Valid.{Chain}
 use Rattle.slate_live.specs.Stands.{Holds}
+use Rattle.slate_live.specs.Settings.{Settings}
 use Rattle.slate_live.specs.World.{World, start}
 
 -- The commands lead from the world of these objects to one that the store holds afterwards, by one link each with its
 -- reply.
-pub record LeadsTo (merge : Option Merge) (commands : List Command) (replies : List Reply) (before : Objects) (faults : ℕ) (told : Option Objects) (faults' : ℕ) : Type 0 where
+pub record LeadsTo (settings : Settings) (commands : List Command) (replies : List Reply) (before : Objects) (faults : ℕ) (told : Option Objects) (faults' : ℕ) : Type 0 where
   pub last : World
-  pub chain : Chain merge (start before faults) commands replies last
+  pub chain : Chain settings (start before faults) commands replies last
   pub after : Objects
   pub told_after : told ≡ Some after
   pub sound : IsSound after
@@ -20,6 +20,6 @@ pub record LeadsTo (merge : Option Merge) (commands : List Command) (replies : L
   pub fault_count : faults' ≡ last.faults
 
 -- what a run of commands with these replies did to a store: over an honest one, the commands lead to what it holds
-abbrev pub IsRun : Option Merge → List Command → List Reply → Option Objects → ℕ → Option Objects → ℕ → Type 0
-IsRun merge commands replies told faults told' faults' =
-    (before : Objects) → told ≡ Some before → IsSound before → LeadsTo merge commands replies before faults told' faults'
+abbrev pub IsRun : Settings → List Command → List Reply → Option Objects → ℕ → Option Objects → ℕ → Type 0
+IsRun settings commands replies told faults told' faults' =
+    (before : Objects) → told ≡ Some before → IsSound before → LeadsTo settings commands replies before faults told' faults'

@@ -117,7 +117,7 @@ pub record RunsScript (words : Option Options) (replies : List Reply) (ending : 
   pub read : WasRead bytes s.left s'.left
   pub commands : List Command
   pub script : script_of bytes ≡ Ok commands
-  pub run : IsRun None commands replies s.objects s.store_faults s'.objects s'.store_faults
+  pub run : IsRun (record { merge = None; options = options }) commands replies s.objects s.store_faults s'.objects s'.store_faults
   pub writing : EndsWriting ending (replies_text replies) s.written s'.written s.sink_faults s'.sink_faults
 
 abbrev pub Ends : Option Options → List Reply → Ending → Sides → Sides → Type 0

@@ -7,6 +7,7 @@ use Rattle.slate_rows.specs.Read.{read_at}
 use Rattle.slate_store.specs.declared.objects.VersionedManifest.{VersionedManifest}
 use Rattle.slate_store.specs.Objects.{latest_manifest, last_log}
 use Rattle.slate_model.specs.Handle.{Handle, accepted}
+use Rattle.slate_model.specs.Open.{can_open}
 use Rattle.slate_model.specs.Read.{cut}
 use Rattle.slate_model.specs.Write.{accepted_moment, last_number}
 use Rattle.slate_script.specs.declared.commands.Action.{Action}
@@ -16,15 +17,17 @@ use Rattle.slate_script.specs.declared.replies.Reply.{Reply}
 use Rattle.slate_script.specs.declared.replies.Reply.TheVariants as replies
 use Rattle.slate_live.specs.declared.states.Object.TheVariants as objects
 use Rattle.slate_live.specs.Next.{Next, level_of}
+use Rattle.slate_live.specs.Settings.{Settings}
 use Rattle.slate_live.specs.World.{World}
 
 -- the object with this number is an open handle, of which this holds
 abbrev pub IsOpen : World → ℕ → (Handle → Type 0) → Type 0
 IsOpen w n said = (handle : Handle) × (slice_get w.objects n ≡ Some (objects.Handle handle)) × (handle.result ≡ None) × said handle
 
--- an opening: there is no manifest, and an id for a log file is left
+-- an opening: an existing manifest is initialised, and the ids and the epoch that it uses are left; until tables are
+-- built, the manifest names none
 abbrev pub CanOpen : World → Type 0
-CanOpen w = (latest_manifest w.catalogue ≡ None) × (last_log 0 w.catalogue < last_number)
+CanOpen w = can_open w.catalogue ≡ true
 
 -- a put to a handle: the key has a byte, a number is left, and one of the moments isn't below the tick
 abbrev pub CanPut : List ℕ → ℤ → Option ℤ → Handle → Type 0
@@ -61,14 +64,14 @@ IsOkOrNoMemory reply = Unit {0}
 
 -- The link of a command: its reply and the world that it leads to are such as follow. A valid command that meets no
 -- fault of the store is refused nothing.
-pub record Link (merge : Option Merge) (w : World) (command : Command) (reply : Reply) (w' : World) : Type 0 where
-  pub next : Next merge w command reply w'
-  pub completes : IsValidCommand merge w command → (HasRisen w.faults w'.faults → ⊥) → IsOkOrNoMemory reply
+pub record Link (settings : Settings) (w : World) (command : Command) (reply : Reply) (w' : World) : Type 0 where
+  pub next : Next settings w command reply w'
+  pub completes : IsValidCommand settings.merge w command → (HasRisen w.faults w'.faults → ⊥) → IsOkOrNoMemory reply
 
 -- the worlds that commands with these replies lead through, one link each
-abbrev pub Chain : Option Merge → World → List Command → List Reply → World → Type 0
-Chain merge w [] [] last = last ≡ w
-Chain merge w (command ∷ commands) (reply ∷ replies) last =
-    (next : World) × Link merge w command reply next × Chain merge next commands replies last
-Chain merge w [] (reply ∷ replies) last = ⊥
-Chain merge w (command ∷ commands) [] last = ⊥
+abbrev pub Chain : Settings → World → List Command → List Reply → World → Type 0
+Chain settings w [] [] last = last ≡ w
+Chain settings w (command ∷ commands) (reply ∷ replies) last =
+    (next : World) × Link settings w command reply next × Chain settings next commands replies last
+Chain settings w [] (reply ∷ replies) last = ⊥
+Chain settings w (command ∷ commands) [] last = ⊥

@@ -15,6 +15,7 @@ ghost use Rattle.slate_live.specs.World.{World};
 ghost use Rattle.slate_live.specs.Live.{handle_of};
 ghost use Rattle.slate_live.specs.declared.states.Object.TheVariants as objects;
 ghost use Rattle.slate_live.specs.declared.states.Write.{Write};
+ghost use Rattle.slate_script.specs.declared.options.Options.{Options};
 
 use crate::states::{Object, Write};
 use bytes::Bytes;
@@ -22,7 +23,7 @@ use slate_rows::{
     DurabilityLevel, FlushType, KeyOp, KeyValue, MergeOperator, NoMemory, Op, PrefixExtractor,
     ReadOptions, Seq, WriteBatch,
 };
-use slate_script::{Command, Reply};
+use slate_script::{Command, Options, Reply};
 use slate_status::SlateError;
 use slate_store::Store;
 use slate_writer::{WriterOptions, WriterState, Written};
@@ -188,9 +189,9 @@ pub(crate) fn flush<S: Store>(
     handle: u64,
 ) -> Reply
     ensures faults { S.faults store.old ≤ S.faults store.new }
-    ensures link { (writes : List Write) → Links (λ w reply w'. Flushes w handle reply w')
-        (record { objects = objects.old.items; writes = writes }) (S.objects store.old) (S.faults store.old) result
-        (record { objects = objects.new.items; writes = writes }) (S.objects store.new) (S.faults store.new) }
+    ensures link { (options : Options) (writes : List Write) → Links (λ w reply w'. Flushes w handle reply w')
+        (record { options = options; objects = objects.old.items; writes = writes }) (S.objects store.old) (S.faults store.old) result
+        (record { options = options; objects = objects.new.items; writes = writes }) (S.objects store.new) (S.faults store.new) }
 {
     let place = handle as usize;
     if place >= objects.len() {
@@ -250,25 +251,37 @@ pub(crate) fn open<S: Store, E: PrefixExtractor>(
     alloc: Global,
     store: &mut S,
     objects: &mut Vec<Object>,
-    options: &WriterOptions,
+    options: &Options,
     extractor: Option<&E>,
 ) -> Reply
     requires extractor { extractor ≡ None }
-    requires log { options.now.wal_enabled ≡ true }
     ensures faults { S.faults store.old ≤ S.faults store.new }
-    ensures link { (writes : List Write) → Links OpensIn
-        (record { objects = objects.old.items; writes = writes }) (S.objects store.old) (S.faults store.old) result
-        (record { objects = objects.new.items; writes = writes }) (S.objects store.new) (S.faults store.new) }
+    ensures link { (writes : List Write) → Links (λ w reply w'. OpensIn options.now w reply w')
+        (record { options = options.now; objects = objects.old.items; writes = writes }) (S.objects store.old) (S.faults store.old) result
+        (record { options = options.now; objects = objects.new.items; writes = writes }) (S.objects store.new) (S.faults store.new) }
 {
     if objects.reserve(1).is_err() {
         return Reply::NoMemory;
     }
     let object = objects.len() as u64;
-    match WriterState::open(alloc, store, options, extractor) {
+    match WriterState::open(alloc, store, &writer_options(options), extractor) {
         Ok(handle) => {
             objects.push_reserved(Object::Handle(handle));
             Reply::Handle { object }
         }
         Err(error) => refusal(error),
+    }
+}
+
+/// How the handles of a run write.
+fn writer_options(options: &Options) -> WriterOptions
+    ensures { result ≡ record { wal_enabled = true; max_unflushed_bytes = options.now.max_unflushed_bytes; compactor = options.now.compactor; compaction_worker = options.now.compaction_worker; collector = options.now.collector } }
+{
+    WriterOptions {
+        wal_enabled: true,
+        max_unflushed_bytes: options.max_unflushed_bytes,
+        compactor: options.compactor,
+        compaction_worker: options.compaction_worker,
+        collector: options.collector,
     }
 }

@@ -27,7 +27,7 @@ pub fn run<S: Store, M: MergeOperator, E: PrefixExtractor>(
     ensures faults { S.faults store.old ≤ S.faults store.new }
     ensures nothing { OnErr result (store.new ≡ store.old) }
     ensures leads { IfOk result (λ replies. (merge : Option Merge) → IsOperator M.may_answer (option_copied operator.entry) merge →
-        IsRun merge commands.now replies.items (S.objects store.old) (S.faults store.old) (S.objects store.new) (S.faults store.new)) }
+        IsRun (record { merge = merge; options = options.now }) commands.now replies.items (S.objects store.old) (S.faults store.old) (S.objects store.new) (S.faults store.new)) }
 {
     let mut replies = Vec::with_capacity(alloc, commands.len())?;
     let mut live = LiveState::new(alloc, options);

@@ -10,7 +10,7 @@ use crate::commands;
 use slate_rows::{MergeOperator, PrefixExtractor};
 use slate_script::{Action, Command, Options, Reply};
 use slate_store::Store;
-use slate_writer::{WriterOptions, WriterState};
+use slate_writer::WriterState;
 use std::alloc::Global;
 use std::marker::Model;
 
@@ -41,13 +41,13 @@ impl Model for LiveState {
 
     ghost Value = { Live };
 
-    ghost view = { λ s. record { objects = s.objects.items; writes = s.writes.items } };
+    ghost view = { λ s. record { options = s.options; objects = s.objects.items; writes = s.writes.items } };
 }
 
 impl LiveState {
     /// A state without an object and without a write. It takes no memory.
     pub fn new(alloc: Global, options: &Options) -> LiveState
-        ensures { result ≡ record { objects = []; writes = [] } }
+        ensures { result ≡ record { options = options.now; objects = []; writes = [] } }
     {
         LiveState {
             options: *options,
@@ -71,8 +71,9 @@ impl LiveState {
     ) -> Reply
         requires { extractor ≡ None }
         ensures faults { S.faults store.old ≤ S.faults store.new }
+        ensures options { self.new.options ≡ self.old.options }
         ensures link { (merge : Option Merge) → IsOperator M.may_answer (option_copied operator.entry) merge →
-            Links (λ w reply w'. Link merge w command.now reply w')
+            Links (λ w reply w'. Link (record { merge = merge; options = self.old.options }) w command.now reply w')
             self.old (S.objects store.old) (S.faults store.old) result self.new (S.objects store.new) (S.faults store.new) }
     {
         self.answer(alloc, store, operator, extractor, command)
@@ -89,8 +90,9 @@ impl LiveState {
     ) -> Reply
         requires { extractor ≡ None }
         ensures faults { S.faults store.old ≤ S.faults store.new }
+        ensures options { self.new.options ≡ self.old.options }
         ensures link { (merge : Option Merge) → IsOperator M.may_answer (option_copied operator.entry) merge →
-            Links (λ w reply w'. Next merge w command.now reply w')
+            Links (λ w reply w'. Next (record { merge = merge; options = self.old.options }) w command.now reply w')
             self.old (S.objects store.old) (S.faults store.old) result self.new (S.objects store.new) (S.faults store.new) }
     {
         match &command.action {
@@ -98,7 +100,7 @@ impl LiveState {
                 alloc,
                 store,
                 &mut self.objects,
-                &writer_options(&self.options),
+                &self.options,
                 extractor,
             ),
             Action::Put {
@@ -130,18 +132,5 @@ impl LiveState {
                 operator,
             ),
         }
-    }
-}
-
-/// How the handles of a run write.
-fn writer_options(options: &Options) -> WriterOptions
-    ensures { result ≡ record { wal_enabled = true; max_unflushed_bytes = options.now.max_unflushed_bytes; compactor = options.now.compactor; compaction_worker = options.now.compaction_worker; collector = options.now.collector } }
-{
-    WriterOptions {
-        wal_enabled: true,
-        max_unflushed_bytes: options.max_unflushed_bytes,
-        compactor: options.compactor,
-        compaction_worker: options.compaction_worker,
-        collector: options.collector,
     }
 }

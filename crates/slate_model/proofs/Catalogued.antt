@@ -14,7 +14,7 @@ use Rattle.slate_status.specs.declared.errors.SlateError.TheVariants as errors
 use Rattle.slate_model.specs.Catalogue.{Span, span, catalogue_of}
 use Rattle.slate_model.specs.Changes.{PartMade, after_part}
 use Rattle.slate_model.specs.Flush.{flush_changes, flush_changes_by, log_changes, FlushAnswer, FlushCause, StoresBatches}
-use Rattle.slate_model.specs.Open.{open_changes, next_manifest, mark_of, can_open, can_open_by, Opens, OpenAnswer, OpenCause}
+use Rattle.slate_model.specs.Open.{open_changes, next_manifest, mark_of, can_open, can_open_by, opened_manifest, Opens, OpenAnswer, OpenCause}
 use Rattle.slate_model.specs.Write.{last_number}
 
 -- what a world knows of a log file under its id
@@ -123,3 +123,7 @@ opens-known unsound o r made o' none s =
       can = λ some. can_open-known o ∙ s.can some;
       after = ap catalogue_of s.after ∙ (catalogue-after made (open_changes (λ xs. xs) o) o ∙ ap (λ cs. after_part made cs (catalogue_of o)) (open_changes-known o));
     }
+
+-- the manifest of an opening is known
+pub opened_manifest-known : (o : Objects) → opened_manifest (catalogue_of o) ≡ opened_manifest o
+opened_manifest-known o = ap (next_manifest (latest_manifest o)) (last_log-catalogue (mark_of (latest_manifest o)) o)

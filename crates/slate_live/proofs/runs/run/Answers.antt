@@ -1,4 +1,6 @@
-use Rattle.std.proofs.Common.{arith}
+use Rattle.std.proofs.Common.{arith, ap, subst, ◌∙◌}
+use Rattle.slate_live.specs.Live.{Live}
+use Rattle.slate_live.specs.Valid.{Link}
 use Rattle.slate_live.specs.World.{start}
 use Rattle.slate_live.proofs.Chains.{chain_none, stands_start, chain-at}
 use Rattle.slate_live.proofs.runs.run.Goals as goal
@@ -9,10 +11,11 @@ loop-command-init g c =
       faults = omega arith;
       count = c.in_ok-replies.ensures.len;
       room = c.in_ok-replies.ensures.capacity;
+      options = ap (λ (l : Live). l.options) c.new-live.ensures;
       leads = λ merge lawful before is sound. (
         start before _,
-        chain_none merge _ _ c.in_ok-replies.ensures.items,
-        stands_start before _ _ c.new-live.result c.new-live.ensures is sound,
+        chain_none (record { merge = merge; options = c.args.options.now }) _ _ c.in_ok-replies.ensures.items,
+        stands_start before _ _ c.new-live.result (ap (λ (l : Live). l.objects) c.new-live.ensures) (ap (λ (l : Live). l.writes) c.new-live.ensures) is sound,
       );
     }
 
@@ -22,11 +25,12 @@ loop-command-preserved g c =
       faults = omega (arith, c.loop-command.invariant.faults, c.apply-reply.ensures.faults);
       count = omega (arith, c.push_reserved.ensures.len, c.loop-command.invariant.count);
       room = omega (arith, c.push_reserved.ensures.capacity, c.loop-command.invariant.room);
+      options = c.apply-reply.ensures.options ∙ c.loop-command.invariant.options;
       leads = λ merge lawful before is sound.
           let prev = c.loop-command.invariant.leads merge lawful before is sound in
           let link = c.apply-reply.ensures.link merge lawful prev.0 prev.2 in (
             link.0,
-            chain-at merge _ prev.0 link.0 c.args.commands.now c.loop-command.command-index c.command-item.result _ _ _ c.loop-command-test.true c.command-item.is c.push_reserved.ensures.items prev.1 link.1,
+            chain-at (record { merge = merge; options = c.args.options.now }) _ prev.0 link.0 c.args.commands.now c.loop-command.command-index c.command-item.result _ _ _ c.loop-command-test.true c.command-item.is c.push_reserved.ensures.items prev.1 (subst (λ o. Link (record { merge = merge; options = o }) prev.0 c.command-item.result c.apply-reply.result link.0) c.loop-command.invariant.options link.1),
             link.2,
           );
     }

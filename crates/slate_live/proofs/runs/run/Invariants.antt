@@ -16,8 +16,9 @@ invariant-loop-command g l =
       faults : g.S.Store.faults l.fn.store ≤ g.S.Store.faults l.store;
       count : vec_len l.replies ≡ l.command-index;
       room : length l.commands ≤ vec_capacity l.replies;
+      options : l.live.options ≡ l.options;
       leads : (merge : Option Merge) → IsOperator g.M.MergeOperator.may_answer (option_copied l.operator) merge →
           (before : Objects) → g.S.Store.objects l.fn.store ≡ Some before → IsSound before →
-          (w : World) × Chain merge (start before (g.S.Store.faults l.fn.store)) (take l.command-index l.commands) l.replies.items w
+          (w : World) × Chain (record { merge = merge; options = l.options }) (start before (g.S.Store.faults l.fn.store)) (take l.command-index l.commands) l.replies.items w
           × StandsFor l.live (g.S.Store.objects l.store) (g.S.Store.faults l.store) w;
     }

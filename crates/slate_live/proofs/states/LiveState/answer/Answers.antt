@@ -7,7 +7,7 @@ pub returns-in-Open-clause-link : goal.returns-in-Open-clause-link
 returns-in-Open-clause-link g c merge lawful =
     rw (← c.self.view_is) (λ w stands.
     let l = c.open.ensures.link c.self.inside.writes.items w stands in
-    (l.0, subst (λ a. NextBy merge w c.args.command.now.moment c.args.command.now.second a c.open.result l.0) (sym c.in-Open.is) l.1, l.2))
+    (l.0, subst (λ a. NextBy (record { merge = merge; options = c.self.inside.options }) w c.args.command.now.moment c.args.command.now.second a c.open.result l.0) (sym c.in-Open.is) l.1, l.2))
 
 pub returns-in-Put-clause-link : goal.returns-in-Put-clause-link
 returns-in-Put-clause-link g c merge lawful =
@@ -15,12 +15,12 @@ returns-in-Put-clause-link g c merge lawful =
     let w' = record w { objects = c.put.new.objects.items; writes = c.put.new.writes.items } in
     let next = c.put.ensures w (sym stands.objects) (sym stands.writes) in (
       w',
-      subst (λ a. NextBy merge w c.args.command.now.moment c.args.command.now.second a c.put.result w') (sym c.in-Put.is) next,
-      stands_written _ (record { objects = c.put.new.objects.items; writes = c.put.new.writes.items }) _ _ w c.in-Put.handle (put_op c.in-Put.key c.in-Put.value c.in-Put.expire ∷ []) c.args.command.now.moment c.args.command.now.second c.put.result stands next,
+      subst (λ a. NextBy (record { merge = merge; options = c.self.inside.options }) w c.args.command.now.moment c.args.command.now.second a c.put.result w') (sym c.in-Put.is) next,
+      stands_written _ (record { options = c.self.inside.options; objects = c.put.new.objects.items; writes = c.put.new.writes.items }) _ _ w c.in-Put.handle (put_op c.in-Put.key c.in-Put.value c.in-Put.expire ∷ []) c.args.command.now.moment c.args.command.now.second c.put.result stands next,
     ))
 
 pub returns-in-Flush-clause-link : goal.returns-in-Flush-clause-link
 returns-in-Flush-clause-link g c merge lawful =
     rw (← c.self.view_is) (λ w stands.
-    let l = c.flush.ensures.link c.self.inside.writes.items w stands in
-    (l.0, subst (λ a. NextBy merge w c.args.command.now.moment c.args.command.now.second a c.flush.result l.0) (sym c.in-Flush.is) l.1, l.2))
+    let l = c.flush.ensures.link c.self.inside.options c.self.inside.writes.items w stands in
+    (l.0, subst (λ a. NextBy (record { merge = merge; options = c.self.inside.options }) w c.args.command.now.moment c.args.command.now.second a c.flush.result l.0) (sym c.in-Flush.is) l.1, l.2))

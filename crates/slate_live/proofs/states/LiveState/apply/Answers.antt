@@ -1,7 +1,6 @@
-use Rattle.slate_live.proofs.Completeness.{completes}
+use Rattle.std.proofs.Common.{rules}
+use Rattle.slate_live.proofs.Completed.{completed}
 use Rattle.slate_live.proofs.states.LiveState.apply.Goals as goal
 
 pub returns-clause-link : goal.returns-clause-link
-returns-clause-link g c merge lawful w stands =
-    let l = c.answer.ensures.link merge lawful w stands in
-    (l.0, record { next = l.1; completes = completes merge w c.args.command.now c.answer.result l.0 l.1 }, l.2)
+returns-clause-link g c merge lawful = completed _ _ _ _ _ _ _ _ _ (search (rules))

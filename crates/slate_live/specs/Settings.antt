@@ -1,0 +1,8 @@
+use Rattle.std.specs.Prelude.{Option}
+use Rattle.slate_rows.specs.Operator.{Merge}
+use Rattle.slate_script.specs.declared.options.Options.{Options}
+
+-- what commands are run with: the operator, where there is one, and the options of the handles
+pub record Settings : Type 0 where
+  pub merge : Option Merge
+  pub options : Options

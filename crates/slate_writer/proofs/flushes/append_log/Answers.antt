@@ -1,4 +1,3 @@
-use Rattle.std.proofs.Common.{◌≡◌}
 use Rattle.std.proofs.lemmas.Result.{err_from_is_err_and}
 use Rattle.slate_writer.proofs.Appending.{appends_refused}
 use Rattle.slate_writer.proofs.Telling.{told_from}

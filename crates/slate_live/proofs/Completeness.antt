@@ -38,22 +38,10 @@ beyond a b under over = omega (arith, under, over)
 
 -- an opening that nothing stands against, and that met no fault, answers no error but want of memory
 open-cause : (w : World) (faults : ℕ) (error : SlateError) → OpenCause (λ _. ⊥) w.catalogue error → TellsFaults {A = Unit {0}} w.faults faults (Err error) → CanOpen w → (HasRisen w.faults faults → ⊥) → IsOkOrNoMemory (refusal error)
-open-cause w faults errors.EmptyKey cause fault can calm = absurd cause
-open-cause w faults errors.EmptyBatch cause fault can calm = absurd cause
-open-cause w faults (errors.ObjectStoreError NotFound) cause fault can calm = absurd cause
-open-cause w faults errors.TransactionalObjectVersionExists cause fault can calm = absurd cause
-open-cause w faults (errors.WalTruncated from) cause fault can calm = absurd cause
-open-cause w faults (errors.InvalidClockTick last next) cause fault can calm = absurd cause
-open-cause w faults errors.ChecksumMismatch cause fault can calm = absurd cause
-open-cause w faults errors.Closed cause fault can calm = absurd cause
-open-cause w faults errors.MergeOperatorError cause fault can calm = absurd cause
-open-cause w faults errors.MergeOperatorMissing cause fault can calm = absurd cause
-open-cause w faults errors.WalDisabled cause fault can calm = absurd cause
-open-cause w faults errors.Fenced cause fault can calm = absurd cause
-open-cause w faults errors.LatestTransactionalObjectVersionMissing cause fault can calm = absurd cause
 open-cause w faults errors.InvalidDBState cause fault can calm = absurd (cc)
 open-cause w faults (errors.ObjectStoreError Unavailable) cause fault can calm = absurd (calm (fault.unavailable refl))
 open-cause w faults errors.NoMemory cause fault can calm = tt
+open-cause w faults error cause fault can calm = absurd cause
 
 open-answer : (w : World) (faults : ℕ) (n : ℕ) (result : Result (Unit {0}) SlateError) → OpenAnswer (λ _. ⊥) w.catalogue result → TellsFaults w.faults faults result → CanOpen w → (HasRisen w.faults faults → ⊥) → IsOkOrNoMemory (done_or_refused (replies.Handle n) result)
 open-answer w faults n (Ok _) answer fault can calm = tt
@@ -77,22 +65,12 @@ full-log w handle cause can =
 
 -- the same of a flush
 flush-cause : (w : World) (handle : Handle) (faults : ℕ) (error : SlateError) → FlushCause handle.epoch w.catalogue error → TellsFaults {A = Unit {0}} w.faults faults (Err error) → CanStore w handle → (HasRisen w.faults faults → ⊥) → IsOkOrNoMemory (refusal error)
-flush-cause w handle faults errors.EmptyKey cause fault can calm = absurd cause
-flush-cause w handle faults errors.EmptyBatch cause fault can calm = absurd cause
-flush-cause w handle faults (errors.ObjectStoreError NotFound) cause fault can calm = absurd cause
-flush-cause w handle faults errors.TransactionalObjectVersionExists cause fault can calm = absurd cause
-flush-cause w handle faults (errors.WalTruncated from) cause fault can calm = absurd cause
-flush-cause w handle faults (errors.InvalidClockTick last next) cause fault can calm = absurd cause
-flush-cause w handle faults errors.ChecksumMismatch cause fault can calm = absurd cause
-flush-cause w handle faults errors.Closed cause fault can calm = absurd cause
-flush-cause w handle faults errors.MergeOperatorError cause fault can calm = absurd cause
-flush-cause w handle faults errors.MergeOperatorMissing cause fault can calm = absurd cause
-flush-cause w handle faults errors.WalDisabled cause fault can calm = absurd cause
 flush-cause w handle faults errors.Fenced cause fault can calm = absurd (still-current w handle cause can)
 flush-cause w handle faults errors.LatestTransactionalObjectVersionMissing cause fault can calm = absurd (no-manifest w handle cause can)
 flush-cause w handle faults errors.InvalidDBState cause fault can calm = absurd (full-log w handle cause can)
 flush-cause w handle faults (errors.ObjectStoreError Unavailable) cause fault can calm = absurd (calm (fault.unavailable refl))
 flush-cause w handle faults errors.NoMemory cause fault can calm = tt
+flush-cause w handle faults error cause fault can calm = absurd cause
 
 flush-answer : (w : World) (handle : Handle) (faults : ℕ) (view view' : VersionedManifest) (result : Result (Unit {0}) SlateError) → FlushAnswer handle.epoch w.catalogue result view view' → TellsFaults w.faults faults result → CanStore w handle → (HasRisen w.faults faults → ⊥) → IsOkOrNoMemory (done_or_refused replies.Flushed result)
 flush-answer w handle faults view view' (Ok _) answer fault can calm = tt
@@ -138,22 +116,9 @@ found-reply answer found (replies.Handle n) is said = tt
 found-reply answer found (replies.Written n m) is said = tt
 found-reply answer found replies.Flushed is said = tt
 found-reply answer found replies.Unknown is said = absurd said
-found-reply answer found (replies.Refused errors.EmptyKey) is said = absurd said
-found-reply answer found (replies.Refused errors.EmptyBatch) is said = absurd said
-found-reply answer found (replies.Refused (errors.ObjectStoreError NotFound)) is said = absurd said
-found-reply answer found (replies.Refused errors.TransactionalObjectVersionExists) is said = absurd said
-found-reply answer found (replies.Refused (errors.WalTruncated from)) is said = absurd said
-found-reply answer found (replies.Refused (errors.InvalidClockTick last next)) is said = absurd said
-found-reply answer found (replies.Refused errors.ChecksumMismatch) is said = absurd said
-found-reply answer found (replies.Refused errors.Closed) is said = absurd said
 found-reply answer found (replies.Refused errors.MergeOperatorError) is said = absurd (ok-err answer found reads.MergeOperatorError is said)
 found-reply answer found (replies.Refused errors.MergeOperatorMissing) is said = absurd (ok-err answer found reads.MergeOperatorMissing is said)
-found-reply answer found (replies.Refused errors.WalDisabled) is said = absurd said
-found-reply answer found (replies.Refused errors.Fenced) is said = absurd said
-found-reply answer found (replies.Refused errors.LatestTransactionalObjectVersionMissing) is said = absurd said
-found-reply answer found (replies.Refused errors.InvalidDBState) is said = absurd said
-found-reply answer found (replies.Refused (errors.ObjectStoreError Unavailable)) is said = absurd said
-found-reply answer found (replies.Refused errors.NoMemory) is said = absurd said
+found-reply answer found (replies.Refused error) is said = absurd said
 
 get-completes : (merge : Option Merge) (w : World) (handle : Handle) (key : List ℕ) (remote : Bool) (reply : Reply) (w' : World) → handle.result ≡ None → CanRead merge key remote handle → ReadsUnless handle.result merge w handle key remote reply w' → IsOkOrNoMemory reply
 get-completes merge w handle key remote reply w' unclosed can next =

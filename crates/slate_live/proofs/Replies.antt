@@ -18,6 +18,8 @@ closed-refused (Err faults.InvalidDBState) = refl
 closed-refused (Err (faults.ObjectStoreError fault)) = refl
 closed-refused (Err faults.TransactionalObjectVersionExists) = refl
 closed-refused (Err faults.LatestTransactionalObjectVersionMissing) = refl
+closed-refused (Err (faults.TransactionalObjectTimeout tries)) = refl
+closed-refused (Err (faults.Custom number)) = refl
 
 -- an error that isn't want of memory is told as a refusal
 IsTold : Option SlateError → Type 0

@@ -1,5 +1,7 @@
-ghost use Rattle.std.specs.Prelude.{◌≡◌, length, string_bytes};
+ghost use Rattle.std.specs.Prelude.{◌≡◌, length, string_bytes, nat_eq};
 ghost use Rattle.std.specs.List.{AllZip};
+ghost use Rattle.std.specs.Cmp.{partial_equiv_from_equiv};
+ghost use Rattle.std.specs.Cmp.Lexicographic.{pointwise, lists_per, lists_equiv, nat_list_eq_equiv};
 
 use std::alloc::AllocError;
 use std::marker::Model;
@@ -51,6 +53,20 @@ impl<T: Clone> Clone for Seq<T> {
     }
 }
 
+impl<T: PartialEq> PartialEq for Seq<T> {
+    ghost eq = { pointwise T.eq };
+
+    ghost laws = { lists_per T.laws };
+
+    fn eq(&self, other: &Seq<T>) -> bool {
+        self.list == other.list
+    }
+}
+
+impl<T: Eq> Eq for Seq<T> {
+    ghost laws = { lists_equiv T.Eq.laws };
+}
+
 /// A text, as records hold it. A contract sees its bytes.
 #[derive(Debug, Drop)]
 pub struct Name {
@@ -89,4 +105,18 @@ impl Clone for Name {
             text: self.text.clone()?,
         })
     }
+}
+
+impl PartialEq for Name {
+    ghost eq = { pointwise nat_eq };
+
+    ghost laws = { partial_equiv_from_equiv nat_list_eq_equiv };
+
+    fn eq(&self, other: &Name) -> bool {
+        self.text == other.text
+    }
+}
+
+impl Eq for Name {
+    ghost laws = { nat_list_eq_equiv };
 }

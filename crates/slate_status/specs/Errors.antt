@@ -29,3 +29,5 @@ error_of_fault faults.InvalidDBState = errors.InvalidDBState
 error_of_fault (faults.ObjectStoreError fault) = errors.ObjectStoreError fault
 error_of_fault faults.TransactionalObjectVersionExists = errors.TransactionalObjectVersionExists
 error_of_fault faults.LatestTransactionalObjectVersionMissing = errors.LatestTransactionalObjectVersionMissing
+error_of_fault (faults.TransactionalObjectTimeout tries) = errors.TransactionalObjectTimeout tries
+error_of_fault (faults.Custom number) = errors.Custom number

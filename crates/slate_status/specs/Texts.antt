@@ -1,66 +1,83 @@
--- The kind of each error, and its public text.
-use Rattle.std.specs.Prelude.{ℕ, List, [], ◌++◌, codes, decimal}
+-- The public text of each error.
+use Rattle.std.specs.Prelude.{ℕ, ℤ, List, [], ◌++◌, Option, Some, None, codes, decimal}
 use Rattle.std.specs.Fmt.{signed_decimal}
+use Rattle.uuid.specs.Text.{hyphenated_text, lower}
+use Rattle.slate_rows.specs.declared.ranges.ByteRange.{ByteRange}
+use Rattle.slate_rows.specs.declared.ranges.KeyBound.{KeyBound}
+use Rattle.slate_rows.specs.declared.ranges.KeyBound.TheVariants.{Unbounded, Included, Excluded}
 use Rattle.slate_store.specs.declared.errors.StoreFault.{StoreFault}
 use Rattle.slate_store.specs.declared.errors.StoreFault.TheVariants.{NotFound, Unavailable}
-use Rattle.slate_status.specs.declared.closing.CloseReason.{CloseReason}
-use Rattle.slate_status.specs.declared.closing.CloseReason.TheVariants as reasons
-use Rattle.slate_status.specs.declared.errors.ErrorKind.{ErrorKind}
-use Rattle.slate_status.specs.declared.errors.ErrorKind.TheVariants as kinds
+use Rattle.slate_text.specs.Words.{word_text}
 use Rattle.slate_status.specs.declared.errors.SlateError.{SlateError}
 use Rattle.slate_status.specs.declared.errors.SlateError.TheVariants as errors
+use Rattle.slate_status.specs.Kinds.{kind_of, kind_words}
 
--- the kind of an error
-abbrev pub kind_of : SlateError → ErrorKind
-kind_of errors.EmptyKey = kinds.Data
-kind_of errors.EmptyBatch = kinds.Invalid
-kind_of (errors.ObjectStoreError NotFound) = kinds.Data
-kind_of (errors.ObjectStoreError Unavailable) = kinds.Unavailable
-kind_of errors.TransactionalObjectVersionExists = kinds.Data
-kind_of errors.LatestTransactionalObjectVersionMissing = kinds.Data
-kind_of errors.InvalidDBState = kinds.Data
-kind_of (errors.WalTruncated id) = kinds.Data
-kind_of (errors.InvalidClockTick last next) = kinds.Invalid
-kind_of errors.Fenced = kinds.Closed reasons.Fenced
-kind_of errors.ChecksumMismatch = kinds.Data
-kind_of errors.Closed = kinds.Closed reasons.Clean
-kind_of errors.MergeOperatorError = kinds.Invalid
-kind_of errors.MergeOperatorMissing = kinds.Invalid
-kind_of errors.WalDisabled = kinds.Invalid
-kind_of errors.NoMemory = kinds.Memory
+-- a number that may be missing
+abbrev pub optional_text : Option ℤ → List ℕ
+optional_text None = codes "None"
+optional_text (Some number) = codes "Some(" ++ signed_decimal number ++ codes ")"
 
--- the reason for closing that a kind of error tells
-abbrev pub reason_of : ErrorKind → CloseReason
-reason_of (kinds.Closed reason) = reason
-reason_of other = reasons.Panic
+-- a name that may be missing
+abbrev pub name_text : Option (List ℕ) → List ℕ
+name_text None = codes "None"
+name_text (Some name) = name
 
--- the words of a kind
-abbrev pub kind_words : ErrorKind → List ℕ
-kind_words kinds.Transaction = codes "Transaction error"
-kind_words (kinds.Closed reason) = codes "Closed error"
-kind_words kinds.Unavailable = codes "Unavailable error"
-kind_words kinds.Invalid = codes "Invalid error"
-kind_words kinds.Data = codes "Data error"
-kind_words kinds.Internal = codes "Internal error"
-kind_words kinds.Memory = codes "Memory error"
+-- a bound of keys, as a script writes it
+abbrev pub bound_text : KeyBound → List ℕ
+bound_text Unbounded = codes "*"
+bound_text (Included key) = codes "[" ++ word_text key
+bound_text (Excluded key) = codes "(" ++ word_text key
 
--- the message of an error
+-- a range of keys: its two bounds
+abbrev pub range_text : ByteRange → List ℕ
+range_text range = bound_text range.low ++ codes " " ++ bound_text range.high
+
+-- the message of an error; bytes are printed as a byte word
 abbrev pub message_of : SlateError → List ℕ
 message_of errors.EmptyKey = codes "empty RowEntry key"
 message_of errors.EmptyBatch = codes "empty write batch not allowed"
 message_of (errors.ObjectStoreError fault) = codes "object store error"
 message_of errors.TransactionalObjectVersionExists = codes "transactional object (e.g. manifest) version already exists"
 message_of errors.LatestTransactionalObjectVersionMissing = codes "failed to find latest transactional object (e.g. manifest) version"
+message_of (errors.TransactionalObjectTimeout tries) =
+    codes "transactional object (e.g. manifest) op timeout after " ++ decimal tries ++ codes " tries"
 message_of errors.InvalidDBState = codes "invalid DB state error"
 message_of (errors.WalTruncated id) = codes "wal truncated at wal file `" ++ decimal id ++ codes "`"
+message_of (errors.InvalidSegmentPrefix prefix conflict) =
+    codes "segment prefix " ++ word_text prefix ++ codes " would nest with existing segment " ++ word_text conflict
+message_of errors.RecencyScanPrefixSpansMultipleSegments = codes "recency scan prefix spans multiple segments, which is unsupported"
+message_of (errors.SegmentExtractorMismatch persisted configured) =
+    codes "segment extractor configuration mismatch (persisted: " ++ name_text persisted ++ codes ", configured: " ++ name_text configured ++ codes ")"
+message_of (errors.SegmentPrefixNotRecognized prefix extractor) =
+    codes "segment prefix " ++ word_text prefix ++ codes " is not recognized by the configured extractor `" ++ extractor ++ codes "`"
+message_of (errors.EmptySegmentPrefix key) = codes "segment extractor produced an empty prefix for key " ++ word_text key
 message_of (errors.InvalidClockTick last next) =
     codes "invalid clock tick, must be monotonic. last_tick=`" ++ signed_decimal last ++ codes "`, next_tick=`" ++ signed_decimal next ++ codes "`"
 message_of errors.Fenced = codes "detected newer DB client"
 message_of errors.ChecksumMismatch = codes "checksum mismatch"
+message_of errors.EmptyBlock = codes "empty block"
+message_of errors.EmptyBlockMeta = codes "empty block metadata"
+message_of errors.InvalidFilterBlock = codes "invalid composite filter block"
+message_of (errors.BackgroundTaskExists name) = codes "background task exists. name=`" ++ name ++ codes "`"
+message_of errors.BackgroundTaskExecutorStarted = codes "background task executor already started"
 message_of errors.Closed = codes "db is closed"
 message_of errors.MergeOperatorError = codes "merge operator error"
 message_of errors.MergeOperatorMissing = codes "merge operator missing. A merge operator is required to read merge operands"
+message_of (errors.IncompatibleMergeTtls key previous current) =
+    codes "only one merge TTL per-key allowed in a batch. key=" ++ word_text key
+    ++ codes ", previous=`" ++ optional_text previous ++ codes "`, current=`" ++ optional_text current ++ codes "`"
+message_of (errors.CheckpointMissing id) = codes "checkpoint missing. checkpoint_id=`" ++ hyphenated_text lower id ++ codes "`"
+message_of (errors.SeekKeyOutOfRange key range) =
+    codes "cannot seek to a key outside the iterator range. key=`" ++ word_text key ++ codes "`, range=`" ++ range_text range ++ codes "`"
+message_of errors.SeekKeyLessThanLastReturnedKey = codes "cannot seek to a key less than the last returned key"
+message_of (errors.InvalidCheckpointLifetime lifetime) = codes "invalid checkpoint lifetime. lifetime=`" ++ decimal lifetime ++ codes "ms`"
+message_of (errors.InvalidManifestPollInterval interval) = codes "invalid manifest poll interval. interval=`" ++ decimal interval ++ codes "ms`"
+message_of (errors.CheckpointLifetimeTooShort lifetime interval) =
+    codes "checkpoint lifetime must be at least double the manifest poll interval. lifetime=`" ++ decimal lifetime ++ codes "ms`, interval=`" ++ decimal interval ++ codes "ms`"
 message_of errors.WalDisabled = codes "attempted a WAL operation when the WAL is disabled"
+message_of errors.TransactionConflict = codes "transaction conflict"
+message_of (errors.Custom number) = codes "task fault " ++ decimal number
+message_of (errors.Backpressure unflushed limit) = codes "backpressure " ++ decimal unflushed ++ codes " of " ++ decimal limit
 message_of errors.NoMemory = codes "no memory"
 
 -- the words of a store's fault

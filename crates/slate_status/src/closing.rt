@@ -27,6 +27,10 @@ pub enum CloseFault {
     TransactionalObjectVersionExists,
     /// There is no manifest.
     LatestTransactionalObjectVersionMissing,
+    /// A put met an id that was stored already at each of its tries.
+    TransactionalObjectTimeout { tries: u32 },
+    /// A task failed with a fault of its own, which has this number.
+    Custom(u64),
 }
 
 /// The result with which something closed. The first one that is written stays.

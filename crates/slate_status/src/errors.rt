@@ -1,47 +1,15 @@
-ghost use Rattle.std.specs.Prelude.{◌≡◌, Some};
+ghost use Rattle.std.specs.Prelude.{◌≡◌};
 ghost use Rattle.slate_status.specs.declared.errors.SlateError.TheVariants.{NoMemory as OutOfMemory};
 ghost use Rattle.slate_status.specs.Errors.{error_of_read, error_of_store, error_of_fault};
-ghost use Rattle.slate_status.specs.Texts.{kind_of, kind_words, reason_of};
+ghost use Rattle.slate_status.specs.Kinds.{kind_of};
 
-use crate::texts::words_of;
-use crate::{CloseFault, CloseReason};
-use slate_rows::{NoMemory, ReadFault};
+use crate::{CloseFault, CloseReason, ErrorKind};
+use bytes::Bytes;
+use slate_rows::{ByteRange, Name, NoMemory, ReadFault};
 use slate_store::{StoreError, StoreFault};
-use std::fmt;
+use uuid::Uuid;
 
-/// What kind of error it is. SlateDB's enum of this name.
-#[derive(Clone, Copy, Debug, PartialEq, Eq)]
-pub enum ErrorKind {
-    Transaction,
-    Closed(CloseReason),
-    Unavailable,
-    Invalid,
-    Data,
-    Internal,
-    /// Memory ran out.
-    Memory,
-}
-
-impl fmt::Display for ErrorKind {
-    ghost output = { λ kind. Some (kind_words kind) };
-
-    fn fmt<W: fmt::Write>(&self, f: &mut fmt::Formatter<W>) -> fmt::Result {
-        f.write_str(words_of(*self))
-    }
-}
-
-impl From<ErrorKind> for CloseReason {
-    ghost from_gives = { λ kind reason. reason ≡ reason_of kind };
-
-    fn from(kind: ErrorKind) -> CloseReason {
-        match kind {
-            ErrorKind::Closed(reason) => reason,
-            _ => CloseReason::Panic,
-        }
-    }
-}
-
-/// Every error that a call of the product answers.
+/// Every error that a call of the product answers. SlateDB's `SlateDBError`.
 #[derive(Debug, Drop)]
 pub enum SlateError {
     /// A key to be written is empty.
@@ -54,24 +22,100 @@ pub enum SlateError {
     TransactionalObjectVersionExists,
     /// There is no manifest.
     LatestTransactionalObjectVersionMissing,
+    /// A put met an id that was stored already at each of its tries.
+    TransactionalObjectTimeout {
+        tries: u32,
+    },
     /// The database is in a state that it can't go on from, or a number is at the end of its type.
     InvalidDBState,
     /// A log file that was to be replayed isn't there, or goes on with a number past the next. It tells the file's id.
     WalTruncated(u64),
+    /// The segment prefix of a key begins another one that is known, or begins with it.
+    InvalidSegmentPrefix {
+        prefix: Bytes,
+        /// The least of the known prefixes that it nests with.
+        conflict: Bytes,
+    },
+    /// The keys of a scan by recency are in more than one segment.
+    RecencyScanPrefixSpansMultipleSegments,
+    /// The database was written with another segment extractor, or with one where none is configured, or without one.
+    SegmentExtractorMismatch {
+        /// The name in the manifest.
+        persisted: Option<Name>,
+        /// The name of the extractor at hand.
+        configured: Option<Name>,
+    },
+    /// The extractor at hand answers another prefix for a stored one.
+    SegmentPrefixNotRecognized {
+        prefix: Bytes,
+        extractor: Name,
+    },
+    /// The extractor answers no prefix of this key, or an empty one.
+    EmptySegmentPrefix {
+        key: Bytes,
+    },
     /// The moment of a write is below that of the write before. Moments are in milliseconds.
-    InvalidClockTick { last_tick: i64, next_tick: i64 },
+    InvalidClockTick {
+        last_tick: i64,
+        next_tick: i64,
+    },
     /// Another writer took over.
     Fenced,
     /// A stored row is damaged.
     ChecksumMismatch,
+    /// A stored block has no row.
+    EmptyBlock,
+    /// A table has no description of its blocks.
+    EmptyBlockMeta,
+    /// A stored filter can't be read.
+    InvalidFilterBlock,
+    /// A task of this name is registered already.
+    BackgroundTaskExists(Name),
+    /// The tasks were started already.
+    BackgroundTaskExecutorStarted,
     /// It was closed by a call.
     Closed,
     /// The merge operator refused an operand.
     MergeOperatorError,
     /// There are operands to merge, and there is no operator.
     MergeOperatorMissing,
+    /// Two merges of one batch give one key different times of expiry, in milliseconds.
+    IncompatibleMergeTtls {
+        key: Bytes,
+        previous_expire_ts: Option<i64>,
+        current_expire_ts: Option<i64>,
+    },
+    /// The latest manifest has no checkpoint of this id.
+    CheckpointMissing(Uuid),
+    /// A key that is sought lies outside the range of the iterator.
+    SeekKeyOutOfRange {
+        key: Bytes,
+        range: ByteRange,
+    },
+    /// A key that is sought is at most the last one that the iterator gave.
+    SeekKeyLessThanLastReturnedKey,
+    /// The lifetime of a checkpoint is too short. It is in milliseconds.
+    InvalidCheckpointLifetime(u64),
+    /// The interval of polls is too long to be doubled. It is in milliseconds.
+    InvalidManifestPollInterval(u64),
+    /// The lifetime of a checkpoint is less than twice the interval of polls. Both are in milliseconds.
+    CheckpointLifetimeTooShort {
+        lifetime: u64,
+        /// Twice the interval of polls.
+        interval: u64,
+    },
     /// A flush of the log was asked of a handle that keeps none.
     WalDisabled,
+    /// Another write changed what a transaction writes, or read.
+    TransactionConflict,
+    /// A task failed with a fault of its own, which has this number.
+    Custom(u64),
+    /// So many bytes wait to be flushed that no write is accepted.
+    Backpressure {
+        unflushed: u64,
+        /// From so many bytes on none is accepted.
+        limit: u64,
+    },
     /// Memory ran out.
     NoMemory,
 }
@@ -82,21 +126,43 @@ impl SlateError {
         ensures { result ≡ kind_of self.now }
     {
         match self {
-            SlateError::EmptyKey
-            | SlateError::TransactionalObjectVersionExists
-            | SlateError::LatestTransactionalObjectVersionMissing
-            | SlateError::ObjectStoreError(StoreFault::NotFound)
-            | SlateError::InvalidDBState
-            | SlateError::WalTruncated(_) => ErrorKind::Data,
+            SlateError::TransactionConflict => ErrorKind::Transaction,
+            SlateError::Fenced => ErrorKind::Closed(CloseReason::Fenced),
+            SlateError::Closed => ErrorKind::Closed(CloseReason::Clean),
+            SlateError::Custom(_) => ErrorKind::Closed(CloseReason::Panic),
+            SlateError::ObjectStoreError(StoreFault::Unavailable)
+            | SlateError::TransactionalObjectTimeout { .. }
+            | SlateError::Backpressure { .. } => ErrorKind::Unavailable,
             SlateError::EmptyBatch
+            | SlateError::InvalidSegmentPrefix { .. }
+            | SlateError::RecencyScanPrefixSpansMultipleSegments
+            | SlateError::SegmentExtractorMismatch { .. }
+            | SlateError::SegmentPrefixNotRecognized { .. }
+            | SlateError::EmptySegmentPrefix { .. }
             | SlateError::InvalidClockTick { .. }
             | SlateError::MergeOperatorError
             | SlateError::MergeOperatorMissing
+            | SlateError::IncompatibleMergeTtls { .. }
+            | SlateError::SeekKeyOutOfRange { .. }
+            | SlateError::SeekKeyLessThanLastReturnedKey
+            | SlateError::InvalidCheckpointLifetime(_)
+            | SlateError::InvalidManifestPollInterval(_)
+            | SlateError::CheckpointLifetimeTooShort { .. }
             | SlateError::WalDisabled => ErrorKind::Invalid,
-            SlateError::ObjectStoreError(StoreFault::Unavailable) => ErrorKind::Unavailable,
-            SlateError::Fenced => ErrorKind::Closed(CloseReason::Fenced),
-            SlateError::ChecksumMismatch => ErrorKind::Data,
-            SlateError::Closed => ErrorKind::Closed(CloseReason::Clean),
+            SlateError::EmptyKey
+            | SlateError::ObjectStoreError(StoreFault::NotFound)
+            | SlateError::TransactionalObjectVersionExists
+            | SlateError::LatestTransactionalObjectVersionMissing
+            | SlateError::InvalidDBState
+            | SlateError::WalTruncated(_)
+            | SlateError::ChecksumMismatch
+            | SlateError::EmptyBlock
+            | SlateError::EmptyBlockMeta
+            | SlateError::InvalidFilterBlock
+            | SlateError::CheckpointMissing(_) => ErrorKind::Data,
+            SlateError::BackgroundTaskExists(_) | SlateError::BackgroundTaskExecutorStarted => {
+                ErrorKind::Internal
+            }
             SlateError::NoMemory => ErrorKind::Memory,
         }
     }
@@ -150,6 +216,10 @@ impl From<CloseFault> for SlateError {
             CloseFault::LatestTransactionalObjectVersionMissing => {
                 SlateError::LatestTransactionalObjectVersionMissing
             }
+            CloseFault::TransactionalObjectTimeout { tries } => {
+                SlateError::TransactionalObjectTimeout { tries }
+            }
+            CloseFault::Custom(number) => SlateError::Custom(number),
         }
     }
 }

@@ -2,9 +2,14 @@
 #![tactic(auto)]
 
 mod closing;
+mod endings;
 mod errors;
+mod kinds;
+mod shown;
 mod texts;
 
 pub use closing::{CloseCell, CloseFault, CloseReason};
-pub use errors::{ErrorKind, SlateError};
+pub use endings::{Ended, Ending, TaskName};
+pub use errors::SlateError;
+pub use kinds::ErrorKind;
 pub use texts::write_error;

@@ -13,7 +13,7 @@ pub struct TableId {
 }
 
 /// A manifest that is kept, with what it protects, until its lease ends. Times are in milliseconds.
-#[derive(Clone, Copy, Debug)]
+#[derive(Clone, Copy, Debug, PartialEq, Eq)]
 pub struct Checkpoint {
     pub id: Uuid,
     /// The manifest that is kept.
@@ -24,7 +24,7 @@ pub struct Checkpoint {
 }
 
 /// The state of a database: which tables and log files it is made of, and who may write to it.
-#[derive(Debug, Drop)]
+#[derive(Debug, PartialEq, Eq, Drop)]
 pub struct Manifest {
     /// The epoch of the handle that may write. A handle with a lower one is fenced.
     pub writer_epoch: u64,
@@ -67,7 +67,7 @@ impl Clone for Manifest {
 }
 
 /// A manifest under its id. SlateDB's type of this name.
-#[derive(Debug, Drop)]
+#[derive(Debug, PartialEq, Eq, Drop)]
 pub struct VersionedManifest {
     pub id: u64,
     pub manifest: Manifest,

@@ -1,4 +1,4 @@
-use Rattle.std.proofs.Common.{◌≡◌, ℕ, ◌+◌, ◌≤◌, ◌==◌, false, List, [], ◌∷◌, length, Some, Result, Ok, Err, refl, sym, subst, ap, ◌∙◌, inl, inr, arith}
+use Rattle.std.proofs.Common.{◌≡◌, ℕ, ◌+◌, ◌≤◌, ◌==◌, Bool, true, false, MatchBool, List, [], ◌∷◌, length, Some, Result, Ok, Err, refl, sym, subst, ap, ◌∙◌, inl, inr, arith}
 use Rattle.slate_rows.specs.declared.batches.Batch.{Batch}
 use Rattle.slate_store.specs.declared.objects.VersionedManifest.{VersionedManifest}
 use Rattle.slate_store.specs.declared.errors.StoreFault.TheVariants.{Unavailable}
@@ -9,8 +9,8 @@ use Rattle.slate_status.specs.Errors.{error_of_store}
 use Rattle.slate_store.specs.Objects.{Objects, Change, PutLog, is_taken, latest_manifest, last_log}
 use Rattle.slate_status.specs.declared.errors.SlateError.{SlateError}
 use Rattle.slate_status.specs.declared.errors.SlateError.TheVariants as errors
-use Rattle.slate_model.specs.Changes.{PartMade, after_part}
-use Rattle.slate_model.specs.Flush.{FindsCurrent, FlushAnswer, StoresBatches, StoresOnly, flush_changes, flush_changes_by}
+use Rattle.slate_model.specs.Changes.{PartMade, after_part, breaks_off}
+use Rattle.slate_model.specs.Flush.{FindsCurrent, FlushAnswer, FlushCause, StoresBatches, StoresOnly, flush_changes, flush_changes_by}
 use Rattle.slate_model.proofs.Entries.{absent}
 use Rattle.slate_writer.specs.Appends.{AppendsLog}
 
@@ -64,3 +64,25 @@ module _ (epoch : ℕ) (b : Batch) (bs : List Batch) (o o' : Objects) (view late
 pub stores_some : (epoch : ℕ) (batches : List Batch) (o o' : Objects) (view latest : VersionedManifest) (r : Result (Unit {0}) SlateError) → (length batches == 0) ≡ false → FindsCurrent epoch o (Ok latest) → AppendsLog latest.manifest.replay_after_wal_id batches r o o' → Stores epoch batches o r view latest o'
 stores_some epoch [] o o' view latest r some found h = absurd (cc)
 stores_some epoch (b ∷ bs) o o' view latest r some found h = stores_appended epoch b bs o o' view latest found.0 found.1 r h
+
+-- a flush that answers an error, and goes by its old view, may have stored nothing
+part_none : (b : Bool) (all made : ℕ) → made ≡ 0 → MatchBool b (made ≤ all) (made ≡ 0)
+part_none true all made none = omega arith
+part_none false all made none = none
+
+only_none : (e : SlateError) → StoresOnly (Err e) 0
+only_none errors.NoMemory = refl
+only_none errors.InvalidDBState = refl
+only_none e = tt
+
+pub stores_none : (epoch : ℕ) (batches : List Batch) (o : Objects) (view : VersionedManifest) (e : SlateError) → FlushCause epoch o e → Stores epoch batches o (Err e) view view o
+stores_none epoch batches o view e cause = (
+  0,
+  record {
+    answer = (cause, inl refl);
+    part = part_none (breaks_off e) (length (flush_changes (λ xs. xs) batches o)) 0 refl;
+    only = only_none e;
+    current = λ above. absurd (omega (arith, above));
+    after = refl;
+  },
+)

@@ -40,10 +40,6 @@ abbrev pub flushed : Handle → VersionedManifest → Result (Unit {0}) SlateErr
 flushed handle view (Ok _) = record handle { durable = accepted handle; view = view }
 flushed handle view (Err error) = record handle { view = view; result = recorded error }
 
--- the handle after its close
-abbrev pub closed : Handle → Handle
-closed handle = record handle { result = Some (Ok tt) }
-
 -- A flush of an open handle that keeps a log goes to the store.
 abbrev pub CanFlush : Handle → Type 0
 CanFlush handle = (handle.result ≡ None) × (handle.keeps_log ≡ true)

@@ -1,5 +1,6 @@
 pub mod Catalogue
 pub mod Changes
+pub mod Close
 pub mod Flush
 pub mod Handle
 pub mod Open

@@ -1,6 +1,9 @@
 -- The forms of a script's commands.
 use Rattle.std.specs.Prelude.{ℕ, ◌==◌, false, List, [], ◌∷◌, Option, Some, None, codes, option_and_then, if◌then◌else◌}
 use Rattle.std.specs.Str.{bytes_eq}
+use Rattle.slate_rows.specs.declared.options.CloseOptions.{CloseOptions}
+use Rattle.slate_rows.specs.declared.options.FlushType.{FlushType}
+use Rattle.slate_rows.specs.declared.options.FlushType.TheVariants.{Wal}
 use Rattle.slate_text.specs.Numbers.{number_of, moment_of}
 use Rattle.slate_text.specs.Words.{word_of}
 use Rattle.slate_script.specs.Lines.{fields_of}
@@ -28,12 +31,34 @@ put_form (h ∷ k ∷ v ∷ []) = do
   Some (actions.Put handle key value None)
 put_form fields = None
 
--- flush H
+-- the type of a flush; until tables are built, there is no other
+abbrev pub flush_type_of : List ℕ → Option FlushType
+flush_type_of word = if bytes_eq word (codes "wal") then Some Wal else None
+
+-- flush H, flush H wal
 abbrev pub flush_form : List (List ℕ) → Option Action
 flush_form (h ∷ []) = do
   handle ← number_of h
-  Some (actions.Flush handle)
+  Some (actions.Flush handle None)
+flush_form (h ∷ t ∷ []) = do
+  handle ← number_of h
+  flush_type ← flush_type_of t
+  Some (actions.Flush handle (Some flush_type))
 flush_form fields = None
+
+-- what a close flushes
+abbrev pub close_options_of : List ℕ → Option CloseOptions
+close_options_of word = if bytes_eq word (codes "none") then Some (record { flush_type = None }) else (do
+  flush_type ← flush_type_of word
+  Some (record { flush_type = Some flush_type }))
+
+-- close O none, close O wal
+abbrev pub close_form : List (List ℕ) → Option Action
+close_form (o ∷ t ∷ []) = do
+  object ← number_of o
+  options ← close_options_of t
+  Some (actions.Close object (Some options))
+close_form fields = None
 
 -- get O KEY
 abbrev pub get_form : List (List ℕ) → Option Action
@@ -50,7 +75,8 @@ action_of name fields =
     else (if bytes_eq name (codes "put") then put_form fields
     else (if bytes_eq name (codes "flush") then flush_form fields
     else (if bytes_eq name (codes "get") then get_form fields
-    else None)))
+    else (if bytes_eq name (codes "close") then close_form fields
+    else None))))
 
 -- the command that the fields of a line spell: a moment, the name, and the fields of its form
 abbrev pub command_of : List (List ℕ) → Option Command

@@ -1,4 +1,5 @@
 pub mod Lines
+pub mod Built
 pub mod Forms
 pub mod Scripts
 pub mod Replies

@@ -5,6 +5,9 @@ use Rattle.std.specs.List.{flat_map}
 use Rattle.slate_rows.specs.declared.batches.KeyValue.{KeyValue}
 use Rattle.slate_text.specs.Words.{word_text}
 use Rattle.slate_status.specs.Texts.{error_text}
+use Rattle.slate_status.specs.declared.endings.TaskName.{TaskName}
+use Rattle.slate_status.specs.declared.endings.TaskName.TheVariants as tasks
+use Rattle.slate_status.specs.declared.errors.SlateError.{SlateError}
 use Rattle.slate_script.specs.declared.replies.Reply.{Reply}
 use Rattle.slate_script.specs.declared.replies.Reply.TheVariants as replies
 
@@ -17,6 +20,24 @@ expiry_text (Some time) = codes " expires " ++ signed_decimal time
 abbrev pub stamp_text : KeyValue → List ℕ
 stamp_text row = codes " number " ++ decimal row.seq ++ codes " created " ++ signed_decimal row.create_ts ++ expiry_text row.expire_ts
 
+-- the name of a task
+abbrev pub task_text : TaskName → List ℕ
+task_text tasks.MemtableFlusher = codes "memtable_flusher"
+task_text tasks.Compactor = codes "compactor"
+task_text tasks.CompactionWorker = codes "compaction_worker"
+task_text tasks.GarbageCollector = codes "garbage_collector"
+task_text tasks.BatchWriter = codes "batch_writer"
+task_text tasks.ManifestPoller = codes "manifest_poller"
+
+-- the names of tasks, each after a space
+abbrev pub tasks_text : List TaskName → List ℕ
+tasks_text names = flat_map (λ name. 32 ∷ task_text name) names
+
+-- the error of a close, where there is one
+abbrev pub fault_text : Option SlateError → List ℕ
+fault_text None = []
+fault_text (Some error) = codes "error " ++ error_text error ++ codes "; "
+
 -- a reply without the newline at its end
 abbrev pub reply_words : Reply → List ℕ
 reply_words (replies.Handle object) = codes "handle " ++ decimal object
@@ -24,6 +45,7 @@ reply_words (replies.Written write number) = codes "write " ++ decimal write ++ 
 reply_words (replies.Found row) = codes "value " ++ word_text row.value ++ stamp_text row
 reply_words replies.Absent = codes "none"
 reply_words replies.Flushed = codes "flushed"
+reply_words (replies.Ended fault tasks) = fault_text fault ++ codes "ended" ++ tasks_text tasks
 reply_words (replies.Refused error) = codes "error " ++ error_text error
 reply_words replies.Unknown = codes "error unknown object"
 reply_words replies.NoMemory = codes "error no memory"

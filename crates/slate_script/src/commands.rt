@@ -2,7 +2,7 @@ ghost use Rattle.std.specs.Prelude.{◌≡◌};
 ghost use Rattle.slate_script.specs.declared.commands.ScriptFault.TheVariants.{NoMemory as OutOfMemory};
 
 use bytes::Bytes;
-use slate_rows::NoMemory;
+use slate_rows::{CloseOptions, FlushType, NoMemory};
 use std::alloc::{AllocError, AllocFailed};
 
 /// What a command does. Handles, snapshots and followers are the objects of a run.
@@ -17,15 +17,22 @@ pub enum Action {
         value: Bytes,
         expire: Option<i64>,
     },
-    /// Makes what a handle wrote durable.
+    /// Makes what a handle wrote durable. Without a type it stores it in a log file where the handle keeps a log, else
+    /// in a table.
     Flush {
         handle: u64,
+        flush_type: Option<FlushType>,
     },
     /// Reads a key of an object, from durable batches alone where `remote` is true.
     Get {
         object: u64,
         key: Bytes,
         remote: bool,
+    },
+    /// Closes an object. What a handle wrote is flushed before as the options ask; without them to a table.
+    Close {
+        object: u64,
+        options: Option<CloseOptions>,
     },
 }
 

@@ -1,15 +1,18 @@
-ghost use Rattle.std.specs.Prelude.{◌≡◌, IfOk};
-ghost use Rattle.slate_script.specs.Forms.{open_form, put_form, flush_form, get_form, action_of, command_of, line_of};
+ghost use Rattle.std.specs.Prelude.{◌≡◌, true, IfOk, IfSome};
+ghost use Rattle.slate_script.specs.Built.{IsBuilt, puts_no_table};
+ghost use Rattle.slate_script.specs.declared.commands.Command.{Command};
+ghost use Rattle.slate_script.specs.Forms.{open_form, put_form, flush_type_of, flush_form, get_form, close_options_of, close_form, action_of, command_of, line_of};
 
 use crate::fields::cut_fields;
 use crate::{Action, Command, LineAnswer};
 use bytes::Bytes;
-use slate_rows::NoMemory;
+use slate_rows::{CloseOptions, FlushType, NoMemory};
 use slate_text::{read_moment, read_number, read_shared_word};
 use std::alloc::Global;
 
 fn read_open(fields: &[Bytes]) -> Option<Action>
-    ensures { result ≡ open_form fields.now }
+    ensures form { result ≡ open_form fields.now }
+    ensures built { IfSome result IsBuilt }
 {
     match fields {
         [] => Some(Action::Open),
@@ -18,7 +21,8 @@ fn read_open(fields: &[Bytes]) -> Option<Action>
 }
 
 fn read_put(alloc: Global, fields: &[Bytes]) -> Result<Option<Action>, NoMemory>
-    ensures { IfOk result (λ action. action ≡ put_form fields.now) }
+    ensures form { IfOk result (λ action. action ≡ put_form fields.now) }
+    ensures built { IfOk result (λ action. IfSome action IsBuilt) }
 {
     let [handle, key, value] = fields else {
         return Ok(None);
@@ -40,18 +44,74 @@ fn read_put(alloc: Global, fields: &[Bytes]) -> Result<Option<Action>, NoMemory>
     }))
 }
 
-fn read_flush(fields: &[Bytes]) -> Option<Action>
-    ensures { result ≡ flush_form fields.now }
+/// The type of a flush. Until tables are built, there is no other.
+fn read_flush_type(word: &[u8]) -> Option<FlushType>
+    ensures word { result ≡ flush_type_of word.now }
+    ensures built { puts_no_table result ≡ true }
 {
-    let [handle] = fields else {
+    if word == b"wal".as_slice() {
+        Some(FlushType::Wal)
+    } else {
+        None
+    }
+}
+
+fn read_flush(fields: &[Bytes]) -> Option<Action>
+    ensures form { result ≡ flush_form fields.now }
+    ensures built { IfSome result IsBuilt }
+{
+    match fields {
+        [handle] => {
+            let handle = read_number(handle.as_slice())?;
+            Some(Action::Flush {
+                handle,
+                flush_type: None,
+            })
+        }
+        [handle, flush_type] => {
+            let handle = read_number(handle.as_slice())?;
+            let flush_type = read_flush_type(flush_type.as_slice())?;
+            Some(Action::Flush {
+                handle,
+                flush_type: Some(flush_type),
+            })
+        }
+        _ => None,
+    }
+}
+
+/// What a close flushes.
+fn read_close_options(word: &[u8]) -> Option<CloseOptions>
+    ensures options { result ≡ close_options_of word.now }
+    ensures built { IfSome result (λ options. puts_no_table options.flush_type ≡ true) }
+{
+    if word == b"none".as_slice() {
+        return Some(CloseOptions { flush_type: None });
+    }
+    let flush_type = read_flush_type(word)?;
+    Some(CloseOptions {
+        flush_type: Some(flush_type),
+    })
+}
+
+fn read_close(fields: &[Bytes]) -> Option<Action>
+    ensures form { result ≡ close_form fields.now }
+    ensures built { IfSome result IsBuilt }
+{
+    let [object, options] = fields else {
         return None;
     };
-    let handle = read_number(handle.as_slice())?;
-    Some(Action::Flush { handle })
+    let object = read_number(object.as_slice())?;
+    let options = read_close_options(options.as_slice())?;
+    Some(Action::Close {
+        object,
+        options: Some(options),
+    })
 }
 
 fn read_get(alloc: Global, fields: &[Bytes]) -> Result<Option<Action>, NoMemory>
-    ensures { IfOk result (λ action. action ≡ get_form fields.now) }
+    ensures form { IfOk result (λ action. action ≡ get_form fields.now) }
+    ensures built { IfOk result (λ action. IfSome action IsBuilt) }
 {
     let [object, key] = fields else {
         return Ok(None);
@@ -71,7 +131,8 @@ fn read_get(alloc: Global, fields: &[Bytes]) -> Result<Option<Action>, NoMemory>
 
 // The action that a name and the fields after it spell.
 fn read_action(alloc: Global, name: &[u8], fields: &[Bytes]) -> Result<Option<Action>, NoMemory>
-    ensures { IfOk result (λ action. action ≡ action_of name.now fields.now) }
+    ensures form { IfOk result (λ action. action ≡ action_of name.now fields.now) }
+    ensures built { IfOk result (λ action. IfSome action IsBuilt) }
 {
     if name == b"open".as_slice() {
         Ok(read_open(fields))
@@ -81,13 +142,16 @@ fn read_action(alloc: Global, name: &[u8], fields: &[Bytes]) -> Result<Option<Ac
         Ok(read_flush(fields))
     } else if name == b"get".as_slice() {
         read_get(alloc, fields)
+    } else if name == b"close".as_slice() {
+        Ok(read_close(fields))
     } else {
         Ok(None)
     }
 }
 
 fn read_command(alloc: Global, fields: &[Bytes]) -> Result<Option<Command>, NoMemory>
-    ensures { IfOk result (λ command. command ≡ command_of fields.now) }
+    ensures form { IfOk result (λ command. command ≡ command_of fields.now) }
+    ensures built { IfOk result (λ command. IfSome command (λ c. IsBuilt c.action)) }
 {
     let [moment, name, fields @ ..] = fields else {
         return Ok(None);
@@ -107,7 +171,8 @@ fn read_command(alloc: Global, fields: &[Bytes]) -> Result<Option<Command>, NoMe
 
 /// What `read_line` answers of the same bytes. Keys and values share the line's storage.
 pub(crate) fn read_shared_line(alloc: Global, line: Bytes) -> Result<LineAnswer, NoMemory>
-    ensures { IfOk result (λ answer. answer ≡ line_of line) }
+    ensures line { IfOk result (λ answer. answer ≡ line_of line) }
+    ensures built { (command : Command) → result ≡ Ok (LineAnswer.Command command) → IsBuilt command.action }
 {
     match line.as_slice() {
         [] | [b'#', ..] => return Ok(LineAnswer::Blank),

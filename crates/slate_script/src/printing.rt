@@ -1,9 +1,9 @@
-ghost use Rattle.std.specs.Prelude.{◌≡◌, ◌++◌, length, take, OnOk, OnErr};
-ghost use Rattle.slate_script.specs.Replies.{expiry_text, stamp_text, reply_words, reply_text, replies_text};
+ghost use Rattle.std.specs.Prelude.{◌≡◌, ◌++◌, ◌∷◌, length, take, OnOk, OnErr};
+ghost use Rattle.slate_script.specs.Replies.{expiry_text, fault_text, stamp_text, task_text, tasks_text, reply_words, reply_text, replies_text};
 
 use crate::Reply;
 use slate_rows::{KeyValue, NoMemory};
-use slate_status::write_error;
+use slate_status::{Ending, SlateError, TaskName, write_error};
 use slate_text::{cut_back, write_byte_word, write_number, write_signed, write_text};
 
 fn write_expiry(out: &mut Vec<u8>, time: Option<i64>) -> Result<(), NoMemory>
@@ -59,6 +59,64 @@ fn write_handle(out: &mut Vec<u8>, object: u64) -> Result<(), NoMemory>
     Ok(())
 }
 
+fn task_name(name: TaskName) -> &'static str
+    ensures { result.now ≡ task_text name }
+{
+    match name {
+        TaskName::MemtableFlusher => "memtable_flusher",
+        TaskName::Compactor => "compactor",
+        TaskName::CompactionWorker => "compaction_worker",
+        TaskName::GarbageCollector => "garbage_collector",
+        TaskName::BatchWriter => "batch_writer",
+        TaskName::ManifestPoller => "manifest_poller",
+    }
+}
+
+fn write_task(out: &mut Vec<u8>, name: TaskName) -> Result<(), NoMemory>
+    ensures ok { OnOk result (out.new.items ≡ out.old.items ++ 32 ∷ task_text name) }
+    ensures err { OnErr result (take (length out.old.items) out.new.items ≡ out.old.items) }
+{
+    write_text(out, " ")?;
+    write_text(out, task_name(name))?;
+    Ok(())
+}
+
+fn write_tasks(out: &mut Vec<u8>, names: &[TaskName]) -> Result<(), NoMemory>
+    ensures ok { OnOk result (out.new.items ≡ out.old.items ++ tasks_text names.now) }
+    ensures err { OnErr result (take (length out.old.items) out.new.items ≡ out.old.items) }
+{
+    for name in names {
+        write_task(out, *name)?;
+    }
+    Ok(())
+}
+
+fn write_fault(out: &mut Vec<u8>, fault: &Option<SlateError>) -> Result<(), NoMemory>
+    ensures ok { OnOk result (out.new.items ≡ out.old.items ++ fault_text fault.now) }
+    ensures err { OnErr result (take (length out.old.items) out.new.items ≡ out.old.items) }
+{
+    if let Some(error) = fault {
+        write_text(out, "error ")?;
+        write_error(out, error)?;
+        write_text(out, "; ")?;
+    }
+    Ok(())
+}
+
+fn write_ended(
+    out: &mut Vec<u8>,
+    fault: &Option<SlateError>,
+    tasks: &Ending,
+) -> Result<(), NoMemory>
+    ensures ok { OnOk result (out.new.items ≡ out.old.items ++ reply_words (Reply.Ended fault.now tasks.now)) }
+    ensures err { OnErr result (take (length out.old.items) out.new.items ≡ out.old.items) }
+{
+    write_fault(out, fault)?;
+    write_text(out, "ended")?;
+    write_tasks(out, tasks.names())?;
+    Ok(())
+}
+
 fn write_words(out: &mut Vec<u8>, reply: &Reply) -> Result<(), NoMemory>
     ensures ok { OnOk result (out.new.items ≡ out.old.items ++ reply_words reply.now) }
     ensures err { OnErr result (take (length out.old.items) out.new.items ≡ out.old.items) }
@@ -69,6 +127,7 @@ fn write_words(out: &mut Vec<u8>, reply: &Reply) -> Result<(), NoMemory>
         Reply::Found(row) => write_found(out, row),
         Reply::Absent => write_text(out, "none"),
         Reply::Flushed => write_text(out, "flushed"),
+        Reply::Ended { fault, tasks } => write_ended(out, fault, tasks),
         Reply::Refused(error) => {
             write_text(out, "error ")?;
             write_error(out, error)?;

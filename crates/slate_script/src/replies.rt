@@ -1,5 +1,5 @@
 use slate_rows::KeyValue;
-use slate_status::SlateError;
+use slate_status::{Ending, SlateError};
 
 /// The reply to a command.
 #[derive(Debug, Drop)]
@@ -14,6 +14,12 @@ pub enum Reply {
     Absent,
     /// What was written is durable.
     Flushed,
+    /// An object was closed, and these tasks were ended. The fault is that of its closing flush, or why it could not
+    /// be closed.
+    Ended {
+        fault: Option<SlateError>,
+        tasks: Ending,
+    },
     /// The command was refused, or failed.
     Refused(SlateError),
     /// No object or write of the kind that the command names is there.

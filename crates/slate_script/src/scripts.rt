@@ -1,4 +1,5 @@
-ghost use Rattle.std.specs.Prelude.{◌≡◌};
+ghost use Rattle.std.specs.Prelude.{◌≡◌, All, IfOk};
+ghost use Rattle.slate_script.specs.Built.{IsBuilt};
 ghost use Rattle.slate_script.specs.Scripts.{Reads, script_of};
 
 use crate::fields::take_line;
@@ -11,7 +12,8 @@ use std::alloc::Global;
 /// once; keys and values share that copy, except those that are spelled with `%`. It takes time in proportion to the
 /// script.
 pub fn read_script(alloc: Global, bytes: &[u8]) -> Result<Vec<Command>, ScriptFault>
-    ensures { Reads result (script_of bytes.now) }
+    ensures reads { Reads result (script_of bytes.now) }
+    ensures built { IfOk result (λ commands. All (λ command. IsBuilt command.action) commands.items) }
 {
     let mut rest = Bytes::copy_from_slice(alloc, bytes)?;
     let mut commands = Vec::new(alloc);

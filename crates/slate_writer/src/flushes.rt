@@ -43,18 +43,31 @@ impl WriterState {
         if !self.keeps_log {
             return Err(SlateError::WalDisabled);
         }
-        let unstored = (self.durable - self.floor) as usize;
-        let batches = &self.memory.batches()[unstored..];
-        match store_batches(alloc, store, self.epoch, batches, &mut self.view) {
-            Ok(()) => {
-                self.durable = self.accepted();
-                Ok(())
-            }
+        match self.store_unstored(alloc, store) {
+            Ok(()) => Ok(()),
             Err(error) => {
                 self.result = recorded(&error);
                 Err(error)
             }
         }
+    }
+
+    /// Stores the accepted batches that aren't stored yet, and records nothing.
+    pub(crate) fn store_unstored<S: Store>(
+        &mut self,
+        alloc: Global,
+        store: &mut S,
+    ) -> Result<(), SlateError>
+        ensures handle { self.new ≡ record (flushed self.old self.new.view result) { result = self.old.result } }
+        ensures faults { TellsFaults (S.faults store.old) (S.faults store.new) result }
+        ensures told { Told (λ o o'. (made : ℕ) × StoresBatches (λ batches. batches) self.old.epoch (unstored self.old) o result self.old.view self.new.view made o')
+            (S.objects store.old) (S.objects store.new) }
+    {
+        let unstored = (self.durable - self.floor) as usize;
+        let batches = &self.memory.batches()[unstored..];
+        store_batches(alloc, store, self.epoch, batches, &mut self.view)?;
+        self.durable = self.accepted();
+        Ok(())
     }
 }
 

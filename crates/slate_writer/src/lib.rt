@@ -1,6 +1,7 @@
 //! The handle that writes: its batches, its flushes and its reads.
 #![tactic(auto)]
 
+mod closes;
 mod flushes;
 mod opens;
 mod reads;

@@ -12,7 +12,9 @@ use Rattle.slate_store.specs.Objects.{latest_manifest, last_log}
 use Rattle.slate_status.specs.declared.errors.SlateError.{SlateError}
 use Rattle.slate_status.specs.declared.errors.SlateError.TheVariants as errors
 use Rattle.slate_model.specs.Flush.{FlushAnswer, FlushCause, TellsFaults}
-use Rattle.slate_model.specs.Handle.{Handle, accepted}
+use Rattle.slate_rows.specs.declared.options.FlushType.{FlushType}
+use Rattle.slate_model.specs.Close.{fault_of}
+use Rattle.slate_model.specs.Handle.{CloseResult, Handle, accepted}
 use Rattle.slate_model.specs.Open.{OpenAnswer, OpenCause}
 use Rattle.slate_model.specs.Write.{accepted_moment, batch_refusal, clock_refusal, last_number, number_refusal, write_refusal}
 use Rattle.slate_script.specs.declared.commands.Action.{Action}
@@ -22,8 +24,8 @@ use Rattle.slate_script.specs.declared.options.Options.{Options}
 use Rattle.slate_script.specs.declared.replies.Reply.{Reply}
 use Rattle.slate_script.specs.declared.replies.Reply.TheVariants as replies
 use Rattle.slate_live.specs.declared.states.Object.TheVariants as objects
-use Rattle.slate_live.specs.Next.{AtHandle, FlushesUnless, IsReadReply, Next, NextBy, OpensIn, ReadsUnless, WritesIn, WritesUnless, done_or_refused, put_op, refusal}
-use Rattle.slate_live.specs.Valid.{CanOpen, CanPut, CanRead, CanStore, IsOkOrNoMemory, IsValidAction, IsValidCommand}
+use Rattle.slate_live.specs.Next.{AtHandle, ClosesOpen, ClosesUnless, FlushesUnless, IsReadReply, Next, NextBy, OpensIn, ReadsUnless, WritesIn, WritesUnless, done_or_refused, ended_reply, flush_of_close, put_op, refusal}
+use Rattle.slate_live.specs.Valid.{CanClose, CanOpen, CanPut, CanRead, CanStore, IsOkOrNoMemory, IsValidAction, IsValidCommand}
 use Rattle.slate_live.specs.Settings.{Settings}
 use Rattle.slate_live.specs.World.{World}
 
@@ -63,24 +65,42 @@ full-log w handle cause can =
     let same : cause.0 ≡ can.1 = same-manifest (latest_manifest w.catalogue) cause.0 can.1 cause.1 can.2 in
     beyond (last_log can.1.manifest.replay_after_wal_id w.catalogue) last_number can.4 (subst (λ m. last_number ≤ last_log m.manifest.replay_after_wal_id w.catalogue) same cause.2)
 
--- the same of a flush
-flush-cause : (w : World) (handle : Handle) (faults : ℕ) (error : SlateError) → FlushCause handle.epoch w.catalogue error → TellsFaults {A = Unit {0}} w.faults faults (Err error) → CanStore w handle → (HasRisen w.faults faults → ⊥) → IsOkOrNoMemory (refusal error)
+-- the same of a flush: it answers no other error
+flush-cause : (w : World) (handle : Handle) (faults : ℕ) (error : SlateError) → FlushCause handle.epoch w.catalogue error → TellsFaults {A = Unit {0}} w.faults faults (Err error) → CanStore w handle → (HasRisen w.faults faults → ⊥) → error ≡ errors.NoMemory
 flush-cause w handle faults errors.Fenced cause fault can calm = absurd (still-current w handle cause can)
 flush-cause w handle faults errors.LatestTransactionalObjectVersionMissing cause fault can calm = absurd (no-manifest w handle cause can)
 flush-cause w handle faults errors.InvalidDBState cause fault can calm = absurd (full-log w handle cause can)
 flush-cause w handle faults (errors.ObjectStoreError Unavailable) cause fault can calm = absurd (calm (fault.unavailable refl))
-flush-cause w handle faults errors.NoMemory cause fault can calm = tt
+flush-cause w handle faults errors.NoMemory cause fault can calm = refl
 flush-cause w handle faults error cause fault can calm = absurd cause
 
 flush-answer : (w : World) (handle : Handle) (faults : ℕ) (view view' : VersionedManifest) (result : Result (Unit {0}) SlateError) → FlushAnswer handle.epoch w.catalogue result view view' → TellsFaults w.faults faults result → CanStore w handle → (HasRisen w.faults faults → ⊥) → IsOkOrNoMemory (done_or_refused replies.Flushed result)
 flush-answer w handle faults view view' (Ok _) answer fault can calm = tt
-flush-answer w handle faults view view' (Err error) answer fault can calm = flush-cause w handle faults error answer.0 fault can calm
+flush-answer w handle faults view view' (Err error) answer fault can calm =
+    subst (λ e. IsOkOrNoMemory (refusal e)) (sym (flush-cause w handle faults error answer.0 fault can calm)) tt
 
 flush-completes : (w : World) (n : ℕ) (handle : Handle) (reply : Reply) (w' : World) → handle.result ≡ None → CanStore w handle → FlushesUnless handle.result handle.keeps_log w n handle reply w' → (HasRisen w.faults w'.faults → ⊥) → IsOkOrNoMemory reply
 flush-completes w n handle reply w' unclosed can next calm =
     let flushes : FlushesUnless None true w n handle reply w' =
     subst (λ k. FlushesUnless None k w n handle reply w') can.0 (subst (λ r. FlushesUnless r handle.keeps_log w n handle reply w') unclosed next) in
     subst IsOkOrNoMemory (sym flushes.answered) (flush-answer w handle w'.faults handle.view flushes.view flushes.result flushes.stores.answer flushes.fault can calm)
+
+close-answer : (w : World) (handle : Handle) (faults : ℕ) (view view' : VersionedManifest) (result : Result (Unit {0}) SlateError) → FlushAnswer handle.epoch w.catalogue result view view' → TellsFaults w.faults faults result → CanStore w handle → (HasRisen w.faults faults → ⊥) → IsOkOrNoMemory (ended_reply (fault_of result) [])
+close-answer w handle faults view view' (Ok _) answer fault can calm = tt
+close-answer w handle faults view view' (Err error) answer fault can calm =
+    subst (λ e. IsOkOrNoMemory (ended_reply (Some e) [])) (sym (flush-cause w handle faults error answer.0 fault can calm)) tt
+
+-- a close that nothing stands against, and that met no fault, answers no error but want of memory
+close-open : (w : World) (n : ℕ) (handle : Handle) (flush_type : Option FlushType) (reply : Reply) (w' : World) → CanClose None flush_type w handle → ClosesOpen flush_type handle.keeps_log w n handle reply w' → (HasRisen w.faults w'.faults → ⊥) → IsOkOrNoMemory reply
+close-open w n handle None reply w' can next calm = subst IsOkOrNoMemory (sym next.0) tt
+close-open w n handle (Some flush_type) reply w' can next calm =
+    let stores : ClosesOpen (Some flush_type) true w n handle reply w' = subst (λ k. ClosesOpen (Some flush_type) k w n handle reply w') can.0 next in
+    subst IsOkOrNoMemory (sym stores.answered) (close-answer w handle w'.faults handle.view stores.view stores.result stores.stores.answer stores.fault can calm)
+
+close-completes : (w : World) (n : ℕ) (handle : Handle) (result : CloseResult) (flush_type : Option FlushType) (reply : Reply) (w' : World) → CanClose result flush_type w handle → ClosesUnless result flush_type handle.keeps_log w n handle reply w' → (HasRisen w.faults w'.faults → ⊥) → IsOkOrNoMemory reply
+close-completes w n handle None flush_type reply w' can next calm = close-open w n handle flush_type reply w' can next calm
+close-completes w n handle (Some (Ok _)) flush_type reply w' can next calm = absurd can
+close-completes w n handle (Some (Err fault)) flush_type reply w' can next calm = subst IsOkOrNoMemory (sym next.0) tt
 
 open-completes : (options : Options) (w : World) (reply : Reply) (w' : World) → OpensIn options w reply w' → CanOpen w → (HasRisen w.faults w'.faults → ⊥) → IsOkOrNoMemory reply
 open-completes options w reply w' opens can calm =
@@ -115,6 +135,7 @@ found-reply answer found replies.NoMemory is said = tt
 found-reply answer found (replies.Handle n) is said = tt
 found-reply answer found (replies.Written n m) is said = tt
 found-reply answer found replies.Flushed is said = tt
+found-reply answer found (replies.Ended fault tasks) is said = absurd said
 found-reply answer found replies.Unknown is said = absurd said
 found-reply answer found (replies.Refused errors.MergeOperatorError) is said = absurd (ok-err answer found reads.MergeOperatorError is said)
 found-reply answer found (replies.Refused errors.MergeOperatorMissing) is said = absurd (ok-err answer found reads.MergeOperatorMissing is said)
@@ -132,10 +153,12 @@ action-completes : (settings : Settings) (w : World) (moment : ℤ) (second : Op
 action-completes settings w moment second actions.Open reply w' next valid calm = open-completes settings.options w reply w' next valid calm
 action-completes settings w moment second (actions.Put n key value expire) reply w' next valid calm =
     put-completes w n valid.0 key value expire moment second reply w' valid.2 valid.3 (at-open (slice_get w.objects n) valid.0 _ _ valid.1 next)
-action-completes settings w moment second (actions.Flush n) reply w' next valid calm =
+action-completes settings w moment second (actions.Flush n flush_type) reply w' next valid calm =
     flush-completes w n valid.0 reply w' valid.2 valid.3 (at-open (slice_get w.objects n) valid.0 _ _ valid.1 next) calm
 action-completes settings w moment second (actions.Get n key remote) reply w' next valid calm =
     get-completes settings.merge w valid.0 key remote reply w' valid.2 valid.3 (at-open (slice_get w.objects n) valid.0 _ _ valid.1 next)
+action-completes settings w moment second (actions.Close n options) reply w' next valid calm =
+    close-completes w n valid.0 (valid.0).result (flush_of_close options) reply w' valid.2 (at-open (slice_get w.objects n) valid.0 _ _ valid.1 next) calm
 
 -- a valid command that meets no fault is refused nothing
 pub completes : (settings : Settings) (w : World) (command : Command) (reply : Reply) (w' : World) → Next settings w command reply w' → IsValidCommand settings.merge w command → (HasRisen w.faults w'.faults → ⊥) → IsOkOrNoMemory reply

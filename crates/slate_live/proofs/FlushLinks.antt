@@ -1,160 +1,27 @@
-use Rattle.std.proofs.Common.{◌≡◌, ◌≢◌, inl, inr, ℕ, ◌<◌, ◌≤◌, length, set, get_or, Option, Some, None, Result, Ok, Err, Bool, true, false, refl, sym, subst, ap, ◌∙◌, arith}
+use Rattle.std.proofs.Common.{◌≡◌, ℕ, ◌<◌, length, set, get_or, Option, Some, None, Result, Ok, Err, Bool, true, false, refl, sym, subst, ap, ◌∙◌}
 use Rattle.std.specs.List.{slice_get}
 use Rattle.std.specs.Option.{IfSome}
-use Rattle.slate_rows.specs.Line.{AreNumberedFrom, end, extended}
 use Rattle.slate_store.specs.declared.objects.VersionedManifest.{VersionedManifest}
-use Rattle.slate_store.specs.Objects.{Objects, latest_manifest}
-use Rattle.slate_store.specs.Content.{IsSound, content}
+use Rattle.slate_store.specs.Objects.{Objects}
 use Rattle.slate_status.specs.declared.errors.SlateError.{SlateError}
-use Rattle.slate_model.specs.Catalogue.{catalogue_of, span}
-use Rattle.slate_model.specs.Handle.{Handle, CloseResult, unstored, closed_error}
-use Rattle.slate_model.specs.Flush.{CanFlush, StoresBatches, TellsFaults, flushed}
-use Rattle.slate_model.proofs.Catalogued.{stores-known}
-use Rattle.slate_model.proofs.Flushed.{flush_cases}
-use Rattle.slate_model.proofs.Sound.{appended, with_log}
+use Rattle.slate_model.specs.Handle.{Handle, CloseResult, closed_error}
+use Rattle.slate_model.specs.Flush.{CanFlush, flushed}
 use Rattle.slate_script.specs.declared.replies.Reply.{Reply}
 use Rattle.slate_script.specs.declared.replies.Reply.TheVariants as replies
 use Rattle.slate_live.specs.declared.states.Object.{Object}
 use Rattle.slate_live.specs.declared.states.Object.TheVariants as objects
 use Rattle.slate_live.specs.Links.{Links}
 use Rattle.slate_live.specs.Live.{Live, FlushesObject, handle_of}
-use Rattle.slate_live.specs.Next.{Flushes, FlushesIn, FlushesUnless, done_or_refused, stored_after}
-use Rattle.slate_live.specs.Stands.{Holds, IsValid, IsValidHandle, IsHandleAt, StandsFor}
+use Rattle.slate_live.specs.Next.{Flushes, FlushesUnless, StoresIn, done_or_refused}
+use Rattle.slate_live.specs.Stands.{IsHandleAt, StandsFor}
 use Rattle.slate_live.specs.World.{World}
-use Rattle.slate_live.proofs.Flushing.{unstored_next, valid-none, valid-one}
-use Rattle.slate_live.proofs.Handles.{valid-set, distinct-set, set-same}
 use Rattle.slate_live.proofs.Objects.{get_read}
 use Rattle.slate_live.proofs.Replies.{closed-refused}
+use Rattle.slate_live.proofs.StoreLinks.{handle_kept, store_now}
 
--- what is stored and valid after a flush, of the objects and of the handles
-record After (w : World) (n : ℕ) (h new : Handle) (made : ℕ) (o' : Objects) : Type 0 where
-  sound : IsSound o'
-  content : content o' ≡ stored_after made w.stored (unstored h)
-  handles : (m : ℕ) (a : Handle) → IsHandleAt (set w.objects n (objects.Handle new)) m a → IsValidHandle (stored_after made w.stored (unstored h)) (latest_manifest o') a
-
-module _ (w : World) (o o' : Objects) (n : ℕ) (h : Handle) (r : Result (Unit {0}) SlateError) (view : VersionedManifest) (sound : IsSound o) (holds : Holds o w) (valid : IsValid w) (there : IsHandleAt w.objects n h) (can : CanFlush h) where
-  latest-known : latest_manifest w.catalogue ≡ latest_manifest o
-  latest-known = ap latest_manifest (sym holds.catalogue)
-
-  valid-over : (m : ℕ) (a : Handle) → IsHandleAt w.objects m a → IsValidHandle w.stored (latest_manifest o) a
-  valid-over m a is = subst (λ x. IsValidHandle w.stored x a) latest-known (valid.handles m a is)
-
-  after-none : StoresBatches (λ xs. xs) h.epoch (unstored h) o r h.view view 0 o → After w n h (flushed h view r) 0 o
-  after-none s =
-      record {
-        sound = sound;
-        content = holds.stored;
-        handles = valid-set (IsValidHandle w.stored (latest_manifest o)) w.objects n h (flushed h view r) there (valid-none w.stored o o h r view 0 can (valid-over n h there) s refl) (λ m a other is. valid-over m a is);
-      }
-
-  -- no other handle's epoch is current
-  others : (latest : VersionedManifest) → latest_manifest o ≡ Some latest → latest.manifest.writer_epoch ≤ h.epoch → (m : ℕ) (a : Handle) → m ≢ n → IsHandleAt w.objects m a → IsValidHandle (extended w.stored (unstored h)) (latest_manifest o) a
-  others latest is current m a other at =
-      let v = valid-over m a at in
-      let mine = (valid-over n h there).behind in
-      record {
-        numbered = v.numbered;
-        floor = v.floor;
-        durable = v.durable;
-        behind = v.behind;
-        current = λ manifest live known above.
-            let same : manifest ≡ latest = cc in
-            let same_mine : mine.0 ≡ latest = (let p = mine.1 in cc) in
-            let same_other : v.behind.0 ≡ latest = (let p = v.behind.1 in cc) in
-            let ep = ap (λ (x : VersionedManifest). x.manifest.writer_epoch) same in
-            let ep_mine = ap (λ (x : VersionedManifest). x.manifest.writer_epoch) same_mine in
-            let ep_other = ap (λ (x : VersionedManifest). x.manifest.writer_epoch) same_other in
-            let below_mine = mine.2 in
-            let below_other = v.behind.2 in
-            let epochs : a.epoch ≡ h.epoch = omega (arith, ep, ep_mine, ep_other, below_mine, below_other, current, above) in
-            absurd (other (valid.distinct m n a h at there epochs));
-      }
-
-  after-one : (latest : VersionedManifest) → latest_manifest o ≡ Some latest → latest.manifest.writer_epoch ≤ h.epoch → StoresBatches (λ xs. xs) h.epoch (unstored h) o r h.view view 1 (with_log o latest.manifest (unstored h)) → After w n h (flushed h view r) 1 (with_log o latest.manifest (unstored h))
-  after-one latest is current s =
-      let v = valid-over n h there in
-      let line = v.current latest can.0 is current in
-      let next = unstored_next w.stored h v.numbered line in
-      let put = appended o latest (unstored h) sound is (subst (λ l. AreNumberedFrom (end l) (unstored h)) (sym holds.stored) next) in
-      record {
-        sound = put.sound;
-        content = put.content ∙ ap (λ l. extended l (unstored h)) holds.stored;
-        handles = valid-set (IsValidHandle (extended w.stored (unstored h)) (latest_manifest o)) w.objects n h (flushed h view r) there
-            (valid-one w.stored o (with_log o latest.manifest (unstored h)) h r view 1 can v s refl) (others latest is current);
-      }
-
-  -- after any flush
-  after-flush : (made : ℕ) → StoresBatches (λ xs. xs) h.epoch (unstored h) o r h.view view made o' → After w n h (flushed h view r) made o'
-  after-flush made s =
-      elim (flush_cases s) [
-        | inl none ↦
-            subst (λ k. After w n h (flushed h view r) k o') (sym none.0)
-            (subst (λ x. After w n h (flushed h view r) 0 x) (sym none.1)
-            (after-none (subst (λ x. StoresBatches (λ xs. xs) h.epoch (unstored h) o r h.view view 0 x) none.1 (subst (λ k. StoresBatches (λ xs. xs) h.epoch (unstored h) o r h.view view k o') none.0 s))))
-        | inr puts ↦
-            subst (λ k. After w n h (flushed h view r) k o') (sym puts.one)
-            (subst (λ x. After w n h (flushed h view r) 1 x) (sym puts.after)
-            (after-one puts.latest puts.is puts.current (subst (λ x. StoresBatches (λ xs. xs) h.epoch (unstored h) o r h.view view 1 x) puts.after (subst (λ k. StoresBatches (λ xs. xs) h.epoch (unstored h) o r h.view view k o') puts.one s))))
-      ]
-
-epoch-kept : (h : Handle) (view : VersionedManifest) (r : Result (Unit {0}) SlateError) → (flushed h view r).epoch ≡ h.epoch
+pub epoch-kept : (h : Handle) (view : VersionedManifest) (r : Result (Unit {0}) SlateError) → (flushed h view r).epoch ≡ h.epoch
 epoch-kept h view (Ok x) = refl
 epoch-kept h view (Err e) = refl
-
--- a flush of an open handle that keeps a log leads to a world that the live state stands for
-flush_now : (live : Live) (told told' : Option Objects) (faults faults' : ℕ) (n : ℕ) (h new : Handle) (r : Result (Unit {0}) SlateError) → FlushesObject h new r told told' faults faults' → CanFlush h → IsHandleAt live.objects n h → (w : World) → StandsFor live told faults w → (w' : World) × FlushesIn w n h (done_or_refused replies.Flushed r) w' × StandsFor (record { options = live.options; objects = set live.objects n (objects.Handle new); writes = live.writes }) told' faults' w'
-flush_now live told told' faults faults' n h new r f can at w stands =
-    let held = stands.held in
-    let o = held.0 in
-    let t = (f.stores can).some o held.1 in
-    let o' = t.0 in
-    let made = t.2.0 in
-    let s = t.2.1 in
-    let there : IsHandleAt w.objects n h = subst (λ os. IsHandleAt os n h) stands.objects at in
-    let after = after-flush w o o' n h r new.view held.2 held.3 stands.valid there can made s in
-    let known = stores-known s in
-    let w' : World = record {
-      stored = stored_after made w.stored (unstored h);
-      catalogue = catalogue_of o';
-      objects = set w.objects n (objects.Handle (flushed h new.view r));
-      writes = w.writes;
-      faults = faults';
-    } in (
-      w',
-      record {
-        result = r;
-        view = new.view;
-        made = made;
-        answered = refl;
-        stores = subst (λ c. StoresBatches span h.epoch (unstored h) c r h.view new.view made (catalogue_of o')) held.3.catalogue known;
-        fault = subst (λ k. TellsFaults k faults' r) stands.faults (f.fault can);
-        stored = refl;
-        objects_after = refl;
-        writes = refl;
-      },
-      record {
-        held = (o', t.1, after.sound, record { stored = after.content; catalogue = refl });
-        faults = refl;
-        objects = ap (λ os. set os n (objects.Handle new)) stands.objects ∙ ap (λ x. set w.objects n (objects.Handle x)) (f.handle can);
-        writes = stands.writes;
-        valid = record {
-          handles = after.handles;
-          distinct = distinct-set w.objects n h (flushed h new.view r) there (epoch-kept h new.view r) stands.valid.distinct;
-        };
-      },
-    )
-
--- a flush that is refused by the handle leaves everything as it was
-flush_kept : (live : Live) (told told' : Option Objects) (faults faults' : ℕ) (n : ℕ) (h new : Handle) → new ≡ h → told' ≡ told → faults' ≡ faults → IsHandleAt live.objects n h → (w : World) → StandsFor live told faults w → StandsFor (record { options = live.options; objects = set live.objects n (objects.Handle new); writes = live.writes }) told' faults' w
-flush_kept live told told' faults faults' n h new same same_told same_faults at w stands =
-    let held = stands.held in
-    record {
-      held = (held.0, same_told ∙ held.1, held.2, held.3);
-      faults = same_faults ∙ stands.faults;
-      objects = ap (λ x. set live.objects n (objects.Handle x)) same ∙ (set-same live.objects n (objects.Handle h) at ∙ stands.objects);
-      writes = stands.writes;
-      valid = stands.valid;
-    }
 
 module _ (live : Live) (told told' : Option Objects) (faults faults' : ℕ) (n : ℕ) (h new : Handle) (r : Result (Unit {0}) SlateError) (f : FlushesObject h new r told told' faults faults') (at : IsHandleAt live.objects n h) (w : World) (stands : StandsFor live told faults w) where
   Linked : (World → Type 0) → Type 0
@@ -164,15 +31,17 @@ module _ (live : Live) (told told' : Option Objects) (faults faults' : ℕ) (n :
   unfolding Linked
   linked-log false live_ without =
       let d = f.disabled live_ without in
-      (w, (ap (done_or_refused replies.Flushed) d.0, refl), flush_kept live told told' faults faults' n h new d.1 d.2 d.3 at w stands)
-  linked-log true live_ with_log = flush_now live told told' faults faults' n h new r f (live_, with_log) at w stands
+      (w, (ap (done_or_refused replies.Flushed) d.0, refl), handle_kept live told told' faults faults' n h new d.1 d.2 d.3 at w stands)
+  linked-log true live_ with_log =
+      let can = (live_, with_log) in
+      store_now (done_or_refused replies.Flushed) (flushed h) live told told' faults faults' n h new new.view r (λ s l v. v) (epoch-kept h new.view r) (f.handle can) (f.fault can) (f.stores can) can at w stands
 
   linked-result : (result : CloseResult) → h.result ≡ result → Linked (FlushesUnless result h.keeps_log w n h (done_or_refused replies.Flushed r))
   unfolding Linked
   linked-result None is = linked-log h.keeps_log is refl
   linked-result (Some q) is =
       let d = subst (λ x. IfSome x (λ r'. (r ≡ Err (closed_error r')) × (new ≡ h) × (told' ≡ told) × (faults' ≡ faults))) is f.closed in
-      (w, (ap (done_or_refused replies.Flushed) d.0 ∙ closed-refused q, refl), flush_kept live told told' faults faults' n h new d.1 d.2 d.3 at w stands)
+      (w, (ap (done_or_refused replies.Flushed) d.0 ∙ closed-refused q, refl), handle_kept live told told' faults faults' n h new d.1 d.2 d.3 at w stands)
 
   -- every flush of a handle that stands there leads to a world that the live state stands for
   pub flush_links : (w' : World) × Flushes w n (done_or_refused replies.Flushed r) w' × StandsFor (record { options = live.options; objects = set live.objects n (objects.Handle new); writes = live.writes }) told' faults' w'

@@ -11,14 +11,8 @@ use Rattle.slate_status.specs.declared.errors.SlateError.TheVariants as errors
 use Rattle.slate_model.specs.Changes.{PartMade}
 use Rattle.slate_model.specs.Handle.{Handle, accepted, unstored}
 use Rattle.slate_model.specs.Flush.{CanFlush, FlushAnswer, FlushCause, StoresBatches, StoresOnly, flush_changes, flush_changes_by, flushed, recorded}
+use Rattle.slate_model.proofs.Reopened.{numbered_rest}
 use Rattle.slate_live.specs.Stands.{IsValidHandle}
-
--- the batches after the first ones of a line are numbered from the end of those
-numbered_rest : (floor : ℕ) (xs ys : List Batch) → AreNumberedFrom floor (xs ++ ys) → AreNumberedFrom (floor + length xs) ys
-numbered_rest floor [] ys h = subst (λ n. AreNumberedFrom n ys) (omega arith) h
-numbered_rest floor (x ∷ xs) ys h =
-    let e : (floor + 1) + length xs ≡ floor + length (x ∷ xs) = omega arith in
-    subst (λ n. AreNumberedFrom n ys) e (numbered_rest (floor + 1) xs ys h.1)
 
 -- what isn't stored yet follows what is stored
 pub unstored_next : (stored : Line) (h : Handle) → IsLine h.line → extended stored (unstored h) ≡ h.line → AreNumberedFrom (end stored) (unstored h)

@@ -1,6 +1,7 @@
 pub mod Chains
 pub mod Completed
 pub mod Completeness
+pub mod CloseLinks
 pub mod FlushLinks
 pub mod Flushing
 pub mod Handles
@@ -10,3 +11,4 @@ pub mod Reading
 pub mod Replies
 pub mod Endings
 pub mod Writing
+pub mod StoreLinks

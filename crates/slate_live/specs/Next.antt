@@ -5,6 +5,9 @@ use Rattle.slate_rows.specs.declared.batches.KeyValue.{KeyValue}
 use Rattle.slate_rows.specs.declared.batches.Op.TheVariants.{Put as PutOp}
 use Rattle.slate_rows.specs.declared.options.DurabilityLevel.{DurabilityLevel}
 use Rattle.slate_rows.specs.declared.options.DurabilityLevel.TheVariants.{Memory, Remote}
+use Rattle.slate_rows.specs.declared.options.CloseOptions.{CloseOptions}
+use Rattle.slate_rows.specs.declared.options.FlushType.{FlushType}
+use Rattle.slate_rows.specs.declared.options.FlushType.TheVariants.{MemTable}
 use Rattle.slate_rows.specs.declared.reads.ReadFault.{ReadFault}
 use Rattle.slate_rows.specs.declared.reads.ReadFault.TheVariants as reads
 use Rattle.slate_rows.specs.Line.{Line, end, extended}
@@ -13,7 +16,9 @@ use Rattle.slate_rows.specs.Read.{read_at}
 use Rattle.slate_store.specs.declared.objects.VersionedManifest.{VersionedManifest}
 use Rattle.slate_status.specs.declared.errors.SlateError.{SlateError}
 use Rattle.slate_status.specs.declared.errors.SlateError.TheVariants as errors
+use Rattle.slate_status.specs.declared.endings.TaskName.{TaskName}
 use Rattle.slate_model.specs.Catalogue.{span}
+use Rattle.slate_model.specs.Close.{closed, fault_again, fault_of}
 use Rattle.slate_model.specs.Handle.{Handle, CloseResult, accepted, unstored, closed_error}
 use Rattle.slate_model.specs.Open.{Opens, opened_handle, opened_manifest}
 use Rattle.slate_model.specs.Write.{write_refusal, accepted_moment, written}
@@ -82,22 +87,49 @@ WritesIn w n handle ops moment second reply w' =
 abbrev pub stored_after : ℕ → Line → List Batch → Line
 stored_after made stored batches = if nat_lt 0 made then extended stored batches else stored
 
--- A flush of an open handle that keeps a log stores the batches that aren't stored yet, or answers why not.
-pub record FlushesIn (w : World) (n : ℕ) (handle : Handle) (reply : Reply) (w' : World) : Type 0 where
+-- A flush of an open handle that keeps a log stores the batches that aren't stored yet, or fails. `answer` is the
+-- reply by how it ended, and `leaves` the handle by that and by the manifest that it goes by from then on.
+pub record StoresIn (answer : Result (Unit {0}) SlateError → Reply) (leaves : VersionedManifest → Result (Unit {0}) SlateError → Handle) (w : World) (n : ℕ) (handle : Handle) (reply : Reply) (w' : World) : Type 0 where
   pub result : Result (Unit {0}) SlateError
   pub view : VersionedManifest
   pub made : ℕ
-  pub answered : reply ≡ done_or_refused replies.Flushed result
+  pub answered : reply ≡ answer result
   pub stores : StoresBatches span handle.epoch (unstored handle) w.catalogue result handle.view view made w'.catalogue
   pub fault : TellsFaults w.faults w'.faults result
   pub stored : w'.stored ≡ stored_after made w.stored (unstored handle)
-  pub objects_after : w'.objects ≡ slice_set w.objects n (objects.Handle (flushed handle view result))
+  pub objects_after : w'.objects ≡ slice_set w.objects n (objects.Handle (leaves view result))
   pub writes : w'.writes ≡ w.writes
 
 abbrev pub FlushesUnless : CloseResult → Bool → World → ℕ → Handle → Reply → World → Type 0
 FlushesUnless (Some result) keeps_log w n handle reply w' = OnlyAnswers (replies.Refused (closed_error result)) w reply w'
 FlushesUnless None false w n handle reply w' = OnlyAnswers (replies.Refused errors.WalDisabled) w reply w'
-FlushesUnless None true w n handle reply w' = FlushesIn w n handle reply w'
+FlushesUnless None true w n handle reply w' = StoresIn (done_or_refused replies.Flushed) (flushed handle) w n handle reply w'
+
+-- the reply to a close that finds this error and ends these tasks: one of a handle that closed cleanly is refused
+abbrev pub ended_reply : Option SlateError → List TaskName → Reply
+ended_reply (Some errors.Closed) tasks = replies.Refused errors.Closed
+ended_reply fault tasks = replies.Ended fault tasks
+
+-- a close that flushes nothing records that the handle closed
+abbrev pub OnlyCloses : Option SlateError → World → ℕ → Handle → Reply → World → Type 0
+OnlyCloses fault w n handle reply w' =
+    (reply ≡ ended_reply fault []) × (w' ≡ record w { objects = slice_set w.objects n (objects.Handle (closed handle)) })
+
+-- a close of an open handle, by the type of its flush and by whether it keeps a log
+abbrev pub ClosesOpen : Option FlushType → Bool → World → ℕ → Handle → Reply → World → Type 0
+ClosesOpen None keeps_log w n handle reply w' = OnlyCloses None w n handle reply w'
+ClosesOpen (Some flush_type) false w n handle reply w' = OnlyCloses (Some errors.WalDisabled) w n handle reply w'
+ClosesOpen (Some flush_type) true w n handle reply w' =
+    StoresIn (λ result. ended_reply (fault_of result) []) (λ view result. closed (flushed handle view result)) w n handle reply w'
+
+abbrev pub ClosesUnless : CloseResult → Option FlushType → Bool → World → ℕ → Handle → Reply → World → Type 0
+ClosesUnless (Some result) flush_type keeps_log w n handle reply w' = OnlyAnswers (ended_reply (fault_again result) []) w reply w'
+ClosesUnless None flush_type keeps_log w n handle reply w' = ClosesOpen flush_type keeps_log w n handle reply w'
+
+-- the flush that a close asks for: without options, to a table
+abbrev pub flush_of_close : Option CloseOptions → Option FlushType
+flush_of_close None = Some MemTable
+flush_of_close (Some options) = options.flush_type
 
 -- the reply to a read that gives this
 abbrev pub IsReadReply : Result (Option KeyValue) ReadFault → Reply → Type 0
@@ -136,6 +168,11 @@ abbrev pub Flushes : World → ℕ → Reply → World → Type 0
 Flushes w n reply w' =
     AtHandle (slice_get w.objects n) (λ handle. FlushesUnless handle.result handle.keeps_log w n handle reply w') (OnlyAnswers replies.Unknown w reply w')
 
+-- a close of the object with a number
+abbrev pub Closes : World → ℕ → Option FlushType → Reply → World → Type 0
+Closes w n flush_type reply w' =
+    AtHandle (slice_get w.objects n) (λ handle. ClosesUnless handle.result flush_type handle.keeps_log w n handle reply w') (OnlyAnswers replies.Unknown w reply w')
+
 -- a read of a key of the object with a number
 abbrev pub Reads : Option Merge → World → ℕ → List ℕ → Bool → Reply → World → Type 0
 Reads merge w n key remote reply w' =
@@ -145,8 +182,9 @@ Reads merge w n key remote reply w' =
 abbrev pub NextBy : Settings → World → ℤ → Option ℤ → Action → Reply → World → Type 0
 NextBy settings w moment second actions.Open reply w' = OpensIn settings.options w reply w'
 NextBy settings w moment second (actions.Put n key value expire) reply w' = Writes w n (put_op key value expire ∷ []) moment second reply w'
-NextBy settings w moment second (actions.Flush n) reply w' = Flushes w n reply w'
+NextBy settings w moment second (actions.Flush n flush_type) reply w' = Flushes w n reply w'
 NextBy settings w moment second (actions.Get n key remote) reply w' = Reads settings.merge w n key remote reply w'
+NextBy settings w moment second (actions.Close n options) reply w' = Closes w n (flush_of_close options) reply w'
 
 -- From a world, a command that is run with these settings may be answered so, and leave the other world.
 abbrev pub Next : Settings → World → Command → Reply → World → Type 0

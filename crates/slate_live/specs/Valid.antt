@@ -1,12 +1,14 @@
 -- Commands that nothing in a world stands against, and the link of a command, which such a one answers.
-use Rattle.std.specs.Prelude.{◌≡◌, ℕ, ℤ, ◌<◌, ◌≤◌, Bool, true, List, [], ◌∷◌, length, slice_get, Option, Some, None, Ok}
+use Rattle.std.specs.Prelude.{◌≡◌, ℕ, ℤ, ◌<◌, ◌≤◌, Bool, true, List, [], ◌∷◌, length, slice_get, Option, Some, None, Result, Ok, Err}
 use Rattle.slate_rows.specs.declared.batches.KeyValue.{KeyValue}
 use Rattle.slate_rows.specs.Counts.{HasRisen}
 use Rattle.slate_rows.specs.Operator.{Merge}
 use Rattle.slate_rows.specs.Read.{read_at}
 use Rattle.slate_store.specs.declared.objects.VersionedManifest.{VersionedManifest}
 use Rattle.slate_store.specs.Objects.{latest_manifest, last_log}
-use Rattle.slate_model.specs.Handle.{Handle, accepted}
+use Rattle.slate_rows.specs.declared.options.FlushType.{FlushType}
+use Rattle.slate_status.specs.declared.errors.SlateError.TheVariants as errors
+use Rattle.slate_model.specs.Handle.{CloseResult, Handle, accepted}
 use Rattle.slate_model.specs.Open.{can_open}
 use Rattle.slate_model.specs.Read.{cut}
 use Rattle.slate_model.specs.Write.{accepted_moment, last_number}
@@ -16,7 +18,7 @@ use Rattle.slate_script.specs.declared.commands.Command.{Command}
 use Rattle.slate_script.specs.declared.replies.Reply.{Reply}
 use Rattle.slate_script.specs.declared.replies.Reply.TheVariants as replies
 use Rattle.slate_live.specs.declared.states.Object.TheVariants as objects
-use Rattle.slate_live.specs.Next.{Next, level_of}
+use Rattle.slate_live.specs.Next.{Next, flush_of_close, level_of}
 use Rattle.slate_live.specs.Settings.{Settings}
 use Rattle.slate_live.specs.World.{World}
 
@@ -41,6 +43,13 @@ CanStore w handle =
     × (latest : VersionedManifest) × (latest_manifest w.catalogue ≡ Some latest) × (latest.manifest.writer_epoch ≤ handle.epoch)
     × (last_log latest.manifest.replay_after_wal_id w.catalogue < last_number)
 
+-- a close of a handle: one that is open, and that can store its batches where it is to flush, or one that an error closed
+abbrev pub CanClose : CloseResult → Option FlushType → World → Handle → Type 0
+CanClose (Some (Ok _)) flush_type w handle = ⊥
+CanClose (Some (Err fault)) flush_type w handle = Unit {0}
+CanClose None None w handle = Unit {0}
+CanClose None (Some flush_type) w handle = CanStore w handle
+
 -- a get from a handle: the plain read of its line at its cut finds a row, or none
 abbrev pub CanRead : Option Merge → List ℕ → Bool → Handle → Type 0
 CanRead merge key remote handle =
@@ -49,8 +58,10 @@ CanRead merge key remote handle =
 abbrev pub IsValidAction : Option Merge → World → ℤ → Option ℤ → Action → Type 0
 IsValidAction merge w moment second actions.Open = CanOpen w
 IsValidAction merge w moment second (actions.Put n key value expire) = IsOpen w n (CanPut key moment second)
-IsValidAction merge w moment second (actions.Flush n) = IsOpen w n (CanStore w)
+IsValidAction merge w moment second (actions.Flush n flush_type) = IsOpen w n (CanStore w)
 IsValidAction merge w moment second (actions.Get n key remote) = IsOpen w n (CanRead merge key remote)
+IsValidAction merge w moment second (actions.Close n options) =
+    (handle : Handle) × (slice_get w.objects n ≡ Some (objects.Handle handle)) × CanClose handle.result (flush_of_close options) w handle
 
 -- nothing in this world stands against the command
 abbrev pub IsValidCommand : Option Merge → World → Command → Type 0
@@ -59,6 +70,8 @@ IsValidCommand merge w command = IsValidAction merge w command.moment command.se
 -- a reply that refuses nothing, or want of memory
 abbrev pub IsOkOrNoMemory : Reply → Type 0
 IsOkOrNoMemory (replies.Refused error) = ⊥
+IsOkOrNoMemory (replies.Ended (Some errors.NoMemory) tasks) = Unit {0}
+IsOkOrNoMemory (replies.Ended (Some error) tasks) = ⊥
 IsOkOrNoMemory replies.Unknown = ⊥
 IsOkOrNoMemory reply = Unit {0}
 

@@ -1,15 +1,16 @@
 // What each command does to the live objects, over lists.
-ghost use Rattle.std.specs.Prelude.{◌≡◌, ◌⊎◌, ◌+◌, ℕ, ◌∷◌, [], ◌++◌, length, Ok, Err, Some, None, Option, List, IfOk, IfErr, IfSome, ◌≤◌, true, false};
+ghost use Rattle.std.specs.Prelude.{◌≡◌, ◌≢◌, ◌⊎◌, ◌+◌, ℕ, ◌∷◌, [], ◌++◌, length, Ok, Err, Some, None, Option, List, IfOk, IfErr, IfSome, ◌≤◌, true, false};
 ghost use Rattle.std.specs.Option.{option_copied};
 ghost use Rattle.slate_rows.specs.Operator.{Merge};
 ghost use Rattle.slate_rows.specs.Read.{IsOperator, read_at};
 ghost use Rattle.slate_rows.specs.Bound.{read_bound};
 ghost use Rattle.slate_model.specs.Handle.{accepted, closed_error};
 ghost use Rattle.slate_model.specs.Read.{AnswersRead};
-ghost use Rattle.slate_live.specs.Live.{FlushesObject};
+ghost use Rattle.slate_live.specs.Live.{ClosesObject, FlushesObject};
+ghost use Rattle.slate_script.specs.Built.{closes_without_table};
 ghost use Rattle.slate_model.specs.Write.{write_refusal, written, accepted_moment};
 ghost use Rattle.slate_live.specs.Links.{Links};
-ghost use Rattle.slate_live.specs.Next.{Flushes, OpensIn, Reads, Writes, level_of, refusal, put_op};
+ghost use Rattle.slate_live.specs.Next.{Closes, Flushes, OpensIn, Reads, Writes, ended_reply, flush_of_close, level_of, refusal, put_op};
 ghost use Rattle.slate_live.specs.Stands.{IsValid};
 ghost use Rattle.slate_live.specs.World.{World};
 ghost use Rattle.slate_live.specs.Live.{handle_of};
@@ -20,11 +21,11 @@ ghost use Rattle.slate_script.specs.declared.options.Options.{Options};
 use crate::states::{Object, Write};
 use bytes::Bytes;
 use slate_rows::{
-    DurabilityLevel, FlushType, KeyOp, KeyValue, MergeOperator, NoMemory, Op, PrefixExtractor,
+    CloseOptions, DurabilityLevel, FlushType, KeyOp, KeyValue, MergeOperator, NoMemory, Op, PrefixExtractor,
     ReadOptions, Seq, WriteBatch,
 };
 use slate_script::{Command, Options, Reply};
-use slate_status::SlateError;
+use slate_status::{Ended, SlateError};
 use slate_store::Store;
 use slate_writer::{WriterOptions, WriterState, Written};
 use std::alloc::Global;
@@ -125,6 +126,17 @@ impl Object {
         }
     }
 
+    /// Closes a handle.
+    fn close<S: Store>(&mut self, alloc: Global, store: &mut S, options: &CloseOptions) -> Ended
+        requires { options.now.flush_type ≢ Some FlushType.MemTable }
+        ensures kind { self.new ≡ objects.Handle (handle_of self.new) }
+        ensures close { ClosesObject options.now.flush_type (handle_of self.old) (handle_of self.new) result (S.objects store.old) (S.objects store.new) (S.faults store.old) (S.faults store.new) }
+    {
+        match self {
+            Object::Handle(writer) => writer.close(alloc, store, options),
+        }
+    }
+
     /// Reads a key of a handle.
     fn read<S: Store, M: MergeOperator>(
         &self,
@@ -202,6 +214,42 @@ pub(crate) fn flush<S: Store>(
         Ok(()) => Reply::Flushed,
         Err(error) => refusal(error),
     }
+}
+
+/// The reply to a close: one of a handle that closed cleanly is refused.
+fn ended_reply(ended: Ended) -> Reply
+    ensures { result ≡ ended_reply ended.fault ended.tasks }
+{
+    match ended.fault {
+        Some(SlateError::Closed) => Reply::Refused(SlateError::Closed),
+        fault => Reply::Ended {
+            fault,
+            tasks: ended.tasks,
+        },
+    }
+}
+
+/// Closes the object with a number.
+pub(crate) fn close<S: Store>(
+    alloc: Global,
+    store: &mut S,
+    objects: &mut Vec<Object>,
+    number: u64,
+    options: Option<CloseOptions>,
+) -> Reply
+    requires { closes_without_table options ≡ true }
+    ensures faults { S.faults store.old ≤ S.faults store.new }
+    ensures link { (settings : Options) (writes : List Write) → Links (λ w reply w'. Closes w number (flush_of_close options) reply w')
+        (record { options = settings; objects = objects.old.items; writes = writes }) (S.objects store.old) (S.faults store.old) result
+        (record { options = settings; objects = objects.new.items; writes = writes }) (S.objects store.new) (S.faults store.new) }
+{
+    let place = number as usize;
+    if place >= objects.len() {
+        return Reply::Unknown;
+    }
+    let options = options.unwrap_or_default();
+    let object = &mut objects[place];
+    ended_reply(object.close(alloc, store, &options))
 }
 
 /// Reads a key of the object with a number.

@@ -1,7 +1,8 @@
-ghost use Rattle.std.specs.Prelude.{◌≡◌, ◌≤◌, None, Option, IfOk, OnErr};
+ghost use Rattle.std.specs.Prelude.{All, ◌≡◌, ◌≤◌, None, Option, IfOk, OnErr};
 ghost use Rattle.std.specs.Option.{option_copied};
 ghost use Rattle.slate_rows.specs.Operator.{Merge};
 ghost use Rattle.slate_rows.specs.Read.{IsOperator};
+ghost use Rattle.slate_script.specs.Built.{IsBuilt};
 ghost use Rattle.slate_live.specs.Run.{IsRun};
 
 use crate::LiveState;
@@ -23,7 +24,8 @@ pub fn run<S: Store, M: MergeOperator, E: PrefixExtractor>(
     extractor: Option<&E>,
     commands: &[Command],
 ) -> Result<Vec<Reply>, NoMemory>
-    requires { extractor ≡ None }
+    requires extractor { extractor ≡ None }
+    requires built { All (λ command. IsBuilt command.action) commands.now }
     ensures faults { S.faults store.old ≤ S.faults store.new }
     ensures nothing { OnErr result (store.new ≡ store.old) }
     ensures leads { IfOk result (λ replies. (merge : Option Merge) → IsOperator M.may_answer (option_copied operator.entry) merge →

@@ -1,4 +1,5 @@
-ghost use Rattle.std.specs.Prelude.{◌≡◌, ◌≤◌, ◌⊎◌, map, string_bytes};
+ghost use Rattle.std.specs.Prelude.{All, IfOk, ◌≡◌, ◌≤◌, ◌⊎◌, map, string_bytes};
+ghost use Rattle.slate_script.specs.Built.{IsBuilt};
 ghost use Rattle.slate_script.specs.Options.{options_of};
 ghost use Rattle.slate_script.specs.Replies.{replies_text};
 ghost use Rattle.slate_live.specs.Session.{Ends, EndsWriting, IsGiven, ReadsScript, input_ending, refused_line, script_ending, status_of};
@@ -106,6 +107,7 @@ impl Ending {
 /// Reads the commands of a script from a source, to its end.
 fn read_commands<I: Source>(alloc: Global, source: &mut I) -> Result<Vec<Command>, Ending>
     ensures faults { I.faults source.old ≤ I.faults source.new }
+    ensures built { IfOk result (λ commands. All (λ command. IsBuilt command.action) commands.items) }
     ensures reads { ReadsScript result (I.left source.old) (I.left source.new) (I.faults source.old) (I.faults source.new) }
 {
     let bytes = read_whole(alloc, source)?;

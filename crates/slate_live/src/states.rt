@@ -2,6 +2,7 @@ ghost use Rattle.std.specs.Prelude.{◌≡◌, ℕ, ◌≤◌, [], None, Option,
 ghost use Rattle.std.specs.Option.{option_copied};
 ghost use Rattle.slate_rows.specs.Operator.{Merge};
 ghost use Rattle.slate_rows.specs.Read.{IsOperator};
+ghost use Rattle.slate_script.specs.Built.{IsBuilt};
 ghost use Rattle.slate_live.specs.Links.{Links};
 ghost use Rattle.slate_live.specs.Next.{Next};
 ghost use Rattle.slate_live.specs.Valid.{Link};
@@ -69,7 +70,8 @@ impl LiveState {
         extractor: Option<&E>,
         command: &Command,
     ) -> Reply
-        requires { extractor ≡ None }
+        requires extractor { extractor ≡ None }
+        requires built { IsBuilt command.now.action }
         ensures faults { S.faults store.old ≤ S.faults store.new }
         ensures options { self.new.options ≡ self.old.options }
         ensures link { (merge : Option Merge) → IsOperator M.may_answer (option_copied operator.entry) merge →
@@ -88,7 +90,8 @@ impl LiveState {
         extractor: Option<&E>,
         command: &Command,
     ) -> Reply
-        requires { extractor ≡ None }
+        requires extractor { extractor ≡ None }
+        requires built { IsBuilt command.now.action }
         ensures faults { S.faults store.old ≤ S.faults store.new }
         ensures options { self.new.options ≡ self.old.options }
         ensures link { (merge : Option Merge) → IsOperator M.may_answer (option_copied operator.entry) merge →
@@ -117,7 +120,7 @@ impl LiveState {
                 command,
                 extractor,
             ),
-            Action::Flush { handle } => commands::flush(alloc, store, &mut self.objects, *handle),
+            Action::Flush { handle, .. } => commands::flush(alloc, store, &mut self.objects, *handle),
             Action::Get {
                 object,
                 key,
@@ -131,6 +134,9 @@ impl LiveState {
                 *remote,
                 operator,
             ),
+            Action::Close { object, options } => {
+                commands::close(alloc, store, &mut self.objects, *object, *options)
+            }
         }
     }
 }

@@ -18,6 +18,11 @@ abbrev pub fault_again : Result (Unit {0}) CloseFault → Option SlateError
 fault_again (Ok _) = Some Closed
 fault_again (Err fault) = None
 
+-- the error that a close answers, by how its flush ended
+abbrev pub fault_of : Result (Unit {0}) SlateError → Option SlateError
+fault_of (Ok _) = None
+fault_of (Err error) = Some error
+
 -- how the closing flush ended, by the error that the close answers
 abbrev pub closing_flush : Option SlateError → Result (Unit {0}) SlateError
 closing_flush None = Ok tt

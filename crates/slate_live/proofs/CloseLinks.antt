@@ -1,0 +1,125 @@
+use Rattle.std.proofs.Common.{◌≡◌, ℕ, ◌<◌, length, set, get_or, List, [], Option, Some, None, Result, Ok, Err, Bool, true, false, refl, sym, subst, ap, ◌∙◌}
+use Rattle.std.specs.List.{slice_get}
+use Rattle.std.specs.Option.{IfSome}
+use Rattle.slate_rows.specs.Line.{Line}
+use Rattle.slate_rows.specs.declared.options.FlushType.{FlushType}
+use Rattle.slate_rows.specs.declared.options.FlushType.TheVariants.{Wal, MemTable}
+use Rattle.slate_store.specs.declared.objects.VersionedManifest.{VersionedManifest}
+use Rattle.slate_store.specs.Objects.{Objects, latest_manifest}
+use Rattle.slate_status.specs.declared.closing.CloseFault.{CloseFault}
+use Rattle.slate_status.specs.declared.endings.Ended.{Ended}
+use Rattle.slate_status.specs.declared.endings.TaskName.{TaskName}
+use Rattle.slate_status.specs.declared.errors.SlateError.{SlateError}
+use Rattle.slate_status.specs.declared.errors.SlateError.TheVariants as errors
+use Rattle.slate_model.specs.Close.{closed, closing_flush, ended, fault_again, fault_of}
+use Rattle.slate_model.specs.Handle.{Handle, CloseResult}
+use Rattle.slate_model.specs.Flush.{CanFlush, flushed}
+use Rattle.slate_script.specs.Built.{closes_without_table}
+use Rattle.slate_script.specs.declared.replies.Reply.{Reply}
+use Rattle.slate_script.specs.declared.replies.Reply.TheVariants as replies
+use Rattle.slate_live.specs.declared.states.Object.{Object}
+use Rattle.slate_live.specs.declared.states.Object.TheVariants as objects
+use Rattle.slate_live.specs.Links.{Links}
+use Rattle.slate_live.specs.Live.{ClosesObject, Live, handle_of}
+use Rattle.slate_live.specs.Next.{Closes, ClosesOpen, ClosesUnless, ended_reply}
+use Rattle.slate_live.specs.Stands.{IsHandleAt, IsValidHandle, StandsFor}
+use Rattle.slate_live.specs.World.{World}
+use Rattle.slate_live.proofs.FlushLinks.{epoch-kept}
+use Rattle.slate_live.proofs.Handles.{distinct-set, valid-set}
+use Rattle.slate_live.proofs.Objects.{get_read}
+use Rattle.slate_live.proofs.StoreLinks.{handle_kept, store_now}
+
+-- a valid handle is one after its close
+closed-valid : (stored : Line) (latest : Option VersionedManifest) (h : Handle) → IsValidHandle stored latest h → IsValidHandle stored latest (closed h)
+closed-valid stored latest h valid =
+    record {
+      numbered = valid.numbered;
+      floor = valid.floor;
+      durable = valid.durable;
+      behind = valid.behind;
+      current = λ manifest live is current. absurd (cc);
+    }
+
+-- a close that flushes nothing leads to a world that the live state stands for
+close_only : (live : Live) (told told' : Option Objects) (faults faults' : ℕ) (n : ℕ) (h new : Handle) → new ≡ closed h → told' ≡ told → faults' ≡ faults → IsHandleAt live.objects n h → (w : World) → StandsFor live told faults w → StandsFor (record { options = live.options; objects = set live.objects n (objects.Handle new); writes = live.writes }) told' faults' (record w { objects = set w.objects n (objects.Handle (closed h)) })
+close_only live told told' faults faults' n h new is same_told same_faults at w stands =
+    let held = stands.held in
+    let there : IsHandleAt w.objects n h = subst (λ os. IsHandleAt os n h) stands.objects at in
+    let valid = stands.valid in
+    record {
+      held = (held.0, same_told ∙ held.1, held.2, record { stored = held.3.stored; catalogue = held.3.catalogue });
+      faults = same_faults ∙ stands.faults;
+      objects = ap (λ os. set os n (objects.Handle new)) stands.objects ∙ ap (λ x. set w.objects n (objects.Handle x)) is;
+      writes = stands.writes;
+      valid = record {
+        handles = valid-set (IsValidHandle w.stored (latest_manifest w.catalogue)) w.objects n h (closed h) there (closed-valid w.stored (latest_manifest w.catalogue) h (valid.handles n h there)) (λ m a other is. valid.handles m a is);
+        distinct = distinct-set w.objects n h (closed h) there refl valid.distinct;
+      };
+    }
+
+-- the reply by how the closing flush ended
+same_fault : (fault : Option SlateError) → fault_of (closing_flush fault) ≡ fault
+same_fault None = refl
+same_fault (Some error) = refl
+
+module _ (flush_type : Option FlushType) (live : Live) (told told' : Option Objects) (faults faults' : ℕ) (n : ℕ) (h new : Handle) (r : Ended) (c : ClosesObject flush_type h new r told told' faults faults') (at : IsHandleAt live.objects n h) (w : World) (stands : StandsFor live told faults w) where
+  Linked : (World → Type 0) → Type 0
+  Linked next = (w' : World) × next w' × StandsFor (record { options = live.options; objects = set live.objects n (objects.Handle new); writes = live.writes }) told' faults' w'
+
+  reply-is : (e : Ended) → r ≡ e → ended_reply r.fault r.tasks ≡ ended_reply e.fault e.tasks
+  reply-is e is = ap (λ (x : Ended). ended_reply x.fault x.tasks) is
+
+  linked-only : (fault : Option SlateError) → r ≡ ended fault → new ≡ closed h → told' ≡ told → faults' ≡ faults → Linked (λ w'. (ended_reply r.fault r.tasks ≡ ended_reply fault []) × (w' ≡ record w { objects = set w.objects n (objects.Handle (closed h)) }))
+  unfolding Linked
+  linked-only fault is same_new same_told same_faults =
+      (record w { objects = set w.objects n (objects.Handle (closed h)) }, (reply-is (ended fault) is, refl), close_only live told told' faults faults' n h new same_new same_told same_faults at w stands)
+
+  linked-log : (keeps : Bool) → h.result ≡ None → flush_type ≡ Some Wal → h.keeps_log ≡ keeps → Linked (ClosesOpen (Some Wal) keeps w n h (ended_reply r.fault r.tasks))
+  unfolding Linked
+  linked-log false live_ type_is without =
+      let d = c.disabled live_ type_is without in
+      linked-only (Some errors.WalDisabled) d.0 d.1 d.2 d.3
+  linked-log true live_ type_is with_log =
+      let can = (live_, with_log) in
+      let flush = closing_flush r.fault in
+      let leaves = λ (view : VersionedManifest) (result : Result (Unit {0}) SlateError). closed (flushed h view result) in
+      let l = store_now (λ result. ended_reply (fault_of result) []) leaves live told told' faults faults' n h new new.view flush
+      (λ s l v. closed-valid s l (flushed h new.view flush) v) (epoch-kept h new.view flush) (c.handle can type_is) (c.fault can type_is) (c.stores can type_is) can at w stands in
+      let same : ended_reply (fault_of flush) [] ≡ ended_reply r.fault r.tasks = ap (λ f. ended_reply f []) (same_fault r.fault) ∙ ap (ended_reply r.fault) (sym c.tasks) in
+      (l.0, subst (λ reply. ClosesOpen (Some Wal) true w n h reply l.0) same l.1, l.2)
+
+  linked-open : (asked : Option FlushType) → flush_type ≡ asked → (asked ≡ Some MemTable → ⊥) → h.result ≡ None → Linked (ClosesOpen asked h.keeps_log w n h (ended_reply r.fault r.tasks))
+  unfolding Linked
+  linked-open None is built live_ =
+      let u = c.unflushed live_ is in
+      linked-only None u.0 u.1 u.2 u.3
+  linked-open (Some Wal) is built live_ = linked-log h.keeps_log live_ is refl
+  linked-open (Some MemTable) is built live_ = absurd (built refl)
+
+  linked-result : (result : CloseResult) → (flush_type ≡ Some MemTable → ⊥) → h.result ≡ result → Linked (ClosesUnless result flush_type h.keeps_log w n h (ended_reply r.fault r.tasks))
+  unfolding Linked
+  linked-result None built is = linked-open flush_type refl built is
+  linked-result (Some q) built is =
+      let d = subst (λ x. IfSome x (λ r'. (r ≡ ended (fault_again r')) × (new ≡ h) × (told' ≡ told) × (faults' ≡ faults))) is c.again in
+      (w, (reply-is (ended (fault_again q)) d.0, refl), handle_kept live told told' faults faults' n h new d.1 d.2 d.3 at w stands)
+
+  -- every close of a handle that stands there leads to a world that the live state stands for
+  pub close_links : (flush_type ≡ Some MemTable → ⊥) → (w' : World) × Closes w n flush_type (ended_reply r.fault r.tasks) w' × StandsFor (record { options = live.options; objects = set live.objects n (objects.Handle new); writes = live.writes }) told' faults' w'
+  unfolding Linked
+  close_links built =
+      let there : slice_get w.objects n ≡ Some (objects.Handle h) = subst (λ os. IsHandleAt os n h) stands.objects at in
+      let l = linked-result h.result built refl in
+      (l.0, rw there l.1, l.2)
+
+-- a number without an object
+pub unclosed_links : (flush_type : Option FlushType) (live : Live) (told : Option Objects) (faults : ℕ) (n : ℕ) → slice_get live.objects n ≡ None → (w : World) → StandsFor live told faults w → Closes w n flush_type replies.Unknown w
+unclosed_links flush_type live told faults n none w stands =
+    let nothing : slice_get w.objects n ≡ None = subst (λ os. slice_get os n ≡ None) stands.objects none in
+    rw nothing (refl, refl)
+
+-- the same of the object at a place
+pub close_object : (flush_type : Option FlushType) (live : Live) (told told' : Option Objects) (faults faults' : ℕ) (n : ℕ) (x x' : Object) (r : Ended) (reply : Reply) → (flush_type ≡ Some MemTable → ⊥) → ClosesObject flush_type (handle_of x) (handle_of x') r told told' faults faults' → x' ≡ objects.Handle (handle_of x') → n < length live.objects → x ≡ get_or live.objects n x → reply ≡ ended_reply r.fault r.tasks → Links (λ w reply w'. Closes w n flush_type reply w') live told faults reply (record { options = live.options; objects = set live.objects n x'; writes = live.writes }) told' faults'
+close_object flush_type live told told' faults faults' n (objects.Handle h) x' r reply built c kind low at answer w stands =
+    let there : IsHandleAt live.objects n h = get_read live.objects n (objects.Handle h) low at in
+    let l = close_links flush_type live told told' faults faults' n h (handle_of x') r c there w stands built in
+    (l.0, subst (λ a. Closes w n flush_type a l.0) (sym answer) l.1, subst (λ y. StandsFor (record { options = live.options; objects = set live.objects n y; writes = live.writes }) told' faults' l.0) (sym kind) l.2)

@@ -5,7 +5,7 @@ use Rattle.std.proofs.lemmas.List.Elements.{All-append, All-from_recursion, filt
 use Rattle.slate_rows.specs.declared.batches.Batch.{Batch}
 use Rattle.slate_rows.specs.Line.{AreNumberedFrom, batches_above}
 use Rattle.slate_rows.proofs.Lines.{above-push}
-use Rattle.slate_replay.specs.Replay.{EndBy, ComeNext, AppendsNext}
+use Rattle.slate_replay.specs.Replay.{EndBy, ComeNext, AppendsNext, IsFront}
 use Rattle.slate_replay.proofs.Logs.{numbered-parts}
 
 -- the first of batches that come next do so too
@@ -70,3 +70,16 @@ module _ (floor : ℕ) (old m xs : List Batch) (b : Batch) (so_far : AppendsNext
             let next = next-is (omega arith) (front-next n (xs ++ b ∷ []) rest (subst (ComeNext n) (sym is) h)) in
             omega arith,
       )
+
+-- what was appended so far is a front of what is appended in all
+pub unfinished : (floor : ℕ) (old m xs all : List Batch) → AppendsNext floor old m xs (Ok true) → xs ≡ take (length xs) all → ComeNext (floor + length old) all → IsFront m (old ++ batches_above (floor + length old) all)
+unfinished floor old m xs all so_far front next =
+    let n = floor + length old in
+    let rest = drop (length xs) all in
+    let is : xs ++ rest ≡ all = ap (λ ys. ys ++ rest) front ∙ take-append-drop (length xs) all in
+    let parts : batches_above n all ≡ batches_above n xs ++ batches_above n rest = ap (batches_above n) (sym is) ∙ filter-append (λ b. ltb n b.number) xs rest in
+    let m-is = so_far.1 (front-next n xs rest (subst (ComeNext n) (sym is) next)) in (
+      batches_above n rest,
+      ap (λ ys. old ++ ys) parts
+          ∙ (sym (append_assoc old (batches_above n xs) (batches_above n rest)) ∙ ap (λ ys. ys ++ batches_above n rest) (sym m-is)),
+    )

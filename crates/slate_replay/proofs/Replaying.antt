@@ -1,6 +1,7 @@
-use Rattle.std.proofs.Common.{◌≡◌, ℕ, ◌+◌, ◌-◌, ◌<◌, ◌≤◌, inl, inr, List, ◌++◌, length, max, take, drop, Option, Some, None, Ok, true, false, sym, subst, ap, ◌∙◌, arith, add-one, length-append, append_assoc, ltb}
+use Rattle.std.proofs.Common.{◌≡◌, ℕ, ◌+◌, ◌-◌, ◌<◌, ◌≤◌, inl, inr, List, [], ◌++◌, length, max, take, drop, Option, Some, None, Ok, true, false, sym, subst, ap, ◌∙◌, arith, add-one, length-append, append_assoc, ltb}
 use Rattle.std.proofs.Math.Seq.{take-add}
 use Rattle.std.proofs.lemmas.Bool.{cases_lt}
+use Rattle.std.proofs.lemmas.List.{append-nil}
 use Rattle.std.proofs.lemmas.List.Elements.{filter-append}
 use Rattle.std.proofs.lemmas.Grind.{flat_map-append}
 use Rattle.std.specs.List.{flat_map}
@@ -9,35 +10,46 @@ use Rattle.slate_rows.specs.declared.batches.Batch.{Batch}
 use Rattle.slate_rows.specs.Line.{AreNumberedFrom, batches_above}
 use Rattle.slate_store.specs.Objects.{Objects, entry_at, log_at}
 use Rattle.slate_store.specs.Content.{logs_above}
-use Rattle.slate_replay.specs.Replay.{IsReplayable, replayed, EndBy, IsWhole, IsTornAt, ComeNext, AppendsNext}
+use Rattle.slate_replay.specs.Replay.{IsReplayable, replayed, EndBy, IsWhole, IsTornAt, ComeNext, AppendsNext, IsFront}
 use Rattle.slate_replay.proofs.Logs.{numbered-parts, above-same, entry-above, gapless-stored, gapless-next}
 
 -- the batches of the log files above a mark, up to an id
 abbrev read : (mark last : ℕ) → Objects → List Batch
 read mark last o = flat_map (λ log. log.1) (take (last - mark) (logs_above mark o))
 
--- those up to a later one have more
-read-more : (mark before last : ℕ) (o : Objects) → mark ≤ before → before ≤ last → (more : List Batch) × (read mark last o ≡ read mark before o ++ more)
-read-more mark before last o low high =
+-- those of the log files up to a later id begin with them
+pub replayed-more : (mark before last n : ℕ) (o : Objects) → mark ≤ before → before ≤ last → IsFront (replayed mark before n o) (replayed mark last n o)
+replayed-more mark before last n o low high =
     let logs = logs_above mark o in
     let k = before - mark in
-    let n = last - before in
-    let e : last - mark ≡ k + n = omega arith in (
-      flat_map (λ log. log.1) (take n (drop k logs)),
-      ap (λ i. flat_map (λ log. log.1) (take i logs)) e
-          ∙ (ap (flat_map (λ log. log.1)) (take-add k n logs) ∙ flat_map-append (λ log. log.1) (take k logs) (take n (drop k logs))),
+    let j = last - before in
+    let more = flat_map (λ log. log.1) (take j (drop k logs)) in
+    let e : last - mark ≡ k + j = omega arith in (
+      batches_above n more,
+      ap (λ i. batches_above n (flat_map (λ log. log.1) (take i logs))) e
+          ∙ (ap (λ ls. batches_above n (flat_map (λ log. log.1) ls)) (take-add k j logs)
+          ∙ (ap (batches_above n) (flat_map-append (λ log. log.1) (take k logs) (take j (drop k logs)))
+          ∙ filter-append (λ b. ltb n b.number) (read mark before o) more)),
     )
 
 -- what can be replayed up to an id can be up to an earlier one
 pub replayable-front : (mark before last n : ℕ) (o : Objects) → mark ≤ before → before ≤ last → IsReplayable mark last n o → IsReplayable mark before n o
 replayable-front mark before last n o low high is =
-    let more = read-more mark before last o low high in
-    let parts = ap (batches_above n) more.1 ∙ filter-append (λ b. ltb n b.number) (read mark before o) more.0 in
+    let more = replayed-more mark before last n o low high in
     record {
       gapless = is.gapless;
       stored = let h = is.stored in omega arith;
-      numbered = (numbered-parts n (replayed mark before n o) (batches_above n more.0) (subst (AreNumberedFrom n) parts is.numbered)).0;
+      numbered = (numbered-parts n (replayed mark before n o) more.0 (subst (AreNumberedFrom n) more.1 is.numbered)).0;
     }
+
+-- a front of what was replayed up to an id is a front of what is replayed up to a later one
+front-later : (mark before last n : ℕ) (old m : List Batch) (o : Objects) → mark ≤ before → before ≤ last → IsFront m (old ++ replayed mark before n o) → IsFront m (old ++ replayed mark last n o)
+front-later mark before last n old m o low high front =
+    let more = replayed-more mark before last n o low high in (
+      front.0 ++ more.0,
+      ap (λ xs. old ++ xs) more.1
+          ∙ (sym (append_assoc old (replayed mark before n o) more.0) ∙ (ap (λ xs. xs ++ more.0) front.1 ∙ append_assoc m front.0 more.0)),
+    )
 
 module _ (mark before n : ℕ) (o : Objects) (low : mark ≤ before) (is : IsReplayable mark (before + 1) n o) where
   -- the place of the next log file
@@ -102,38 +114,56 @@ module _ (mark before floor : ℕ) (old m : List Batch) (o : Objects) (low : mar
   ends : IsReplayable mark (before + 1) (floor + length old) o → floor + length m ≡ (floor + length old) + length (replayed mark before (floor + length old) o)
   ends is = let l = ap length (appended is) ∙ length-append old (replayed mark before (floor + length old) o) in omega (arith, l)
 
-  module _ (m' log : List Batch) (longer : length m ≤ length m') (found : log_at (before + 1) o ≡ Some log) where
-    pub gap-torn : (last : ℕ) → before < last → AppendsNext floor m m' log (Ok false) → IsTornAt (before + 1) mark last floor old m' o
-    gap-torn last less gap =
-        let n = floor + length old in
-        record {
-          above = omega arith;
-          within = omega arith;
-          earlier = λ id over within. stored-more (floor + length m) (floor + length m') (log_at id o) (omega arith) (so_far.stored id over (omega arith));
-          torn = rw found gap.0;
-          missing = λ all.
-              let is = replayable-front mark (before + 1) last n o (omega arith) (omega arith) all in
-              gap.1 (comes-next mark before n o low is log found (floor + length m) (ends is));
-        }
+  -- a read that fails
+  pub failed-front : (last : ℕ) → before ≤ last → IsReplayable mark last (floor + length old) o → IsFront m (old ++ replayed mark last (floor + length old) o)
+  failed-front last high is =
+      let n = floor + length old in
+      let so = so_far.appended (replayable-front mark before last n o low high is) in
+      front-later mark before last n old m o low high ([], sym so ∙ sym (append-nil m))
 
-    pub whole-next : AppendsNext floor m m' log (Ok true) → IsWhole mark (before + 1) floor old m' o
-    whole-next next =
+  module _ (log : List Batch) (found : log_at (before + 1) o ≡ Some log) where
+    -- the batches of the next log file come next, and with them all are there up to it
+    come-next : IsReplayable mark (before + 1) (floor + length old) o → ComeNext (floor + length m) log
+    come-next is = comes-next mark before (floor + length old) o low is log found (floor + length m) (ends is)
+
+    all-next : IsReplayable mark (before + 1) (floor + length old) o → m ++ batches_above (floor + length m) log ≡ old ++ replayed mark (before + 1) (floor + length old) o
+    all-next is =
         let n = floor + length old in
-        record {
-          stored = λ id over within.
-              elim (cases_lt before id) [
-                | inl above ↦
-                    let same : before + 1 ≡ id = omega arith in
-                    subst (λ k. MatchOption (log_at k o) ⊥ (EndBy (floor + length m'))) same (rw found next.0)
-                | inr below ↦ stored-more (floor + length m) (floor + length m') (log_at id o) (omega arith) (so_far.stored id over below)
-              ];
-          appended = λ is.
-              next.1 (comes-next mark before n o low is log found (floor + length m) (ends is))
-              ∙ (ap (λ xs. m ++ xs) (above-next mark before n o low is log found (floor + length m) (ends is))
-              ∙ (ap (λ xs. xs ++ batches_above n log) (appended is)
-              ∙ (append_assoc old (replayed mark before n o) (batches_above n log)
-              ∙ ap (λ xs. old ++ xs) (sym (replayed-next mark before n o low is log found)))));
-        }
+        ap (λ xs. m ++ xs) (above-next mark before n o low is log found (floor + length m) (ends is))
+        ∙ (ap (λ xs. xs ++ batches_above n log) (appended is)
+        ∙ (append_assoc old (replayed mark before n o) (batches_above n log)
+        ∙ ap (λ xs. old ++ xs) (sym (replayed-next mark before n o low is log found))))
+
+    -- a log file whose batches were not all appended, for want of memory
+    pub unfinished-front : (m' : List Batch) (last : ℕ) → before < last → (ComeNext (floor + length m) log → IsFront m' (m ++ batches_above (floor + length m) log)) → IsReplayable mark last (floor + length old) o → IsFront m' (old ++ replayed mark last (floor + length old) o)
+    unfinished-front m' last less front all =
+        let n = floor + length old in
+        let is = replayable-front mark (before + 1) last n o (omega arith) (omega arith) all in
+        front-later mark (before + 1) last n old m' o (omega arith) (omega arith) (subst (IsFront m') (all-next is) (front (come-next is)))
+
+    module _ (m' : List Batch) (longer : length m ≤ length m') where
+      pub gap-torn : (last : ℕ) → before < last → AppendsNext floor m m' log (Ok false) → IsTornAt (before + 1) mark last floor old m' o
+      gap-torn last less gap =
+          record {
+            above = omega arith;
+            within = omega arith;
+            earlier = λ id over within. stored-more (floor + length m) (floor + length m') (log_at id o) (omega arith) (so_far.stored id over (omega arith));
+            torn = rw found gap.0;
+            missing = λ all. gap.1 (come-next (replayable-front mark (before + 1) last (floor + length old) o (omega arith) (omega arith) all));
+          }
+
+      pub whole-next : AppendsNext floor m m' log (Ok true) → IsWhole mark (before + 1) floor old m' o
+      whole-next next =
+          record {
+            stored = λ id over within.
+                elim (cases_lt before id) [
+                  | inl above ↦
+                      let same : before + 1 ≡ id = omega arith in
+                      subst (λ k. MatchOption (log_at k o) ⊥ (EndBy (floor + length m'))) same (rw found next.0)
+                  | inr below ↦ stored-more (floor + length m) (floor + length m') (log_at id o) (omega arith) (so_far.stored id over below)
+                ];
+            appended = λ is. next.1 (come-next is) ∙ all-next is;
+          }
 
 -- the end of the ids
 pub whole-end : (mark before last floor : ℕ) (old m : List Batch) (o : Objects) → before ≤ max mark last → last ≤ before → IsWhole mark before floor old m o → IsWhole mark last floor old m o

@@ -47,11 +47,16 @@ pub record IsTornAt (id mark last floor : ℕ) (old new : List Batch) (objects :
   pub torn : MatchOption (log_at id objects) (Unit {0}) (HaveGapAfter (floor + length new))
   pub missing : IsReplayable mark last (floor + length old) objects → ⊥
 
--- what a replay leaves of the batches that it found
+-- one list of batches begins another
+abbrev pub IsFront : List Batch → List Batch → Type 0
+IsFront front batches = (rest : List Batch) × (batches ≡ front ++ rest)
+
+-- what a replay leaves of the batches that it found; one that fails leaves the first of those that it was to leave
 abbrev pub Replays : (mark last floor : ℕ) → (old new : List Batch) → Objects → Result Replayed StoreError → Type 0
 Replays mark last floor old new objects (Ok Whole) = IsWhole mark last floor old new objects
 Replays mark last floor old new objects (Ok (Torn id)) = IsTornAt id mark last floor old new objects
-Replays mark last floor old new objects (Err error) = Unit {0}
+Replays mark last floor old new objects (Err error) =
+    IsReplayable mark last (floor + length old) objects → IsFront new (old ++ replayed mark last (floor + length old) objects)
 
 -- Batches come next after a number: those of them above it are numbered from it on.
 abbrev pub ComeNext : ℕ → List Batch → Type 0
@@ -64,4 +69,6 @@ AppendsNext floor old new batches (Ok true) =
     × (ComeNext (floor + length old) batches → new ≡ old ++ batches_above (floor + length old) batches)
 AppendsNext floor old new batches (Ok false) =
     HaveGapAfter (floor + length new) batches × (ComeNext (floor + length old) batches → ⊥)
-AppendsNext floor old new batches (Err error) = error ≡ NoMemory
+AppendsNext floor old new batches (Err error) =
+    (error ≡ NoMemory)
+    × (ComeNext (floor + length old) batches → IsFront new (old ++ batches_above (floor + length old) batches))

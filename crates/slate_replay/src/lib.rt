@@ -1,4 +1,4 @@
-//! Replays log files: the batches that a store's log files have, joined into one list.
+//! Replays log files: what they have after a mark is appended to the batches in memory.
 #![tactic(auto)]
 
 mod replays;

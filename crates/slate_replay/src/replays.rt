@@ -13,16 +13,16 @@ use std::alloc::Global;
 pub enum Replayed {
     /// All log files were there, and their batches come one after another.
     Whole,
-    /// The log file with this id isn't stored, or it has a batch that comes too late: one before it is missing.
+    /// The log file with this id isn't stored, or has a batch past the next number: one before it is missing.
     Torn(u64),
 }
 
 /// Appends to `memory` the batches of the log files above `mark` up to `last`, in order, and passes those that it has
 /// already. `floor` is the number before the first batch of `memory`.
 ///
-/// It ends at the first log file that isn't stored, or that has a batch past the next number; `memory` has the batches
-/// before it then. It answers `Failed` where a read of the store failed, and `NoMemory`; `memory` may have grown by
-/// some batches then. It takes time linear in the batches that it reads, and copies none.
+/// It ends at the first log file that isn't stored, or that has a batch past the next number. It answers `Failed`,
+/// where a read of the store failed, and `NoMemory`; `memory` has the first of the batches then, and another replay
+/// goes on after them. It takes time linear in the batches that it reads, and copies none.
 pub fn replay<S: Store>(
     alloc: Global,
     store: &mut S,

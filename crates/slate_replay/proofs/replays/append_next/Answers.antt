@@ -1,10 +1,10 @@
-use Rattle.std.proofs.Common.{◌≡◌, ◌+◌, ◌<◌, ◌++◌, [], ◌∷◌, length, ap, sym, ◌∙◌, arith, length-append, append_assoc}
+use Rattle.std.proofs.Common.{◌≡◌, ◌+◌, ◌<◌, ◌++◌, [], ◌∷◌, length, refl, ap, sym, ◌∙◌, arith, length-append, append_assoc}
 use Rattle.std.proofs.lemmas.List.{map-id}
 use Rattle.std.proofs.lemmas.List.Elements.{All-from_recursion}
 use Rattle.std.proofs.lemmas.Iterator.Adapters.{YieldsList-from_vec}
 use Rattle.std.proofs.lemmas.Iterator.Consumers.{YieldsList-turn, YieldsList-so_far}
 use Rattle.slate_rows.proofs.Lines.{numbered-below, numbered-push}
-use Rattle.slate_replay.proofs.Appending.{passed, pushed, gap}
+use Rattle.slate_replay.proofs.Appending.{passed, pushed, gap, unfinished}
 use Rattle.slate_replay.proofs.replays.append_next.Goals as goal
 
 pub loop-batch-preserved-then-batch-end : goal.loop-batch-preserved-then-batch-end
@@ -45,3 +45,12 @@ loop-batch-preserved c =
       grows = (i.grows.0 ++ c.in-Some.batch ∷ [], ap (λ xs. xs ++ c.in-Some.batch ∷ []) i.grows.1 ∙ append_assoc c.args.memory.now i.grows.0 (c.in-Some.batch ∷ []));
       appended = pushed c.args.floor c.args.memory.now c.loop-batch.memory c.loop-batch.yielded c.in-Some.batch i.appended (omega (arith, l)) next;
     })
+
+pub returns-then-is_err-clause-appended : goal.returns-then-is_err-clause-appended
+returns-then-is_err-clause-appended c =
+    let i = c.loop-batch.invariant in
+    let kept : c.push.new.self ≡ c.loop-batch.memory = grind arith in
+    let given = c.into_iter-batch-iterator.ensures.into_iter_gives in
+    let all = YieldsList-from_vec c.args.batches.items given.0 (given.1 ∙ c.args.batches.ok.0) in
+    let front = sym (map-id c.loop-batch.yielded) ∙ YieldsList-so_far all c.loop-batch.yielded c.loop-batch.batch-iterator c.loop-batch.yielded_by in
+    (refl, λ next. rw kept (unfinished c.args.floor c.args.memory.now c.loop-batch.memory c.loop-batch.yielded c.args.batches.items i.appended front next))

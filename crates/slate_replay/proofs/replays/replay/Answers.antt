@@ -1,5 +1,6 @@
 use Rattle.std.proofs.Common.{◌++◌, length, refl, ap, ◌∙◌, arith, length-append, append_assoc}
-use Rattle.slate_replay.proofs.Replaying.{missing-torn, gap-torn, whole-next, whole-end, known}
+use Rattle.std.proofs.lemmas.Result.{err_from_is_err_and}
+use Rattle.slate_replay.proofs.Replaying.{missing-torn, failed-front, unfinished-front, gap-torn, whole-next, whole-end, known}
 use Rattle.slate_replay.proofs.replays.replay.Goals as goal
 
 pub returns-in-Err-NotFound-clause-told : goal.returns-in-Err-NotFound-clause-told
@@ -14,7 +15,7 @@ returns-then-not-branch-clause-told g c =
     let grows = c.in_ok-append_next.ensures.grows in
     let l = ap length grows.1 ∙ length-append c.loop-before.memory grows.0 in
     known _ _ i.kept i.whole c.in-Ok.ensures.found
-    (λ o whole found. gap-torn c.args.mark c.loop-before.before c.args.floor c.args.memory.now c.loop-before.memory o (omega arith) whole c.append_next.new.memory c.in-Ok.log (omega (arith, l)) found c.args.last (omega arith) (rw (c.if-not-branch.true, c.into_vec.ensures) at c.in_ok-append_next.ensures.appended))
+    (λ o whole found. gap-torn c.args.mark c.loop-before.before c.args.floor c.args.memory.now c.loop-before.memory o (omega arith) whole c.in-Ok.log found c.append_next.new.memory (omega (arith, l)) c.args.last (omega arith) (rw (c.if-not-branch.true, c.into_vec.ensures) at c.in_ok-append_next.ensures.appended))
 
 pub loop-before-preserved : goal.loop-before-preserved
 loop-before-preserved g c =
@@ -29,7 +30,7 @@ loop-before-preserved g c =
       count = let n = c.read_log.ensures.counts.fault_count in omega (arith, n, i.count);
       within = omega arith;
       whole = known _ _ i.kept i.whole c.in-Ok.ensures.found
-          (λ o whole found. whole-next c.args.mark c.loop-before.before c.args.floor c.args.memory.now c.loop-before.memory o (omega arith) whole c.append_next.new.memory c.in-Ok.log (omega (arith, l)) found (rw (c.if-not-branch.false, c.into_vec.ensures) at e.appended));
+          (λ o whole found. whole-next c.args.mark c.loop-before.before c.args.floor c.args.memory.now c.loop-before.memory o (omega arith) whole c.in-Ok.log found c.append_next.new.memory (omega (arith, l)) (rw (c.if-not-branch.false, c.into_vec.ensures) at e.appended));
     }
 
 pub returns-clause-told : goal.returns-clause-told
@@ -37,3 +38,17 @@ returns-clause-told g c =
     let i = c.loop-before.invariant in
     known _ _ refl i.whole i.whole
     (λ o whole again. whole-end c.args.mark c.loop-before.before c.args.last c.args.floor c.args.memory.now c.loop-before.memory o (omega arith) (omega arith) whole)
+
+pub returns-in-Err-clause-told : goal.returns-in-Err-clause-told
+returns-in-Err-clause-told g c =
+    let i = c.loop-before.invariant in
+    known _ _ refl i.whole i.whole
+    (λ o whole again. failed-front c.args.mark c.loop-before.before c.args.floor c.args.memory.now c.loop-before.memory o (omega arith) whole c.args.last (omega arith))
+
+pub returns-in_err-append_next-clause-told : goal.returns-in_err-append_next-clause-told
+returns-in_err-append_next-clause-told g c =
+    let i = c.loop-before.invariant in
+    let p = err_from_is_err_and c.from_residual.result c.from_residual.ensures.1 in
+    rw p.1
+    (known _ _ i.kept i.whole c.in-Ok.ensures.found
+    (λ o whole found. unfinished-front c.args.mark c.loop-before.before c.args.floor c.args.memory.now c.loop-before.memory o (omega arith) whole c.in-Ok.log found c.append_next.new.memory c.args.last (omega arith) (rw c.into_vec.ensures at c.in_err-append_next.ensures.appended.1)))

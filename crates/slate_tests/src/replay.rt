@@ -1,0 +1,55 @@
+use slate_replay::{Replayed, replay};
+use slate_rows::{Batch, IndexedTable, Seq};
+use slate_store::{MemoryStore, Store};
+use std::alloc::Global;
+use std::test::Fail;
+
+// Log files, each with its id and the numbers of its batches.
+type Logs = &'static [(u64, &'static [u64])];
+
+const LOGS: Logs = &[(1, &[]), (2, &[1, 2]), (3, &[3])];
+
+// The number before the first batch in memory, the mark, the last id, the log files, how their replay ends, and how
+// many batches it appends.
+const CASES: [(u64, u64, u64, Logs, Replayed, usize); 9] = [
+    (0, 0, 0, LOGS, Replayed::Whole, 0),
+    (0, 0, 2, LOGS, Replayed::Whole, 2),
+    (0, 0, 3, LOGS, Replayed::Whole, 3),
+    (0, 0, 4, LOGS, Replayed::Torn(4), 3),
+    (2, 2, 3, LOGS, Replayed::Whole, 1),
+    (1, 0, 3, LOGS, Replayed::Whole, 2),
+    (0, 2, 3, LOGS, Replayed::Torn(3), 0),
+    (0, 0, 3, &[(1, &[1]), (3, &[2])], Replayed::Torn(2), 1),
+    (0, 0, 2, &[(1, &[1]), (2, &[2, 4])], Replayed::Torn(2), 2),
+];
+
+fn store_of(alloc: Global, logs: Logs) -> Result<MemoryStore, Fail> {
+    let mut store = MemoryStore::new(alloc);
+    for (id, numbers) in logs {
+        let mut batches = Vec::new(alloc);
+        for number in *numbers {
+            batches.push(Batch {
+                number: *number,
+                create_ts: 0,
+                ops: Seq::of(Vec::new(alloc)),
+            })?;
+        }
+        store.put_log(alloc, *id, batches.as_slice())?;
+    }
+    Ok(store)
+}
+
+// Another replay ends as the first one, and appends nothing.
+#[test]
+fn replays(rt: HostRuntime) -> Result<(), Fail> {
+    let alloc = rt.alloc();
+    for (floor, mark, last, logs, end, count) in CASES {
+        let mut store = store_of(alloc, logs)?;
+        let mut memory = IndexedTable::new(alloc);
+        let first = replay(alloc, &mut store, &mut memory, floor, mark, last);
+        let second = replay(alloc, &mut store, &mut memory, floor, mark, last);
+        assert_eq!(rt; (first, second), (Ok(end), Ok(end)));
+        assert_eq!(rt; memory.batches().len(), count);
+    }
+    Ok(())
+}

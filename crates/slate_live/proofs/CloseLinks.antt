@@ -1,27 +1,26 @@
-use Rattle.std.proofs.Common.{◌≡◌, ℕ, ◌<◌, length, set, get_or, List, [], Option, Some, None, Result, Ok, Err, Bool, true, false, refl, sym, subst, ap, ◌∙◌}
+use Rattle.std.proofs.Common.{◌≡◌, ℕ, ◌<◌, length, set, get_or, [], Option, Some, None, Result, Bool, true, false, refl, sym, subst, ap, ◌∙◌}
 use Rattle.std.specs.List.{slice_get}
-use Rattle.std.specs.Option.{IfSome}
+use Rattle.std.specs.Option.{IfSome, UnwrapsOrElse}
 use Rattle.slate_rows.specs.Line.{Line}
+use Rattle.slate_rows.specs.declared.options.CloseOptions.{CloseOptions}
 use Rattle.slate_rows.specs.declared.options.FlushType.{FlushType}
 use Rattle.slate_rows.specs.declared.options.FlushType.TheVariants.{Wal, MemTable}
 use Rattle.slate_store.specs.declared.objects.VersionedManifest.{VersionedManifest}
 use Rattle.slate_store.specs.Objects.{Objects, latest_manifest}
-use Rattle.slate_status.specs.declared.closing.CloseFault.{CloseFault}
 use Rattle.slate_status.specs.declared.endings.Ended.{Ended}
-use Rattle.slate_status.specs.declared.endings.TaskName.{TaskName}
 use Rattle.slate_status.specs.declared.errors.SlateError.{SlateError}
 use Rattle.slate_status.specs.declared.errors.SlateError.TheVariants as errors
 use Rattle.slate_model.specs.Close.{closed, closing_flush, ended, fault_again, fault_of}
 use Rattle.slate_model.specs.Handle.{Handle, CloseResult}
 use Rattle.slate_model.specs.Flush.{CanFlush, flushed}
-use Rattle.slate_script.specs.Built.{closes_without_table}
+use Rattle.slate_script.specs.Built.{closes_without_table, puts_no_table}
 use Rattle.slate_script.specs.declared.replies.Reply.{Reply}
 use Rattle.slate_script.specs.declared.replies.Reply.TheVariants as replies
 use Rattle.slate_live.specs.declared.states.Object.{Object}
 use Rattle.slate_live.specs.declared.states.Object.TheVariants as objects
 use Rattle.slate_live.specs.Links.{Links}
 use Rattle.slate_live.specs.Live.{ClosesObject, Live, handle_of}
-use Rattle.slate_live.specs.Next.{Closes, ClosesOpen, ClosesUnless, ended_reply}
+use Rattle.slate_live.specs.Next.{Closes, ClosesOpen, ClosesUnless, ended_reply, flush_of_close}
 use Rattle.slate_live.specs.Stands.{IsHandleAt, IsValidHandle, StandsFor}
 use Rattle.slate_live.specs.World.{World}
 use Rattle.slate_live.proofs.FlushLinks.{epoch-kept}
@@ -80,7 +79,7 @@ module _ (flush_type : Option FlushType) (live : Live) (told told' : Option Obje
       let d = c.disabled live_ type_is without in
       linked-only (Some errors.WalDisabled) d.0 d.1 d.2 d.3
   linked-log true live_ type_is with_log =
-      let can = (live_, with_log) in
+      let can : CanFlush h = (live_, with_log) in
       let flush = closing_flush r.fault in
       let leaves = λ (view : VersionedManifest) (result : Result (Unit {0}) SlateError). closed (flushed h view result) in
       let l = store_now (λ result. ended_reply (fault_of result) []) leaves live told told' faults faults' n h new new.view flush
@@ -123,3 +122,15 @@ close_object flush_type live told told' faults faults' n (objects.Handle h) x' r
     let there : IsHandleAt live.objects n h = get_read live.objects n (objects.Handle h) low at in
     let l = close_links flush_type live told told' faults faults' n h (handle_of x') r c there w stands built in
     (l.0, subst (λ a. Closes w n flush_type a l.0) (sym answer) l.1, subst (λ y. StandsFor (record { options = live.options; objects = set live.objects n y; writes = live.writes }) told' faults' l.0) (sym kind) l.2)
+
+-- a close that can be run asks for no table
+pub asks-no-table : (options : Option CloseOptions) → closes_without_table options ≡ true → flush_of_close options ≡ Some MemTable → ⊥
+asks-no-table None built asked = absurd (cc)
+asks-no-table (Some options) built asked =
+    let none : puts_no_table (Some MemTable) ≡ true = subst (λ t. puts_no_table t ≡ true) asked built in
+    absurd (cc)
+
+-- what a close asks for where its options are the default ones
+pub asks-default : (P : CloseOptions → Type 0) (options : Option CloseOptions) (o : CloseOptions) → ((x : CloseOptions) → P x → x ≡ record { flush_type = Some MemTable }) → UnwrapsOrElse options P o → o.flush_type ≡ flush_of_close options
+asks-default P None o default h = ap (λ (x : CloseOptions). x.flush_type) (default o h)
+asks-default P (Some x) o default h = ap (λ (x : CloseOptions). x.flush_type) h

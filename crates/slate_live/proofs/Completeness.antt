@@ -6,7 +6,7 @@ use Rattle.slate_rows.specs.Operator.{Merge}
 use Rattle.slate_rows.specs.declared.batches.KeyValue.{KeyValue}
 use Rattle.slate_rows.specs.declared.reads.ReadFault.{ReadFault}
 use Rattle.slate_rows.specs.declared.reads.ReadFault.TheVariants as reads
-use Rattle.slate_store.specs.declared.errors.StoreFault.TheVariants.{NotFound, Unavailable}
+use Rattle.slate_store.specs.declared.errors.StoreFault.TheVariants.{Unavailable}
 use Rattle.slate_store.specs.declared.objects.VersionedManifest.{VersionedManifest}
 use Rattle.slate_store.specs.Objects.{latest_manifest, last_log}
 use Rattle.slate_status.specs.declared.errors.SlateError.{SlateError}

@@ -12,7 +12,7 @@ use Rattle.slate_live.specs.declared.states.Object.{Object}
 use Rattle.slate_live.specs.declared.states.Object.TheVariants as objects
 use Rattle.slate_live.specs.Links.{Links}
 use Rattle.slate_live.specs.Live.{Live, FlushesObject, handle_of}
-use Rattle.slate_live.specs.Next.{Flushes, FlushesUnless, StoresIn, done_or_refused}
+use Rattle.slate_live.specs.Next.{Flushes, FlushesUnless, done_or_refused}
 use Rattle.slate_live.specs.Stands.{IsHandleAt, StandsFor}
 use Rattle.slate_live.specs.World.{World}
 use Rattle.slate_live.proofs.Objects.{get_read}
@@ -33,7 +33,7 @@ module _ (live : Live) (told told' : Option Objects) (faults faults' : ℕ) (n :
       let d = f.disabled live_ without in
       (w, (ap (done_or_refused replies.Flushed) d.0, refl), handle_kept live told told' faults faults' n h new d.1 d.2 d.3 at w stands)
   linked-log true live_ with_log =
-      let can = (live_, with_log) in
+      let can : CanFlush h = (live_, with_log) in
       store_now (done_or_refused replies.Flushed) (flushed h) live told told' faults faults' n h new new.view r (λ s l v. v) (epoch-kept h new.view r) (f.handle can) (f.fault can) (f.stores can) can at w stands
 
   linked-result : (result : CloseResult) → h.result ≡ result → Linked (FlushesUnless result h.keeps_log w n h (done_or_refused replies.Flushed r))

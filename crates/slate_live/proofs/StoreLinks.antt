@@ -1,4 +1,4 @@
-use Rattle.std.proofs.Common.{◌≡◌, ◌≢◌, inl, inr, ℕ, ◌<◌, ◌≤◌, length, set, Option, Some, None, Result, Ok, Err, refl, sym, subst, ap, ◌∙◌, arith}
+use Rattle.std.proofs.Common.{◌≡◌, ◌≢◌, inl, inr, ℕ, ◌≤◌, set, Option, Some, Result, refl, sym, subst, ap, ◌∙◌, arith}
 use Rattle.slate_rows.specs.Line.{AreNumberedFrom, Line, end, extended}
 use Rattle.slate_store.specs.Calls.{Told}
 use Rattle.slate_store.specs.declared.objects.VersionedManifest.{VersionedManifest}

@@ -1,4 +1,4 @@
-use Rattle.std.specs.Prelude.{◌≡◌, ℕ, false, List, [], Option, Some, None, Result, Err, IfSome}
+use Rattle.std.specs.Prelude.{◌≡◌, ◌≤◌, ℕ, false, List, [], Option, Some, None, Result, Err, IfSome}
 use Rattle.slate_store.specs.Objects.{Objects}
 use Rattle.slate_store.specs.Calls.{Told}
 use Rattle.slate_status.specs.declared.errors.SlateError.{SlateError}
@@ -27,6 +27,7 @@ handle_of (objects.Handle handle) = handle
 -- what a handle's own call says of a close: of a closed handle, of one that flushes nothing, of one that keeps no log,
 -- and of one that goes to the store
 pub record ClosesObject (flush_type : Option FlushType) (old new : Handle) (result : Ended) (told told' : Option Objects) (faults faults' : ℕ) : Type 0 where
+  pub count : faults ≤ faults'
   pub again : IfSome old.result (λ r. (result ≡ ended (fault_again r)) × (new ≡ old) × (told' ≡ told) × (faults' ≡ faults))
   pub unflushed : old.result ≡ None → flush_type ≡ None → (result ≡ ended None) × (new ≡ closed old) × (told' ≡ told) × (faults' ≡ faults)
   pub disabled : old.result ≡ None → flush_type ≡ Some Wal → old.keeps_log ≡ false →

@@ -21,8 +21,8 @@ ghost use Rattle.slate_script.specs.declared.options.Options.{Options};
 use crate::states::{Object, Write};
 use bytes::Bytes;
 use slate_rows::{
-    CloseOptions, DurabilityLevel, FlushType, KeyOp, KeyValue, MergeOperator, NoMemory, Op, PrefixExtractor,
-    ReadOptions, Seq, WriteBatch,
+    CloseOptions, DurabilityLevel, FlushType, KeyOp, KeyValue, MergeOperator, NoMemory, Op,
+    PrefixExtractor, ReadOptions, Seq, WriteBatch,
 };
 use slate_script::{Command, Options, Reply};
 use slate_status::{Ended, SlateError};

@@ -120,7 +120,12 @@ impl LiveState {
                 command,
                 extractor,
             ),
-            Action::Flush { handle, .. } => commands::flush(alloc, store, &mut self.objects, *handle),
+            Action::Flush { handle, .. } => commands::flush(
+                alloc,
+                store,
+                &mut self.objects,
+                *handle,
+            ),
             Action::Get {
                 object,
                 key,

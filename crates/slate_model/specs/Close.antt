@@ -1,4 +1,4 @@
-use Rattle.std.specs.Prelude.{List, [], Option, Some, None, Result, Ok, Err}
+use Rattle.std.specs.Prelude.{[], Option, Some, None, Result, Ok, Err}
 use Rattle.slate_status.specs.declared.closing.CloseFault.{CloseFault}
 use Rattle.slate_status.specs.declared.endings.Ended.{Ended}
 use Rattle.slate_status.specs.declared.errors.SlateError.{SlateError}

@@ -2,6 +2,7 @@ pub mod Catalogue
 pub mod Changes
 pub mod Close
 pub mod Flush
+pub mod Follower
 pub mod Handle
 pub mod Open
 pub mod Read

@@ -5,9 +5,14 @@ use slate_status::{Ending, SlateError};
 #[derive(Debug, Drop)]
 pub enum Reply {
     /// A handle was opened.
-    Handle { object: u64 },
+    Handle {
+        object: u64,
+    },
     /// A write was accepted, under this number of its batch.
-    Written { write: u64, number: u64 },
+    Written {
+        write: u64,
+        number: u64,
+    },
     /// What a read found.
     Found(KeyValue),
     /// A read found nothing.

@@ -1,4 +1,4 @@
-ghost use Rattle.std.specs.Prelude.{◌≡◌, ◌≢◌, ℕ, [], Some, None, true, false, IfSome};
+ghost use Rattle.std.specs.Prelude.{◌≡◌, ◌≢◌, ◌≤◌, ℕ, [], Some, None, true, false, IfSome};
 ghost use Rattle.slate_store.specs.Calls.{Told};
 ghost use Rattle.slate_model.specs.Close.{closed, closing_flush, ended, fault_again};
 ghost use Rattle.slate_model.specs.Flush.{CanFlush, StoresBatches, TellsFaults, flushed};
@@ -27,6 +27,7 @@ impl WriterState {
         ensures disabled { self.old.result ≡ None → options.now.flush_type ≡ Some FlushType.Wal → self.old.keeps_log ≡ false →
             (result ≡ ended (Some SlateError.WalDisabled)) × (self.new ≡ closed self.old) × (store.new ≡ store.old) }
         ensures tasks { result.tasks ≡ [] }
+        ensures count { S.faults store.old ≤ S.faults store.new }
         ensures handle { CanFlush self.old → options.now.flush_type ≡ Some FlushType.Wal →
             self.new ≡ closed (flushed self.old self.new.view (closing_flush result.fault)) }
         ensures faults { CanFlush self.old → options.now.flush_type ≡ Some FlushType.Wal →

@@ -24,3 +24,9 @@ returns-in-Flush-clause-link g c merge lawful =
     rw (← c.self.view_is) (λ w stands.
     let l = c.flush.ensures.link c.self.inside.options c.self.inside.writes.items w stands in
     (l.0, subst (λ a. NextBy (record { merge = merge; options = c.self.inside.options }) w c.args.command.now.moment c.args.command.now.second a c.flush.result l.0) (sym c.in-Flush.is) l.1, l.2))
+
+pub returns-in-Close-clause-link : goal.returns-in-Close-clause-link
+returns-in-Close-clause-link g c merge lawful =
+    rw (← c.self.view_is) (λ w stands.
+    let l = c.close.ensures.link c.self.inside.options c.self.inside.writes.items w stands in
+    (l.0, subst (λ a. NextBy (record { merge = merge; options = c.self.inside.options }) w c.args.command.now.moment c.args.command.now.second a c.close.result l.0) (sym c.in-Close.is) l.1, l.2))

@@ -1,3 +1,4 @@
+use Rattle.std.specs.Prelude.{Result, Ok, Err}
 use Rattle.slate_rows.specs.declared.reads.ReadFault.{ReadFault}
 use Rattle.slate_rows.specs.declared.reads.ReadFault.TheVariants as reads
 use Rattle.slate_store.specs.declared.errors.StoreError.{StoreError}
@@ -31,3 +32,8 @@ error_of_fault faults.TransactionalObjectVersionExists = errors.TransactionalObj
 error_of_fault faults.LatestTransactionalObjectVersionMissing = errors.LatestTransactionalObjectVersionMissing
 error_of_fault (faults.TransactionalObjectTimeout tries) = errors.TransactionalObjectTimeout tries
 error_of_fault (faults.Custom number) = errors.Custom number
+
+-- what a checked call on something that closed with this result answers
+abbrev pub closed_error : Result (Unit {0}) CloseFault → SlateError
+closed_error (Ok _) = errors.Closed
+closed_error (Err fault) = error_of_fault fault

@@ -1,5 +1,5 @@
 -- The kind of each error, the words of a kind, and the reason for closing that it tells.
-use Rattle.std.specs.Prelude.{ℕ, List, codes}
+use Rattle.std.specs.Prelude.{ℕ, List, Option, Some, None, codes}
 use Rattle.slate_store.specs.declared.errors.StoreFault.TheVariants.{NotFound, Unavailable}
 use Rattle.slate_status.specs.declared.closing.CloseReason.{CloseReason}
 use Rattle.slate_status.specs.declared.closing.CloseReason.TheVariants as reasons
@@ -7,6 +7,8 @@ use Rattle.slate_status.specs.declared.kinds.ErrorKind.{ErrorKind}
 use Rattle.slate_status.specs.declared.kinds.ErrorKind.TheVariants as kinds
 use Rattle.slate_status.specs.declared.errors.SlateError.{SlateError}
 use Rattle.slate_status.specs.declared.errors.SlateError.TheVariants as errors
+use Rattle.slate_status.specs.declared.errors.RetryReason.{RetryReason}
+use Rattle.slate_status.specs.declared.errors.RetryReason.TheVariants as retries
 
 -- the kind of an error
 abbrev pub kind_of : SlateError → ErrorKind
@@ -52,6 +54,14 @@ kind_of errors.NoMemory = kinds.Memory
 abbrev pub reason_of : ErrorKind → CloseReason
 reason_of (kinds.Closed reason) = reason
 reason_of other = reasons.Panic
+
+-- why reading again may help, after an error
+abbrev pub retry_reason : SlateError → Option RetryReason
+retry_reason errors.ChecksumMismatch = Some retries.CrcMismatch
+retry_reason errors.EmptyBlock = Some retries.BlockDecodeError
+retry_reason errors.EmptyBlockMeta = Some retries.BlockDecodeError
+retry_reason errors.InvalidFilterBlock = Some retries.BlockDecodeError
+retry_reason other = None
 
 -- the words of a kind
 abbrev pub kind_words : ErrorKind → List ℕ

@@ -1,3 +1,6 @@
 pub mod Errors
 pub mod Kinds
+pub mod PublicErrors
+pub mod Records
+pub mod Segments
 pub mod Texts

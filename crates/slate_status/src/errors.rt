@@ -1,7 +1,8 @@
-ghost use Rattle.std.specs.Prelude.{◌≡◌};
+ghost use Rattle.std.specs.Prelude.{◌≡◌, ◌↔◌, IsTrue};
+ghost use Rattle.slate_store.specs.declared.errors.StoreFault.TheVariants.{NotFound};
 ghost use Rattle.slate_status.specs.declared.errors.SlateError.TheVariants.{NoMemory as OutOfMemory};
 ghost use Rattle.slate_status.specs.Errors.{error_of_read, error_of_store, error_of_fault};
-ghost use Rattle.slate_status.specs.Kinds.{kind_of};
+ghost use Rattle.slate_status.specs.Kinds.{kind_of, retry_reason};
 
 use crate::{CloseFault, CloseReason, ErrorKind};
 use bytes::Bytes;
@@ -133,22 +134,6 @@ impl SlateError {
             SlateError::ObjectStoreError(StoreFault::Unavailable)
             | SlateError::TransactionalObjectTimeout { .. }
             | SlateError::Backpressure { .. } => ErrorKind::Unavailable,
-            SlateError::EmptyBatch
-            | SlateError::InvalidSegmentPrefix { .. }
-            | SlateError::RecencyScanPrefixSpansMultipleSegments
-            | SlateError::SegmentExtractorMismatch { .. }
-            | SlateError::SegmentPrefixNotRecognized { .. }
-            | SlateError::EmptySegmentPrefix { .. }
-            | SlateError::InvalidClockTick { .. }
-            | SlateError::MergeOperatorError
-            | SlateError::MergeOperatorMissing
-            | SlateError::IncompatibleMergeTtls { .. }
-            | SlateError::SeekKeyOutOfRange { .. }
-            | SlateError::SeekKeyLessThanLastReturnedKey
-            | SlateError::InvalidCheckpointLifetime(_)
-            | SlateError::InvalidManifestPollInterval(_)
-            | SlateError::CheckpointLifetimeTooShort { .. }
-            | SlateError::WalDisabled => ErrorKind::Invalid,
             SlateError::EmptyKey
             | SlateError::ObjectStoreError(StoreFault::NotFound)
             | SlateError::TransactionalObjectVersionExists
@@ -164,8 +149,46 @@ impl SlateError {
                 ErrorKind::Internal
             }
             SlateError::NoMemory => ErrorKind::Memory,
+            _ => ErrorKind::Invalid,
         }
     }
+}
+
+impl SlateError {
+    /// Whether it says that a manifest or a log file of that id was put before. It takes no memory.
+    pub fn is_sequenced_write_conflict(&self) -> bool
+        ensures { IsTrue result ↔ (self.now ≡ SlateError.TransactionalObjectVersionExists) }
+    {
+        matches!(self, SlateError::TransactionalObjectVersionExists)
+    }
+
+    /// Whether it says that an object isn't in the object store. It takes no memory.
+    pub fn has_object_store_not_found(&self) -> bool
+        ensures { IsTrue result ↔ (self.now ≡ SlateError.ObjectStoreError NotFound) }
+    {
+        matches!(self, SlateError::ObjectStoreError(StoreFault::NotFound))
+    }
+
+    /// Why reading the data again may help, where it may. It takes no memory.
+    pub fn maybe_validation_retry_reason(&self) -> Option<RetryReason>
+        ensures { result ≡ retry_reason self.now }
+    {
+        match self {
+            SlateError::ChecksumMismatch => Some(RetryReason::CrcMismatch),
+            SlateError::EmptyBlock | SlateError::EmptyBlockMeta | SlateError::InvalidFilterBlock =>
+                Some(RetryReason::BlockDecodeError),
+            _ => None,
+        }
+    }
+}
+
+/// Why data that was read is worth being read again. SlateDB's enum of this name.
+#[derive(Clone, Copy, Debug, PartialEq, Eq)]
+pub enum RetryReason {
+    /// A checksum didn't match.
+    CrcMismatch,
+    /// A block could not be decoded.
+    BlockDecodeError,
 }
 
 impl From<NoMemory> for SlateError {

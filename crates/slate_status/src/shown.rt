@@ -28,6 +28,14 @@ impl Shown for u64 {
     }
 }
 
+impl Shown for u32 {
+    ghost shown = { decimal };
+
+    fn show(&self, out: &mut Vec<u8>) -> Result<(), NoMemory> {
+        write_number(out, u64::from(*self))
+    }
+}
+
 impl Shown for i64 {
     ghost shown = { signed_decimal };
 

@@ -1,0 +1,65 @@
+use Rattle.std.proofs.Common.{◌≡◌, ℕ, ◌+◌, ◌<◌, ◌⊎◌, inl, inr, false, true, List, [], ◌∷◌, ◌++◌, length, take, get_or, map, Result, Ok, Err, refl, ap, subst, sym}
+use Rattle.std.specs.Prelude.{All, Contains, IfOk, is_ok}
+use Rattle.std.specs.List.{HoldsAt}
+use Rattle.std.specs.declared.cmp.Ordering.TheVariants.{Equal}
+use Rattle.std.proofs.lemmas.List.{take_more}
+use Rattle.std.specs.BTreeSet.{BTreeSet, IsFromIterResult}
+use Rattle.std.specs.Ordering.{nat_cmp}
+use Rattle.std.specs.Cmp.Lexicographic.{slice_cmp, nat_list_cmp_total}
+use Rattle.std.proofs.lemmas.List.Elements.{All-push, Contains-append_left, Contains-append_right, Contains-append_cases}
+use Rattle.std.proofs.lemmas.Map.Lookups.{exact_bytes}
+use Rattle.std.proofs.lemmas.Map.Views.{btree_set_contains_iff, btree_set_contains_from_list}
+use Rattle.std.specs.List.Sorted.{IsSearchInRange, IsStrictlySortedBy}
+use Rattle.slate_status.specs.Records.{Record, Reports, with_segments}
+use Rattle.slate_status.specs.Segments.{AreRising, IsUnion}
+use Rattle.slate_status.specs.declared.segments.SegmentPrefix.{SegmentPrefix}
+
+in_either : (first second : List (List ℕ)) (p : List ℕ) → Contains first p ⊎ Contains second p → Contains (first ++ second) p
+in_either first second p (inl h) = Contains-append_left first second p h
+in_either first second p (inr h) = Contains-append_right first second p h
+
+-- a set of all prefixes of two lists is their union
+pub union_of_set : (first second all union : List (List ℕ)) (set : BTreeSet (List ℕ)) → all ≡ first ++ second → IsFromIterResult (slice_cmp nat_cmp) all set → union ≡ set.keys → IsUnion first second union
+union_of_set first second all union set joined made listed =
+    let of_set = λ (p : List ℕ). btree_set_contains_iff nat_list_cmp_total exact_bytes set p in
+    let of_all = λ (p : List ℕ). btree_set_contains_from_list nat_list_cmp_total exact_bytes all set made p in
+    record {
+      rising = subst (λ (ps : List (List ℕ)). IsStrictlySortedBy (slice_cmp nat_cmp) ps) (sym listed) made.1;
+      members = λ p. (
+        λ h. Contains-append_cases first second p (subst (λ ps. Contains ps p) joined ((of_all p).0 ((of_set p).1 (subst (λ ps. Contains ps p) listed h)))),
+        λ h. subst (λ ps. Contains ps p) (sym listed) ((of_set p).0 ((of_all p).1 (subst (λ ps. Contains ps p) (sym joined) (in_either first second p h)))),
+      );
+    }
+
+-- no prefix is rising
+pub rising-nil : AreRising []
+unfolding IsStrictlySortedBy
+rising-nil = tt
+
+-- segments of these prefixes have them
+pub prefixes_of_named : (prefixes : List (List ℕ)) → map (λ (s : SegmentPrefix). s.prefix) (map (λ (p : List ℕ). record { prefix = p }) prefixes) ≡ prefixes
+prefixes_of_named [] = refl
+prefixes_of_named (p ∷ ps) = ap (λ qs. p ∷ qs) (prefixes_of_named ps)
+
+-- a prefix that a search finds is there
+pub contains_found : (present : List (List ℕ)) (p : List ℕ) (r : Result ℕ ℕ) → IsSearchInRange r (length present) → IfOk r (HoldsAt (λ y. slice_cmp nat_cmp y p ≡ Equal) present) → is_ok r ≡ true → Contains present p
+contains_found present p (Ok i) within here found = (i, within, exact_bytes _ _ (here p))
+contains_found present p (Err i) within here found = absurd (cc)
+
+-- one more of the prefixes is there
+pub All-take_more : (present prefixes : List (List ℕ)) (i : ℕ) (p : List ℕ) → i < length prefixes → p ≡ get_or prefixes i p → Contains present p → All (Contains present) (take i prefixes) → All (Contains present) (take (i + 1) prefixes)
+All-take_more present prefixes i p within is here before =
+    rw (take_more prefixes i p within) (All-push (Contains present) (take i prefixes) (get_or prefixes i p) before (subst (λ q. Contains present q) is here))
+
+-- where all are there, the union is what is there, and nothing is reported
+pub nothing_added : (old : Record) (present prefixes : List (List ℕ)) → present ≡ old.segments → AreRising present → All (Contains present) prefixes
+    → (added : List (List ℕ)) × IsUnion old.segments prefixes added × Reports old (with_segments added old) old false
+nothing_added old present prefixes is rising all = (
+  old.segments,
+  subst (λ ps. IsUnion ps prefixes ps) is (record { rising = rising; members = λ p. (λ h. inl h, either p) }),
+  record { differs = λ h. absurd (cc); same = λ _. refl; after = refl },
+)
+  where
+    either : (p : List ℕ) → Contains present p ⊎ Contains prefixes p → Contains present p
+    either p (inl h) = h
+    either p (inr h) = subst (λ q. Contains present q) h.2 (all h.0 p h.1)

@@ -1,0 +1,10 @@
+use Rattle.std.proofs.Common.{◌≡◌, ◌∙◌, ap, map}
+use Rattle.slate_status.specs.declared.segments.SegmentPrefix.{SegmentPrefix}
+use Rattle.slate_status.proofs.Unions.{prefixes_of_named}
+use Rattle.slate_status.proofs.statuses.DbStatus.list_segments.Goals as goal
+
+pub returns : goal.returns
+returns c =
+    let listed : map (λ (s : SegmentPrefix). s.prefix) c.of.result ≡ c.in_ok-prefixes.prefixes.items =
+    ap (map (λ (s : SegmentPrefix). s.prefix)) (c.of.ensures ∙ c.in_ok-segments_of.ensures) ∙ prefixes_of_named c.in_ok-prefixes.prefixes.items in
+    rw (listed, ← c.as_slice-stored.ensures, ← c.as_slice.ensures) c.in_ok-prefixes.ensures

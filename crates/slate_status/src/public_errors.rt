@@ -1,0 +1,177 @@
+ghost use Rattle.std.specs.Prelude.{◌≡◌, ◌++◌, length, take, Some, OnOk, OnErr};
+ghost use Rattle.std.specs.Option.{option_copied};
+ghost use Rattle.slate_status.specs.Kinds.{kind_of};
+
+use crate::kinds::words_of;
+use crate::texts::{source_of, write_message, write_source};
+use crate::{CloseReason, ErrorKind, SlateError};
+use slate_rows::{Name, NoMemory};
+use slate_text::{cut_back, write_text};
+use std::marker::Model;
+
+/// What an error comes from.
+#[derive(Debug, Drop)]
+enum Origin {
+    /// An error that a call answered.
+    Cause(SlateError),
+    /// A message of this kind.
+    Told(ErrorKind, Name),
+}
+
+/// An error as a caller sees it: its kind, its message, and its source where it has one. SlateDB's `Error`. A contract
+/// sees these, and the error of the product that caused it, where one did.
+#[derive(Debug, Drop)]
+pub struct Error {
+    origin: Origin,
+    // It takes the place of the cause's own source.
+    source: Option<Name>,
+}
+
+impl Model for Error {
+    ghost use Rattle.slate_status.specs.PublicErrors.{PublicError, from_origin, with_source};
+
+    ghost Value = { PublicError };
+
+    ghost view = { λ e. with_source e.source (from_origin e.origin) };
+}
+
+impl Error {
+    ghost use Rattle.slate_status.specs.PublicErrors.{told, public_text};
+
+    /// An error of a transaction, with this message. It takes no memory.
+    pub fn transaction(msg: Name) -> Error
+        ensures { result ≡ told ErrorKind.Transaction msg }
+    {
+        Error::told(ErrorKind::Transaction, msg)
+    }
+
+    /// An error of what is closed for this reason, with this message. It takes no memory.
+    pub fn closed(msg: Name, reason: CloseReason) -> Error
+        ensures { result ≡ told (ErrorKind.Closed reason) msg }
+    {
+        Error::told(ErrorKind::Closed(reason), msg)
+    }
+
+    /// An error of what isn't there now, with this message. It takes no memory.
+    pub fn unavailable(msg: Name) -> Error
+        ensures { result ≡ told ErrorKind.Unavailable msg }
+    {
+        Error::told(ErrorKind::Unavailable, msg)
+    }
+
+    /// An error of a call that may not be made, with this message. It takes no memory.
+    pub fn invalid(msg: Name) -> Error
+        ensures { result ≡ told ErrorKind.Invalid msg }
+    {
+        Error::told(ErrorKind::Invalid, msg)
+    }
+
+    /// An error of damaged data, with this message. It takes no memory.
+    pub fn data(msg: Name) -> Error
+        ensures { result ≡ told ErrorKind.Data msg }
+    {
+        Error::told(ErrorKind::Data, msg)
+    }
+
+    /// An error of the program itself, with this message. It takes no memory.
+    pub fn internal(msg: Name) -> Error
+        ensures { result ≡ told ErrorKind.Internal msg }
+    {
+        Error::told(ErrorKind::Internal, msg)
+    }
+
+    fn told(kind: ErrorKind, message: Name) -> Error
+        ensures { result ≡ told kind message }
+    {
+        Error {
+            origin: Origin::Told(kind, message),
+            source: None,
+        }
+    }
+
+    /// The same error with this source. It takes the place of one that was given before, and of the cause's own. It
+    /// takes no memory.
+    pub fn with_source(self, source: Name) -> Error
+        ensures { result ≡ record self { source = Some source } }
+    {
+        Error {
+            origin: self.origin,
+            source: Some(source),
+        }
+    }
+
+    /// What kind of error it is. It takes no memory.
+    pub fn kind(&self) -> ErrorKind
+        ensures { result ≡ self.now.kind }
+    {
+        match &self.origin {
+            Origin::Cause(error) => error.kind(),
+            Origin::Told(kind, _) => *kind,
+        }
+    }
+
+    /// The error of the product that caused it, where one did. It takes no memory.
+    pub fn cause(&self) -> Option<&SlateError>
+        ensures { option_copied result ≡ self.now.cause }
+    {
+        match &self.origin {
+            Origin::Cause(error) => Some(error),
+            Origin::Told(..) => None,
+        }
+    }
+
+    fn source(&self) -> Option<&str>
+        ensures { option_copied result ≡ self.now.source }
+    {
+        match (&self.source, &self.origin) {
+            (Some(source), _) => Some(source.as_str()),
+            (None, Origin::Cause(error)) => source_of(error),
+            (None, Origin::Told(..)) => None,
+        }
+    }
+
+    fn write_message(&self, out: &mut Vec<u8>) -> Result<(), NoMemory>
+        ensures ok { OnOk result (out.new.items ≡ out.old.items ++ self.now.message) }
+        ensures err { OnErr result (take (length out.old.items) out.new.items ≡ out.old.items) }
+    {
+        match &self.origin {
+            Origin::Cause(error) => write_message(out, error),
+            Origin::Told(_, message) => write_text(out, message.as_str()),
+        }
+    }
+
+    fn write_parts(&self, out: &mut Vec<u8>) -> Result<(), NoMemory>
+        ensures ok { OnOk result (out.new.items ≡ out.old.items ++ public_text self.now) }
+        ensures err { OnErr result (take (length out.old.items) out.new.items ≡ out.old.items) }
+    {
+        write_text(out, words_of(self.kind()))?;
+        write_text(out, ": ")?;
+        self.write_message(out)?;
+        write_source(out, self.source())
+    }
+
+    /// Writes its public text at the end: the words of its kind, `: `, its message, and in parentheses its source where
+    /// it has one. Where memory runs out, nothing was written. It takes time linear in the text.
+    pub fn write_text(&self, out: &mut Vec<u8>) -> Result<(), NoMemory>
+        ensures ok { OnOk result (out.new.items ≡ out.old.items ++ public_text self.now) }
+        ensures err { OnErr result (out.new.items ≡ out.old.items) }
+    {
+        let length = out.len();
+        let written = self.write_parts(out);
+        cut_back(out, length, written)
+    }
+}
+
+/// The error that a call answered, as its cause. It takes no memory.
+impl From<SlateError> for Error {
+    ghost use Rattle.slate_status.specs.PublicErrors.{caused_by};
+
+    ghost from_gives = { λ cause error. error ≡ caused_by cause };
+
+    fn from(cause: SlateError) -> Error {
+        Error {
+            origin: Origin::Cause(cause),
+            source: None,
+        }
+    }
+}

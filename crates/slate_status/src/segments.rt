@@ -1,0 +1,66 @@
+ghost use Rattle.std.specs.Prelude.{◌≡◌, ◌++◌, IfOk, IsTrue, All, Contains, map};
+ghost use Rattle.std.specs.Ordering.{nat_cmp};
+ghost use Rattle.std.specs.Cmp.Lexicographic.{slice_cmp};
+ghost use Rattle.std.specs.BTreeSet.{IsFromIterResult};
+ghost use Rattle.slate_status.specs.Segments.{IsUnion};
+
+use bytes::Bytes;
+use slate_rows::NoMemory;
+use std::alloc::Global;
+use std::collections::BTreeSet;
+
+/// A segment, by the prefix of its keys. Segments are ordered by it. SlateDB's type of this name.
+#[derive(Debug, PartialEq, Eq, PartialOrd, Ord, Drop)]
+pub struct SegmentPrefix {
+    pub prefix: Bytes,
+}
+
+// Copies of prefixes, which share their bytes.
+#[tactic(auto, using(slate_store::proofs::Copies::same_items))]
+pub(crate) fn copies(alloc: Global, prefixes: &[Bytes]) -> Result<Vec<Bytes>, NoMemory>
+    ensures { IfOk result (λ copies. copies.items ≡ prefixes.now) }
+{
+    Ok(prefixes.to_vec(alloc)?)
+}
+
+// The set of these prefixes.
+fn set_of(alloc: Global, prefixes: Vec<Bytes>) -> Result<BTreeSet<Bytes>, NoMemory>
+    ensures { IfOk result (IsFromIterResult (slice_cmp nat_cmp) prefixes.items) }
+{
+    Ok(prefixes.into_iter().collect(alloc)?)
+}
+
+// The prefixes of a set, rising.
+fn list_of(alloc: Global, set: BTreeSet<Bytes>) -> Result<Vec<Bytes>, NoMemory>
+    ensures { IfOk result (λ prefixes. prefixes.items ≡ set.keys) }
+{
+    Ok(set.into_iter().collect(alloc)?)
+}
+
+// The prefixes of either list, rising. It takes n log n comparisons, for n prefixes in both.
+pub(crate) fn union(
+    alloc: Global,
+    first: &[Bytes],
+    second: &[Bytes],
+) -> Result<Vec<Bytes>, NoMemory>
+    ensures { IfOk result (λ prefixes. IsUnion first.now second.now prefixes.items) }
+{
+    let mut all = copies(alloc, first)?;
+    all.append(&mut copies(alloc, second)?)?;
+    list_of(alloc, set_of(alloc, all)?)
+}
+
+// The segments of these prefixes, in their order.
+pub(crate) fn segments_of(
+    alloc: Global,
+    prefixes: Vec<Bytes>,
+) -> Result<Vec<SegmentPrefix>, NoMemory>
+    ensures { IfOk result (λ segments. segments.items ≡ map (λ p. record { prefix = p }) prefixes.items) }
+{
+    let segments = prefixes.into_iter();
+    Ok(
+        segments
+            .map(|prefix| SegmentPrefix { prefix })
+            .collect(alloc)?,
+    )
+}

@@ -7,6 +7,8 @@ use Rattle.slate_script.specs.declared.replies.Reply.{Reply}
 use Rattle.slate_live.specs.Live.{Live}
 use Rattle.slate_live.specs.Valid.{Chain, Link}
 use Rattle.slate_live.specs.Run.{LeadsTo}
+use Rattle.slate_rows.specs.Line.{IsPrefix}
+use Rattle.slate_live.proofs.Growing.{prefix-same, prefix-then}
 use Rattle.slate_live.specs.Settings.{Settings}
 use Rattle.slate_live.specs.Stands.{StandsFor}
 use Rattle.slate_live.specs.World.{World, start}
@@ -33,6 +35,14 @@ stands_start o told faults live no_object no_write is sound =
       };
     }
 
+-- what is stored in the first world of a chain is stored in the last
+pub chain-grows : (settings : Settings) (first last : World) (commands : List Command) (replies : List Reply) → Chain settings first commands replies last → IsPrefix first.stored last.stored
+chain-grows settings first last [] [] chain = subst (λ (w : World). IsPrefix first.stored w.stored) (sym chain) (prefix-same first.stored)
+chain-grows settings first last [] (r ∷ replies) chain = absurd chain
+chain-grows settings first last (c ∷ commands) [] chain = absurd chain
+chain-grows settings first last (c ∷ commands) (r ∷ replies) chain =
+    prefix-then first.stored (chain.0).stored last.stored (chain.1).grows (chain-grows settings chain.0 last commands replies chain.2)
+
 -- what the last world of a chain says of the store
 pub leads_to : (settings : Settings) (commands : List Command) (replies : List Reply) (o : Objects) (faults : ℕ) (live : Live) (told : Option Objects) (faults' : ℕ) (w : World) → Chain settings (start o faults) commands replies w → StandsFor live told faults' w → LeadsTo settings commands replies o faults told faults'
 leads_to settings commands replies o faults live told faults' w chain stands =
@@ -40,6 +50,7 @@ leads_to settings commands replies o faults live told faults' w chain stands =
     record {
       last = w;
       chain = chain;
+      grows = chain-grows settings (start o faults) w commands replies chain;
       after = held.0;
       told_after = held.1;
       sound = held.2;

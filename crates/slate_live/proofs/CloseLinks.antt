@@ -35,6 +35,7 @@ closed-valid stored latest h valid =
       numbered = valid.numbered;
       floor = valid.floor;
       durable = valid.durable;
+      confirmed = valid.confirmed;
       behind = valid.behind;
       current = λ manifest live is current. absurd (cc);
     }

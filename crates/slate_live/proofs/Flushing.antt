@@ -1,7 +1,7 @@
 use Rattle.std.proofs.Common.{◌≡◌, ℕ, ◌≤◌, List, [], ◌∷◌, length, Some, None, Result, Ok, Err, refl, sym, subst, ap, ◌∙◌, arith}
 use Rattle.std.proofs.lemmas.List.{append-nil}
 use Rattle.slate_rows.specs.declared.batches.Batch.{Batch}
-use Rattle.slate_rows.specs.Line.{Line, AreNumberedFrom, IsLine, end, extended, batches_above}
+use Rattle.slate_rows.specs.Line.{Line, IsPrefix, AreNumberedFrom, IsLine, end, extended, batches_above}
 use Rattle.slate_rows.proofs.Lines.{above-none}
 use Rattle.slate_store.specs.declared.objects.VersionedManifest.{VersionedManifest}
 use Rattle.slate_store.specs.declared.errors.StoreFault.TheVariants.{Unavailable}
@@ -12,7 +12,8 @@ use Rattle.slate_model.specs.Changes.{PartMade}
 use Rattle.slate_model.specs.Handle.{Handle, accepted, unstored}
 use Rattle.slate_model.specs.Flush.{CanFlush, FlushAnswer, FlushCause, StoresBatches, StoresOnly, flush_changes, flush_changes_by, flushed, recorded}
 use Rattle.slate_model.proofs.Reopened.{numbered_rest}
-use Rattle.slate_live.specs.Stands.{IsValidHandle}
+use Rattle.slate_live.specs.Stands.{IsValidHandle, up_to}
+use Rattle.slate_live.proofs.Growing.{prefix-extend, prefix-same, up_to-all}
 
 -- what isn't stored yet follows what is stored
 pub unstored_next : (stored : Line) (h : Handle) → IsLine h.line → extended stored (unstored h) ≡ h.line → AreNumberedFrom (end stored) (unstored h)
@@ -68,6 +69,25 @@ module _ (stored : Line) (o o' : Objects) (h : Handle) (r : Result (Unit {0}) Sl
   numbered-after (Ok x) = (v.numbered, refl, refl)
   numbered-after (Err e) = (v.numbered, refl, refl)
 
+  -- all of the handle's line is stored after a flush that answers Ok
+  found : (x : Unit {0}) → r ≡ Ok x → (latest_manifest o ≡ Some view) × (view.manifest.writer_epoch ≤ h.epoch)
+  found x is = subst (λ q. FlushAnswer h.epoch o q h.view view) is s.answer
+
+  all-confirmed : (line : Line) → line ≡ h.line → IsPrefix (up_to (accepted h) h.line) line
+  all-confirmed line is = subst (IsPrefix (up_to (accepted h) h.line)) (sym is) (subst (λ l. IsPrefix l h.line) (sym (up_to-all (accepted h) h.line (omega arith))) (prefix-same h.line))
+
+  confirmed-none : made ≡ 0 → (r' : Result (Unit {0}) SlateError) → r ≡ r' → IsPrefix (up_to (flushed h view r').durable (flushed h view r').line) stored
+  confirmed-none none (Err e) is = v.confirmed
+  confirmed-none none (Ok x) is =
+      let f = found x is in
+      let part = subst (λ q. PartMade q (length (flush_changes (λ xs. xs) (unstored h) o)) made) is s.part in
+      let nil : unstored h ≡ [] = nothing_left (unstored h) o view f.0 (sym none ∙ part) in
+      all-confirmed stored (ap (λ bs. record { floor = stored.floor; batches = bs }) (sym (append-nil stored.batches)) ∙ (ap (extended stored) (sym nil) ∙ v.current view can.0 f.0 f.1))
+
+  confirmed-one : (r' : Result (Unit {0}) SlateError) → r ≡ r' → IsPrefix (up_to (flushed h view r').durable (flushed h view r').line) (extended stored (unstored h))
+  confirmed-one (Err e) is = prefix-extend (up_to h.durable h.line) stored (unstored h) v.confirmed
+  confirmed-one (Ok x) is = let f = found x is in all-confirmed (extended stored (unstored h)) (v.current view can.0 f.0 f.1)
+
   -- the handle after a flush is valid over what is stored then
   pub valid-none : made ≡ 0 → IsValidHandle stored (latest_manifest o) (flushed h view r)
   valid-none none =
@@ -77,6 +97,7 @@ module _ (stored : Line) (o o' : Objects) (h : Handle) (r : Result (Unit {0}) Sl
         numbered = n.0;
         floor = subst (λ l. l.floor ≤ (flushed h view r).durable) (sym n.1) d.0;
         durable = subst (λ l. (flushed h view r).durable ≤ end l) (sym n.1) d.1;
+        confirmed = confirmed-none none r refl;
         behind = (v.behind.0, v.behind.1, subst (λ e. e ≤ v.behind.0.manifest.writer_epoch) (sym n.2) v.behind.2);
         current = λ manifest live latest current. current-none none r refl manifest live latest (subst (λ e. manifest.manifest.writer_epoch ≤ e) n.2 current);
       }
@@ -89,6 +110,7 @@ module _ (stored : Line) (o o' : Objects) (h : Handle) (r : Result (Unit {0}) Sl
         numbered = n.0;
         floor = subst (λ l. l.floor ≤ (flushed h view r).durable) (sym n.1) d.0;
         durable = subst (λ l. (flushed h view r).durable ≤ end l) (sym n.1) d.1;
+        confirmed = confirmed-one r refl;
         behind = (v.behind.0, v.behind.1, subst (λ e. e ≤ v.behind.0.manifest.writer_epoch) (sym n.2) v.behind.2);
         current = λ manifest live latest current. current-one one r refl manifest live latest (subst (λ e. manifest.manifest.writer_epoch ≤ e) n.2 current);
       }

@@ -1,8 +1,9 @@
-use Rattle.std.proofs.Common.{◌≡◌, ◌≢◌, inl, inr, ℕ, ℤ, zero, suc, List, [], ◌∷◌, ◌++◌, set, Option, Some, refl, sym, subst, ap, ◌∙◌, arith, append_assoc, length-append}
+use Rattle.std.proofs.Common.{◌≡◌, ◌≢◌, inl, inr, ℕ, ℤ, zero, suc, ◌-◌, List, [], ◌∷◌, ◌++◌, set, Option, Some, refl, sym, subst, ap, ◌∙◌, arith, append_assoc, length-append}
 use Rattle.std.specs.List.{slice_get}
 use Rattle.std.proofs.lemmas.Bool.{cases_eq}
+use Rattle.std.proofs.lemmas.List.{take-append-le}
 use Rattle.slate_rows.specs.declared.batches.KeyOp.{KeyOp}
-use Rattle.slate_rows.specs.Line.{Line, extended}
+use Rattle.slate_rows.specs.Line.{IsPrefix, Line, extended}
 use Rattle.slate_rows.proofs.Lines.{numbered-push, above-push}
 use Rattle.slate_store.specs.declared.objects.VersionedManifest.{VersionedManifest}
 use Rattle.slate_model.specs.Handle.{Handle, unstored}
@@ -72,6 +73,7 @@ valid-written stored latest h ops at v =
       numbered = numbered-push h.line.floor line b v.numbered refl;
       floor = v.floor;
       durable = simp length-append (omega (arith, durable));
+      confirmed = subst (λ bs. IsPrefix (record { floor = h.line.floor; batches = bs }) stored) (sym (take-append-le (h.durable - h.line.floor) line (b ∷ []) (omega (arith, durable)))) v.confirmed;
       behind = v.behind;
       current = λ manifest live is current.
           let before = v.current manifest live is current in

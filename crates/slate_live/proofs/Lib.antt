@@ -4,6 +4,7 @@ pub mod Completeness
 pub mod CloseLinks
 pub mod FlushLinks
 pub mod Flushing
+pub mod Growing
 pub mod Handles
 pub mod Objects
 pub mod OpenLinks

@@ -1,7 +1,7 @@
 use Rattle.std.proofs.Common.{◌≡◌, ◌⊎◌, inl, inr, ℕ, zero, suc, ◌+◌, ◌<◌, ◌≤◌, List, [], ◌∷◌, ◌++◌, length, Option, Some, Result, Ok, Err, true, refl, sym, subst, ap, ◌∙◌, arith}
 use Rattle.std.specs.List.{slice_get}
 use Rattle.std.proofs.lemmas.List.{append-nil}
-use Rattle.slate_rows.specs.Line.{Line, IsLine, end, extended}
+use Rattle.slate_rows.specs.Line.{Line, IsLine, IsPrefix, end, extended}
 use Rattle.slate_rows.proofs.Lines.{above-none}
 use Rattle.slate_store.specs.declared.objects.VersionedManifest.{VersionedManifest}
 use Rattle.slate_store.specs.Objects.{Objects, latest_manifest}
@@ -24,6 +24,7 @@ use Rattle.slate_live.specs.Live.{Live}
 use Rattle.slate_live.specs.Next.{OpensIn, done_or_refused, new_handle, objects_after_open, refusal}
 use Rattle.slate_live.specs.Stands.{IsValidHandle, IsHandleAt, StandsFor}
 use Rattle.slate_live.specs.World.{World}
+use Rattle.slate_live.proofs.Growing.{prefix-same, up_to-all}
 
 -- what stands in a list with one more at its end
 get-push : {X : Type 0} (xs : List X) (x y : X) (m : ℕ) → slice_get (xs ++ x ∷ []) m ≡ Some y → (slice_get xs m ≡ Some y) ⊎ ((m ≡ length xs) × (x ≡ y))
@@ -64,6 +65,7 @@ fenced stored latest latest' v h is older valid =
       numbered = valid.numbered;
       floor = valid.floor;
       durable = valid.durable;
+      confirmed = valid.confirmed;
       behind = (v, is, omega (arith, older));
       current = λ manifest live known above.
           let same : manifest ≡ v = cc in
@@ -79,6 +81,7 @@ valid-opened stored limit latest v is line =
       numbered = line;
       floor = omega arith;
       durable = omega arith;
+      confirmed = subst (λ l. IsPrefix l stored) (sym (up_to-all (end stored) stored (omega arith))) (prefix-same stored);
       behind = (v, is, omega arith);
       current = λ manifest live known current. ap (extended stored) none ∙ ap (λ bs. record { floor = stored.floor; batches = bs }) (append-nil stored.batches);
     }

@@ -15,8 +15,9 @@ use Rattle.slate_script.specs.declared.replies.Reply.{Reply}
 use Rattle.slate_live.specs.declared.states.Object.TheVariants as objects
 use Rattle.slate_live.specs.Live.{Live}
 use Rattle.slate_live.specs.Next.{StoresIn, stored_after}
-use Rattle.slate_live.specs.Stands.{Holds, IsValid, IsValidHandle, IsHandleAt, StandsFor}
+use Rattle.slate_live.specs.Stands.{Holds, IsValid, up_to, IsValidHandle, IsHandleAt, StandsFor}
 use Rattle.slate_live.specs.World.{World}
+use Rattle.slate_live.proofs.Growing.{prefix-extend}
 use Rattle.slate_live.proofs.Flushing.{unstored_next, valid-none, valid-one}
 use Rattle.slate_live.proofs.Handles.{valid-set, distinct-set, set-same}
 
@@ -50,6 +51,7 @@ module _ (w : World) (o o' : Objects) (n : ℕ) (h : Handle) (r : Result (Unit {
         numbered = v.numbered;
         floor = v.floor;
         durable = v.durable;
+        confirmed = prefix-extend (up_to a.durable a.line) w.stored (unstored h) v.confirmed;
         behind = v.behind;
         current = λ manifest live known above.
             let same : manifest ≡ latest = cc in

@@ -1,6 +1,7 @@
 use Rattle.std.specs.Prelude.{◌≡◌, ℕ, List, Option, Some}
 use Rattle.slate_store.specs.Objects.{Objects}
-use Rattle.slate_store.specs.Content.{IsSound}
+use Rattle.slate_rows.specs.Line.{IsPrefix}
+use Rattle.slate_store.specs.Content.{IsSound, content}
 use Rattle.slate_script.specs.declared.commands.Command.{Command}
 use Rattle.slate_script.specs.declared.replies.Reply.{Reply}
 use Rattle.slate_live.specs.Valid.{Chain}
@@ -9,10 +10,11 @@ use Rattle.slate_live.specs.Settings.{Settings}
 use Rattle.slate_live.specs.World.{World, start}
 
 -- The commands lead from the world of these objects to one that the store holds afterwards, by one link each with its
--- reply.
+-- reply. What was stored before is stored afterwards.
 pub record LeadsTo (settings : Settings) (commands : List Command) (replies : List Reply) (before : Objects) (faults : ℕ) (told : Option Objects) (faults' : ℕ) : Type 0 where
   pub last : World
   pub chain : Chain settings (start before faults) commands replies last
+  pub grows : IsPrefix (content before) last.stored
   pub after : Objects
   pub told_after : told ≡ Some after
   pub sound : IsSound after

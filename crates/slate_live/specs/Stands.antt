@@ -1,5 +1,5 @@
-use Rattle.std.specs.Prelude.{◌≡◌, ℕ, ◌≤◌, List, slice_get, Option, Some, None}
-use Rattle.slate_rows.specs.Line.{Line, IsLine, extended}
+use Rattle.std.specs.Prelude.{◌≡◌, ℕ, ◌-◌, ◌≤◌, List, slice_get, take, Option, Some, None}
+use Rattle.slate_rows.specs.Line.{Line, IsLine, IsPrefix, extended}
 use Rattle.slate_store.specs.declared.objects.VersionedManifest.{VersionedManifest}
 use Rattle.slate_store.specs.Objects.{Objects, latest_manifest}
 use Rattle.slate_store.specs.Content.{IsSound, content}
@@ -18,13 +18,18 @@ pub record Holds (objects : Objects) (w : World) : Type 0 where
 abbrev pub IsHandleAt : List Object → ℕ → Handle → Type 0
 IsHandleAt live n handle = slice_get live n ≡ Some (objects.Handle handle)
 
--- A handle of a world in which this line is stored under this manifest: its line is one, up to its durable number it is
--- stored, and its epoch isn't above that of the manifest. While it is open and its epoch is current, what is stored and
+-- the front of a line, up to a number
+abbrev pub up_to : ℕ → Line → Line
+up_to number line = record { floor = line.floor; batches = take (number - line.floor) line.batches }
+
+-- A handle of a world in which this line is stored under this manifest: its line is one, its batches up to its durable
+-- number begin what is stored, and its epoch isn't above that of the manifest. While it is open and its epoch is current, what is stored and
 -- then what isn't stored yet is its line.
 pub record IsValidHandle (stored : Line) (latest : Option VersionedManifest) (handle : Handle) : Type 0 where
   pub numbered : IsLine handle.line
   pub floor : handle.line.floor ≤ handle.durable
   pub durable : handle.durable ≤ accepted handle
+  pub confirmed : IsPrefix (up_to handle.durable handle.line) stored
   pub behind : (manifest : VersionedManifest) × (latest ≡ Some manifest) × (handle.epoch ≤ manifest.manifest.writer_epoch)
   pub current : (manifest : VersionedManifest) → handle.result ≡ None → latest ≡ Some manifest →
       manifest.manifest.writer_epoch ≤ handle.epoch → extended stored (unstored handle) ≡ handle.line

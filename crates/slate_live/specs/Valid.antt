@@ -2,6 +2,7 @@
 use Rattle.std.specs.Prelude.{◌≡◌, ℕ, ℤ, ◌<◌, ◌≤◌, Bool, true, List, [], ◌∷◌, length, slice_get, Option, Some, None, Ok, Err}
 use Rattle.slate_rows.specs.declared.batches.KeyValue.{KeyValue}
 use Rattle.slate_rows.specs.Counts.{HasRisen}
+use Rattle.slate_rows.specs.Line.{IsPrefix}
 use Rattle.slate_rows.specs.Operator.{Merge}
 use Rattle.slate_rows.specs.Read.{read_at}
 use Rattle.slate_store.specs.declared.objects.VersionedManifest.{VersionedManifest}
@@ -20,6 +21,7 @@ use Rattle.slate_script.specs.declared.replies.Reply.TheVariants as replies
 use Rattle.slate_live.specs.declared.states.Object.TheVariants as objects
 use Rattle.slate_live.specs.Next.{Next, flush_of_close, level_of}
 use Rattle.slate_live.specs.Settings.{Settings}
+use Rattle.slate_live.specs.Stands.{up_to}
 use Rattle.slate_live.specs.World.{World}
 
 -- the object with this number is an open handle, of which this holds
@@ -76,10 +78,12 @@ IsOkOrNoMemory replies.Unknown = ⊥
 IsOkOrNoMemory reply = Unit {0}
 
 -- The link of a command: its reply and the world that it leads to are such as follow. A valid command that meets no
--- fault of the store is refused nothing.
+-- fault of the store is refused nothing. What is stored stays stored, and what a handle knows to be durable is.
 pub record Link (settings : Settings) (w : World) (command : Command) (reply : Reply) (w' : World) : Type 0 where
   pub next : Next settings w command reply w'
   pub completes : IsValidCommand settings.merge w command → (HasRisen w.faults w'.faults → ⊥) → IsOkOrNoMemory reply
+  pub grows : IsPrefix w.stored w'.stored
+  pub durable : (n : ℕ) (handle : Handle) → slice_get w'.objects n ≡ Some (objects.Handle handle) → IsPrefix (up_to handle.durable handle.line) w'.stored
 
 -- the worlds that commands with these replies lead through, one link each
 abbrev pub Chain : Settings → World → List Command → List Reply → World → Type 0

@@ -1,0 +1,88 @@
+use Rattle.std.proofs.Common.{◌≡◌, inl, inr, ℕ, ℤ, ◌+◌, ◌-◌, ◌≤◌, Bool, true, false, List, [], ◌∷◌, ◌++◌, length, take, Option, Some, None, Result, Ok, Err, nat_lt, refl, sym, subst, ap, ◌∙◌, arith, append_assoc}
+use Rattle.std.specs.List.{slice_get}
+use Rattle.std.proofs.lemmas.List.{append-nil, take_all}
+use Rattle.slate_rows.specs.declared.batches.Batch.{Batch}
+use Rattle.slate_rows.specs.declared.batches.KeyOp.{KeyOp}
+use Rattle.slate_rows.specs.declared.options.FlushType.{FlushType}
+use Rattle.slate_rows.specs.Line.{Line, IsPrefix, end, extended}
+use Rattle.slate_rows.specs.Operator.{Merge}
+use Rattle.slate_status.specs.declared.errors.SlateError.{SlateError}
+use Rattle.slate_model.specs.Handle.{CloseResult, Handle}
+use Rattle.slate_script.specs.declared.commands.Action.{Action}
+use Rattle.slate_script.specs.declared.commands.Action.TheVariants as actions
+use Rattle.slate_script.specs.declared.commands.Command.{Command}
+use Rattle.slate_script.specs.declared.replies.Reply.{Reply}
+use Rattle.slate_script.specs.declared.replies.Reply.TheVariants as replies
+use Rattle.slate_live.specs.declared.states.Object.{Object}
+use Rattle.slate_live.specs.declared.states.Object.TheVariants as objects
+use Rattle.slate_live.specs.Next.{AtHandle, ClosesOpen, ClosesUnless, FlushesUnless, Next, NextBy, OnlyAnswers, ReadsUnless, WritesIn, WritesUnless, flush_of_close, stored_after}
+use Rattle.slate_live.specs.Settings.{Settings}
+use Rattle.slate_live.specs.Stands.{up_to}
+use Rattle.slate_live.specs.World.{World}
+
+-- a line begins itself, and what goes on from it
+pub prefix-same : (line : Line) → IsPrefix line line
+prefix-same line = ([], ap (λ bs. record { floor = line.floor; batches = bs }) (sym (append-nil line.batches)))
+
+pub prefix-extend : (a b : Line) (batches : List Batch) → IsPrefix a b → IsPrefix a (extended b batches)
+prefix-extend a b batches p =
+    (p.0 ++ batches, ap (λ l. extended l batches) p.1 ∙ ap (λ bs. record { floor = a.floor; batches = bs }) (append_assoc a.batches p.0 batches))
+
+pub prefix-then : (a b c : Line) → IsPrefix a b → IsPrefix b c → IsPrefix a c
+prefix-then a b c p q = subst (IsPrefix a) (sym q.1) (prefix-extend a b q.0 p)
+
+-- a line up to its end, or past it, is the line
+pub up_to-all : (number : ℕ) (line : Line) → end line ≤ number → up_to number line ≡ line
+up_to-all number line all = ap (λ bs. record { floor = line.floor; batches = bs }) (take_all (number - line.floor) line.batches (omega (arith, all)))
+
+grows-same : (w w' : World) → w' ≡ w → IsPrefix w.stored w'.stored
+grows-same w w' same = subst (λ (x : World). IsPrefix w.stored x.stored) (sym same) (prefix-same w.stored)
+
+grows-after : (w w' : World) (some : Bool) (batches : List Batch) → w'.stored ≡ (if some then extended w.stored batches else w.stored) → IsPrefix w.stored w'.stored
+grows-after w w' true batches is = subst (IsPrefix w.stored) (sym is) (prefix-extend w.stored w.stored batches (prefix-same w.stored))
+grows-after w w' false batches is = subst (IsPrefix w.stored) (sym is) (prefix-same w.stored)
+
+at-handle : (w w' : World) (object : Option Object) (said : Handle → Type 0) (reply : Reply) → AtHandle object said (OnlyAnswers replies.Unknown w reply w') → ((handle : Handle) → said handle → IsPrefix w.stored w'.stored) → IsPrefix w.stored w'.stored
+at-handle w w' None said reply next f = grows-same w w' next.1
+at-handle w w' (Some (objects.Handle handle)) said reply next f = f handle next
+
+writes-grow : (w w' : World) (refused : Option SlateError) (n : ℕ) (handle : Handle) (ops : List KeyOp) (moment : Option ℤ) (reply : Reply) → WritesUnless refused w n handle ops moment reply w' → IsPrefix w.stored w'.stored
+writes-grow w w' (Some error) n handle ops moment reply next = grows-same w w' next.1
+writes-grow w w' None n handle ops moment reply next = subst (λ (x : World). IsPrefix w.stored x.stored) (sym next.3) (prefix-same w.stored)
+
+write-grows : (w w' : World) (n : ℕ) (handle : Handle) (ops : List KeyOp) (moment : ℤ) (second : Option ℤ) (reply : Reply) → WritesIn w n handle ops moment second reply w' → IsPrefix w.stored w'.stored
+write-grows w w' n handle ops moment second reply (inl only) = grows-same w w' only.1
+write-grows w w' n handle ops moment second reply (inr next) = writes-grow w w' _ n handle ops _ reply next
+
+flush-grows : (w w' : World) (result : CloseResult) (keeps : Bool) (n : ℕ) (handle : Handle) (reply : Reply) → FlushesUnless result keeps w n handle reply w' → IsPrefix w.stored w'.stored
+flush-grows w w' (Some r) keeps n handle reply next = grows-same w w' next.1
+flush-grows w w' None false n handle reply next = grows-same w w' next.1
+flush-grows w w' None true n handle reply next = grows-after w w' (nat_lt 0 next.made) _ next.stored
+
+close-grows : (w w' : World) (flush_type : Option FlushType) (keeps : Bool) (n : ℕ) (handle : Handle) (reply : Reply) → ClosesOpen flush_type keeps w n handle reply w' → IsPrefix w.stored w'.stored
+close-grows w w' None keeps n handle reply next = subst (λ (x : World). IsPrefix w.stored x.stored) (sym next.1) (prefix-same w.stored)
+close-grows w w' (Some flush_type) false n handle reply next = subst (λ (x : World). IsPrefix w.stored x.stored) (sym next.1) (prefix-same w.stored)
+close-grows w w' (Some flush_type) true n handle reply next = grows-after w w' (nat_lt 0 next.made) _ next.stored
+
+closes-grow : (w w' : World) (result : CloseResult) (flush_type : Option FlushType) (n : ℕ) (handle : Handle) (reply : Reply) → ClosesUnless result flush_type handle.keeps_log w n handle reply w' → IsPrefix w.stored w'.stored
+closes-grow w w' (Some r) flush_type n handle reply next = grows-same w w' next.1
+closes-grow w w' None flush_type n handle reply next = close-grows w w' flush_type handle.keeps_log n handle reply next
+
+read-grows : (merge : Option Merge) (w w' : World) (result : CloseResult) (handle : Handle) (key : List ℕ) (remote : Bool) (reply : Reply) → ReadsUnless result merge w handle key remote reply w' → IsPrefix w.stored w'.stored
+read-grows merge w w' (Some r) handle key remote reply next = grows-same w w' next.1
+read-grows merge w w' None handle key remote reply next = grows-same w w' next.1
+
+grows-by : (settings : Settings) (w : World) (moment : ℤ) (second : Option ℤ) (action : Action) (reply : Reply) (w' : World) → NextBy settings w moment second action reply w' → IsPrefix w.stored w'.stored
+grows-by settings w moment second actions.Open reply w' next = subst (IsPrefix w.stored) (sym next.stored) (prefix-same w.stored)
+grows-by settings w moment second (actions.Put n key value expire) reply w' next =
+    at-handle w w' (slice_get w.objects n) _ reply next (λ handle. write-grows w w' n handle _ moment second reply)
+grows-by settings w moment second (actions.Flush n flush_type) reply w' next =
+    at-handle w w' (slice_get w.objects n) _ reply next (λ handle. flush-grows w w' handle.result handle.keeps_log n handle reply)
+grows-by settings w moment second (actions.Get n key remote) reply w' next =
+    at-handle w w' (slice_get w.objects n) _ reply next (λ handle. read-grows settings.merge w w' handle.result handle key remote reply)
+grows-by settings w moment second (actions.Close n options) reply w' next =
+    at-handle w w' (slice_get w.objects n) _ reply next (λ handle. closes-grow w w' handle.result (flush_of_close options) n handle reply)
+
+-- what is stored stays stored, whatever a command answers
+pub grows : (settings : Settings) (w : World) (command : Command) (reply : Reply) (w' : World) → Next settings w command reply w' → IsPrefix w.stored w'.stored
+grows settings w command reply w' next = grows-by settings w command.moment command.second command.action reply w' next

@@ -4,7 +4,7 @@ ghost use Rattle.slate_store.specs.Objects.{Objects};
 ghost use Rattle.slate_model.specs.Flush.{TellsFaults};
 ghost use Rattle.slate_model.specs.Follower.{FollowCause, number};
 ghost use Rattle.slate_model.specs.Handle.{closed_error};
-ghost use Rattle.slate_follow.specs.Taking.{AnswersAt, Follows};
+ghost use Rattle.slate_follow.specs.Taking.{AnswersAt, Follows, Takes};
 
 use crate::reads::closed_error;
 use crate::takes::take;
@@ -37,6 +37,7 @@ impl FollowerState {
         requires extractor { extractor ≡ None }
         ensures kept { S.objects store.new ≡ S.objects store.old }
         ensures answer { IfOk result (λ p. (p.0.result ≡ None) × AnswersAt (number p.0) p.1) }
+        ensures takes { IfOk result (λ p. IfSome (S.objects store.old) (λ o. Takes true o p.0 p.1)) }
         ensures follows { IfOk result (λ p. (o : Objects) → S.objects store.old ≡ Some o → IsSound o → Follows o p.0 p.1) }
         ensures faults { TellsFaults (S.faults store.old) (S.faults store.new) result }
         ensures cause { IfErr result (λ e. IfSome (S.objects store.old) (λ o. FollowCause true o e)) }
@@ -67,6 +68,7 @@ impl FollowerState {
         ensures kept { S.objects store.new ≡ S.objects store.old }
         ensures count { S.faults store.old ≤ S.faults store.new }
         ensures answer { IfOk result (λ a. (self.new.result ≡ None) × AnswersAt (number self.new) a) }
+        ensures takes { IfOk result (λ a. IfSome (S.objects store.old) (λ o. Takes false o self.new a)) }
         ensures follows { IfOk result (λ a. (o : Objects) → S.objects store.old ≡ Some o → IsSound o → Follows o self.new a) }
         ensures faults { self.old.result ≡ None → TellsFaults (S.faults store.old) (S.faults store.new) result }
         ensures cause { self.old.result ≡ None → IfErr result (λ e. IfSome (S.objects store.old) (λ o. FollowCause false o e)) }

@@ -4,7 +4,7 @@ ghost use Rattle.slate_store.specs.Content.{IsSound};
 ghost use Rattle.slate_store.specs.Objects.{Objects};
 ghost use Rattle.slate_model.specs.Flush.{TellsFaults};
 ghost use Rattle.slate_model.specs.Follower.{FollowCause, can_follow, number};
-ghost use Rattle.slate_follow.specs.Taking.{AnswersAt, FindsView, Follows, Replays, IsOfReplay};
+ghost use Rattle.slate_follow.specs.Taking.{AnswersAt, FindsView, Follows, GiveBatches, IsOfReplay, Takes};
 
 use crate::{FollowerState, PollAnswer};
 use slate_replay::{Replayed, replay};
@@ -21,6 +21,7 @@ pub(crate) fn take<S: Store>(
 ) -> Result<(FollowerState, PollAnswer), SlateError>
     ensures kept { S.objects store.new ≡ S.objects store.old }
     ensures answer { IfOk result (λ p. (p.0.result ≡ None) × AnswersAt (number p.0) p.1) }
+    ensures takes { IfOk result (λ p. IfSome (S.objects store.old) (λ o. Takes opening o p.0 p.1)) }
     ensures follows { IfOk result (λ p. (o : Objects) → S.objects store.old ≡ Some o → IsSound o → Follows o p.0 p.1) }
     ensures faults { TellsFaults (S.faults store.old) (S.faults store.new) result }
     ensures cause { IfErr result (λ e. IfSome (S.objects store.old) (λ o. FollowCause opening o e)) }
@@ -78,7 +79,7 @@ fn replay_logs<S: Store>(
     ensures kept { S.objects store.new ≡ S.objects store.old }
     ensures numbered { IfOk result (λ p. AreNumberedFrom view.now.manifest.last_l0_seq p.0) }
     ensures fits { IfOk result (λ p. view.now.manifest.last_l0_seq + length p.0 < 2 ^ 64) }
-    ensures told { IfSome (S.objects store.old) (λ o. Replays view.now.manifest o result) }
+    ensures told { IfOk result (λ p. IfSome (S.objects store.old) (λ o. GiveBatches o view.now.manifest p.0 p.1)) }
     ensures refusals { IfErr result IsOfReplay }
 {
     let manifest = &view.manifest;

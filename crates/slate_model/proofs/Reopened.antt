@@ -187,7 +187,7 @@ replayed-logged o m has =
     ap (λ logs. batches_above m.last_l0_seq (flat_map (λ log. log.1) logs)) (take_all (last_log mark o - mark) (logs_above mark o) (omega (arith, count)))
 
 -- the log files of sound objects can be replayed
-replayable-by : (o : Objects) (latest : VersionedManifest) → IsSound o → latest_manifest o ≡ Some latest → IsReplayable latest.manifest.replay_after_wal_id (last_log latest.manifest.replay_after_wal_id o) latest.manifest.last_l0_seq o
+pub replayable-by : (o : Objects) (latest : VersionedManifest) → IsSound o → latest_manifest o ≡ Some latest → IsReplayable latest.manifest.replay_after_wal_id (last_log latest.manifest.replay_after_wal_id o) latest.manifest.last_l0_seq o
 replayable-by o latest sound is =
     let m = latest.manifest in
     let has = subst (λ x. IfSome x (λ l. HasItsLogs o l.manifest)) is sound.logs in
@@ -259,11 +259,11 @@ and_left : (a b : Bool) → (a && b) ≡ true → a ≡ true
 and_left true b h = refl
 and_left false b h = absurd (cc)
 
-and_right : (a b : Bool) → (a && b) ≡ true → b ≡ true
+pub and_right : (a b : Bool) → (a && b) ≡ true → b ≡ true
 and_right true b h = h
 and_right false b h = absurd (cc)
 
-no-tables : {X : Type 0} (tables : List X) → (length tables == 0) ≡ true → tables ≡ []
+pub no-tables : {X : Type 0} (tables : List X) → (length tables == 0) ≡ true → tables ≡ []
 no-tables [] h = refl
 no-tables (t ∷ tables) h = absurd (let no = eqb-suc-zero (length tables) in cc)
 
@@ -274,20 +274,23 @@ names-none latest can =
     let two = and_left _ _ three in
     no-tables latest.manifest.tables (and_right _ _ two)
 
-abbrev line_from : ℕ → List Batch → Line
+abbrev pub line_from : ℕ → List Batch → Line
 line_from floor bs = record { floor = floor; batches = bs }
+
+-- the content of sound objects whose latest manifest names no table is what its log files have above the last number in tables
+pub content-logged : (o : Objects) (latest : VersionedManifest) → IsSound o → latest_manifest o ≡ Some latest → latest.manifest.tables ≡ [] → let m = latest.manifest in content_by o (Some latest) ≡ line_from m.last_l0_seq (replayed m.replay_after_wal_id (last_log m.replay_after_wal_id o) m.last_l0_seq o)
+content-logged o latest sound is none =
+    let m = latest.manifest in
+    let has = subst (λ x. IfSome x (λ l. HasItsLogs o l.manifest)) is sound.logs in
+    ap (λ ids. line_from (number_before (table_batches o ids) m.last_l0_seq) (table_batches o ids ++ logged o m)) none
+    ∙ ap (line_from m.last_l0_seq) (sym (replayed-logged o m has))
 
 -- the content of a store that can be opened is what its log files have above the last number in tables
 content-by : (o : Objects) (latest : Option VersionedManifest) → IsSound o → latest_manifest o ≡ latest → can_open_by latest (last_log (mark_of latest) o) ≡ true → let last = last_log (mark_of latest) o in let m = (next_manifest latest last).manifest in content_by o latest ≡ line_from m.last_l0_seq (replayed m.replay_after_wal_id last m.last_l0_seq o)
 content-by o None sound is can =
     let nothing = nothing_there o sound is in
     subst (λ o. line_from 0 [] ≡ line_from 0 (replayed 0 (last_log 0 o) 0 o)) (sym nothing) refl
-content-by o (Some latest) sound is can =
-    let m = latest.manifest in
-    let none = names-none latest (and_left _ _ can) in
-    let has = subst (λ x. IfSome x (λ l. HasItsLogs o l.manifest)) is sound.logs in
-    ap (λ ids. line_from (number_before (table_batches o ids) m.last_l0_seq) (table_batches o ids ++ logged o m)) none
-    ∙ ap (line_from m.last_l0_seq) (sym (replayed-logged o m has))
+content-by o (Some latest) sound is can = content-logged o latest sound is (names-none latest (and_left _ _ can))
 
 -- the handle of an opening that replayed these batches
 abbrev pub recovered : Bool → ℕ → VersionedManifest → List Batch → Handle

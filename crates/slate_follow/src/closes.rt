@@ -1,0 +1,29 @@
+ghost use Rattle.std.specs.Prelude.{◌≡◌, Some, Ok, unwrap_or};
+ghost use Rattle.slate_model.specs.Close.{ended};
+ghost use Rattle.slate_follow.specs.Closing.{recorded_fault};
+
+use crate::FollowerState;
+use slate_status::{Ended, Ending, SlateError};
+use slate_store::Store;
+
+impl FollowerState {
+    /// Closes the reader. From then on its gets and polls answer `Closed`. It doesn't touch the store.
+    ///
+    /// A reader that was closed before answers the error that was recorded, and none where it closed cleanly; what was
+    /// recorded first stays. Until readers run a task, it ends none. SlateDB's `DbReader::close`.
+    pub fn close<S: Store>(&mut self, store: &mut S) -> Ended
+        ensures answer { result ≡ ended (recorded_fault self.old.result) }
+        ensures closed { self.new ≡ record self.old { result = Some (unwrap_or self.old.result (Ok tt)) } }
+        ensures store { store.new ≡ store.old }
+    {
+        let fault = match self.result {
+            Some(Err(fault)) => Some(SlateError::from(fault)),
+            _ => None,
+        };
+        self.result = Some(self.result.unwrap_or(Ok(())));
+        Ended {
+            fault,
+            tasks: Ending::new(),
+        }
+    }
+}

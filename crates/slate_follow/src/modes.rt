@@ -1,0 +1,60 @@
+use uuid::Uuid;
+
+/// Which state of a database a reader follows. SlateDB's enum of this name.
+#[derive(Clone, Copy, Debug, PartialEq, Eq)]
+pub enum DbReaderMode {
+    /// It keeps a checkpoint of its own, and replaces it as the database goes on.
+    ManagedCheckpoint,
+    /// It reads the checkpoint with this id, and stays at it.
+    Checkpoint(Uuid),
+    /// It reads what the latest manifest names, and keeps nothing of it from being removed.
+    FollowLatest,
+}
+
+impl Default for DbReaderMode {
+    ghost use Rattle.std.specs.Prelude.{◌≡◌};
+    ghost use Rattle.slate_follow.specs.declared.modes.DbReaderMode.TheVariants.{ManagedCheckpoint as Managed};
+
+    ghost is_default = { λ mode. mode ≡ Managed };
+
+    fn default() -> DbReaderMode {
+        DbReaderMode::ManagedCheckpoint
+    }
+}
+
+/// How a reader follows a database. SlateDB's struct of this name.
+#[derive(Clone, Copy, Debug, PartialEq, Eq)]
+pub struct DbReaderOptions {
+    /// How far apart polls are, in milliseconds.
+    pub manifest_poll_interval_ms: u64,
+    /// For how long a checkpoint of the reader is kept unless it is renewed, in milliseconds.
+    pub checkpoint_lifetime_ms: u64,
+    /// Whether the reader sees the tables alone, and reads no log file.
+    pub skip_wal_replay: bool,
+    /// At how many bytes of replayed batches another table in memory is begun.
+    pub max_memtable_bytes: u64,
+}
+
+impl Default for DbReaderOptions {
+    ghost use Rattle.std.specs.Prelude.{◌≡◌, false};
+
+    ghost is_default = { λ o. o ≡ record { manifest_poll_interval_ms = 10000; checkpoint_lifetime_ms = 600000; skip_wal_replay = false; max_memtable_bytes = 67108864 } };
+
+    fn default() -> DbReaderOptions {
+        DbReaderOptions {
+            manifest_poll_interval_ms: 10_000,
+            checkpoint_lifetime_ms: 600_000,
+            skip_wal_replay: false,
+            max_memtable_bytes: 67_108_864,
+        }
+    }
+}
+
+/// What a poll found, and the number of the last batch that the reader sees from then on.
+#[derive(Clone, Copy, Debug, PartialEq, Eq)]
+pub enum PollAnswer {
+    /// All that is stored was taken.
+    Whole { at: u64 },
+    /// A log file or a batch is missing: what comes before it was taken.
+    Truncated { at: u64 },
+}

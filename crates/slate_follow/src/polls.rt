@@ -1,0 +1,83 @@
+ghost use Rattle.std.specs.Prelude.{◌≡◌, ◌≤◌, true, false, None, Some, Err, IfOk, IfErr, IfSome};
+ghost use Rattle.slate_store.specs.Content.{IsSound};
+ghost use Rattle.slate_store.specs.Objects.{Objects};
+ghost use Rattle.slate_model.specs.Flush.{TellsFaults};
+ghost use Rattle.slate_model.specs.Follower.{FollowCause, number};
+ghost use Rattle.slate_model.specs.Handle.{closed_error};
+ghost use Rattle.slate_follow.specs.Taking.{AnswersAt, Follows, Takes};
+
+use crate::reads::closed_error;
+use crate::takes::take;
+use crate::{DbReaderMode, DbReaderOptions, FollowerState, PollAnswer};
+use slate_rows::PrefixExtractor;
+use slate_status::SlateError;
+use slate_store::Store;
+use std::alloc::Global;
+
+impl FollowerState {
+    /// Opens a reader of a database: it reads the latest manifest and all log files above the manifest's replay mark,
+    /// and sees the batches that these have. It puts nothing. Of the modes, `FollowLatest` can be opened today, with
+    /// log files and without an extractor; in this mode `moment` isn't looked at. It takes time linear in the batches
+    /// of the log files. SlateDB's `DbReader::open`.
+    ///
+    /// It answers `Truncated` where a log file or a batch is missing, and the reader has the batches before it; that
+    /// never comes over a store that only handles wrote. It answers `LatestTransactionalObjectVersionMissing` where
+    /// there is no manifest, and `InvalidDBState` where the latest one isn't initialised and, until tables are built,
+    /// where it names one. It answers `ObjectStoreError` for a fault of the store, and `NoMemory`.
+    pub fn open<S: Store, E: PrefixExtractor>(
+        alloc: Global,
+        store: &mut S,
+        mode: DbReaderMode,
+        options: &DbReaderOptions,
+        extractor: Option<&E>,
+        moment: i64,
+    ) -> Result<(FollowerState, PollAnswer), SlateError>
+        requires mode { mode ≡ DbReaderMode.FollowLatest }
+        requires replays { options.now.skip_wal_replay ≡ false }
+        requires extractor { extractor ≡ None }
+        ensures kept { S.objects store.new ≡ S.objects store.old }
+        ensures answer { IfOk result (λ p. (p.0.result ≡ None) × AnswersAt (number p.0) p.1) }
+        ensures takes { IfOk result (λ p. IfSome (S.objects store.old) (λ o. Takes true o p.0 p.1)) }
+        ensures follows { IfOk result (λ p. (o : Objects) → S.objects store.old ≡ Some o → IsSound o → Follows o p.0 p.1) }
+        ensures faults { TellsFaults (S.faults store.old) (S.faults store.new) result }
+        ensures cause { IfErr result (λ e. IfSome (S.objects store.old) (λ o. FollowCause true o e)) }
+    {
+        take(alloc, store, true)
+    }
+
+    /// Takes all that is stored by now: from then on the reader sees the batches of the log files above the latest
+    /// manifest's replay mark, and answers from them until the next poll. `moment` isn't looked at. It rebuilds what it
+    /// sees at each poll, which takes time linear in the batches of the log files.
+    ///
+    /// It answers `Truncated` where a log file or a batch is missing, and the reader has the batches before it then;
+    /// that never comes over a store that only handles wrote. A poll that answers an error leaves the reader as it was,
+    /// and closes nothing: the next one may go on. On a closed reader it answers `Closed` or the error that closed it,
+    /// and doesn't touch the store. Else it answers `LatestTransactionalObjectVersionMissing` where there is no
+    /// manifest, `ObjectStoreError` for a fault of the store, and `NoMemory`; and, until tables are built,
+    /// `InvalidDBState` where the latest manifest names one.
+    pub fn poll<S: Store, E: PrefixExtractor>(
+        &mut self,
+        alloc: Global,
+        store: &mut S,
+        extractor: Option<&E>,
+        moment: i64,
+    ) -> Result<PollAnswer, SlateError>
+        requires { extractor ≡ None }
+        ensures closed { IfSome self.old.result (λ r. (result ≡ Err (closed_error r)) × (self.new ≡ self.old) × (store.new ≡ store.old)) }
+        ensures failed { IfErr result (λ e. self.new ≡ self.old) }
+        ensures kept { S.objects store.new ≡ S.objects store.old }
+        ensures count { S.faults store.old ≤ S.faults store.new }
+        ensures answer { IfOk result (λ a. (self.new.result ≡ None) × AnswersAt (number self.new) a) }
+        ensures takes { IfOk result (λ a. IfSome (S.objects store.old) (λ o. Takes false o self.new a)) }
+        ensures follows { IfOk result (λ a. (o : Objects) → S.objects store.old ≡ Some o → IsSound o → Follows o self.new a) }
+        ensures faults { self.old.result ≡ None → TellsFaults (S.faults store.old) (S.faults store.new) result }
+        ensures cause { self.old.result ≡ None → IfErr result (λ e. IfSome (S.objects store.old) (λ o. FollowCause false o e)) }
+    {
+        if let Some(result) = self.result {
+            return Err(closed_error(result));
+        }
+        let (taken, answer) = take(alloc, store, false)?;
+        *self = taken;
+        Ok(answer)
+    }
+}

@@ -1,0 +1,56 @@
+ghost use Rattle.std.specs.Prelude.{◌≡◌, None, Some, Err, Option, IfSome};
+ghost use Rattle.std.specs.Option.{option_copied};
+ghost use Rattle.slate_rows.specs.Operator.{Merge};
+ghost use Rattle.slate_rows.specs.Read.{IsOperator, read_at};
+ghost use Rattle.slate_model.specs.Follower.{number};
+ghost use Rattle.slate_model.specs.Handle.{closed_error};
+ghost use Rattle.slate_model.specs.Read.{AnswersRead};
+
+use crate::FollowerState;
+use slate_rows::{KeyValue, MergeOperator, read};
+use slate_status::{CloseFault, SlateError};
+use slate_store::Store;
+use std::alloc::Global;
+
+impl FollowerState {
+    /// What the reader's batches say of a key. None is: there is no value. It is answered from what the last poll took,
+    /// never from the store.
+    ///
+    /// On a closed reader it answers `Closed` or the error that closed it. It answers `MergeOperatorMissing` where
+    /// operands are to be merged and there is no operator, `MergeOperatorError` where the operator refuses one, and
+    /// `NoMemory`. Until batches are indexed by key, and stored in tables, it goes over the batches in memory once, and
+    /// touches no store. SlateDB's `get`.
+    pub fn get<S: Store, M: MergeOperator>(
+        &self,
+        alloc: Global,
+        store: &mut S,
+        key: &[u8],
+        operator: Option<&M>,
+    ) -> Result<Option<KeyValue>, SlateError>
+        ensures closed { IfSome self.now.result (λ r. result ≡ Err (closed_error r)) }
+        ensures read { self.now.result ≡ None → (merge : Option Merge) → IsOperator M.may_answer (option_copied operator.entry) merge →
+            AnswersRead (read_at merge self.now.line.batches (Some (number self.now)) key.now) result }
+        ensures store { store.new ≡ store.old }
+    {
+        if let Some(result) = self.result {
+            return Err(closed_error(result));
+        }
+        Ok(read(
+            alloc,
+            self.memory.batches(),
+            Some(self.number()),
+            key,
+            operator,
+        )?)
+    }
+}
+
+/// What a checked call on something closed answers.
+pub(crate) fn closed_error(recorded: Result<(), CloseFault>) -> SlateError
+    ensures { result ≡ closed_error recorded }
+{
+    match recorded {
+        Ok(()) => SlateError::Closed,
+        Err(fault) => SlateError::from(fault),
+    }
+}

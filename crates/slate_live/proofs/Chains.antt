@@ -30,6 +30,8 @@ stands_start o told faults live no_object no_write is sound =
       objects = no_object;
       writes = no_write;
       valid = record {
+        line = sound.line;
+        followers = λ n f at. absurd (cc);
         handles = λ n h at. absurd (cc);
         distinct = λ m n a b at_m at_n epochs. absurd (cc);
       };

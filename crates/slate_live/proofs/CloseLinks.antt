@@ -1,7 +1,9 @@
 use Rattle.std.proofs.Common.{◌≡◌, ℕ, ◌<◌, length, set, get_or, [], Option, Some, None, Result, Bool, true, false, refl, sym, subst, ap, ◌∙◌}
 use Rattle.std.specs.List.{slice_get}
 use Rattle.std.specs.Option.{IfSome, UnwrapsOrElse}
-use Rattle.slate_rows.specs.Line.{Line}
+use Rattle.slate_rows.specs.Line.{IsPrefix, Line}
+use Rattle.slate_follow.specs.Closing.{recorded_fault}
+use Rattle.slate_model.specs.Follower.{Follower}
 use Rattle.slate_rows.specs.declared.options.CloseOptions.{CloseOptions}
 use Rattle.slate_rows.specs.declared.options.FlushType.{FlushType}
 use Rattle.slate_rows.specs.declared.options.FlushType.TheVariants.{Wal, MemTable}
@@ -19,12 +21,12 @@ use Rattle.slate_script.specs.declared.replies.Reply.TheVariants as replies
 use Rattle.slate_live.specs.declared.states.Object.{Object}
 use Rattle.slate_live.specs.declared.states.Object.TheVariants as objects
 use Rattle.slate_live.specs.Links.{Links}
-use Rattle.slate_live.specs.Live.{ClosesObject, Live, handle_of}
-use Rattle.slate_live.specs.Next.{Closes, ClosesOpen, ClosesUnless, ended_reply, flush_of_close}
+use Rattle.slate_live.specs.Live.{ByKind, ClosesObject, Live}
+use Rattle.slate_live.specs.Next.{Closes, ClosesOpen, ClosesUnless, closed_follower, ended_reply, follower_ended, flush_of_close}
 use Rattle.slate_live.specs.Stands.{IsHandleAt, IsValidHandle, StandsFor}
 use Rattle.slate_live.specs.World.{World}
 use Rattle.slate_live.proofs.FlushLinks.{epoch-kept}
-use Rattle.slate_live.proofs.Handles.{distinct-set, valid-set}
+use Rattle.slate_live.proofs.Handles.{distinct-set, followers-set, followers-set-handle, handles-set-follower, valid-set}
 use Rattle.slate_live.proofs.Objects.{get_read}
 use Rattle.slate_live.proofs.StoreLinks.{handle_kept, store_now}
 
@@ -52,6 +54,8 @@ close_only live told told' faults faults' n h new is same_told same_faults at w 
       objects = ap (λ os. set os n (objects.Handle new)) stands.objects ∙ ap (λ x. set w.objects n (objects.Handle x)) is;
       writes = stands.writes;
       valid = record {
+        line = valid.line;
+        followers = followers-set-handle (λ f. IsPrefix f.line w.stored) w.objects n (objects.Handle h) (closed h) there valid.followers;
         handles = valid-set (IsValidHandle w.stored (latest_manifest w.catalogue)) w.objects n h (closed h) there (closed-valid w.stored (latest_manifest w.catalogue) h (valid.handles n h there)) (λ m a other is. valid.handles m a is);
         distinct = distinct-set w.objects n h (closed h) there refl valid.distinct;
       };
@@ -111,18 +115,43 @@ module _ (flush_type : Option FlushType) (live : Live) (told told' : Option Obje
       let l = linked-result h.result built refl in
       (l.0, rw there l.1, l.2)
 
--- a number without an object
-pub unclosed_links : (flush_type : Option FlushType) (live : Live) (told : Option Objects) (faults : ℕ) (n : ℕ) → slice_get live.objects n ≡ None → (w : World) → StandsFor live told faults w → Closes w n flush_type replies.Unknown w
-unclosed_links flush_type live told faults n none w stands =
-    let nothing : slice_get w.objects n ≡ None = subst (λ os. slice_get os n ≡ None) stands.objects none in
-    rw nothing (refl, refl)
+-- a close of a follower leads to a world that the live state stands for
+follower_closed : (live : Live) (told told' : Option Objects) (faults faults' : ℕ) (n : ℕ) (f : Follower) (x' : Object) → x' ≡ objects.Follower (closed_follower f) → told' ≡ told → faults' ≡ faults → slice_get live.objects n ≡ Some (objects.Follower f) → (w : World) → StandsFor live told faults w → StandsFor (record { options = live.options; objects = set live.objects n x'; writes = live.writes }) told' faults' (record w { objects = set w.objects n (objects.Follower (closed_follower f)) })
+follower_closed live told told' faults faults' n f x' is same_told same_faults at w stands =
+    let held = stands.held in
+    let there : slice_get w.objects n ≡ Some (objects.Follower f) = subst (λ os. slice_get os n ≡ Some (objects.Follower f)) stands.objects at in
+    let valid = stands.valid in
+    let before = handles-set-follower w.objects n (objects.Follower f) (closed_follower f) there in
+    record {
+      held = (held.0, same_told ∙ held.1, held.2, record { stored = held.3.stored; catalogue = held.3.catalogue });
+      faults = same_faults ∙ stands.faults;
+      objects = ap (λ os. set os n x') stands.objects ∙ ap (set w.objects n) is;
+      writes = stands.writes;
+      valid = record {
+        line = valid.line;
+        followers = followers-set (λ g. IsPrefix g.line w.stored) w.objects n (objects.Follower f) (closed_follower f) there (valid.followers n f there) valid.followers;
+        handles = λ m h at_m. valid.handles m h (before m h at_m);
+        distinct = λ i j a b at_i at_j epochs. valid.distinct i j a b (before i a at_i) (before j b at_j) epochs;
+      };
+    }
+
+-- the reply to a close, by the kind of the object
+abbrev pub close_answer : Bool → Ended → Reply
+close_answer true r = ended_reply r.fault r.tasks
+close_answer false r = follower_ended r.fault
 
 -- the same of the object at a place
-pub close_object : (flush_type : Option FlushType) (live : Live) (told told' : Option Objects) (faults faults' : ℕ) (n : ℕ) (x x' : Object) (r : Ended) (reply : Reply) → (flush_type ≡ Some MemTable → ⊥) → ClosesObject flush_type (handle_of x) (handle_of x') r told told' faults faults' → x' ≡ objects.Handle (handle_of x') → n < length live.objects → x ≡ get_or live.objects n x → reply ≡ ended_reply r.fault r.tasks → Links (λ w reply w'. Closes w n flush_type reply w') live told faults reply (record { options = live.options; objects = set live.objects n x'; writes = live.writes }) told' faults'
-close_object flush_type live told told' faults faults' n (objects.Handle h) x' r reply built c kind low at answer w stands =
+pub close_object : (flush_type : Option FlushType) (live : Live) (told told' : Option Objects) (faults faults' : ℕ) (n : ℕ) (x x' : Object) (r : Ended) (is_handle : Bool) (reply : Reply) → (flush_type ≡ Some MemTable → ⊥) → ByKind x (λ h. is_handle ≡ true) (λ f. is_handle ≡ false) → ByKind x (λ h. ByKind x' (λ h'. ClosesObject flush_type h h' r told told' faults faults') (λ f'. ⊥)) (λ f. (r ≡ ended (recorded_fault f.result)) × (x' ≡ objects.Follower (closed_follower f)) × (told' ≡ told) × (faults' ≡ faults)) → n < length live.objects → x ≡ get_or live.objects n x → reply ≡ close_answer is_handle r → Links (λ w reply w'. Closes w n flush_type reply w') live told faults reply (record { options = live.options; objects = set live.objects n x'; writes = live.writes }) told' faults'
+close_object flush_type live told told' faults faults' n (objects.Handle h) (objects.Handle h') r is_handle reply built kind c low at answer w stands =
     let there : IsHandleAt live.objects n h = get_read live.objects n (objects.Handle h) low at in
-    let l = close_links flush_type live told told' faults faults' n h (handle_of x') r c there w stands built in
-    (l.0, subst (λ a. Closes w n flush_type a l.0) (sym answer) l.1, subst (λ y. StandsFor (record { options = live.options; objects = set live.objects n y; writes = live.writes }) told' faults' l.0) (sym kind) l.2)
+    let l = close_links flush_type live told told' faults faults' n h h' r c there w stands built in
+    (l.0, subst (λ a. Closes w n flush_type a l.0) (sym (answer ∙ ap (λ b. close_answer b r) kind)) l.1, l.2)
+close_object flush_type live told told' faults faults' n (objects.Handle h) (objects.Follower f') r is_handle reply built kind c low at answer w stands = absurd c
+close_object flush_type live told told' faults faults' n (objects.Follower f) x' r is_handle reply built kind c low at answer w stands =
+    let at_live = get_read live.objects n (objects.Follower f) low at in
+    let there : slice_get w.objects n ≡ Some (objects.Follower f) = subst (λ os. slice_get os n ≡ Some (objects.Follower f)) stands.objects at_live in
+    let replied : reply ≡ follower_ended (recorded_fault f.result) = answer ∙ (ap (λ b. close_answer b r) kind ∙ ap (λ (e : Ended). follower_ended e.fault) c.0) in
+    (record w { objects = set w.objects n (objects.Follower (closed_follower f)) }, rw there (replied, refl), follower_closed live told told' faults faults' n f x' c.1 c.2 c.3 at_live w stands)
 
 -- a close that can be run asks for no table
 pub asks-no-table : (options : Option CloseOptions) → closes_without_table options ≡ true → flush_of_close options ≡ Some MemTable → ⊥

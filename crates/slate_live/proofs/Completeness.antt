@@ -1,5 +1,5 @@
-use Rattle.std.proofs.Common.{◌≡◌, ℕ, ℤ, ◌<◌, ◌≤◌, inl, inr, Bool, true, false, if◌then◌else◌, ◌||◌, List, [], ◌∷◌, length, slice_get, Option, Some, None, Result, Ok, Err, refl, sym, subst, ap, ◌∙◌, arith}
-use Rattle.std.proofs.lemmas.Bool.{lt-ltb}
+use Rattle.std.proofs.Common.{◌≡◌, ℕ, ℤ, ◌<◌, ◌≤◌, inl, inr, Bool, true, false, if◌then◌else◌, ◌||◌, ◌&&◌, ◌==◌, not, List, [], ◌∷◌, length, slice_get, Option, Some, None, Result, Ok, Err, refl, sym, subst, ap, ◌∙◌, arith}
+use Rattle.std.proofs.lemmas.Bool.{le-leb, lt-ltb}
 use Rattle.std.proofs.Math.Dec.{eqb-suc-zero}
 use Rattle.slate_rows.specs.Counts.{HasRisen}
 use Rattle.slate_rows.specs.Operator.{Merge}
@@ -14,6 +14,10 @@ use Rattle.slate_status.specs.declared.errors.SlateError.TheVariants as errors
 use Rattle.slate_model.specs.Flush.{FlushAnswer, FlushCause, TellsFaults}
 use Rattle.slate_rows.specs.declared.options.FlushType.{FlushType}
 use Rattle.slate_model.specs.Close.{fault_of}
+use Rattle.slate_rows.specs.Line.{end}
+use Rattle.slate_model.specs.Follower.{FollowCause, Follower, can_follow}
+use Rattle.slate_follow.specs.Closing.{recorded_fault}
+use Rattle.slate_live.specs.declared.states.Write.{Write}
 use Rattle.slate_model.specs.Handle.{CloseResult, Handle, accepted}
 use Rattle.slate_model.specs.Open.{OpenAnswer, OpenCause}
 use Rattle.slate_model.specs.Write.{accepted_moment, batch_refusal, clock_refusal, last_number, number_refusal, write_refusal}
@@ -24,8 +28,8 @@ use Rattle.slate_script.specs.declared.options.Options.{Options}
 use Rattle.slate_script.specs.declared.replies.Reply.{Reply}
 use Rattle.slate_script.specs.declared.replies.Reply.TheVariants as replies
 use Rattle.slate_live.specs.declared.states.Object.TheVariants as objects
-use Rattle.slate_live.specs.Next.{AtHandle, ClosesOpen, ClosesUnless, FlushesUnless, IsReadReply, Next, NextBy, OpensIn, ReadsUnless, WritesIn, WritesUnless, done_or_refused, ended_reply, flush_of_close, put_op, refusal}
-use Rattle.slate_live.specs.Valid.{CanClose, CanOpen, CanPut, CanRead, CanStore, IsOkOrNoMemory, IsValidAction, IsValidCommand}
+use Rattle.slate_live.specs.Next.{AtHandle, AtObject, AwaitsWrite, ClosesOpen, FollowAnswer, FollowerReads, PollsUnless, follower_ended, follower_reply, pending_reply, polled_reply, ClosesUnless, FlushesUnless, IsReadReply, Next, NextBy, OpensIn, ReadsUnless, WritesIn, WritesUnless, done_or_refused, ended_reply, flush_of_close, put_op, refusal}
+use Rattle.slate_live.specs.Valid.{CanClose, CanFollow, CanOpen, CanReadFollower, CanPut, CanRead, CanStore, IsOkOrNoMemory, IsValidAction, IsValidCommand}
 use Rattle.slate_live.specs.Settings.{Settings}
 use Rattle.slate_live.specs.World.{World}
 
@@ -135,6 +139,10 @@ found-reply answer found replies.NoMemory is said = tt
 found-reply answer found (replies.Handle n) is said = tt
 found-reply answer found (replies.Written n m) is said = tt
 found-reply answer found replies.Flushed is said = tt
+found-reply answer found (replies.Follower object whole at) is said = absurd said
+found-reply answer found (replies.Polled whole at) is said = absurd said
+found-reply answer found replies.Durable is said = absurd said
+found-reply answer found replies.Pending is said = absurd said
 found-reply answer found (replies.Ended fault tasks) is said = absurd said
 found-reply answer found replies.Unknown is said = absurd said
 found-reply answer found (replies.Refused errors.MergeOperatorError) is said = absurd (ok-err answer found reads.MergeOperatorError is said)
@@ -146,6 +154,62 @@ get-completes merge w handle key remote reply w' unclosed can next =
     let read : ReadsUnless None merge w handle key remote reply w' = subst (λ r. ReadsUnless r merge w handle key remote reply w') unclosed next in
     found-reply _ can.0 reply can.1 read.0
 
+or-and : (a b : Bool) → ((a || not true) && b) ≡ true → ((a || not false) && b) ≡ true
+or-and true b h = h
+or-and false b h = absurd (cc)
+
+-- what is asked of followers
+still-follows : (opening : Bool) (latest : VersionedManifest) → can_follow true latest ≡ true → can_follow opening latest ≡ true
+still-follows true latest can = can
+still-follows false latest can = or-and latest.manifest.initialized (length latest.manifest.tables == 0) can
+
+follow-cause : (w : World) (opening : Bool) (faults : ℕ) (error : SlateError) → FollowCause opening w.catalogue error → TellsFaults {A = Unit {0}} w.faults faults (Err error) → CanFollow w → (HasRisen w.faults faults → ⊥) → error ≡ errors.NoMemory
+follow-cause w opening faults errors.LatestTransactionalObjectVersionMissing cause fault can calm = absurd (none-some (latest_manifest w.catalogue) can.0 cause can.1)
+follow-cause w opening faults errors.InvalidDBState cause fault can calm =
+    let same : cause.0 ≡ can.0 = same-manifest (latest_manifest w.catalogue) cause.0 can.0 cause.1 can.1 in
+    let no : can_follow opening can.0 ≡ false = subst (λ m. can_follow opening m ≡ false) same cause.2 in
+    let yes = still-follows opening can.0 can.2 in
+    absurd (cc)
+follow-cause w opening faults (errors.ObjectStoreError Unavailable) cause fault can calm = absurd (calm (fault.unavailable refl))
+follow-cause w opening faults errors.NoMemory cause fault can calm = refl
+follow-cause w opening faults error cause fault can calm = absurd cause
+
+follow-answer : (w : World) (faults : ℕ) (n at : ℕ) (view : VersionedManifest) (result : Result (Unit {0}) SlateError) → FollowAnswer true w.catalogue view result → TellsFaults w.faults faults result → CanFollow w → (HasRisen w.faults faults → ⊥) → IsOkOrNoMemory (follower_reply n at result)
+follow-answer w faults n at view (Ok _) answer fault can calm = tt
+follow-answer w faults n at view (Err error) answer fault can calm =
+    subst (λ e. IsOkOrNoMemory (refusal e)) (sym (follow-cause w true faults error answer fault can calm)) tt
+
+poll-answer : (w : World) (faults : ℕ) (at : ℕ) (view : VersionedManifest) (result : Result (Unit {0}) SlateError) → FollowAnswer false w.catalogue view result → TellsFaults w.faults faults result → CanFollow w → (HasRisen w.faults faults → ⊥) → IsOkOrNoMemory (polled_reply at result)
+poll-answer w faults at view (Ok _) answer fault can calm = tt
+poll-answer w faults at view (Err error) answer fault can calm =
+    subst (λ e. IsOkOrNoMemory (refusal e)) (sym (follow-cause w false faults error answer fault can calm)) tt
+
+poll-completes : (w : World) (n : ℕ) (follower : Follower) (result : CloseResult) (reply : Reply) (w' : World) → result ≡ None → CanFollow w → PollsUnless result w n follower reply w' → (HasRisen w.faults w'.faults → ⊥) → IsOkOrNoMemory reply
+poll-completes w n follower (Some r) reply w' unclosed can next calm = absurd (cc)
+poll-completes w n follower None reply w' unclosed can next calm =
+    subst IsOkOrNoMemory (sym next.answered) (poll-answer w w'.faults (end w.stored) next.view next.result next.answer next.fault can calm)
+
+follower-get-completes : (merge : Option Merge) (w : World) (follower : Follower) (key : List ℕ) (reply : Reply) (w' : World) → CanReadFollower merge w key follower → FollowerReads follower.result merge w follower key reply w' → IsOkOrNoMemory reply
+follower-get-completes merge w follower key reply w' can next =
+    let read : FollowerReads None merge w follower key reply w' = subst (λ r. FollowerReads r merge w follower key reply w') can.0 next in
+    found-reply _ can.1 reply can.2 read.0
+
+follower-close-completes : (fault : Option SlateError) (reply : Reply) → fault ≡ None → reply ≡ follower_ended fault → IsOkOrNoMemory reply
+follower-close-completes None reply none is = subst IsOkOrNoMemory (sym is) tt
+follower-close-completes (Some error) reply none is = absurd (cc)
+
+-- an object of which this holds answers so
+by-object : (object : Option objects.the_data) (can : Handle → Type 0) (may : Follower → Type 0) (said : Handle → Type 0) (told : Follower → Type 0) (unknown goal : Type 0) → AtObject object can may ⊥ → AtObject object said told unknown → ((handle : Handle) → can handle → said handle → goal) → ((follower : Follower) → may follower → told follower → goal) → goal
+by-object None can may said told unknown goal valid next f g = absurd valid
+by-object (Some (objects.Handle handle)) can may said told unknown goal valid next f g = f handle valid next
+by-object (Some (objects.Follower follower)) can may said told unknown goal valid next f g = g follower valid next
+
+await-completes : (w : World) (write : Write) (reply : Reply) (w' : World) → AtHandle (slice_get w.objects write.handle) (λ handle. write.number ≤ handle.durable) ⊥ → AwaitsWrite (Some write) w reply w' → IsOkOrNoMemory reply
+await-completes w write reply w' valid next =
+    by-object (slice_get w.objects write.handle) _ _ _ _ _ (IsOkOrNoMemory reply) valid next
+    (λ handle durable only. subst IsOkOrNoMemory (sym (only.0 ∙ ap (λ b. if b then replies.Durable else pending_reply handle.result) (le-leb write.number handle.durable durable))) tt)
+    (λ follower none only. absurd none)
+
 at-open : (object : Option objects.the_data) (handle : Handle) (said : Handle → Type 0) (unknown : Type 0) → object ≡ Some (objects.Handle handle) → AtHandle object said unknown → said handle
 at-open object handle said unknown is at = subst (λ o. AtHandle o said unknown) is at
 
@@ -156,9 +220,21 @@ action-completes settings w moment second (actions.Put n key value expire) reply
 action-completes settings w moment second (actions.Flush n flush_type) reply w' next valid calm =
     flush-completes w n valid.0 reply w' valid.2 valid.3 (at-open (slice_get w.objects n) valid.0 _ _ valid.1 next) calm
 action-completes settings w moment second (actions.Get n key remote) reply w' next valid calm =
-    get-completes settings.merge w valid.0 key remote reply w' valid.2 valid.3 (at-open (slice_get w.objects n) valid.0 _ _ valid.1 next)
+    by-object (slice_get w.objects n) _ _ _ _ _ (IsOkOrNoMemory reply) valid next
+    (λ handle can read. get-completes settings.merge w handle key remote reply w' can.0 can.1 read)
+    (λ follower can read. follower-get-completes settings.merge w follower key reply w' can read)
 action-completes settings w moment second (actions.Close n options) reply w' next valid calm =
-    close-completes w n valid.0 (valid.0).result (flush_of_close options) reply w' valid.2 (at-open (slice_get w.objects n) valid.0 _ _ valid.1 next) calm
+    by-object (slice_get w.objects n) _ _ _ _ _ (IsOkOrNoMemory reply) valid next
+    (λ handle can closes. close-completes w n handle handle.result (flush_of_close options) reply w' can closes calm)
+    (λ follower none closes. follower-close-completes (recorded_fault follower.result) reply none closes.0)
+action-completes settings w moment second (actions.Follow mode managed skip) reply w' next valid calm =
+    subst IsOkOrNoMemory (sym next.answered) (follow-answer w w'.faults (length w.objects) (end w.stored) next.view next.result next.answer next.fault valid calm)
+action-completes settings w moment second (actions.Poll n) reply w' next valid calm =
+    by-object (slice_get w.objects n) _ _ _ _ _ (IsOkOrNoMemory reply) valid next
+    (λ handle none only. absurd none)
+    (λ follower can polls. poll-completes w n follower follower.result reply w' can.0 can.1 polls calm)
+action-completes settings w moment second (actions.Await n) reply w' next valid calm =
+    await-completes w valid.0 reply w' valid.2 (subst (λ x. AwaitsWrite x w reply w') valid.1 next)
 
 -- a valid command that meets no fault is refused nothing
 pub completes : (settings : Settings) (w : World) (command : Command) (reply : Reply) (w' : World) → Next settings w command reply w' → IsValidCommand settings.merge w command → (HasRisen w.faults w'.faults → ⊥) → IsOkOrNoMemory reply

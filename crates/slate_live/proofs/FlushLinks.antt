@@ -11,11 +11,12 @@ use Rattle.slate_script.specs.declared.replies.Reply.TheVariants as replies
 use Rattle.slate_live.specs.declared.states.Object.{Object}
 use Rattle.slate_live.specs.declared.states.Object.TheVariants as objects
 use Rattle.slate_live.specs.Links.{Links}
-use Rattle.slate_live.specs.Live.{Live, FlushesObject, handle_of}
+use Rattle.slate_live.specs.Answers.{flush_answer}
+use Rattle.slate_live.specs.Live.{ByKind, FlushesObject, FlushesSome, Live}
 use Rattle.slate_live.specs.Next.{Flushes, FlushesUnless, done_or_refused}
 use Rattle.slate_live.specs.Stands.{IsHandleAt, StandsFor}
 use Rattle.slate_live.specs.World.{World}
-use Rattle.slate_live.proofs.Objects.{get_read}
+use Rattle.slate_live.proofs.Objects.{get_read, set_read}
 use Rattle.slate_live.proofs.Replies.{closed-refused}
 use Rattle.slate_live.proofs.StoreLinks.{handle_kept, store_now}
 
@@ -57,9 +58,29 @@ unknown_links live told faults n none w stands =
     let nothing : slice_get w.objects n ≡ None = subst (λ os. slice_get os n ≡ None) stands.objects none in
     rw nothing (refl, refl)
 
+-- what nothing changed stands for the same world
+pub object_kept : (live : Live) (told told' : Option Objects) (faults faults' : ℕ) (n : ℕ) (x x' : Object) → x' ≡ x → told' ≡ told → faults' ≡ faults → x ≡ get_or live.objects n x → (w : World) → StandsFor live told faults w → StandsFor (record { options = live.options; objects = set live.objects n x'; writes = live.writes }) told' faults' w
+object_kept live told told' faults faults' n x x' same same_told same_faults at w stands =
+    let held = stands.held in
+    record {
+      held = (held.0, same_told ∙ held.1, held.2, held.3);
+      faults = same_faults ∙ stands.faults;
+      objects = ap (set live.objects n) same ∙ (set_read live.objects n x at ∙ stands.objects);
+      writes = stands.writes;
+      valid = stands.valid;
+    }
+
+flush_some : (live : Live) (told told' : Option Objects) (faults faults' : ℕ) (n : ℕ) (h h' : Handle) (r : Option (Result (Unit {0}) SlateError)) → FlushesSome h h' r told told' faults faults' → IsHandleAt live.objects n h → (w : World) → StandsFor live told faults w → (w' : World) × Flushes w n (flush_answer r) w' × StandsFor (record { options = live.options; objects = set live.objects n (objects.Handle h'); writes = live.writes }) told' faults' w'
+flush_some live told told' faults faults' n h h' (Some r) f at w stands = flush_links live told told' faults faults' n h h' r f at w stands
+flush_some live told told' faults faults' n h h' None f at w stands = absurd f
+
 -- the same of the object at a place
-pub flush_object : (live : Live) (told told' : Option Objects) (faults faults' : ℕ) (n : ℕ) (x x' : Object) (r : Result (Unit {0}) SlateError) (reply : Reply) → FlushesObject (handle_of x) (handle_of x') r told told' faults faults' → x' ≡ objects.Handle (handle_of x') → n < length live.objects → x ≡ get_or live.objects n x → reply ≡ done_or_refused replies.Flushed r → Links (λ w reply w'. Flushes w n reply w') live told faults reply (record { options = live.options; objects = set live.objects n x'; writes = live.writes }) told' faults'
-flush_object live told told' faults faults' n (objects.Handle h) x' r reply f kind low at answer w stands =
+pub flush_object : (live : Live) (told told' : Option Objects) (faults faults' : ℕ) (n : ℕ) (x x' : Object) (r : Option (Result (Unit {0}) SlateError)) (reply : Reply) → ByKind x (λ h. ByKind x' (λ h'. FlushesSome h h' r told told' faults faults') (λ f'. ⊥)) (λ f. (r ≡ None) × (x' ≡ x) × (told' ≡ told) × (faults' ≡ faults)) → n < length live.objects → x ≡ get_or live.objects n x → reply ≡ flush_answer r → Links (λ w reply w'. Flushes w n reply w') live told faults reply (record { options = live.options; objects = set live.objects n x'; writes = live.writes }) told' faults'
+flush_object live told told' faults faults' n (objects.Handle h) (objects.Handle h') r reply f low at answer w stands =
     let there : IsHandleAt live.objects n h = get_read live.objects n (objects.Handle h) low at in
-    let l = flush_links live told told' faults faults' n h (handle_of x') r f there w stands in
-    (l.0, subst (λ a. Flushes w n a l.0) (sym answer) l.1, subst (λ y. StandsFor (record { options = live.options; objects = set live.objects n y; writes = live.writes }) told' faults' l.0) (sym kind) l.2)
+    let l = flush_some live told told' faults faults' n h h' r f there w stands in
+    (l.0, subst (λ a. Flushes w n a l.0) (sym answer) l.1, l.2)
+flush_object live told told' faults faults' n (objects.Handle h) (objects.Follower f') r reply f low at answer w stands = absurd f
+flush_object live told told' faults faults' n (objects.Follower f) x' r reply none low at answer w stands =
+    let there : slice_get w.objects n ≡ Some (objects.Follower f) = subst (λ os. slice_get os n ≡ Some (objects.Follower f)) stands.objects (get_read live.objects n (objects.Follower f) low at) in
+    (w, rw there (answer ∙ ap flush_answer none.0, refl), object_kept live told told' faults faults' n (objects.Follower f) x' none.1 none.2 none.3 at w stands)

@@ -7,6 +7,7 @@ use Rattle.slate_rows.specs.declared.options.FlushType.{FlushType}
 use Rattle.slate_rows.specs.Line.{Line, IsPrefix, end, extended}
 use Rattle.slate_rows.specs.Operator.{Merge}
 use Rattle.slate_status.specs.declared.errors.SlateError.{SlateError}
+use Rattle.slate_model.specs.Follower.{Follower}
 use Rattle.slate_model.specs.Handle.{CloseResult, Handle}
 use Rattle.slate_script.specs.declared.commands.Action.{Action}
 use Rattle.slate_script.specs.declared.commands.Action.TheVariants as actions
@@ -15,7 +16,8 @@ use Rattle.slate_script.specs.declared.replies.Reply.{Reply}
 use Rattle.slate_script.specs.declared.replies.Reply.TheVariants as replies
 use Rattle.slate_live.specs.declared.states.Object.{Object}
 use Rattle.slate_live.specs.declared.states.Object.TheVariants as objects
-use Rattle.slate_live.specs.Next.{AtHandle, ClosesOpen, ClosesUnless, FlushesUnless, Next, NextBy, OnlyAnswers, ReadsUnless, WritesIn, WritesUnless, flush_of_close, stored_after}
+use Rattle.slate_live.specs.declared.states.Write.{Write}
+use Rattle.slate_live.specs.Next.{AtFollower, AtHandle, AtObject, AwaitsWrite, FollowerReads, PollsUnless, ClosesOpen, ClosesUnless, FlushesUnless, Next, NextBy, OnlyAnswers, ReadsUnless, WritesIn, WritesUnless, flush_of_close, stored_after}
 use Rattle.slate_live.specs.Settings.{Settings}
 use Rattle.slate_live.specs.Stands.{up_to}
 use Rattle.slate_live.specs.World.{World}
@@ -31,6 +33,10 @@ prefix-extend a b batches p =
 pub prefix-then : (a b c : Line) → IsPrefix a b → IsPrefix b c → IsPrefix a c
 prefix-then a b c p q = subst (IsPrefix a) (sym q.1) (prefix-extend a b q.0 p)
 
+pub prefix-after : (a b : Line) (some : Bool) (batches : List Batch) → IsPrefix a b → IsPrefix a (if some then extended b batches else b)
+prefix-after a b true batches p = prefix-extend a b batches p
+prefix-after a b false batches p = p
+
 -- a line up to its end, or past it, is the line
 pub up_to-all : (number : ℕ) (line : Line) → end line ≤ number → up_to number line ≡ line
 up_to-all number line all = ap (λ bs. record { floor = line.floor; batches = bs }) (take_all (number - line.floor) line.batches (omega (arith, all)))
@@ -45,6 +51,32 @@ grows-after w w' false batches is = subst (IsPrefix w.stored) (sym is) (prefix-s
 at-handle : (w w' : World) (object : Option Object) (said : Handle → Type 0) (reply : Reply) → AtHandle object said (OnlyAnswers replies.Unknown w reply w') → ((handle : Handle) → said handle → IsPrefix w.stored w'.stored) → IsPrefix w.stored w'.stored
 at-handle w w' None said reply next f = grows-same w w' next.1
 at-handle w w' (Some (objects.Handle handle)) said reply next f = f handle next
+at-handle w w' (Some (objects.Follower follower)) said reply next f = grows-same w w' next.1
+
+at-follower : (w w' : World) (object : Option Object) (said : Follower → Type 0) (reply : Reply) → AtFollower object said (OnlyAnswers replies.Unknown w reply w') → ((follower : Follower) → said follower → IsPrefix w.stored w'.stored) → IsPrefix w.stored w'.stored
+at-follower w w' None said reply next f = grows-same w w' next.1
+at-follower w w' (Some (objects.Handle handle)) said reply next f = grows-same w w' next.1
+at-follower w w' (Some (objects.Follower follower)) said reply next f = f follower next
+
+at-object : (w w' : World) (object : Option Object) (said : Handle → Type 0) (told : Follower → Type 0) (reply : Reply) → AtObject object said told (OnlyAnswers replies.Unknown w reply w') → ((handle : Handle) → said handle → IsPrefix w.stored w'.stored) → ((follower : Follower) → told follower → IsPrefix w.stored w'.stored) → IsPrefix w.stored w'.stored
+at-object w w' None said told reply next f g = grows-same w w' next.1
+at-object w w' (Some (objects.Handle handle)) said told reply next f g = f handle next
+at-object w w' (Some (objects.Follower follower)) said told reply next f g = g follower next
+
+kept-stored : (w : World) {w' x : World} → w' ≡ x → x.stored ≡ w.stored → IsPrefix w.stored w'.stored
+kept-stored w {w'} {x} is same = subst (λ (y : World). IsPrefix w.stored y.stored) (sym is) (subst (IsPrefix w.stored) (sym same) (prefix-same w.stored))
+
+follower-read-grows : (merge : Option Merge) (w w' : World) (result : CloseResult) (follower : Follower) (key : List ℕ) (reply : Reply) → FollowerReads result merge w follower key reply w' → IsPrefix w.stored w'.stored
+follower-read-grows merge w w' (Some r) follower key reply next = grows-same w w' next.1
+follower-read-grows merge w w' None follower key reply next = grows-same w w' next.1
+
+poll-grows : (w w' : World) (result : CloseResult) (n : ℕ) (follower : Follower) (reply : Reply) → PollsUnless result w n follower reply w' → IsPrefix w.stored w'.stored
+poll-grows w w' (Some r) n follower reply next = grows-same w w' next.1
+poll-grows w w' None n follower reply next = kept-stored w next.after refl
+
+await-grows : (w w' : World) (write : Option Write) (reply : Reply) → AwaitsWrite write w reply w' → IsPrefix w.stored w'.stored
+await-grows w w' None reply next = grows-same w w' next.1
+await-grows w w' (Some write) reply next = at-handle w w' (slice_get w.objects write.handle) _ reply next (λ handle only. grows-same w w' only.1)
 
 writes-grow : (w w' : World) (refused : Option SlateError) (n : ℕ) (handle : Handle) (ops : List KeyOp) (moment : Option ℤ) (reply : Reply) → WritesUnless refused w n handle ops moment reply w' → IsPrefix w.stored w'.stored
 writes-grow w w' (Some error) n handle ops moment reply next = grows-same w w' next.1
@@ -79,9 +111,15 @@ grows-by settings w moment second (actions.Put n key value expire) reply w' next
 grows-by settings w moment second (actions.Flush n flush_type) reply w' next =
     at-handle w w' (slice_get w.objects n) _ reply next (λ handle. flush-grows w w' handle.result handle.keeps_log n handle reply)
 grows-by settings w moment second (actions.Get n key remote) reply w' next =
-    at-handle w w' (slice_get w.objects n) _ reply next (λ handle. read-grows settings.merge w w' handle.result handle key remote reply)
+    at-object w w' (slice_get w.objects n) _ _ reply next (λ handle. read-grows settings.merge w w' handle.result handle key remote reply)
+    (λ follower. follower-read-grows settings.merge w w' follower.result follower key reply)
 grows-by settings w moment second (actions.Close n options) reply w' next =
-    at-handle w w' (slice_get w.objects n) _ reply next (λ handle. closes-grow w w' handle.result (flush_of_close options) n handle reply)
+    at-object w w' (slice_get w.objects n) _ _ reply next (λ handle. closes-grow w w' handle.result (flush_of_close options) n handle reply)
+    (λ follower only. kept-stored w only.1 refl)
+grows-by settings w moment second (actions.Follow mode managed skip) reply w' next = kept-stored w next.after refl
+grows-by settings w moment second (actions.Poll n) reply w' next =
+    at-follower w w' (slice_get w.objects n) _ reply next (λ follower. poll-grows w w' follower.result n follower reply)
+grows-by settings w moment second (actions.Await n) reply w' next = await-grows w w' (slice_get w.writes n) reply next
 
 -- what is stored stays stored, whatever a command answers
 pub grows : (settings : Settings) (w : World) (command : Command) (reply : Reply) (w' : World) → Next settings w command reply w' → IsPrefix w.stored w'.stored

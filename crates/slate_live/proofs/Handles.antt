@@ -6,11 +6,12 @@ use Rattle.slate_rows.specs.declared.batches.KeyOp.{KeyOp}
 use Rattle.slate_rows.specs.Line.{IsPrefix, Line, extended}
 use Rattle.slate_rows.proofs.Lines.{numbered-push, above-push}
 use Rattle.slate_store.specs.declared.objects.VersionedManifest.{VersionedManifest}
+use Rattle.slate_model.specs.Follower.{Follower}
 use Rattle.slate_model.specs.Handle.{Handle, unstored}
 use Rattle.slate_model.specs.Write.{written, next_batch}
 use Rattle.slate_live.specs.declared.states.Object.{Object}
 use Rattle.slate_live.specs.declared.states.Object.TheVariants as objects
-use Rattle.slate_live.specs.Stands.{IsHandleAt, IsValidHandle}
+use Rattle.slate_live.specs.Stands.{IsFollowerAt, IsHandleAt, IsValidHandle}
 
 -- what stands at the place that was set, and at any other
 pub get-set_same : {X : Type 0} (xs : List X) (n : ℕ) (x y : X) → slice_get xs n ≡ Some y → slice_get (set xs n x) n ≡ Some x
@@ -61,6 +62,37 @@ distinct-set live n old new at same distinct i j a b is_a is_b epochs =
     let x = stood live n old new at same i a is_a in
     let y = stood live n old new at same j b is_b in
     distinct i j x.0 y.0 x.1 y.1 (x.2 ∙ (epochs ∙ sym y.2))
+
+-- what holds of each follower holds of it after a handle changed
+pub followers-set-handle : (P : Follower → Type 0) (live : List Object) (n : ℕ) (old : Object) (new : Handle) → slice_get live n ≡ Some old → ((m : ℕ) (f : Follower) → IsFollowerAt live m f → P f) → (m : ℕ) (f : Follower) → IsFollowerAt (set live n (objects.Handle new)) m f → P f
+followers-set-handle P live n old new at all m f is =
+    elim (cases_eq m n) [
+      | inl same ↦
+          let there : slice_get (set live n (objects.Handle new)) m ≡ Some (objects.Handle new) = subst (λ k. slice_get (set live n (objects.Handle new)) k ≡ Some (objects.Handle new)) (sym same) (get-set_same live n (objects.Handle new) old at) in
+          absurd (cc)
+      | inr other ↦ all m f (sym (get-set_other live n m (objects.Handle new) other) ∙ is)
+    ]
+
+-- and after a follower changed into one of which it holds
+pub followers-set : (P : Follower → Type 0) (live : List Object) (n : ℕ) (old : Object) (new : Follower) → slice_get live n ≡ Some old → P new → ((m : ℕ) (f : Follower) → IsFollowerAt live m f → P f) → (m : ℕ) (f : Follower) → IsFollowerAt (set live n (objects.Follower new)) m f → P f
+followers-set P live n old new at p all m f is =
+    elim (cases_eq m n) [
+      | inl same ↦
+          let there : slice_get (set live n (objects.Follower new)) m ≡ Some (objects.Follower new) = subst (λ k. slice_get (set live n (objects.Follower new)) k ≡ Some (objects.Follower new)) (sym same) (get-set_same live n (objects.Follower new) old at) in
+          let is_new : new ≡ f = cc in
+          subst P is_new p
+      | inr other ↦ all m f (sym (get-set_other live n m (objects.Follower new) other) ∙ is)
+    ]
+
+-- each handle stood there before a follower changed
+pub handles-set-follower : (live : List Object) (n : ℕ) (old : Object) (new : Follower) → slice_get live n ≡ Some old → (m : ℕ) (h : Handle) → IsHandleAt (set live n (objects.Follower new)) m h → IsHandleAt live m h
+handles-set-follower live n old new at m h is =
+    elim (cases_eq m n) [
+      | inl same ↦
+          let there : slice_get (set live n (objects.Follower new)) m ≡ Some (objects.Follower new) = subst (λ k. slice_get (set live n (objects.Follower new)) k ≡ Some (objects.Follower new)) (sym same) (get-set_same live n (objects.Follower new) old at) in
+          absurd (cc)
+      | inr other ↦ sym (get-set_other live n m (objects.Follower new) other) ∙ is
+    ]
 
 -- a valid handle stays valid when it accepts a write
 pub valid-written : (stored : Line) (latest : Option VersionedManifest) (h : Handle) (ops : List KeyOp) (at : ℤ) → IsValidHandle stored latest h → IsValidHandle stored latest (written h ops at)

@@ -3,6 +3,7 @@ pub mod Completed
 pub mod Completeness
 pub mod CloseLinks
 pub mod FlushLinks
+pub mod FollowLinks
 pub mod Flushing
 pub mod Growing
 pub mod Handles

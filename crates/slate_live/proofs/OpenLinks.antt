@@ -11,6 +11,7 @@ use Rattle.slate_status.specs.declared.errors.SlateError.{SlateError}
 use Rattle.slate_status.specs.declared.errors.SlateError.TheVariants as errors
 use Rattle.slate_model.specs.Catalogue.{catalogue_of, span}
 use Rattle.slate_model.specs.Changes.{after_part}
+use Rattle.slate_model.specs.Follower.{Follower}
 use Rattle.slate_model.specs.Handle.{Handle, unstored}
 use Rattle.slate_model.specs.Flush.{TellsFaults}
 use Rattle.slate_model.specs.Open.{OpenFault, Opens, OpensOnly, found_log, next_manifest, open_changes, opened_handle, opened_manifest}
@@ -22,12 +23,12 @@ use Rattle.slate_script.specs.declared.replies.Reply.TheVariants as replies
 use Rattle.slate_live.specs.declared.states.Object.TheVariants as objects
 use Rattle.slate_live.specs.Live.{Live}
 use Rattle.slate_live.specs.Next.{OpensIn, done_or_refused, new_handle, objects_after_open, refusal}
-use Rattle.slate_live.specs.Stands.{IsValidHandle, IsHandleAt, StandsFor}
+use Rattle.slate_live.specs.Stands.{IsFollowerAt, IsValidHandle, IsHandleAt, StandsFor}
 use Rattle.slate_live.specs.World.{World}
 use Rattle.slate_live.proofs.Growing.{prefix-same, up_to-all}
 
 -- what stands in a list with one more at its end
-get-push : {X : Type 0} (xs : List X) (x y : X) (m : ℕ) → slice_get (xs ++ x ∷ []) m ≡ Some y → (slice_get xs m ≡ Some y) ⊎ ((m ≡ length xs) × (x ≡ y))
+pub get-push : {X : Type 0} (xs : List X) (x y : X) (m : ℕ) → slice_get (xs ++ x ∷ []) m ≡ Some y → (slice_get xs m ≡ Some y) ⊎ ((m ≡ length xs) × (x ≡ y))
 get-push [] x y zero h = inr (refl, let e : x ≡ y = cc in e)
 get-push [] x y (suc m) h = absurd (cc)
 get-push (z ∷ xs) x y zero h = inl h
@@ -38,7 +39,7 @@ get-push (z ∷ xs) x y (suc m) h =
     ]
 
 -- an opening's answer without its handle
-abbrev erased : {A : Type 0} → Result A SlateError → Result (Unit {0}) SlateError
+abbrev pub erased : {A : Type 0} → Result A SlateError → Result (Unit {0}) SlateError
 erased (Ok x) = Ok tt
 erased (Err e) = Err e
 
@@ -54,7 +55,7 @@ opens-erased {A} o (Err e) made o' s = record { answer = s.answer; part = s.part
 same_error : {A : Type 0} (e : SlateError) {f : SlateError} → ◌≡◌ {A = Result (Unit {0}) SlateError} (Err e) (Err f) → ◌≡◌ {A = Result A SlateError} (Err e) (Err f)
 same_error e {f} h = let same : e ≡ f = cc in ap (λ x. Err x) same
 
-faults-erased : {A : Type 0} (faults faults' : ℕ) (r : Result A SlateError) → TellsFaults faults faults' r → TellsFaults faults faults' (erased r)
+pub faults-erased : {A : Type 0} (faults faults' : ℕ) (r : Result A SlateError) → TellsFaults faults faults' r → TellsFaults faults faults' (erased r)
 faults-erased faults faults' (Ok x) fault = record { count = fault.count; unavailable = λ h. absurd (cc); none_missing = λ h. absurd (cc) }
 faults-erased faults faults' (Err e) fault = record { count = fault.count; unavailable = λ h. fault.unavailable (same_error e h); none_missing = λ h. fault.none_missing (same_error e h) }
 
@@ -158,6 +159,14 @@ module _ (options : Options) (live : Live) (told told' : Option Objects) (faults
         | inr last_one ↦ subst (IsValidHandle w.stored (latest_manifest o')) (same_handle h last_one.1) (new-valid o' (after.latest (some refl)))
       ]
 
+  followers-after : (r : Result (Unit {0}) SlateError) (m : ℕ) (f : Follower) → IsFollowerAt (objects_after_open options w r) m f → IsPrefix f.line w.stored
+  followers-after (Err e) m f at = stands.valid.followers m f at
+  followers-after (Ok x) m f at =
+      elim (get-push w.objects (objects.Handle (new_handle options w)) (objects.Follower f) m at) [
+        | inl before ↦ stands.valid.followers m f before
+        | inr last_one ↦ absurd (let other = last_one.1 in cc)
+      ]
+
   newer : (m : ℕ) (a b : Handle) → IsHandleAt w.objects m a → new_handle options w ≡ b → a.epoch ≡ b.epoch → ⊥
   newer m a b at is epochs =
       let below = older m a at in
@@ -209,7 +218,12 @@ module _ (options : Options) (live : Live) (told told' : Option Objects) (faults
           faults = refl;
           objects = same_objects;
           writes = same_writes;
-          valid = record { handles = handles-after r made o' some after; distinct = distinct-after r };
+          valid = record {
+            line = stands.valid.line;
+            followers = followers-after r;
+            handles = handles-after r made o' some after;
+            distinct = distinct-after r;
+          };
         },
       )
 

@@ -1,5 +1,8 @@
-use Rattle.std.proofs.Common.{◌≡◌, ℕ, ℤ, ◌<◌, ◌≤◌, List, [], ◌∷◌, length, get_or, Option, Some, None, Result, Ok, Err, Bool, true, false, min, refl, subst, ap, ◌∙◌, arith}
-use Rattle.std.specs.List.{slice_get}
+use Rattle.std.proofs.Common.{◌≡◌, ℕ, ℤ, ◌+◌, ◌<◌, ◌≤◌, List, [], ◌∷◌, ◌++◌, leb, sym, length, get_or, Option, Some, None, Result, Ok, Err, Bool, true, false, min, refl, subst, ap, ◌∙◌, arith}
+use Rattle.std.specs.List.{filter, flat_map, slice_get}
+use Rattle.std.proofs.lemmas.Bool.{lt-leb}
+use Rattle.std.proofs.lemmas.List.{append-nil}
+use Rattle.std.proofs.lemmas.List.Elements.{filter-append}
 use Rattle.std.specs.Option.{IfSome, option_map}
 use Rattle.slate_rows.specs.declared.batches.Batch.{Batch}
 use Rattle.slate_rows.specs.declared.batches.KeyValue.{KeyValue}
@@ -9,17 +12,20 @@ use Rattle.slate_rows.specs.declared.reads.ReadFault.{ReadFault}
 use Rattle.slate_rows.specs.declared.reads.ReadFault.TheVariants as reads
 use Rattle.slate_rows.specs.Bound.{read_bound}
 use Rattle.slate_rows.specs.Operator.{Merge}
-use Rattle.slate_rows.specs.Read.{Version, and_then, fold_versions, merged_row, read_at, row_after, tail}
+use Rattle.slate_rows.specs.Read.{Version, and_then, fold_versions, is_within, merged_row, read_at, row_after, since_base, tail, versions_in}
 use Rattle.slate_status.specs.declared.errors.SlateError.{SlateError}
 use Rattle.slate_status.specs.declared.errors.SlateError.TheVariants as errors
+use Rattle.slate_rows.specs.Line.{AreNumberedFrom, IsLine, IsPrefix, Line, end, extended}
+use Rattle.slate_model.proofs.Reopened.{numbered_rest}
+use Rattle.slate_model.specs.Follower.{Follower, number}
 use Rattle.slate_model.specs.Handle.{Handle, CloseResult, accepted, closed_error}
 use Rattle.slate_model.specs.Read.{AnswersRead, cut}
 use Rattle.slate_script.specs.declared.replies.Reply.{Reply}
 use Rattle.slate_script.specs.declared.replies.Reply.TheVariants as replies
 use Rattle.slate_live.specs.declared.states.Object.{Object}
 use Rattle.slate_live.specs.declared.states.Object.TheVariants as objects
-use Rattle.slate_live.specs.Live.{handle_of}
-use Rattle.slate_live.specs.Next.{IsReadReply, Reads, ReadsUnless, level_of, refusal}
+use Rattle.slate_live.specs.Live.{ByKind, ReadsFollower, ReadsHandle}
+use Rattle.slate_live.specs.Next.{FollowerReads, IsReadReply, Reads, ReadsUnless, level_of, refusal}
 use Rattle.slate_live.specs.Stands.{IsValid}
 use Rattle.slate_live.specs.World.{World}
 use Rattle.slate_live.proofs.Objects.{get_read}
@@ -74,9 +80,39 @@ module _ (merge : Option Merge) (w : World) (n : ℕ) (h : Handle) (key : List �
       let answer = subst (λ b. AnswersRead (read_at merge h.line.batches b key) r) (bound-cut h remote durable) (read is) in
       (replied (read_at merge h.line.batches (Some (cut h (level_of remote))) key) r (read-whole merge h.line.batches (Some (cut h (level_of remote))) key) answer, refl)
 
+-- a follower sees of what is stored what is up to its number
+none-within : (floor n : ℕ) (bs : List Batch) → AreNumberedFrom floor bs → n ≤ floor → filter (λ b. is_within (Some n) b.number) bs ≡ []
+none-within floor n [] h low = refl
+none-within floor n (b ∷ bs) h low =
+    let no : leb b.number n ≡ false = lt-leb b.number n (omega arith) in
+    rw no (none-within (floor + 1) n bs h.1 (omega arith))
+
+front-within : (line stored : Line) → IsPrefix line stored → IsLine stored → filter (λ b. is_within (Some (end line)) b.number) stored.batches ≡ filter (λ b. is_within (Some (end line)) b.number) line.batches
+front-within line stored p numbered =
+    let all : IsLine (extended line p.0) = subst IsLine p.1 numbered in
+    let rest = numbered_rest line.floor line.batches p.0 all in
+    ap (λ (l : Line). filter (λ b. is_within (Some (end line)) b.number) l.batches) p.1
+    ∙ (filter-append (λ b. is_within (Some (end line)) b.number) line.batches p.0
+    ∙ (ap (λ xs. filter (λ b. is_within (Some (end line)) b.number) line.batches ++ xs) (none-within (end line) (end line) p.0 rest (omega arith)) ∙ append-nil _))
+
+front-read : (merge : Option Merge) (line stored : Line) (key : List ℕ) → IsPrefix line stored → IsLine stored → read_at merge line.batches (Some (end line)) key ≡ read_at merge stored.batches (Some (end line)) key
+front-read merge line stored key p numbered =
+    ap (λ bs. fold_versions merge key None (since_base (flat_map (versions_in key) bs))) (sym (front-within line stored p numbered))
+
+follower-read : (merge : Option Merge) (w : World) (f : Follower) (key : List ℕ) (r : Result (Option KeyValue) SlateError) (result : CloseResult) → IsPrefix f.line w.stored → IsLine w.stored → f.result ≡ result → ReadsFollower merge f key r → FollowerReads result merge w f key (read_reply r) w
+follower-read merge w f key r (Some q) front line is read =
+    let closed = subst (λ x. IfSome x (λ q. r ≡ Err (closed_error q))) is read.0 in
+    (ap read_reply closed ∙ closed-refused q, refl)
+follower-read merge w f key r None front line is read =
+    let answer = subst (λ a. AnswersRead a r) (front-read merge f.line w.stored key front line) (read.1 is) in
+    (replied (read_at merge w.stored.batches (Some (number f)) key) r (read-whole merge w.stored.batches (Some (number f)) key) answer, refl)
+
 -- a read of the object at a place is answered as the world says
-pub read_object : (merge : Option Merge) (w : World) (xs : List Object) (n : ℕ) (x : Object) (key : List ℕ) (remote : Bool) (r : Result (Option KeyValue) SlateError) (reply : Reply) → IsValid w → w.objects ≡ xs → n < length xs → x ≡ get_or xs n x → IfSome (handle_of x).result (λ q. r ≡ Err (closed_error q)) → ((handle_of x).result ≡ None → AnswersRead (read_at merge (handle_of x).line.batches (read_bound None (handle_of x).durable (accepted (handle_of x)) (level_of remote) false) key) r) → reply ≡ read_reply r → Reads merge w n key remote reply w
-read_object merge w xs n (objects.Handle h) key remote r reply valid objs low at closed read answer =
+pub read_object : (merge : Option Merge) (w : World) (xs : List Object) (n : ℕ) (x : Object) (key : List ℕ) (remote : Bool) (r : Result (Option KeyValue) SlateError) (reply : Reply) → IsValid w → w.objects ≡ xs → n < length xs → x ≡ get_or xs n x → ByKind x (λ h. ReadsHandle merge h key (level_of remote) false r) (λ f. ReadsFollower merge f key r) → reply ≡ read_reply r → Reads merge w n key remote reply w
+read_object merge w xs n (objects.Handle h) key remote r reply valid objs low at read answer =
     let there : slice_get w.objects n ≡ Some (objects.Handle h) = ap (λ ys. slice_get ys n) objs ∙ get_read xs n (objects.Handle h) low at in
     let durable = (valid.handles n h there).durable in
-    rw (there, answer) (read-by merge w n h key remote r durable h.result refl closed read)
+    rw (there, answer) (read-by merge w n h key remote r durable h.result refl read.0 read.1)
+read_object merge w xs n (objects.Follower f) key remote r reply valid objs low at read answer =
+    let there : slice_get w.objects n ≡ Some (objects.Follower f) = ap (λ ys. slice_get ys n) objs ∙ get_read xs n (objects.Follower f) low at in
+    rw (there, answer) (follower-read merge w f key r f.result (valid.followers n f there) valid.line refl read)

@@ -1,5 +1,5 @@
-use Rattle.std.proofs.Common.{◌≡◌, ◌≢◌, inl, inr, ℕ, ◌≤◌, set, Option, Some, Result, refl, sym, subst, ap, ◌∙◌, arith}
-use Rattle.slate_rows.specs.Line.{AreNumberedFrom, Line, end, extended}
+use Rattle.std.proofs.Common.{◌≡◌, ◌≢◌, nat_lt, inl, inr, ℕ, ◌≤◌, set, Option, Some, Result, refl, sym, subst, ap, ◌∙◌, arith}
+use Rattle.slate_rows.specs.Line.{AreNumberedFrom, IsLine, IsPrefix, Line, end, extended}
 use Rattle.slate_store.specs.Calls.{Told}
 use Rattle.slate_store.specs.declared.objects.VersionedManifest.{VersionedManifest}
 use Rattle.slate_store.specs.Objects.{Objects, latest_manifest}
@@ -17,9 +17,9 @@ use Rattle.slate_live.specs.Live.{Live}
 use Rattle.slate_live.specs.Next.{StoresIn, stored_after}
 use Rattle.slate_live.specs.Stands.{Holds, IsValid, up_to, IsValidHandle, IsHandleAt, StandsFor}
 use Rattle.slate_live.specs.World.{World}
-use Rattle.slate_live.proofs.Growing.{prefix-extend}
+use Rattle.slate_live.proofs.Growing.{prefix-after, prefix-extend}
 use Rattle.slate_live.proofs.Flushing.{unstored_next, valid-none, valid-one}
-use Rattle.slate_live.proofs.Handles.{valid-set, distinct-set, set-same}
+use Rattle.slate_live.proofs.Handles.{followers-set-handle, valid-set, distinct-set, set-same}
 
 -- what is stored and valid after batches were to be stored, of the objects and of the handles
 record After (w : World) (n : ℕ) (h new : Handle) (made : ℕ) (o' : Objects) : Type 0 where
@@ -133,6 +133,9 @@ store_now answer leaves live told told' faults faults' n h new view r as_valid e
         objects = ap (λ os. set os n (objects.Handle new)) stands.objects ∙ ap (λ x. set w.objects n (objects.Handle x)) is;
         writes = stands.writes;
         valid = record {
+          line = subst IsLine after.content (after.sound.line);
+          followers = followers-set-handle (λ f. IsPrefix f.line (stored_after made w.stored (unstored h))) w.objects n (objects.Handle h) (leaves view r) there
+              (λ m f is. prefix-after f.line w.stored (nat_lt 0 made) (unstored h) (stands.valid.followers m f is));
           handles = after.handles;
           distinct = distinct-set w.objects n h (leaves view r) there epoch stands.valid.distinct;
         };

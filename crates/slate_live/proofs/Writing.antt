@@ -1,6 +1,7 @@
 use Rattle.std.proofs.Common.{◌≡◌, inl, inr, ℕ, ℤ, List, set, Option, Some, None, refl, sym, subst}
 use Rattle.std.specs.List.{slice_get}
 use Rattle.slate_rows.specs.declared.batches.KeyOp.{KeyOp}
+use Rattle.slate_rows.specs.Line.{IsPrefix}
 use Rattle.slate_store.specs.Objects.{Objects, latest_manifest}
 use Rattle.slate_status.specs.declared.errors.SlateError.{SlateError}
 use Rattle.slate_model.specs.Handle.{Handle}
@@ -14,12 +15,14 @@ use Rattle.slate_live.specs.Live.{Live}
 use Rattle.slate_live.specs.Next.{AtHandle, OnlyAnswers, Writes, WritesIn, WritesUnless}
 use Rattle.slate_live.specs.Stands.{IsValid, IsValidHandle, IsHandleAt, StandsFor}
 use Rattle.slate_live.specs.World.{World}
-use Rattle.slate_live.proofs.Handles.{valid-set, distinct-set, valid-written}
+use Rattle.slate_live.proofs.Handles.{followers-set-handle, valid-set, distinct-set, valid-written}
 
 -- a world stays valid when a handle accepts a write
 valid_write : (w : World) (n : ℕ) (h : Handle) (ops : List KeyOp) (at : ℤ) (ws : List Write) → IsHandleAt w.objects n h → IsValid w → IsValid (record w { objects = set w.objects n (objects.Handle (written h ops at)); writes = ws })
 valid_write w n h ops at ws there valid =
     record {
+      line = valid.line;
+      followers = followers-set-handle (λ f. IsPrefix f.line w.stored) w.objects n (objects.Handle h) (written h ops at) there valid.followers;
       handles = valid-set (IsValidHandle w.stored (latest_manifest w.catalogue)) w.objects n h (written h ops at) there (valid-written w.stored (latest_manifest w.catalogue) h ops at (valid.handles n h there)) (λ m a other is. valid.handles m a is);
       distinct = distinct-set w.objects n h (written h ops at) there refl valid.distinct;
     }
@@ -39,6 +42,7 @@ module _ (w w' : World) (n : ℕ) (ops : List KeyOp) (moment : ℤ) (second : Op
   valid-at : (o : Option Object) → slice_get w.objects n ≡ o → AtHandle o (λ h. WritesIn w n h ops moment second reply w') (OnlyAnswers replies.Unknown w reply w') → IsValid w'
   valid-at None there next = same_valid next.1 valid
   valid-at (Some (objects.Handle h)) there next = valid-in h there next
+  valid-at (Some (objects.Follower f)) there next = same_valid next.1 valid
 
   -- a world stays valid after a write, whatever is answered
   pub valid_writes : Writes w n ops moment second reply w' → IsValid w'

@@ -4,6 +4,7 @@ use Rattle.slate_store.specs.declared.objects.VersionedManifest.{VersionedManife
 use Rattle.slate_store.specs.Objects.{Objects, latest_manifest}
 use Rattle.slate_store.specs.Content.{IsSound, content}
 use Rattle.slate_model.specs.Catalogue.{catalogue_of}
+use Rattle.slate_model.specs.Follower.{Follower}
 use Rattle.slate_model.specs.Handle.{Handle, accepted, unstored}
 use Rattle.slate_live.specs.declared.states.Object.{Object}
 use Rattle.slate_live.specs.declared.states.Object.TheVariants as objects
@@ -34,8 +35,14 @@ pub record IsValidHandle (stored : Line) (latest : Option VersionedManifest) (ha
   pub current : (manifest : VersionedManifest) → handle.result ≡ None → latest ≡ Some manifest →
       manifest.manifest.writer_epoch ≤ handle.epoch → extended stored (unstored handle) ≡ handle.line
 
--- what holds of every world that commands lead to: its handles are valid, and no two have the same epoch
+abbrev pub IsFollowerAt : List Object → ℕ → Follower → Type 0
+IsFollowerAt live n follower = slice_get live n ≡ Some (objects.Follower follower)
+
+-- what holds of every world that commands lead to: a line is stored, its handles are valid, no two have the same epoch, and what a follower
+-- sees begins what is stored
 pub record IsValid (w : World) : Type 0 where
+  pub line : IsLine w.stored
+  pub followers : (n : ℕ) (follower : Follower) → IsFollowerAt w.objects n follower → IsPrefix follower.line w.stored
   pub handles : (n : ℕ) (handle : Handle) → IsHandleAt w.objects n handle → IsValidHandle w.stored (latest_manifest w.catalogue) handle
   pub distinct : (m n : ℕ) (a b : Handle) → IsHandleAt w.objects m a → IsHandleAt w.objects n b → a.epoch ≡ b.epoch → m ≡ n
 

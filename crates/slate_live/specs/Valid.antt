@@ -1,5 +1,5 @@
 -- Commands that nothing in a world stands against, and the link of a command, which such a one answers.
-use Rattle.std.specs.Prelude.{◌≡◌, ℕ, ℤ, ◌<◌, ◌≤◌, Bool, true, List, [], ◌∷◌, length, slice_get, Option, Some, None, Ok, Err}
+use Rattle.std.specs.Prelude.{◌≡◌, ℕ, ℤ, ◌<◌, ◌≤◌, Bool, true, false, List, [], ◌∷◌, length, slice_get, Option, Some, None, Ok, Err}
 use Rattle.slate_rows.specs.declared.batches.KeyValue.{KeyValue}
 use Rattle.slate_rows.specs.Counts.{HasRisen}
 use Rattle.slate_rows.specs.Line.{IsPrefix}
@@ -10,6 +10,9 @@ use Rattle.slate_store.specs.Objects.{latest_manifest, last_log}
 use Rattle.slate_rows.specs.declared.options.FlushType.{FlushType}
 use Rattle.slate_status.specs.declared.errors.SlateError.TheVariants as errors
 use Rattle.slate_model.specs.Handle.{CloseResult, Handle, accepted}
+use Rattle.slate_model.specs.Follower.{Follower, can_follow, number}
+use Rattle.slate_follow.specs.Closing.{recorded_fault}
+use Rattle.slate_live.specs.declared.states.Write.{Write}
 use Rattle.slate_model.specs.Open.{can_open}
 use Rattle.slate_model.specs.Read.{cut}
 use Rattle.slate_model.specs.Write.{accepted_moment, last_number}
@@ -19,7 +22,7 @@ use Rattle.slate_script.specs.declared.commands.Command.{Command}
 use Rattle.slate_script.specs.declared.replies.Reply.{Reply}
 use Rattle.slate_script.specs.declared.replies.Reply.TheVariants as replies
 use Rattle.slate_live.specs.declared.states.Object.TheVariants as objects
-use Rattle.slate_live.specs.Next.{Next, flush_of_close, level_of}
+use Rattle.slate_live.specs.Next.{AtFollower, AtHandle, AtObject, Next, flush_of_close, level_of}
 use Rattle.slate_live.specs.Settings.{Settings}
 use Rattle.slate_live.specs.Stands.{up_to}
 use Rattle.slate_live.specs.World.{World}
@@ -52,18 +55,35 @@ CanClose (Some (Err fault)) flush_type w handle = Unit {0}
 CanClose None None w handle = Unit {0}
 CanClose None (Some flush_type) w handle = CanStore w handle
 
+-- an opening of a follower: there is a manifest, which is initialised and, until tables are built, names none
+abbrev pub CanFollow : World → Type 0
+CanFollow w = (latest : VersionedManifest) × (latest_manifest w.catalogue ≡ Some latest) × (can_follow true latest ≡ true)
+
 -- a get from a handle: the plain read of its line at its cut finds a row, or none
 abbrev pub CanRead : Option Merge → List ℕ → Bool → Handle → Type 0
 CanRead merge key remote handle =
     (found : Option KeyValue) × (read_at merge handle.line.batches (Some (cut handle (level_of remote))) key ≡ Ok found)
 
+-- a get from a follower, likewise
+abbrev pub CanReadFollower : Option Merge → World → List ℕ → Follower → Type 0
+CanReadFollower merge w key follower =
+    (follower.result ≡ None) × (found : Option KeyValue) × (read_at merge w.stored.batches (Some (number follower)) key ≡ Ok found)
+
 abbrev pub IsValidAction : Option Merge → World → ℤ → Option ℤ → Action → Type 0
 IsValidAction merge w moment second actions.Open = CanOpen w
 IsValidAction merge w moment second (actions.Put n key value expire) = IsOpen w n (CanPut key moment second)
 IsValidAction merge w moment second (actions.Flush n flush_type) = IsOpen w n (CanStore w)
-IsValidAction merge w moment second (actions.Get n key remote) = IsOpen w n (CanRead merge key remote)
+IsValidAction merge w moment second (actions.Get n key remote) =
+    AtObject (slice_get w.objects n) (λ handle. (handle.result ≡ None) × CanRead merge key remote handle) (CanReadFollower merge w key) ⊥
 IsValidAction merge w moment second (actions.Close n options) =
-    (handle : Handle) × (slice_get w.objects n ≡ Some (objects.Handle handle)) × CanClose handle.result (flush_of_close options) w handle
+    AtObject (slice_get w.objects n) (λ handle. CanClose handle.result (flush_of_close options) w handle)
+    (λ follower. (recorded_fault follower.result ≡ None)) ⊥
+IsValidAction merge w moment second (actions.Follow mode managed skip) = CanFollow w
+IsValidAction merge w moment second (actions.Poll n) =
+    AtFollower (slice_get w.objects n) (λ follower. (follower.result ≡ None) × CanFollow w) ⊥
+IsValidAction merge w moment second (actions.Await n) =
+    (write : Write) × (slice_get w.writes n ≡ Some write)
+    × AtHandle (slice_get w.objects write.handle) (λ handle. write.number ≤ handle.durable) ⊥
 
 -- nothing in this world stands against the command
 abbrev pub IsValidCommand : Option Merge → World → Command → Type 0
@@ -75,10 +95,14 @@ IsOkOrNoMemory (replies.Refused error) = ⊥
 IsOkOrNoMemory (replies.Ended (Some errors.NoMemory) tasks) = Unit {0}
 IsOkOrNoMemory (replies.Ended (Some error) tasks) = ⊥
 IsOkOrNoMemory replies.Unknown = ⊥
+IsOkOrNoMemory replies.Pending = ⊥
+IsOkOrNoMemory (replies.Follower object false at) = ⊥
+IsOkOrNoMemory (replies.Polled false at) = ⊥
 IsOkOrNoMemory reply = Unit {0}
 
 -- The link of a command: its reply and the world that it leads to are such as follow. A valid command that meets no
--- fault of the store is refused nothing. What is stored stays stored, and what a handle knows to be durable is.
+-- fault of the store is refused nothing. What is stored stays stored, and what a handle knows
+-- to be durable is.
 pub record Link (settings : Settings) (w : World) (command : Command) (reply : Reply) (w' : World) : Type 0 where
   pub next : Next settings w command reply w'
   pub completes : IsValidCommand settings.merge w command → (HasRisen w.faults w'.faults → ⊥) → IsOkOrNoMemory reply

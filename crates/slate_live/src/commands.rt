@@ -6,14 +6,13 @@ ghost use Rattle.slate_rows.specs.Read.{IsOperator, read_at};
 ghost use Rattle.slate_rows.specs.Bound.{read_bound};
 ghost use Rattle.slate_model.specs.Handle.{accepted, closed_error};
 ghost use Rattle.slate_model.specs.Read.{AnswersRead};
-ghost use Rattle.slate_live.specs.Live.{ClosesObject, FlushesObject};
+ghost use Rattle.slate_live.specs.Answers.{flush_answer, write_answer};
 ghost use Rattle.slate_script.specs.Built.{closes_without_table};
 ghost use Rattle.slate_model.specs.Write.{write_refusal, written, accepted_moment};
 ghost use Rattle.slate_live.specs.Links.{Links};
-ghost use Rattle.slate_live.specs.Next.{Closes, Flushes, OpensIn, Reads, Writes, ended_reply, flush_of_close, level_of, refusal, put_op};
+ghost use Rattle.slate_live.specs.Next.{Awaits, Closes, Flushes, OpensIn, Reads, Writes, ended_reply, flush_of_close, follower_ended, level_of, refusal, put_op};
 ghost use Rattle.slate_live.specs.Stands.{IsValid};
 ghost use Rattle.slate_live.specs.World.{World};
-ghost use Rattle.slate_live.specs.Live.{handle_of};
 ghost use Rattle.slate_live.specs.declared.states.Object.TheVariants as objects;
 ghost use Rattle.slate_live.specs.declared.states.Write.{Write};
 ghost use Rattle.slate_script.specs.declared.options.Options.{Options};
@@ -25,7 +24,7 @@ use slate_rows::{
     PrefixExtractor, ReadOptions, Seq, WriteBatch,
 };
 use slate_script::{Command, Options, Reply};
-use slate_status::{Ended, SlateError};
+use slate_status::{Ended, Ending, SlateError};
 use slate_store::Store;
 use slate_writer::{WriterOptions, WriterState, Written};
 use std::alloc::Global;
@@ -58,108 +57,21 @@ fn put_batch(
     Ok(WriteBatch { ops: Seq::of(ops) })
 }
 
-/// Writes a batch to a handle, and notes the write.
-fn write_batch<E: PrefixExtractor>(
-    alloc: Global,
-    writer: &mut WriterState,
-    writes: &mut Vec<Write>,
-    handle: u64,
-    batch: WriteBatch,
-    command: &Command,
-    extractor: Option<&E>,
-) -> Result<Written, SlateError>
-    requires { extractor ≡ None }
-    ensures accepted { IfOk result (λ w. (write_refusal writer.old batch.ops command.now.moment command.now.second ≡ None)
-        × (accepted_moment writer.old.tick command.now.moment command.now.second ≡ Some w.create_ts) × (w.number ≡ accepted writer.old + 1)
-        × (writer.new ≡ written writer.old batch.ops w.create_ts)
-        × (writes.new.items ≡ writes.old.items ++ record { handle = handle; number = w.number } ∷ [])) }
-    ensures refused { IfErr result (λ e. (writer.new ≡ writer.old) × (writes.new.items ≡ writes.old.items)
-        × ((e ≡ SlateError.NoMemory) ⊎ (write_refusal writer.old batch.ops command.now.moment command.now.second ≡ Some e))) }
+/// The reply to a write; the object that it names is unknown where it isn't a handle.
+fn write_answer(write: u64, written: Option<Result<Written, SlateError>>) -> Reply
+    ensures { result ≡ write_answer write written }
 {
-    writes.reserve(1).map_err(NoMemory::from)?;
-    match writer.write(alloc, batch, command.moment, command.second, extractor) {
-        Ok(written) => {
-            writes.push_reserved(Write {
-                handle,
-                number: written.number,
-            });
-            Ok(written)
-        }
-        Err(refusal) => Err(refusal.error),
-    }
-}
-
-impl Object {
-    /// Writes a batch to a handle, and notes the write.
-    fn write<E: PrefixExtractor>(
-        &mut self,
-        alloc: Global,
-        writes: &mut Vec<Write>,
-        handle: u64,
-        batch: WriteBatch,
-        command: &Command,
-        extractor: Option<&E>,
-    ) -> Result<Written, SlateError>
-        requires { extractor ≡ None }
-        ensures accepted { IfOk result (λ w. (write_refusal (handle_of self.old) batch.ops command.now.moment command.now.second ≡ None)
-            × (accepted_moment (handle_of self.old).tick command.now.moment command.now.second ≡ Some w.create_ts)
-            × (w.number ≡ accepted (handle_of self.old) + 1)
-            × (self.new ≡ objects.Handle (written (handle_of self.old) batch.ops w.create_ts))
-            × (writes.new.items ≡ writes.old.items ++ record { handle = handle; number = w.number } ∷ [])) }
-        ensures refused { IfErr result (λ e. (self.new ≡ self.old) × (writes.new.items ≡ writes.old.items)
-            × ((e ≡ SlateError.NoMemory) ⊎ (write_refusal (handle_of self.old) batch.ops command.now.moment command.now.second ≡ Some e))) }
-    {
-        match self {
-            Object::Handle(writer) => write_batch(
-                alloc, writer, writes, handle, batch, command, extractor,
-            ),
-        }
-    }
-
-    /// Stores what a handle accepted.
-    fn flush<S: Store>(&mut self, alloc: Global, store: &mut S) -> Result<(), SlateError>
-        ensures kind { self.new ≡ objects.Handle (handle_of self.new) }
-        ensures flush { FlushesObject (handle_of self.old) (handle_of self.new) result (S.objects store.old) (S.objects store.new) (S.faults store.old) (S.faults store.new) }
-    {
-        match self {
-            Object::Handle(writer) => writer.flush(alloc, store, FlushType::Wal),
-        }
-    }
-
-    /// Closes a handle.
-    fn close<S: Store>(&mut self, alloc: Global, store: &mut S, options: &CloseOptions) -> Ended
-        requires { options.now.flush_type ≢ Some FlushType.MemTable }
-        ensures kind { self.new ≡ objects.Handle (handle_of self.new) }
-        ensures close { ClosesObject options.now.flush_type (handle_of self.old) (handle_of self.new) result (S.objects store.old) (S.objects store.new) (S.faults store.old) (S.faults store.new) }
-    {
-        match self {
-            Object::Handle(writer) => writer.close(alloc, store, options),
-        }
-    }
-
-    /// Reads a key of a handle.
-    fn read<S: Store, M: MergeOperator>(
-        &self,
-        alloc: Global,
-        store: &mut S,
-        key: &[u8],
-        options: &ReadOptions,
-        operator: Option<&M>,
-    ) -> Result<Option<KeyValue>, SlateError>
-        ensures closed { IfSome (handle_of self.now).result (λ r. result ≡ Err (closed_error r)) }
-        ensures read { (handle_of self.now).result ≡ None → (merge : Option Merge) → IsOperator M.may_answer (option_copied operator.entry) merge →
-            AnswersRead (read_at merge (handle_of self.now).line.batches
-            (read_bound None (handle_of self.now).durable (accepted (handle_of self.now)) options.now.durability_filter options.now.dirty) key.now) result }
-        ensures store { store.new ≡ store.old }
-    {
-        match self {
-            Object::Handle(writer) => writer.get(alloc, store, key, options, None, operator),
-        }
+    match written {
+        None => Reply::Unknown,
+        Some(Ok(written)) => Reply::Written {
+            write,
+            number: written.number,
+        },
+        Some(Err(error)) => refusal(error),
     }
 }
 
 /// Writes one put to the handle with a number.
-#[tactic(auto, using(crate::proofs::Objects::set_read))]
 pub(crate) fn put<E: PrefixExtractor>(
     alloc: Global,
     objects: &mut Vec<Object>,
@@ -178,18 +90,29 @@ pub(crate) fn put<E: PrefixExtractor>(
     if place >= objects.len() {
         return Reply::Unknown;
     }
+    if !objects[place].is_handle() {
+        return Reply::Unknown;
+    }
     let (key, value, expire) = put;
     let Ok(batch) = put_batch(alloc, key, value, expire) else {
         return Reply::NoMemory;
     };
     let write = writes.len() as u64;
     let object = &mut objects[place];
-    match object.write(alloc, writes, handle, batch, command, extractor) {
-        Ok(written) => Reply::Written {
-            write,
-            number: written.number,
-        },
-        Err(error) => refusal(error),
+    write_answer(
+        write,
+        object.write(alloc, writes, handle, batch, command, extractor),
+    )
+}
+
+/// The reply to a flush; the object that it names is unknown where it isn't a handle.
+fn flush_answer(flushed: Option<Result<(), SlateError>>) -> Reply
+    ensures { result ≡ flush_answer flushed }
+{
+    match flushed {
+        None => Reply::Unknown,
+        Some(Ok(())) => Reply::Flushed,
+        Some(Err(error)) => refusal(error),
     }
 }
 
@@ -210,10 +133,7 @@ pub(crate) fn flush<S: Store>(
         return Reply::Unknown;
     }
     let object = &mut objects[place];
-    match object.flush(alloc, store) {
-        Ok(()) => Reply::Flushed,
-        Err(error) => refusal(error),
-    }
+    flush_answer(object.flush(alloc, store))
 }
 
 /// The reply to a close: one of a handle that closed cleanly is refused.
@@ -226,6 +146,19 @@ fn ended_reply(ended: Ended) -> Reply
             fault,
             tasks: ended.tasks,
         },
+    }
+}
+
+/// The reply to a close of a reader: an error that was recorded is answered again.
+fn follower_ended(fault: Option<SlateError>) -> Reply
+    ensures { result ≡ follower_ended fault }
+{
+    match fault {
+        None => Reply::Ended {
+            fault: None,
+            tasks: Ending::new(),
+        },
+        Some(error) => Reply::Refused(error),
     }
 }
 
@@ -248,8 +181,14 @@ pub(crate) fn close<S: Store>(
         return Reply::Unknown;
     }
     let options = options.unwrap_or_default();
+    let is_handle = objects[place].is_handle();
     let object = &mut objects[place];
-    ended_reply(object.close(alloc, store, &options))
+    let ended = object.close(alloc, store, &options);
+    if is_handle {
+        ended_reply(ended)
+    } else {
+        follower_ended(ended.fault)
+    }
 }
 
 /// Reads a key of the object with a number.
@@ -332,4 +271,20 @@ fn writer_options(options: &Options) -> WriterOptions
         compaction_worker: options.compaction_worker,
         collector: options.collector,
     }
+}
+
+/// Tells whether the write with a number is durable.
+pub(crate) fn await_write(objects: &[Object], writes: &[Write], write: u64) -> Reply
+    ensures { (w : World) → w.objects ≡ objects.now → w.writes ≡ writes.now → Awaits w write result w }
+{
+    let place = write as usize;
+    if place >= writes.len() {
+        return Reply::Unknown;
+    }
+    let write = writes[place];
+    let place = write.handle as usize;
+    if place >= objects.len() {
+        return Reply::Unknown;
+    }
+    objects[place].durable_reply(write.number)
 }

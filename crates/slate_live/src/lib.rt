@@ -3,6 +3,8 @@
 #![tactic(auto)]
 
 mod commands;
+mod kinds;
+mod readers;
 mod runs;
 mod sessions;
 mod states;

@@ -7,10 +7,11 @@ ghost use Rattle.slate_live.specs.Links.{Links};
 ghost use Rattle.slate_live.specs.Next.{Next};
 ghost use Rattle.slate_live.specs.Valid.{Link};
 
-use crate::commands;
+use crate::{commands, readers};
 use slate_rows::{MergeOperator, PrefixExtractor};
 use slate_script::{Action, Command, Options, Reply};
 use slate_store::Store;
+use slate_follow::FollowerState;
 use slate_writer::WriterState;
 use std::alloc::Global;
 use std::marker::Model;
@@ -20,6 +21,8 @@ use std::marker::Model;
 pub enum Object {
     /// A handle that writes.
     Handle(WriterState),
+    /// A reader that follows a database.
+    Follower(FollowerState),
 }
 
 /// An accepted write: the number of its handle, and that of its batch.
@@ -141,6 +144,26 @@ impl LiveState {
             ),
             Action::Close { object, options } => {
                 commands::close(alloc, store, &mut self.objects, *object, *options)
+            }
+            Action::Follow { mode, skip, .. } => readers::follow(
+                alloc,
+                store,
+                &mut self.objects,
+                *mode,
+                *skip,
+                command.moment,
+                extractor,
+            ),
+            Action::Poll { follower } => readers::poll(
+                alloc,
+                store,
+                &mut self.objects,
+                *follower,
+                command.moment,
+                extractor,
+            ),
+            Action::Await { write } => {
+                commands::await_write(self.objects.as_slice(), self.writes.as_slice(), *write)
             }
         }
     }

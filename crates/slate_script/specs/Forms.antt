@@ -4,6 +4,7 @@ use Rattle.std.specs.Str.{bytes_eq}
 use Rattle.slate_rows.specs.declared.options.CloseOptions.{CloseOptions}
 use Rattle.slate_rows.specs.declared.options.FlushType.{FlushType}
 use Rattle.slate_rows.specs.declared.options.FlushType.TheVariants.{Wal}
+use Rattle.slate_follow.specs.declared.modes.DbReaderMode.TheVariants.{FollowLatest}
 use Rattle.slate_text.specs.Numbers.{number_of, moment_of}
 use Rattle.slate_text.specs.Words.{word_of}
 use Rattle.slate_script.specs.Lines.{fields_of}
@@ -68,6 +69,25 @@ get_form (o ∷ k ∷ []) = do
   Some (actions.Get object key false)
 get_form fields = None
 
+-- follow latest
+abbrev pub follow_form : List (List ℕ) → Option Action
+follow_form (m ∷ []) = if bytes_eq m (codes "latest") then Some (actions.Follow FollowLatest None false) else None
+follow_form fields = None
+
+-- poll F
+abbrev pub poll_form : List (List ℕ) → Option Action
+poll_form (f ∷ []) = do
+  follower ← number_of f
+  Some (actions.Poll follower)
+poll_form fields = None
+
+-- await W
+abbrev pub await_form : List (List ℕ) → Option Action
+await_form (w ∷ []) = do
+  write ← number_of w
+  Some (actions.Await write)
+await_form fields = None
+
 -- the action that a name and the fields after it spell
 abbrev pub action_of : List ℕ → List (List ℕ) → Option Action
 action_of name fields =
@@ -76,7 +96,10 @@ action_of name fields =
     else (if bytes_eq name (codes "flush") then flush_form fields
     else (if bytes_eq name (codes "get") then get_form fields
     else (if bytes_eq name (codes "close") then close_form fields
-    else None))))
+    else (if bytes_eq name (codes "follow") then follow_form fields
+    else (if bytes_eq name (codes "poll") then poll_form fields
+    else (if bytes_eq name (codes "await") then await_form fields
+    else None)))))))
 
 -- the command that the fields of a line spell: a moment, the name, and the fields of its form
 abbrev pub command_of : List (List ℕ) → Option Command

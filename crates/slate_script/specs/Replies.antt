@@ -1,5 +1,5 @@
 -- The text of each reply.
-use Rattle.std.specs.Prelude.{ℕ, ℤ, List, [], ◌∷◌, ◌++◌, Option, Some, None, codes, decimal}
+use Rattle.std.specs.Prelude.{ℕ, ℤ, Bool, if◌then◌else◌, List, [], ◌∷◌, ◌++◌, Option, Some, None, codes, decimal}
 use Rattle.std.specs.Fmt.{signed_decimal}
 use Rattle.std.specs.List.{flat_map}
 use Rattle.slate_rows.specs.declared.batches.KeyValue.{KeyValue}
@@ -38,6 +38,10 @@ abbrev pub fault_text : Option SlateError → List ℕ
 fault_text None = []
 fault_text (Some error) = codes "error " ++ error_text error ++ codes "; "
 
+-- what a reader took, and up to which number it sees batches
+abbrev pub poll_text : Bool → ℕ → List ℕ
+poll_text whole at = (if whole then codes "whole at " else codes "truncated at ") ++ decimal at
+
 -- a reply without the newline at its end
 abbrev pub reply_words : Reply → List ℕ
 reply_words (replies.Handle object) = codes "handle " ++ decimal object
@@ -45,6 +49,10 @@ reply_words (replies.Written write number) = codes "write " ++ decimal write ++ 
 reply_words (replies.Found row) = codes "value " ++ word_text row.value ++ stamp_text row
 reply_words replies.Absent = codes "none"
 reply_words replies.Flushed = codes "flushed"
+reply_words (replies.Follower object whole at) = codes "follower " ++ decimal object ++ codes " " ++ poll_text whole at
+reply_words replies.Durable = codes "durable"
+reply_words replies.Pending = codes "pending"
+reply_words (replies.Polled whole at) = poll_text whole at
 reply_words (replies.Ended fault tasks) = fault_text fault ++ codes "ended" ++ tasks_text tasks
 reply_words (replies.Refused error) = codes "error " ++ error_text error
 reply_words replies.Unknown = codes "error unknown object"

@@ -2,6 +2,7 @@ ghost use Rattle.std.specs.Prelude.{◌≡◌};
 ghost use Rattle.slate_script.specs.declared.commands.ScriptFault.TheVariants.{NoMemory as OutOfMemory};
 
 use bytes::Bytes;
+use slate_follow::DbReaderMode;
 use slate_rows::{CloseOptions, FlushType, NoMemory};
 use std::alloc::{AllocError, AllocFailed};
 
@@ -33,6 +34,21 @@ pub enum Action {
     Close {
         object: u64,
         options: Option<CloseOptions>,
+    },
+    /// Opens a reader that follows the database; one that skips reads no log file. A managed one has the lifetime of
+    /// its checkpoint and the interval of its polls, in milliseconds.
+    Follow {
+        mode: DbReaderMode,
+        managed: Option<(u64, u64)>,
+        skip: bool,
+    },
+    /// Lets a reader take all that is stored.
+    Poll {
+        follower: u64,
+    },
+    /// Asks whether a write is durable.
+    Await {
+        write: u64,
     },
 }
 

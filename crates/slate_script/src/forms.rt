@@ -1,11 +1,12 @@
 ghost use Rattle.std.specs.Prelude.{◌≡◌, true, IfOk, IfSome};
 ghost use Rattle.slate_script.specs.Built.{IsBuilt, puts_no_table};
 ghost use Rattle.slate_script.specs.declared.commands.Command.{Command};
-ghost use Rattle.slate_script.specs.Forms.{open_form, put_form, flush_type_of, flush_form, get_form, close_options_of, close_form, action_of, command_of, line_of};
+ghost use Rattle.slate_script.specs.Forms.{open_form, put_form, flush_type_of, flush_form, get_form, close_options_of, close_form, follow_form, poll_form, await_form, action_of, command_of, line_of};
 
 use crate::fields::cut_fields;
 use crate::{Action, Command, LineAnswer};
 use bytes::Bytes;
+use slate_follow::DbReaderMode;
 use slate_rows::{CloseOptions, FlushType, NoMemory};
 use slate_text::{read_moment, read_number, read_shared_word};
 use std::alloc::Global;
@@ -129,6 +130,45 @@ fn read_get(alloc: Global, fields: &[Bytes]) -> Result<Option<Action>, NoMemory>
     }))
 }
 
+fn read_follow(fields: &[Bytes]) -> Option<Action>
+    ensures form { result ≡ follow_form fields.now }
+    ensures built { IfSome result IsBuilt }
+{
+    let [mode] = fields else {
+        return None;
+    };
+    if mode.as_slice() != b"latest".as_slice() {
+        return None;
+    }
+    Some(Action::Follow {
+        mode: DbReaderMode::FollowLatest,
+        managed: None,
+        skip: false,
+    })
+}
+
+fn read_poll(fields: &[Bytes]) -> Option<Action>
+    ensures form { result ≡ poll_form fields.now }
+    ensures built { IfSome result IsBuilt }
+{
+    let [follower] = fields else {
+        return None;
+    };
+    let follower = read_number(follower.as_slice())?;
+    Some(Action::Poll { follower })
+}
+
+fn read_await(fields: &[Bytes]) -> Option<Action>
+    ensures form { result ≡ await_form fields.now }
+    ensures built { IfSome result IsBuilt }
+{
+    let [write] = fields else {
+        return None;
+    };
+    let write = read_number(write.as_slice())?;
+    Some(Action::Await { write })
+}
+
 // The action that a name and the fields after it spell.
 fn read_action(alloc: Global, name: &[u8], fields: &[Bytes]) -> Result<Option<Action>, NoMemory>
     ensures form { IfOk result (λ action. action ≡ action_of name.now fields.now) }
@@ -144,6 +184,12 @@ fn read_action(alloc: Global, name: &[u8], fields: &[Bytes]) -> Result<Option<Ac
         read_get(alloc, fields)
     } else if name == b"close".as_slice() {
         Ok(read_close(fields))
+    } else if name == b"follow".as_slice() {
+        Ok(read_follow(fields))
+    } else if name == b"poll".as_slice() {
+        Ok(read_poll(fields))
+    } else if name == b"await".as_slice() {
+        Ok(read_await(fields))
     } else {
         Ok(None)
     }

@@ -1,5 +1,5 @@
 ghost use Rattle.std.specs.Prelude.{◌≡◌, ◌++◌, ◌∷◌, length, take, OnOk, OnErr};
-ghost use Rattle.slate_script.specs.Replies.{expiry_text, fault_text, stamp_text, task_text, tasks_text, reply_words, reply_text, replies_text};
+ghost use Rattle.slate_script.specs.Replies.{expiry_text, fault_text, poll_text, stamp_text, task_text, tasks_text, reply_words, reply_text, replies_text};
 
 use crate::Reply;
 use slate_rows::{KeyValue, NoMemory};
@@ -117,6 +117,31 @@ fn write_ended(
     Ok(())
 }
 
+fn write_poll(out: &mut Vec<u8>, whole: bool, at: u64) -> Result<(), NoMemory>
+    ensures ok { OnOk result (out.new.items ≡ out.old.items ++ poll_text whole at) }
+    ensures err { OnErr result (take (length out.old.items) out.new.items ≡ out.old.items) }
+{
+    write_text(out, if whole { "whole at " } else { "truncated at " })?;
+    write_number(out, at)?;
+    Ok(())
+}
+
+fn write_follower(
+    out: &mut Vec<u8>,
+    object: u64,
+    whole: bool,
+    at: u64,
+) -> Result<(), NoMemory>
+    ensures ok { OnOk result (out.new.items ≡ out.old.items ++ reply_words (Reply.Follower object whole at)) }
+    ensures err { OnErr result (take (length out.old.items) out.new.items ≡ out.old.items) }
+{
+    write_text(out, "follower ")?;
+    write_number(out, object)?;
+    write_text(out, " ")?;
+    write_poll(out, whole, at)?;
+    Ok(())
+}
+
 fn write_words(out: &mut Vec<u8>, reply: &Reply) -> Result<(), NoMemory>
     ensures ok { OnOk result (out.new.items ≡ out.old.items ++ reply_words reply.now) }
     ensures err { OnErr result (take (length out.old.items) out.new.items ≡ out.old.items) }
@@ -127,6 +152,10 @@ fn write_words(out: &mut Vec<u8>, reply: &Reply) -> Result<(), NoMemory>
         Reply::Found(row) => write_found(out, row),
         Reply::Absent => write_text(out, "none"),
         Reply::Flushed => write_text(out, "flushed"),
+        Reply::Follower { object, whole, at } => write_follower(out, *object, *whole, *at),
+        Reply::Durable => write_text(out, "durable"),
+        Reply::Pending => write_text(out, "pending"),
+        Reply::Polled { whole, at } => write_poll(out, *whole, *at),
         Reply::Ended { fault, tasks } => write_ended(out, fault, tasks),
         Reply::Refused(error) => {
             write_text(out, "error ")?;

@@ -41,4 +41,18 @@ impl WriterState {
     {
         self.floor + self.memory.batches().len() as u64
     }
+
+    /// The number up to which its batches are stored.
+    pub fn durable(&self) -> u64
+        ensures { result ≡ self.now.durable }
+    {
+        self.durable
+    }
+
+    /// The result with which it closed, or None while it is open.
+    pub fn closed(&self) -> Option<Result<(), CloseFault>>
+        ensures { result ≡ self.now.result }
+    {
+        self.result
+    }
 }

@@ -1,0 +1,4 @@
+pub mod Evens
+pub mod Pairing
+pub mod Rising
+pub mod Searching

@@ -1,0 +1,4 @@
+pub mod Kept
+pub mod Lookup
+pub mod Thinning
+pub mod Tracker

@@ -1,3 +1,4 @@
+pub mod Binary
 pub mod Evens
 pub mod Pairing
 pub mod Rising

@@ -1,6 +1,6 @@
 ghost use Rattle.std.specs.Prelude.{◌≡◌, ℕ, ◌+◌, ◌*◌, ◌/◌, ◌%◌, ◌^◌, ◌<◌, ◌≤◌, ◌∷◌, [], ◌++◌, length, OnOk, OnErr, IfOk, MatchOption};
 ghost use Rattle.std.specs.Vec.{vec_len, vec_capacity};
-ghost use Rattle.slate_seqtrack.specs.Bits.{low_bits, bits_of, IsPadded};
+ghost use Rattle.slate_seqtrack.specs.Bits.{low_bits, signed, bits_of, IsPadded};
 
 use slate_rows::NoMemory;
 use std::alloc::Global;
@@ -177,6 +177,13 @@ impl<'a> BitReader<'a> {
         self.count = count;
         Some(((word >> count) & ((1 << bits) - 1)) as u64)
     }
+
+    /// How many whole bytes are left.
+    pub(crate) fn whole_bytes(&self) -> usize
+        ensures { result ≡ length self.now / 8 }
+    {
+        self.bytes.len()
+    }
 }
 
 /// A word whose low bits are those that are pending and those of as many bytes as so many bits ask for; how many more
@@ -197,4 +204,19 @@ fn take_word(bytes: &[u8], pending: u8, count: u8, bits: u8) -> Option<(u128, u8
         rest = after;
     }
     Some((word, have - bits, rest))
+}
+
+/// The number that so many low bits are in two's complement. SlateDB's `sign_extend`.
+pub fn sign_extend(val: u32, bits: u8) -> i32
+    requires some { 0 < bits }
+    requires few { bits ≤ 32 }
+    ensures { result ≡ signed bits (val % 2 ^ bits) }
+{
+    let half = 1u64 << (bits - 1);
+    let low = u64::from(val) & (2 * half - 1);
+    if low < half {
+        low as i32
+    } else {
+        (low as i64 - (2 * half) as i64) as i32
+    }
 }

@@ -48,3 +48,23 @@ impl From<NoMemory> for TrackerFault {
         TrackerFault::NoMemory
     }
 }
+
+impl From<AllocError> for TrackerFault {
+    ghost use Rattle.slate_seqtrack.specs.declared.faults.TrackerFault.TheVariants.{NoMemory as Memory};
+
+    ghost from_gives = { λ _ fault. fault ≡ Memory };
+
+    fn from(_error: AllocError) -> TrackerFault {
+        TrackerFault::NoMemory
+    }
+}
+
+impl<T: Drop> From<AllocFailed<T>> for TrackerFault {
+    ghost use Rattle.slate_seqtrack.specs.declared.faults.TrackerFault.TheVariants.{NoMemory as Memory};
+
+    ghost from_gives = { λ _ fault. fault ≡ Memory };
+
+    fn from(_error: AllocFailed<T>) -> TrackerFault {
+        TrackerFault::NoMemory
+    }
+}

@@ -2,13 +2,17 @@
 #![tactic(auto)]
 
 mod bits;
+mod decoding;
+mod encoding;
 mod faults;
 mod lookups;
 mod pairs;
 mod thinning;
 mod tracker;
 
-pub use bits::{BitReader, BitWriter};
+pub use bits::{BitReader, BitWriter, sign_extend};
+pub use decoding::decode_gorilla_i64_with_length;
+pub use encoding::encode_gorilla_i64;
 pub use faults::TrackerFault;
 pub use pairs::{FindOption, TrackedSeq};
 pub use tracker::SequenceTracker;

@@ -1,13 +1,15 @@
 -- Blocks as bytes: what is read is a block, and a block is read again, whatever follows.
-use Rattle.std.proofs.Common.{◌≡◌, refl, sym, ◌∙◌, ap, ℕ, ◌+◌, ◌-◌, ◌*◌, ◌/◌, ◌≤◌, suc, ℤ, pos, ◌-ℤ◌, Bool, true, List, [], ◌∷◌, ◌++◌, length, take, drop, Result, Ok, Err, MatchResult, IfOk, inl, inr, arith}
+use Rattle.std.proofs.Common.{◌≡◌, refl, sym, ◌∙◌, ap, ℕ, ◌+◌, ◌-◌, ◌*◌, ◌/◌, ◌≤◌, suc, ℤ, pos, ◌-ℤ◌, Bool, true, List, [], ◌∷◌, ◌++◌, length, take, drop, Result, Ok, Err, MatchResult, IfOk, inl, inr, ◌&&◌, arith}
 use Rattle.std.specs.List.{AllByRecursion}
 use Rattle.std.proofs.lemmas.List.{append_assoc, length-append, length-take, length-drop, take-append-drop}
 use Rattle.std.proofs.Math.Seq.{take-append_seam}
 use Rattle.slate_seqtrack.specs.declared.faults.TrackerFault.{TrackerFault}
 use Rattle.slate_seqtrack.specs.Bits.{bits_of}
-use Rattle.slate_seqtrack.specs.Block.{IsCode, IsFirstCode, AreLater, AreValues, IsBlock, BeginsWithBlock}
+use Rattle.slate_seqtrack.specs.Block.{fits_i64, IsCode, IsFirstCode, AreLater, AreValues, IsBlock, BeginsWithBlock}
+use Rattle.std.specs.Int.{w32, to_le_bytes}
 use Rattle.slate_seqtrack.specs.Writing.{IsWrittenBlock}
-use Rattle.slate_seqtrack.specs.Reading.{fits_i64, counted_at, taken, block_at, IsReadFault}
+use Rattle.slate_seqtrack.specs.Bytes.{as_signed, AreTrackerBytes}
+use Rattle.slate_seqtrack.specs.Reading.{counted_at, taken, block_at, IsReadFault}
 use Rattle.slate_seqtrack.specs.declared.faults.TrackerFault.TheVariants.{NoMemory}
 use Rattle.slate_seqtrack.proofs.Binary.{length-bits_of, bits_of-append}
 use Rattle.slate_seqtrack.proofs.Grammar.{ok-is, number_of-lt, counted-found, counted-again}
@@ -40,6 +42,7 @@ block-found bytes values size e = go (counted_at (bits_of bytes)) refl e where
       record {
         inside = omega arith;
         few = let h = number_of-lt counted.0 in rw (counted.3.0, counted.3.1) at h;
+        fit = found.3;
         block = (
           found.0,
           take (length (bits_of (take size bytes)) - length found.0) rest,
@@ -88,3 +91,13 @@ answer-only (Ok read) size items buf e values bytes rest block fit buf-is =
     (ap (λ (p : List ℤ × ℕ). p.0) same, ap (λ (p : List ℤ × ℕ). p.1) same)
 answer-only (Err fault) size items buf (inl e) values bytes rest block fit buf-is = let no = sym e ∙ ap block_at buf-is ∙ block-again values bytes rest block fit in cc
 answer-only (Err fault) size items buf (inr e) values bytes rest block fit buf-is = e
+
+-- ---- the bytes of a tracker, as they are put together
+pub AreTrackerBytes-of : (numbers : List ℕ) (times : List ℤ) (none version size f s bytes headed whole : List ℕ) (first second : List ℕ) → none ≡ [] → version ≡ none ++ 1 ∷ [] →
+    size ≡ to_le_bytes w32 (length numbers) → headed ≡ version ++ size → f ≡ first → bytes ≡ headed ++ f → s ≡ second → whole ≡ bytes ++ s →
+    IsWrittenBlock (as_signed numbers) first → IsWrittenBlock times second → AreTrackerBytes IsWrittenBlock numbers times whole
+AreTrackerBytes-of numbers times none version size f s bytes headed whole first second none-is version-is size-is headed-is f-is bytes-is s-is whole-is one two =
+    (first, second, rw (whole-is, bytes-is, headed-is, version-is, none-is, size-is, f-is, s-is) (ap (λ b. 1 ∷ b) (append_assoc (to_le_bytes w32 (length numbers)) first second)), one, two)
+
+pub both : {a b : Bool} → a ≡ true → b ≡ true → (a && b) ≡ true
+both {a} {b} e f = rw (e, f) refl

@@ -12,8 +12,8 @@ use Rattle.std.specs.Int.{cast_signed}
 use Rattle.std.proofs.Math.Nat.{mod-eq_of_lt}
 use Rattle.slate_seqtrack.specs.Bits.{low_bits, number_of, signed}
 use Rattle.slate_seqtrack.proofs.Binary.{length-low_bits, number_of-low_bits}
-use Rattle.slate_seqtrack.specs.Block.{IsSigned, IsCode, in_0, in_7, in_9, in_12, in_32, AreLater, AreValues, AreCounted}
-use Rattle.slate_seqtrack.specs.Reading.{IsReadFault, width_at, signed_at, behind_width, code_at, fits_i64, behind, later_at, or_short, values_at, counted_at}
+use Rattle.slate_seqtrack.specs.Block.{fits_i64, IsSigned, IsCode, in_0, in_7, in_9, in_12, in_32, AreLater, AreValues, AreCounted}
+use Rattle.slate_seqtrack.specs.Reading.{IsReadFault, width_at, signed_at, behind_width, code_at, behind, later_at, or_short, values_at, counted_at}
 
 -- ---- what an answer says of its parts
 some-is : {X : Type 0} {x y : X} → Some x ≡ Some y → x ≡ y
@@ -26,7 +26,7 @@ or_short-found : {X Y : Type 0} (r : Option X) (next : X → Result Y TrackerFau
 or_short-found None next y e = cc
 or_short-found (Some x) next y e = (x, refl, e)
 
-guard-found : {Y : Type 0} (b : Bool) (r : Result Y TrackerFault) (fault : TrackerFault) (y : Y) → cond b r (Err fault) ≡ Ok y → (b ≡ true) × (r ≡ Ok y)
+pub guard-found : {Y : Type 0} (b : Bool) (r : Result Y TrackerFault) (fault : TrackerFault) (y : Y) → cond b r (Err fault) ≡ Ok y → (b ≡ true) × (r ≡ Ok y)
 guard-found true r fault y e = (refl, e)
 guard-found false r fault y e = cc
 
@@ -87,6 +87,9 @@ value-back value previous delta = omega (arith, ints)
 delta-back : (value previous delta : ℤ) → delta +ℤ ((value -ℤ previous) -ℤ delta) ≡ value -ℤ previous
 delta-back value previous delta = omega (arith, ints)
 
+abbrev pub AllFit : List ℤ → Type 0
+AllFit values = AllByRecursion (λ v. fits_i64 v ≡ true) values
+
 -- what is read after a difference of differences
 abbrev pub after_code : ℕ → ℤ → ℤ → ℤ × List Bool → Result (List ℤ × List Bool) TrackerFault
 after_code n previous delta read =
@@ -101,11 +104,11 @@ unfolding later_at
 later_at-zero previous delta bits = refl
 
 pub later-found : (n : ℕ) (previous delta : ℤ) (bits rest : List Bool) (values : List ℤ) → later_at n previous delta bits ≡ Ok (values, rest) →
-    (front : List Bool) × (bits ≡ front ++ rest) × AreLater IsCode previous delta values front × (length values ≡ n)
+    (front : List Bool) × (bits ≡ front ++ rest) × AreLater IsCode previous delta values front × (length values ≡ n) × AllFit values
 later-found zero previous delta bits rest values e =
     let same = ok-is (sym (later_at-zero previous delta bits) ∙ e) in
     let none : [] ≡ values = ap (λ (p : List ℤ × List Bool). p.0) same in
-    ([], ap (λ (p : List ℤ × List Bool). p.1) same, rw (sym none) refl, sym (ap length none))
+    ([], ap (λ (p : List ℤ × List Bool). p.1) same, rw (sym none) refl, sym (ap length none), rw (sym none) tt)
 later-found (suc n) previous delta bits rest values e =
     let read = or_short-found (code_at bits) (after_code n previous delta) (values, rest) (sym (later_at-suc n previous delta bits) ∙ e) in
     let value : ℤ = previous +ℤ (delta +ℤ read.0.0) in
@@ -118,6 +121,7 @@ later-found (suc n) previous delta bits rest values e =
       subst (λ vs. AreLater IsCode previous delta vs (code.0 ++ later.0)) (sym tail.2)
           (code.0, later.0, refl, rw (whole-value previous delta read.0.0) code.2, rw (whole-delta previous delta read.0.0) later.2),
       ap length tail.2 ∙ ap suc later.3,
+      subst AllFit (sym tail.2) (kept.0, later.4),
     )
 
 pub later-again : (previous delta : ℤ) (values : List ℤ) (front rest : List Bool) → AreLater IsCode previous delta values front → AllByRecursion (λ v. fits_i64 v ≡ true) values →
@@ -152,11 +156,11 @@ signed-fits value bits (size, is) = subst (λ v. fits_i64 v ≡ true) is (go (nu
 abbrev after_first : ℕ → ℤ × List Bool → Result (List ℤ × List Bool) TrackerFault
 after_first n read = behind (read.0 ∷ []) (later_at n read.0 (pos 0) read.1)
 
-values-found : (n : ℕ) (bits rest : List Bool) (values : List ℤ) → values_at n bits ≡ Ok (values, rest) → (front : List Bool) × (bits ≡ front ++ rest) × AreValues IsCode values front × (length values ≡ n)
+values-found : (n : ℕ) (bits rest : List Bool) (values : List ℤ) → values_at n bits ≡ Ok (values, rest) → (front : List Bool) × (bits ≡ front ++ rest) × AreValues IsCode values front × (length values ≡ n) × AllFit values
 values-found zero bits rest values e =
     let same = ok-is e in
     let none : [] ≡ values = ap (λ (p : List ℤ × List Bool). p.0) same in
-    ([], ap (λ (p : List ℤ × List Bool). p.1) same, rw (sym none) refl, sym (ap length none))
+    ([], ap (λ (p : List ℤ × List Bool). p.1) same, rw (sym none) refl, sym (ap length none), rw (sym none) tt)
 values-found (suc n) bits rest values e =
     let read = or_short-found (signed_at 64 bits) (after_first n) (values, rest) e in
     let tail = behind-found (read.0.0 ∷ []) values rest (later_at n read.0.0 (pos 0) read.0.1) read.2 in
@@ -166,6 +170,7 @@ values-found (suc n) bits rest values e =
       first.1 ∙ ap (λ b. first.0 ++ b) later.1 ∙ sym (append_assoc first.0 later.0 rest),
       subst (λ vs. AreValues IsCode vs (first.0 ++ later.0)) (sym tail.2) (first.0, later.0, refl, first.2, later.2),
       ap length tail.2 ∙ ap suc later.3,
+      subst AllFit (sym tail.2) (signed-fits read.0.0 first.0 first.2, later.4),
     )
 
 values-again : (values : List ℤ) (front rest : List Bool) → AreValues IsCode values front → AllByRecursion (λ v. fits_i64 v ≡ true) values → values_at (length values) (front ++ rest) ≡ Ok (values, rest)
@@ -176,11 +181,11 @@ values-again (value ∷ values) front rest (first, later, is, signed_first, are)
     ap (λ r. or_short r (after_first (length values))) (signed-again 64 first (later ++ rest) value signed_first) ∙
     ap (behind (value ∷ [])) (later-again value (pos 0) values later rest are fit.1)
 
-pub counted-found : (bits rest : List Bool) (values : List ℤ) → counted_at bits ≡ Ok (values, rest) → (front : List Bool) × (bits ≡ front ++ rest) × AreCounted IsCode values front
+pub counted-found : (bits rest : List Bool) (values : List ℤ) → counted_at bits ≡ Ok (values, rest) → (front : List Bool) × (bits ≡ front ++ rest) × AreCounted IsCode values front × AllFit values
 unfolding counted_at
 counted-found bits rest values e = go (nat_lt (length bits) 32) refl e where
   go : (short : Bool) → nat_lt (length bits) 32 ≡ short → cond short (Err ShortData) (values_at (number_of (take 32 bits)) (drop 32 bits)) ≡ Ok (values, rest) →
-      (front : List Bool) × (bits ≡ front ++ rest) × AreCounted IsCode values front
+      (front : List Bool) × (bits ≡ front ++ rest) × AreCounted IsCode values front × AllFit values
   go true s e = cc
   go false s e =
       let long : 32 ≤ length bits = ltb-false _ _ s in
@@ -188,6 +193,7 @@ counted-found bits rest values e = go (nat_lt (length bits) 32) refl e where
         take 32 bits ++ found.0,
         sym (take-append-drop 32 bits) ∙ ap (λ b. take 32 bits ++ b) found.1 ∙ sym (append_assoc (take 32 bits) found.0 rest),
         (take 32 bits, found.0, refl, (omega (arith, length-take 32 bits), sym found.3), found.2),
+        found.4,
       )
 
 pub counted-again : (values : List ℤ) (front rest : List Bool) → AreCounted IsCode values front → AllByRecursion (λ v. fits_i64 v ≡ true) values → counted_at (front ++ rest) ≡ Ok (values, rest)

@@ -3,6 +3,7 @@ pub mod Blocks
 pub mod Coding
 pub mod Evens
 pub mod Grammar
+pub mod Lists
 pub mod Pairing
 pub mod Rising
 pub mod Searching

@@ -1,12 +1,15 @@
 -- Lists that never fall, as an element more is added and as every other one goes; and the room for them.
-use Rattle.std.proofs.Common.{◌≡◌, refl, ap, ℕ, zero, suc, ◌+◌, ◌-◌, ◌*◌, ◌^◌, ◌<◌, ◌≤◌, Bool, true, false, nat_lt, ℤ, pos, ◌≤ℤ◌, ◌+ℤ◌, int_lt, List, [], ◌∷◌, ◌++◌, length, get_or, slice_get, Option, None, Some, IfSome, All, cond, ◌⊎◌, inl, inr, arith}
+use Rattle.std.proofs.Common.{◌≡◌, refl, ◌∙◌, ℕ, zero, suc, ◌+◌, ◌-◌, ◌*◌, ◌^◌, ◌<◌, ◌≤◌, Bool, true, false, nat_lt, ℤ, pos, ◌≤ℤ◌, ◌+ℤ◌, int_lt, List, [], ◌∷◌, ◌++◌, length, get_or, slice_get, Option, None, Some, IfSome, All, cond, ◌⊎◌, inl, inr, ◌&&◌, sym, ap, arith}
 use Rattle.std.specs.declared.cmp.Ordering.{Ordering}
-use Rattle.std.specs.Ordering.{is_lt, nat_cmp, int_cmp}
+use Rattle.std.specs.declared.cmp.Ordering.TheVariants.{Less, Equal, Greater}
+use Rattle.std.specs.Ordering.{is_lt, is_le, nat_cmp, int_cmp, partial_le, is_some_and, ordering_reverse}
+use Rattle.std.specs.List.{IsAllAdjacentAnswer}
+use Rattle.slate_seqtrack.specs.Bytes.{rises, AreLists}
 use Rattle.std.specs.Cmp.{IsTotalOrder, nat_cmp_total, int_cmp_total}
 use Rattle.std.specs.List.Sorted.{IsSorted}
 use Rattle.std.proofs.lemmas.Bool.{cases_lt, ltb-false}
 use Rattle.std.proofs.lemmas.Int.{ints}
-use Rattle.std.proofs.lemmas.List.{length-append, get_or_append_left}
+use Rattle.std.proofs.lemmas.List.{get_or_default, length-append, get_or_append_left}
 use Rattle.std.proofs.Math.Seq.{get_or-append_seam}
 use Rattle.std.proofs.lemmas.List.Sorted.{sorted_far, ranks_by}
 use Rattle.slate_seqtrack.specs.Thinning.{evens, thinned}
@@ -127,3 +130,84 @@ IsKept-recorded capacity interval recorded ns ns' ts ts' a a' b b' n t kept smal
   where
     rises : Rises t (thinned capacity (ns ++ n ∷ [])) (thinned capacity (ts ++ t ∷ []))
     rises = Rises-thinned capacity t _ _ (Rises-append ns ts n t kept.paired kept.numbers_rise kept.times_rise last (late-all interval recorded ts t kept.before late))
+
+-- ---- the test whether a list never falls
+suc-add : (k : ℕ) → suc k + 1 ≡ suc (k + 1)
+suc-add k = omega arith
+
+and-false : (b : Bool) → (b && false) ≡ false
+and-false true = refl
+and-false false = refl
+
+pub both-left : (a b : Bool) → (a && b) ≡ true → a ≡ true
+both-left true b e = refl
+both-left false b e = e
+
+pub both-right : (a b : Bool) → (a && b) ≡ true → b ≡ true
+both-right true b e = e
+both-right false b e = cc
+
+not_lt-turned : (r s : Ordering) → r ≡ ordering_reverse s → is_le s ≡ true → is_lt r ≡ false
+not_lt-turned r Less e h = ap is_lt e
+not_lt-turned r Equal e h = ap is_lt e
+not_lt-turned r Greater e h = cc
+
+module _ {X : Type 0} (cmp : X → X → Ordering) where
+  rises-yes : (xs : List X) → ((k : ℕ) (d : X) → k + 1 < length xs → is_le (cmp (get_or xs k d) (get_or xs (k + 1) d)) ≡ true) → rises cmp xs ≡ true
+  rises-yes [] h = refl
+  rises-yes (x ∷ []) h = refl
+  rises-yes (x ∷ y ∷ xs) h =
+      let first : is_le (cmp x y) ≡ true = h 0 x (omega arith) in
+      rw first (rises-yes (y ∷ xs) (λ k d lt. rw suc-add at (h (suc k) d (omega arith))))
+
+  rises-no : (xs : List X) (k : ℕ) → k + 1 < length xs → ((d : X) → is_le (cmp (get_or xs k d) (get_or xs (k + 1) d)) ≡ false) → rises cmp xs ≡ false
+  rises-no [] k lt h = absurd (omega arith)
+  rises-no (x ∷ []) k lt h = absurd (omega arith)
+  rises-no (x ∷ y ∷ xs) zero lt h = let first : is_le (cmp x y) ≡ false = h x in rw first refl
+  rises-no (x ∷ y ∷ xs) (suc k) lt h = rw (rises-no (y ∷ xs) k (omega arith) (λ d. rw suc-add at (h d))) (and-false (is_le (cmp x y)))
+
+  -- what `is_sorted` answers
+  pub rises-answer : (partial : X → X → Option Ordering) → ((x y : X) → partial x y ≡ Some (cmp x y)) → (xs : List X) (r : Bool) → IsAllAdjacentAnswer (λ x y b. partial_le partial x y ≡ b) xs r → r ≡ rises cmp xs
+  rises-answer partial agrees xs true all = sym (rises-yes xs (λ k d lt. ap (is_some_and is_le) (sym (agrees _ _)) ∙ all k d lt))
+  rises-answer partial agrees xs false (k, lt, falls) = sym (rises-no xs k lt (λ d. ap (is_some_and is_le) (sym (agrees _ _)) ∙ falls d))
+
+-- a list that never falls is sorted
+pub IsSorted-rises : {X : Type 0} {R : X → X → Ordering} (o : IsTotalOrder R) (xs : List X) → rises R xs ≡ true → IsSorted R xs
+IsSorted-rises {X} {R} o [] up k d h lt = absurd (omega arith)
+IsSorted-rises {X} {R} o (x ∷ []) up k d h lt = absurd (omega arith)
+IsSorted-rises {X} {R} o (x ∷ y ∷ xs) up zero d h lt = not_lt-turned (R y x) (R x y) (o.antisymm y x) (both-left _ _ up)
+IsSorted-rises {X} {R} o (x ∷ y ∷ xs) up (suc k) d h lt =
+    rw suc-add (IsSorted-rises o (y ∷ xs) (both-right (is_le (R x y)) _ up) k d (omega arith) (omega arith))
+
+-- ---- a list as it is read
+slice_get-at : (xs : List ℤ) (i : ℕ) (d : ℤ) → i < length xs → slice_get xs i ≡ Some (get_or xs i d)
+slice_get-at [] i d lt = absurd (omega arith)
+slice_get-at (x ∷ xs) zero d lt = refl
+slice_get-at (x ∷ xs) (suc i) d lt = slice_get-at xs i d (omega arith)
+
+-- the last time lies at or after each one
+AreRecorded-last : (times : List ℤ) → IsSorted int_cmp times → AreRecorded (slice_get times (length times - 1)) times
+AreRecorded-last [] up = refl
+AreRecorded-last (t ∷ times) up =
+    let last : length (t ∷ times) - 1 < length (t ∷ times) = omega arith in
+    rw (slice_get-at (t ∷ times) (length (t ∷ times) - 1) t last) (λ k d lt.
+    below (get_or (t ∷ times) k d) (get_or (t ∷ times) (length (t ∷ times) - 1) t)
+    (rw (get_or_default (t ∷ times) (length (t ∷ times) - 1) t d last)
+    (sorted_far (λ x y. is_lt (int_cmp x y)) (ranks_by int_cmp_total (λ x. x)) (t ∷ times) up k (length (t ∷ times) - 1) d (omega arith) last)))
+  where
+    below : (u last : ℤ) → is_lt (int_cmp last u) ≡ false → u ≤ℤ last
+    below u last h = grind (arith, ints)
+
+pub IsKept-read : (numbers ns : List ℕ) (times ts : List ℤ) (recorded : Option ℤ) (a b room : ℕ) → AreLists numbers times → ns ≡ numbers → ts ≡ times →
+    recorded ≡ slice_get times (length times - 1) → a ≡ room → b ≡ room → 8194 ≤ room → length numbers + 2 ≤ room → IsKept 8192 recorded ns ts a b
+IsKept-read numbers ns times ts recorded a b room lists ns-is ts-is recorded-is a-is b-is wide long =
+    rw (ns-is, ts-is, recorded-is, a-is, b-is)
+    (record {
+      paired = lists.same;
+      few = lists.few;
+      room_for_numbers = (wide, omega arith);
+      room_for_times = (wide, omega (arith, lists.same));
+      numbers_rise = IsSorted-rises nat_cmp_total numbers lists.numbers_rise;
+      times_rise = IsSorted-rises int_cmp_total times lists.times_rise;
+      before = AreRecorded-last times (IsSorted-rises int_cmp_total times lists.times_rise);
+    })

@@ -3,14 +3,13 @@ use Rattle.std.proofs.Common.{◌≡◌, refl, sym, ◌∙◌, ap, ℕ, ◌+◌,
 use mir.Syntax.{w128}
 use lib.Signed.{mag}
 use mir.Val.{of_z, to_z, SFits}
-use Rattle.std.proofs.lemmas.Bool.{lt-ltb, le-ltb, cases_lt}
+use Rattle.std.proofs.lemmas.Bool.{lt-ltb, le-ltb, ltb-true, cases_lt}
 use Rattle.std.specs.Int.{cast_signed}
 use Rattle.std.specs.Result.{OkIff, result_ok}
 use Rattle.std.proofs.lemmas.Int.{ints, to_z_pos}
 use Rattle.std.proofs.lemmas.Nat.{pow-add, pow_pos, mod_low, one_shl, and_mask}
 use Rattle.slate_seqtrack.specs.Bits.{low_bits, signed}
-use Rattle.slate_seqtrack.specs.Block.{IsSigned, fits_i32}
-use Rattle.slate_seqtrack.specs.Reading.{fits_i64}
+use Rattle.slate_seqtrack.specs.Block.{fits_i64, IsSigned, fits_i32}
 use Rattle.slate_seqtrack.proofs.Binary.{length-low_bits, number_of-low_bits}
 
 pub pow-suc : (w : ℕ) → 2 ^ suc w ≡ 2 * 2 ^ w
@@ -160,7 +159,7 @@ pub next-fits : (p b code : ℤ) → SFits w64 p → SFits w64 b → SFits w32 c
     SFits w128 (to_z w128 (of_z w128 p) +ℤ to_z w128 (of_z w128 (to_z w128 (of_z w128 (to_z w128 (of_z w128 p) -ℤ to_z w128 (of_z w128 b))) +ℤ to_z w128 (of_z w128 code))))
 next-fits p b code fp fb fc = rw (next-is p b code fp fb fc) (fits-next p b code fp fb fc)
 
-fits_i64-yes : (z : ℤ) → SFits w64 z → fits_i64 z ≡ true
+pub fits_i64-yes : (z : ℤ) → SFits w64 z → fits_i64 z ≡ true
 fits_i64-yes (pos n) fits = lt-ltb n (2 ^ 63) fits.sfits
 fits_i64-yes (negsuc n) fits = lt-ltb n (2 ^ 63) fits.sfits
 
@@ -184,3 +183,7 @@ cast-signed n lt = elim (cases_lt (2 * n) (2 ^ 64)) [
 ] where
   wrapped : (n : ℕ) → n < 2 ^ 64 → 2 ^ 64 ≤ 2 * n → pos n -ℤ pos (2 ^ 64) ≡ to_z w64 n
   wrapped n lt high = grind (arith, ints)
+
+pub SFits-fits : (z : ℤ) → fits_i64 z ≡ true → SFits w64 z
+SFits-fits (pos n) e = record { sfits = ltb-true n (2 ^ 63) e }
+SFits-fits (negsuc n) e = record { sfits = ltb-true n (2 ^ 63) e }

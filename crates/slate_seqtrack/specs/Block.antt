@@ -1,6 +1,7 @@
 -- A block of numbers: their count, the first one, and for each later one how its difference to the number before it
 -- differs from the difference before that one (at first from 0). Values are in two's complement.
 use Rattle.std.specs.Prelude.{◌≡◌, ℕ, ◌<◌, ◌^◌, if◌then◌else◌, nat_eq, nat_lt, ℤ, pos, negsuc, ◌-ℤ◌, Bool, true, false, ◌&&◌, List, [], ◌∷◌, ◌++◌, length, take, ◌≤◌}
+use Rattle.std.specs.List.{AllByRecursion}
 use Rattle.std.specs.Int.RustNames.{unsigned_abs}
 use Rattle.slate_seqtrack.specs.Bits.{number_of, signed, bits_of}
 
@@ -53,10 +54,16 @@ AreCounted Code values bits = (count : List Bool) × (rest : List Bool) × (bits
 abbrev pub IsBlock : List ℤ → List ℕ → Type 0
 IsBlock values bytes = (bits : List Bool) × (padding : List Bool) × (bits_of bytes ≡ bits ++ padding) × (length padding < 8) × AreCounted IsCode values bits
 
+-- whether a value is a number of 64 bits
+abbrev pub fits_i64 : ℤ → Bool
+fits_i64 (pos n) = nat_lt n (2 ^ 63)
+fits_i64 (negsuc n) = nat_lt n (2 ^ 63)
+
 -- bytes begin with a block of the values, which takes so many of them
 pub record BeginsWithBlock (bytes : List ℕ) (values : List ℤ) (size : ℕ) : Type 0 where
   pub inside : size ≤ length bytes
   pub few : length values < 2 ^ 32
+  pub fit : AllByRecursion (λ value. fits_i64 value ≡ true) values
   pub block : IsBlock values (take size bytes)
 
 -- whether a difference of differences is a number of 32 bits

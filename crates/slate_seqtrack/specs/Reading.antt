@@ -1,8 +1,9 @@
 -- Reading a block: its values and the bits after it, or the first fault.
-use Rattle.std.specs.Prelude.{ℕ, ◌^◌, zero, suc, if◌then◌else◌, nat_lt, ℤ, pos, negsuc, ◌+ℤ◌, Bool, true, false, List, [], ◌∷◌, ◌++◌, length, take, drop, Option, None, Some, Result, Ok, Err, ◌≡◌, ◌⊎◌, ◌-◌, ◌/◌}
+use Rattle.std.specs.Prelude.{ℕ, zero, suc, if◌then◌else◌, nat_lt, ℤ, pos, ◌+ℤ◌, Bool, true, false, List, [], ◌∷◌, ◌++◌, length, take, drop, Option, None, Some, Result, Ok, Err, ◌≡◌, ◌⊎◌, ◌-◌, ◌/◌}
 use Rattle.slate_seqtrack.specs.declared.faults.TrackerFault.{TrackerFault}
 use Rattle.slate_seqtrack.specs.declared.faults.TrackerFault.TheVariants.{ShortData, Overflows, NoMemory}
 use Rattle.slate_seqtrack.specs.Bits.{number_of, signed, bits_of}
+use Rattle.slate_seqtrack.specs.Block.{fits_i64}
 
 -- how many bits of a value come after the prefix at the front, and what is after the prefix
 abbrev pub width_at : List Bool → Option (ℕ × List Bool)
@@ -26,11 +27,6 @@ behind_width (Some read) = signed_at read.0 read.1
 -- the difference of differences at the front, in any form
 abbrev pub code_at : List Bool → Option (ℤ × List Bool)
 code_at bits = behind_width (width_at bits)
-
--- whether a value is a number of 64 bits
-abbrev pub fits_i64 : ℤ → Bool
-fits_i64 (pos n) = nat_lt n (2 ^ 63)
-fits_i64 (negsuc n) = nat_lt n (2 ^ 63)
 
 abbrev pub behind : List ℤ → Result (List ℤ × List Bool) TrackerFault → Result (List ℤ × List Bool) TrackerFault
 behind front (Ok read) = Ok (front ++ read.0, read.1)

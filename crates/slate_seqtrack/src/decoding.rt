@@ -1,8 +1,8 @@
 ghost use Rattle.std.specs.Prelude.{◌≡◌, ◌<◌, ◌≤◌, ◌^◌, ◌++◌, ◌+ℤ◌, ◌-ℤ◌, Bool, List, ℕ, ℤ, pos, true, false, length, Ok, None, Some, IfOk, IfSome, MatchOption, MatchResult};
 ghost use Rattle.std.specs.List.{AllByRecursion};
 ghost use Rattle.slate_seqtrack.specs.declared.faults.TrackerFault.TheVariants.{NoMemory};
-ghost use Rattle.slate_seqtrack.specs.Block.{IsBlock, BeginsWithBlock};
-ghost use Rattle.slate_seqtrack.specs.Reading.{width_at, code_at, fits_i64, behind, later_at, counted_at, block_at, IsReadFault};
+ghost use Rattle.slate_seqtrack.specs.Block.{fits_i64, IsBlock, BeginsWithBlock};
+ghost use Rattle.slate_seqtrack.specs.Reading.{width_at, code_at, behind, later_at, counted_at, block_at, IsReadFault};
 
 use crate::{BitReader, TrackerFault, sign_extend};
 use std::alloc::Global;

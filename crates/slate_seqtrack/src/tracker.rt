@@ -1,9 +1,15 @@
-ghost use Rattle.std.specs.Prelude.{◌≡◌, ℕ, ◌<◌, ◌≤◌, false, None, Some, Ok, Err, IfOk, IfSome, MatchResult, length, slice_index_or};
+ghost use Rattle.std.specs.Prelude.{◌≡◌, ℕ, ℤ, List, ◌&&◌, true, ◌<◌, ◌≤◌, false, None, Some, Ok, Err, IfOk, IfSome, MatchResult, length, slice_index_or};
 ghost use Rattle.std.specs.Ordering.{nat_cmp, int_cmp};
 ghost use Rattle.std.specs.Vec.{vec_len, vec_capacity};
+ghost use Rattle.slate_seqtrack.specs.declared.faults.TrackerFault.TheVariants.{NoMemory as Memory};
+ghost use Rattle.slate_seqtrack.specs.Block.{is_encodable};
+ghost use Rattle.slate_seqtrack.specs.Bytes.{as_signed, AreTrackerBytes, BeginsWithTracker, tracker_at};
 ghost use Rattle.slate_seqtrack.specs.Lookup.{IsPartner};
+ghost use Rattle.slate_seqtrack.specs.Reading.{IsReadFault};
+ghost use Rattle.slate_seqtrack.specs.Writing.{IsWrittenBlock, IsWriteFault};
 ghost use Rattle.slate_seqtrack.specs.Tracker.{fresh, numbers_of, times_of, is_early, last_number, recording, inserted, extended};
 
+use crate::bytes::{read_lists, write_lists};
 use crate::lookups::partner_of;
 use crate::thinning::push_thinned;
 use crate::{FindOption, TrackedSeq, TrackerFault};
@@ -169,6 +175,33 @@ impl SequenceTracker {
         self.timestamps.as_slice()
     }
 
+    /// The bytes of the two lists. NotEncodable exactly where in one of them the difference between two neighbouring
+    /// differences leaves 32 signed bits. It takes linear time. SlateDB's `to_bytes`.
+    pub fn to_bytes(&self, alloc: Global) -> Result<Vec<u8>, TrackerFault>
+        ensures { let encodable = is_encodable (as_signed (numbers_of self.now)) && is_encodable (times_of self.now) in
+            MatchResult result (λ bytes. AreTrackerBytes IsWrittenBlock (numbers_of self.now) (times_of self.now) bytes.items × (encodable ≡ true)) (IsWriteFault encodable) }
+    {
+        write_lists(alloc, &self.sequence_numbers, &self.timestamps)
+    }
+
+    /// A tracker with the lists at the front of these bytes, for 8192 pairs, at most one in 60 seconds; its last
+    /// recorded time is the last one of the list. Bytes after the second block aren't looked at. The refusals, in this
+    /// order: Empty where there is no byte; Version where the first one isn't 1; ShortLength where fewer than four
+    /// follow; for each of the two blocks ShortData where its bits run out or Overflows where a value leaves 64 signed
+    /// bits, whichever is met first, and then CountMismatch where its count isn't the length; Falls where one of the
+    /// lists falls. It takes linear time. SlateDB's `from_bytes`.
+    pub fn from_bytes(alloc: Global, buf: &[u8]) -> Result<SequenceTracker, TrackerFault>
+        // Which tracker, or which fault.
+        ensures exact { MatchResult result (λ tracker. tracker_at buf.now ≡ Ok tracker) (IsReadFault (tracker_at buf.now)) }
+        // What is read is spelled so.
+        ensures found { IfOk result (λ tracker. BeginsWithTracker buf.now (numbers_of tracker) (times_of tracker)) }
+        // What is spelled so is read, whatever follows, unless memory runs out.
+        ensures only { (numbers : List ℕ) (times : List ℤ) → BeginsWithTracker buf.now numbers times
+            → MatchResult result (λ tracker. (numbers_of tracker ≡ numbers) × (times_of tracker ≡ times)) (λ fault. fault ≡ Memory) }
+    {
+        read_tracker(alloc, buf)
+    }
+
     /// A tracker with the same pairs, capacity, interval and last recorded time.
     pub fn clone(&self) -> Result<SequenceTracker, NoMemory>
         ensures { IfOk result (λ copy. copy ≡ self.now) }
@@ -199,6 +232,21 @@ impl PartialEq for SequenceTracker {
             && self.interval_secs == other.interval_secs;
         same_limits && self.numbers() == other.numbers() && self.times() == other.times()
     }
+}
+
+/// The tracker at the front of these bytes.
+fn read_tracker(alloc: Global, buf: &[u8]) -> Result<SequenceTracker, TrackerFault>
+    ensures { MatchResult result (λ tracker. tracker_at buf.now ≡ Ok tracker) (IsReadFault (tracker_at buf.now)) }
+{
+    let (numbers, times) = read_lists(alloc, buf)?;
+    let room = numbers.len().max(DEFAULT_CAPACITY as usize) + 2;
+    Ok(SequenceTracker {
+        sequence_numbers: copied_with_room(&numbers, room)?,
+        timestamps: copied_with_room(&times, room)?,
+        capacity: DEFAULT_CAPACITY,
+        interval_secs: DEFAULT_INTERVAL_SECS,
+        last_recorded_ts: times.last().copied(),
+    })
 }
 
 /// Whether a time is less than the interval after the last recorded one.

@@ -2,6 +2,8 @@
 #![tactic(auto)]
 
 mod bits;
+#[cfg(test)]
+mod block_tests;
 mod bytes;
 mod decoding;
 mod encoding;
@@ -9,6 +11,8 @@ mod faults;
 mod laws;
 mod lookups;
 mod pairs;
+#[cfg(test)]
+mod tests;
 mod thinning;
 mod tracker;
 

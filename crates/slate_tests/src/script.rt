@@ -4,7 +4,7 @@ use slate_script::{
     Action, LineAnswer, Options, Reply, ScriptFault, print_replies, read_line, read_script,
     read_words, script_fields,
 };
-use slate_status::SlateError;
+use slate_status::{Ending, SlateError, TaskName};
 use std::alloc::Global;
 use std::test::Fail;
 
@@ -40,6 +40,12 @@ fn refused_lines(rt: HostRuntime) -> Result<(), Fail> {
         b"0 flush".as_slice(),
         b"0 flush -1".as_slice(),
         b"0 flush 0 ".as_slice(),
+        b"0 flush 0 memtable".as_slice(),
+        b"0 flush 0 wal wal".as_slice(),
+        b"0 close 0".as_slice(),
+        b"0 close 0 memtable".as_slice(),
+        b"0 close none".as_slice(),
+        b"0 close 0 WAL".as_slice(),
         b"0 get 0".as_slice(),
         b"0 get 0 a b".as_slice(),
     ] {
@@ -96,7 +102,15 @@ fn scripts(rt: HostRuntime) -> Result<(), Fail> {
     let commands = read_script(rt.alloc(), b"0 open\n\n1 put 0 a %\n2 flush 0\n3 get 0 a\r")?;
     assert_eq!(rt; commands.len(), 4);
     assert!(rt; matches!(&commands[0].action, Action::Open));
-    assert!(rt; matches!(&commands[2].action, Action::Flush { handle: 0 }));
+    assert!(rt;
+        matches!(
+            &commands[2].action,
+            Action::Flush {
+                handle: 0,
+                flush_type: None
+            }
+        )
+    );
     assert!(rt;
         matches!(
             &commands[3].action,
@@ -135,6 +149,16 @@ fn row(alloc: Global, expire_ts: Option<i64>) -> Result<KeyValue, Fail> {
     })
 }
 
+fn ended() -> Ending {
+    let mut tasks = Ending::new();
+    tasks.push(TaskName::MemtableFlusher);
+    tasks.push(TaskName::Compactor);
+    tasks.push(TaskName::CompactionWorker);
+    tasks.push(TaskName::GarbageCollector);
+    tasks.push(TaskName::BatchWriter);
+    tasks
+}
+
 #[test]
 fn printed_replies(rt: HostRuntime) -> Result<(), Fail> {
     let alloc = rt.alloc();
@@ -148,6 +172,14 @@ fn printed_replies(rt: HostRuntime) -> Result<(), Fail> {
         Reply::Found(row(alloc, Some(5))?),
         Reply::Absent,
         Reply::Flushed,
+        Reply::Ended {
+            fault: None,
+            tasks: ended(),
+        },
+        Reply::Ended {
+            fault: Some(SlateError::Fenced),
+            tasks: Ending::new(),
+        },
         Reply::Refused(SlateError::EmptyBatch),
         Reply::Unknown,
         Reply::NoMemory,
@@ -155,7 +187,7 @@ fn printed_replies(rt: HostRuntime) -> Result<(), Fail> {
     let mut out = Vec::new(alloc);
     print_replies(&mut out, replies.as_slice())?;
     let want =
-        b"handle 0\nwrite 1 number 2\nvalue v%20w number 3 created -4\nvalue v%20w number 3 created -4 expires 5\nnone\nflushed\nerror Invalid error: empty write batch not allowed\nerror unknown object\nerror no memory\n";
+        b"handle 0\nwrite 1 number 2\nvalue v%20w number 3 created -4\nvalue v%20w number 3 created -4 expires 5\nnone\nflushed\nended memtable_flusher compactor compaction_worker garbage_collector batch_writer\nerror Closed error: detected newer DB client; ended\nerror Invalid error: empty write batch not allowed\nerror unknown object\nerror no memory\n";
     assert_eq!(rt; out.as_slice(), want.as_slice());
     Ok(())
 }

@@ -35,7 +35,7 @@ fn play<S: Store>(
 }
 
 // Scripts, and what a session over a fresh store writes.
-const SCRIPTS: [(&[u8], &[u8]); 10] = [
+const SCRIPTS: [(&[u8], &[u8]); 14] = [
     (b"", b""),
     (
         b"0 open\n1 put 0 a x\n2 get 0 a",
@@ -71,6 +71,26 @@ const SCRIPTS: [(&[u8], &[u8]); 10] = [
     (
         b"00 open\n01 put 00 %61 %\n2 get 0 a",
         b"handle 0\nwrite 0 number 1\nvalue % number 1 created 1\n",
+    ),
+    // A second handle fences the first, which closes at its next flush.
+    (
+        b"0 open\n1 open\n2 put 0 a x\n3 flush 0\n4 get 0 a\n5 close 0 none\n6 get 0 a",
+        b"handle 0\nhandle 1\nwrite 0 number 1\nerror Closed error: detected newer DB client\nerror Closed error: detected newer DB client\nended\nerror Closed error: detected newer DB client\n",
+    ),
+    // Three handles in turn: each sees what was stored before it was opened, and goes on from there.
+    (
+        b"0 open\n1 put 0 a x\n2 flush 0 wal\n3 open\n4 put 1 b y\n5 flush 1\n6 open\n7 put 2 c z\n8 flush 2\n9 get 2 a\n9 get 2 b\n9 get 2 c\n10 get 0 b\n11 get 1 c\n12 put 0 d w\n13 flush 0\n14 flush 1",
+        b"handle 0\nwrite 0 number 1\nflushed\nhandle 1\nwrite 1 number 2\nflushed\nhandle 2\nwrite 2 number 3\nflushed\nvalue x number 1 created 1\nvalue y number 2 created 4\nvalue z number 3 created 7\nnone\nnone\nwrite 3 number 2\nerror Closed error: detected newer DB client\nerror Closed error: detected newer DB client\n",
+    ),
+    // What a close flushed is there after the next opening, with its creation time; what it didn't flush is gone.
+    (
+        b"0 open\n5 put 0 a x\n6 close 0 wal\n7 put 0 a y\n8 flush 0 wal\n9 close 0 none\n9 open\n9 get 1 a\n9 put 1 a z\n9 close 1 none\n9 open\n9 get 2 a\n4 put 2 a y\n9 put 2 a y",
+        b"handle 0\nwrite 0 number 1\nended\nerror Closed error: db is closed\nerror Closed error: db is closed\nerror Closed error: db is closed\nhandle 1\nvalue x number 1 created 5\nwrite 1 number 2\nended\nhandle 2\nvalue x number 1 created 5\nerror Invalid error: invalid clock tick, must be monotonic. last_tick=`5`, next_tick=`4`\nwrite 2 number 2\n",
+    ),
+    // A close of a handle that is fenced answers so, and stays a clean one.
+    (
+        b"0 open\n1 put 0 a x\n2 open\n3 close 0 wal\n4 get 0 a\n5 close 3 none",
+        b"handle 0\nwrite 0 number 1\nhandle 1\nerror Closed error: detected newer DB client; ended\nerror Closed error: db is closed\nerror unknown object\n",
     ),
 ];
 
@@ -216,6 +236,64 @@ fn failing_calls(rt: HostRuntime) -> Result<(), Fail> {
     Ok(())
 }
 
+const REOPENED: &[u8] =
+    b"handle 0\nwrite 0 number 1\nended\nhandle 1\nvalue x number 1 created 1\n";
+
+const CLOSED_UNFLUSHED: &[u8] =
+    b"handle 0\nwrite 0 number 1\nerror Unavailable error: object store error (unavailable); ended\nhandle 1\nnone\n";
+
+const CLOSED_FLUSHED: &[u8] =
+    b"handle 0\nwrite 0 number 1\nerror Unavailable error: object store error (unavailable); ended\nhandle 1\nvalue x number 1 created 1\n";
+
+const UNREOPENED: &[u8] =
+    b"handle 0\nwrite 0 number 1\nended\nerror Unavailable error: object store error (unavailable)\nerror unknown object\n";
+
+// The text of a session that closes with a flush and opens again, over a store whose call with this number fails, and
+// what is stored then.
+fn reopened(alloc: Global, at: u64, landed: bool) -> Result<(Vec<u8>, Left), Fail> {
+    let failing = Seq::of(vec![in alloc; FailingCall { at, landed }]?);
+    let mut store = FaultyStore::new(MemoryStore::new(alloc), failing);
+    let script = b"0 open\n1 put 0 a x\n2 close 0 wal\n3 open\n4 get 1 a";
+    let (_, text) = play(alloc, &[], script, (0, 0), &mut store)?;
+    Ok((text, left_in(alloc, &mut store.into_inner())?))
+}
+
+// The three calls of a closing flush fail in turn, and the six of the opening after it: made and not made.
+#[test]
+fn failing_closes_and_openings(rt: HostRuntime) -> Result<(), Fail> {
+    let whole = (Some(2), 3, 0);
+    for (at, lost, landed, left_lost, left_landed) in [
+        (
+            5,
+            CLOSED_UNFLUSHED,
+            CLOSED_UNFLUSHED,
+            (Some(2), 2, 0),
+            (Some(2), 2, 0),
+        ),
+        (
+            6,
+            CLOSED_UNFLUSHED,
+            CLOSED_UNFLUSHED,
+            (Some(2), 2, 0),
+            (Some(2), 2, 0),
+        ),
+        (7, CLOSED_UNFLUSHED, CLOSED_FLUSHED, (Some(2), 2, 0), whole),
+        (8, UNREOPENED, UNREOPENED, (Some(1), 2, 1), (Some(1), 2, 1)),
+        (9, UNREOPENED, UNREOPENED, (Some(1), 2, 1), (Some(1), 2, 1)),
+        (10, UNREOPENED, UNREOPENED, (Some(1), 2, 1), (Some(2), 2, 1)),
+        (11, UNREOPENED, UNREOPENED, (Some(2), 2, 1), whole),
+        (12, UNREOPENED, UNREOPENED, whole, whole),
+        (13, UNREOPENED, UNREOPENED, whole, whole),
+        (14, REOPENED, REOPENED, whole, whole),
+    ] {
+        for (made, want, left) in [(false, lost, left_lost), (true, landed, left_landed)] {
+            let (text, stored) = reopened(rt.alloc(), at, made)?;
+            assert_eq!(rt; (at, text.as_slice(), stored), (at, want, left));
+        }
+    }
+    Ok(())
+}
+
 // Does commands with an operator by one call, and tells the text of the replies.
 fn run_all(alloc: Global, commands: &[Command]) -> Result<Vec<u8>, NoMemory> {
     let operator = Some(&ConcatOperator);
@@ -246,7 +324,7 @@ fn extend(action: &mut Action) {
     match action {
         Action::Put { expire, .. } => *expire = Some(99),
         Action::Get { remote, .. } => *remote = true,
-        Action::Open | Action::Flush { .. } => {}
+        Action::Open | Action::Flush { .. } | Action::Close { .. } => {}
     }
 }
 

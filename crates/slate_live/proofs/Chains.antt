@@ -1,5 +1,5 @@
-use Rattle.std.proofs.Common.{◌≡◌, ◌<◌, ◌+◌, ℕ, length, take, get_or, List, [], ◌∷◌, ◌++◌, Option, Some, refl, sym, subst, ap, ◌∙◌}
-use Rattle.std.proofs.lemmas.List.{take_more}
+use Rattle.std.proofs.Common.{◌≡◌, ◌≤◌, ◌<◌, ◌+◌, ℕ, length, take, get_or, List, [], ◌∷◌, ◌++◌, Option, Some, refl, sym, subst, ap, ◌∙◌}
+use Rattle.std.proofs.lemmas.List.{take_all, take_more}
 use Rattle.slate_store.specs.Objects.{Objects}
 use Rattle.slate_store.specs.Content.{IsSound}
 use Rattle.slate_script.specs.declared.commands.Command.{Command}
@@ -71,3 +71,8 @@ chain-at settings first mid last commands i command replies replies' reply insid
     let more : take (i + 1) commands ≡ take i commands ++ command ∷ [] = take_more commands i command inside ∙ ap (λ c. take i commands ++ c ∷ []) (sym item) in
     subst (λ rs. Chain settings first (take (i + 1) commands) rs last) (sym pushed)
     (subst (λ cs. Chain settings first cs (replies ++ reply ∷ []) last) (sym more) longer)
+
+-- the same where all of the commands are done
+pub leads_all : (settings : Settings) (commands : List Command) (i : ℕ) (replies : List Reply) (o : Objects) (faults : ℕ) (live : Live) (told : Option Objects) (faults' : ℕ) (w : World) → length commands ≤ i → Chain settings (start o faults) (take i commands) replies w → StandsFor live told faults' w → LeadsTo settings commands replies o faults told faults'
+leads_all settings commands i replies o faults live told faults' w done chain stands =
+    leads_to settings commands replies o faults live told faults' w (subst (λ cs. Chain settings (start o faults) cs replies w) (take_all i commands done) chain) stands

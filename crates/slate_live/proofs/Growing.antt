@@ -17,7 +17,7 @@ use Rattle.slate_script.specs.declared.replies.Reply.TheVariants as replies
 use Rattle.slate_live.specs.declared.states.Object.{Object}
 use Rattle.slate_live.specs.declared.states.Object.TheVariants as objects
 use Rattle.slate_live.specs.declared.states.Write.{Write}
-use Rattle.slate_live.specs.Next.{AtFollower, AtHandle, AtObject, AwaitsWrite, FollowerReads, PollsUnless, ClosesOpen, ClosesUnless, FlushesUnless, Next, NextBy, OnlyAnswers, ReadsUnless, WritesIn, WritesUnless, flush_of_close, stored_after}
+use Rattle.slate_live.specs.Next.{AtFollower, AtHandle, AtObject, AwaitsWrite, FollowerReads, PollsUnless, ClosesOpen, ClosesUnless, FlushesUnless, Next, NextBy, OnlyAnswers, ReadsUnless, WritesIn, WritesUnless, flush_of_close, put_op, stored_after}
 use Rattle.slate_live.specs.Settings.{Settings}
 use Rattle.slate_live.specs.Stands.{up_to}
 use Rattle.slate_live.specs.World.{World}
@@ -107,7 +107,7 @@ read-grows merge w w' None handle key remote reply next = grows-same w w' next.1
 grows-by : (settings : Settings) (w : World) (moment : ℤ) (second : Option ℤ) (action : Action) (reply : Reply) (w' : World) → NextBy settings w moment second action reply w' → IsPrefix w.stored w'.stored
 grows-by settings w moment second actions.Open reply w' next = subst (IsPrefix w.stored) (sym next.stored) (prefix-same w.stored)
 grows-by settings w moment second (actions.Put n key value expire) reply w' next =
-    at-handle w w' (slice_get w.objects n) _ reply next (λ handle. write-grows w w' n handle _ moment second reply)
+    at-handle w w' (slice_get w.objects n) _ reply next (λ handle. write-grows w w' n handle (put_op key value expire ∷ []) moment second reply)
 grows-by settings w moment second (actions.Flush n flush_type) reply w' next =
     at-handle w w' (slice_get w.objects n) _ reply next (λ handle. flush-grows w w' handle.result handle.keeps_log n handle reply)
 grows-by settings w moment second (actions.Get n key remote) reply w' next =

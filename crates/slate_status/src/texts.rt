@@ -30,7 +30,7 @@ const LIFETIME: &str = "invalid checkpoint lifetime. lifetime=`";
 
 const INTERVAL: &str = "invalid manifest poll interval. interval=`";
 
-const BACKPRESSURE: &str = "backpressure ";
+const PRESSURE: &str = "backpressure ";
 
 const OF: &str = " of ";
 
@@ -173,11 +173,7 @@ fn write_shown(out: &mut Vec<u8>, error: &SlateError) -> Result<(), NoMemory>
         ),
         SlateError::Custom(number) => write_before(out, "task fault ", number),
         SlateError::Backpressure { unflushed, limit } => write_both(
-            out,
-            BACKPRESSURE,
-            unflushed,
-            OF,
-            limit,
+            out, PRESSURE, unflushed, OF, limit,
         ),
         _ => Ok(()),
     }

@@ -2,6 +2,8 @@
 #![tactic(auto)]
 
 #[cfg(test)]
+mod follow;
+#[cfg(test)]
 mod replay;
 #[cfg(test)]
 mod rows;

@@ -5,7 +5,7 @@ use std::alloc::Global;
 use std::test::Fail;
 
 // Log files, each with its id and the numbers of its batches.
-type Logs = &'static [(u64, &'static [u64])];
+pub(crate) type Logs = &'static [(u64, &'static [u64])];
 
 const LOGS: Logs = &[(1, &[]), (2, &[1, 2]), (3, &[3])];
 
@@ -23,7 +23,7 @@ const CASES: [(u64, u64, u64, Logs, Replayed, usize); 9] = [
     (0, 0, 2, &[(1, &[1]), (2, &[2, 4])], Replayed::Torn(2), 2),
 ];
 
-fn store_of(alloc: Global, logs: Logs) -> Result<MemoryStore, Fail> {
+pub(crate) fn store_of(alloc: Global, logs: Logs) -> Result<MemoryStore, Fail> {
     let mut store = MemoryStore::new(alloc);
     for (id, numbers) in logs {
         let mut batches = Vec::new(alloc);

@@ -2,7 +2,7 @@ use Rattle.std.proofs.Common.{arith, ap, subst, ◌∙◌}
 use Rattle.slate_live.specs.Live.{Live}
 use Rattle.slate_live.specs.Valid.{Link}
 use Rattle.slate_live.specs.World.{start}
-use Rattle.slate_live.proofs.Chains.{chain_none, stands_start, chain-at}
+use Rattle.slate_live.proofs.Chains.{leads_all, chain_none, stands_start, chain-at}
 use Rattle.slate_live.proofs.runs.run.Goals as goal
 
 pub loop-command-init : goal.loop-command-init
@@ -34,3 +34,8 @@ loop-command-preserved g c =
             link.2,
           );
     }
+
+pub returns-clause-leads : goal.returns-clause-leads
+returns-clause-leads g c merge lawful before is sound =
+    let prev = c.loop-command.invariant.leads merge lawful before is sound in
+    leads_all (record { merge = merge; options = c.args.options.now }) c.args.commands.now c.loop-command.command-index c.loop-command.replies.items before _ c.loop-command.live _ _ prev.0 c.loop-command-test.false prev.1 prev.2

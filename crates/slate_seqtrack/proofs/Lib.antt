@@ -1,0 +1,10 @@
+pub mod Binary
+pub mod Blocks
+pub mod Coding
+pub mod Evens
+pub mod Grammar
+pub mod Lists
+pub mod Pairing
+pub mod Rising
+pub mod Searching
+pub mod Twos

@@ -1,0 +1,10 @@
+use Rattle.std.proofs.Common.{◌≡◌, sym, ◌∙◌, ap}
+use Rattle.slate_seqtrack.specs.Tracker.{numbers_of, times_of}
+use Rattle.slate_seqtrack.proofs.Pairing.{numbers-paired, times-paired}
+use Rattle.slate_seqtrack.proofs.tracker.SequenceTracker.to_bytes.Goals as goal
+
+pub returns : goal.returns
+returns c =
+    let numbers : numbers_of c.args.self.now ≡ c.deref.result.now = sym (ap numbers_of c.self.view_is) ∙ numbers-paired _ _ c.self.invariant.paired ∙ sym c.deref.ensures.value in
+    let times : times_of c.args.self.now ≡ c.deref-2.result.now = sym (ap times_of c.self.view_is) ∙ times-paired _ _ c.self.invariant.paired ∙ sym c.deref-2.ensures.value in
+    rw (numbers, times) c.write_lists.ensures

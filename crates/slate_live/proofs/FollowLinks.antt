@@ -56,8 +56,8 @@ module _ (live : Live) (told told' : Option Objects) (faults faults' : ℕ) (w :
   new-front : (view : VersionedManifest) → IsPrefix (taken view w.stored).line w.stored
   new-front view = prefix-same w.stored
 
-  before_push : {view : VersionedManifest} (m : ℕ) (h : Handle) → IsHandleAt (w.objects ++ objects.Follower (taken view w.stored) ∷ []) m h → IsHandleAt w.objects m h
-  before_push {view} m h at =
+  before_push : (view : VersionedManifest) (m : ℕ) (h : Handle) → IsHandleAt (w.objects ++ objects.Follower (taken view w.stored) ∷ []) m h → IsHandleAt w.objects m h
+  before_push view m h at =
       elim (get-push w.objects (objects.Follower (taken view w.stored)) (objects.Handle h) m at) [
         | inl before ↦ before
         | inr last_one ↦ absurd (let other = last_one.1 in cc)
@@ -88,8 +88,8 @@ module _ (live : Live) (told told' : Option Objects) (faults faults' : ℕ) (w :
               | inl before ↦ stands.valid.followers m f before
               | inr last_one ↦ (let other = last_one.1 in let is : taken view w.stored ≡ f = cc in subst (λ (g : Follower). IsPrefix g.line w.stored) is (prefix-same w.stored))
             ];
-            handles = λ m h at. stands.valid.handles m h (before_push m h at);
-            distinct = λ i j a b at_i at_j epochs. stands.valid.distinct i j a b (before_push i a at_i) (before_push j b at_j) epochs;
+            handles = λ m h at. stands.valid.handles m h (before_push view m h at);
+            distinct = λ i j a b at_i at_j epochs. stands.valid.distinct i j a b (before_push view i a at_i) (before_push view j b at_j) epochs;
           };
         },
       )
@@ -199,13 +199,13 @@ follows_nothing live live' told faults w same stands = (
 )
 
 -- an opening leads to a world that the live state stands for, with its follower
-pub follow_ok : (live : Live) (told told' : Option Objects) (faults faults' : ℕ) (f : Follower) (answer : PollAnswer) (n : ℕ) (reply : Reply) → told' ≡ told → ((o : Objects) → told ≡ Some o → IsSound o → Follows o f answer) → n ≡ length live.objects → TellsFaults faults faults' (Ok (f, answer)) → reply ≡ follow_answer n answer → (w : World) → StandsFor live told faults w → (w' : World) × FollowsIn w reply w' × StandsFor (record { options = live.options; objects = live.objects ++ objects.Follower f ∷ []; writes = live.writes }) told' faults' w'
+pub follow_ok : (live : Live) (told told' : Option Objects) (faults faults' : ℕ) (f : Follower) (answer : PollAnswer) (n : ℕ) (reply : Reply) → told' ≡ told → ((o : Objects) → told ≡ Some o → IsSound o → Follows o f answer) → n ≡ length live.objects → TellsFaults {A = Follower × PollAnswer} faults faults' (Ok (f, answer)) → reply ≡ follow_answer n answer → (w : World) → StandsFor live told faults w → (w' : World) × FollowsIn w reply w' × StandsFor (record { options = live.options; objects = live.objects ++ objects.Follower f ∷ []; writes = live.writes }) told' faults' w'
 follow_ok live told told' faults faults' f answer n reply kept follows at fault is w stands =
     let fl = follows (stands.held).0 (stands.held).1 (stands.held).2 in
     let known = taken-known live told told' faults faults' w stands f answer fl in
     let l = follows_now live told told' faults faults' w stands
     (record { options = live.options; objects = live.objects ++ objects.Follower f ∷ []; writes = live.writes }) (Ok tt) fl.0 kept
-    (faults-erased faults faults' (Ok (f, answer)) fault) (λ _. latest-known live told told' faults faults' w stands fl.0 fl.1) (λ e h. absurd (cc))
+    (faults-erased {A = Follower × PollAnswer} faults faults' (Ok (f, answer)) fault) (λ _. latest-known live told told' faults faults' w stands fl.0 fl.1) (λ e h. absurd (cc))
     (ap (λ xs. xs ++ objects.Follower f ∷ []) stands.objects ∙ ap (λ g. w.objects ++ objects.Follower g ∷ []) known.0) stands.writes in
     let replied : reply ≡ replies.Follower (length w.objects) true (end w.stored) = is ∙ (ap (λ k. follow_answer k answer) (at ∙ ap length stands.objects) ∙ ap (follow_answer (length w.objects)) known.1) in
     (l.0, subst (λ a. FollowsIn w a l.0) (sym replied) l.1, l.2)

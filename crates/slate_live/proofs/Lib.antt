@@ -1,3 +1,4 @@
+pub mod ByKinds
 pub mod Chains
 pub mod Completed
 pub mod Completeness

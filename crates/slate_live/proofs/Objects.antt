@@ -27,6 +27,13 @@ set_read (y ∷ xs) (suc i) x h = ap (λ zs. y ∷ zs) (set_read xs i x h)
 pub get_read : {X : Type 0} (xs : List X) (i : ℕ) (x : X) → i < length xs → x ≡ get_or xs i x → slice_get xs i ≡ Some x
 get_read xs i x low h = slice_get-get_or xs i x low ∙ ap Some (sym h)
 
+-- one object stands at a place
+pub same_place : {X : Type 0} (xs : List X) (i : ℕ) (x y : X) → i < length xs → x ≡ get_or xs i x → y ≡ get_or xs i y → y ≡ x
+same_place xs i x y low at_x at_y =
+    let first = get_read xs i x low at_x in
+    let second = get_read xs i y low at_y in
+    cc
+
 module _ (w : World) (xs : List Object) (ws : List Write) (n : ℕ) (x : Object) (objs : w.objects ≡ xs) (wrs : w.writes ≡ ws) (low : n < length xs) (at : x ≡ get_or xs n x) where
   there : slice_get w.objects n ≡ Some x
   there = ap (λ ys. slice_get ys n) objs ∙ get_read xs n x low at
@@ -41,14 +48,14 @@ module _ (w : World) (xs : List Object) (ws : List Write) (n : ℕ) (x : Object)
 
 -- a put to an object of another kind
 pub put_unknown : (w : World) (xs : List Object) (ws : List Write) (n : ℕ) (x : Object) (ops : List KeyOp) (moment : ℤ) (second : Option ℤ) (b : Bool) → w.objects ≡ xs → w.writes ≡ ws → n < length xs → x ≡ get_or xs n x → ByKind x (λ h. b ≡ true) (λ f. b ≡ false) → b ≡ false → Writes w n ops moment second replies.Unknown (record w { objects = xs; writes = ws })
-put_unknown w xs ws n (objects.Handle h) ops moment second b objs wrs low at kind no = absurd (cc)
-put_unknown w xs ws n (objects.Follower f) ops moment second b objs wrs low at kind no =
+put_unknown w xs ws n (objects.Handle h) ops moment second b objs wrs low at kind isnt = absurd (cc)
+put_unknown w xs ws n (objects.Follower f) ops moment second b objs wrs low at kind isnt =
     rw (there w xs ws n (objects.Follower f) objs wrs low at) (refl, kept-world w xs ws n (objects.Follower f) objs wrs low at)
 
 -- a put that finds no memory
 pub put_no_memory : (w : World) (xs : List Object) (ws : List Write) (n : ℕ) (x : Object) (ops : List KeyOp) (moment : ℤ) (second : Option ℤ) (b : Bool) → w.objects ≡ xs → w.writes ≡ ws → n < length xs → x ≡ get_or xs n x → ByKind x (λ h. b ≡ true) (λ f. b ≡ false) → b ≡ true → Writes w n ops moment second replies.NoMemory (record w { objects = xs; writes = ws })
-put_no_memory w xs ws n (objects.Follower f) ops moment second b objs wrs low at kind yes = absurd (cc)
-put_no_memory w xs ws n (objects.Handle h) ops moment second b objs wrs low at kind yes =
+put_no_memory w xs ws n (objects.Follower f) ops moment second b objs wrs low at kind known = absurd (cc)
+put_no_memory w xs ws n (objects.Handle h) ops moment second b objs wrs low at kind known =
     rw (there w xs ws n (objects.Handle h) objs wrs low at) (inl (refl, kept-world w xs ws n (objects.Handle h) objs wrs low at))
 
 written_as : (w : World) (n : ℕ) (h : Handle) (x' : Object) (ws' : List Write) (ops : List KeyOp) (moment : ℤ) (second : Option ℤ) (result : Option (Result Written SlateError)) → (xs : List Object) → w.objects ≡ xs → slice_get w.objects n ≡ Some (objects.Handle h) → (x' ≡ objects.Handle h → ws' ≡ w.writes → record w { objects = set xs n x'; writes = ws' } ≡ w) → WritesObject h x' ops n moment second w.writes ws' result → WritesIn w n h ops moment second (write_answer (length w.writes) result) (record w { objects = set xs n x'; writes = ws' })

@@ -8,6 +8,7 @@ use Rattle.slate_rows.specs.declared.batches.Batch.{Batch}
 use Rattle.slate_rows.specs.declared.batches.KeyValue.{KeyValue}
 use Rattle.slate_rows.specs.declared.batches.Op.{Op}
 use Rattle.slate_rows.specs.declared.batches.Op.TheVariants.{Put, Delete, Merge as MergeOperand}
+use Rattle.slate_rows.specs.declared.options.ReadOptions.{ReadOptions}
 use Rattle.slate_rows.specs.declared.reads.ReadFault.{ReadFault}
 use Rattle.slate_rows.specs.declared.reads.ReadFault.TheVariants as reads
 use Rattle.slate_rows.specs.Bound.{read_bound}
@@ -116,3 +117,9 @@ read_object merge w xs n (objects.Handle h) key remote r reply valid objs low at
 read_object merge w xs n (objects.Follower f) key remote r reply valid objs low at read answer =
     let there : slice_get w.objects n ≡ Some (objects.Follower f) = ap (λ ys. slice_get ys n) objs ∙ get_read xs n (objects.Follower f) low at in
     rw (there, answer) (follower-read merge w f key r f.result (valid.followers n f there) valid.line refl read)
+
+-- the same with the options and the key as the calls have them
+pub read_as : (merge : Option Merge) (x : Object) (key' key : List ℕ) (remote : Bool) (options : ReadOptions) (r : Result (Option KeyValue) SlateError) → key' ≡ key → options ≡ record { durability_filter = level_of remote; dirty = false } → ByKind x (λ h. ReadsHandle merge h key' options.durability_filter options.dirty r) (λ f. ReadsFollower merge f key' r) → ByKind x (λ h. ReadsHandle merge h key (level_of remote) false r) (λ f. ReadsFollower merge f key r)
+read_as merge x key' key remote options r same is read =
+    subst (λ (o : ReadOptions). ByKind x (λ h. ReadsHandle merge h key o.durability_filter o.dirty r) (λ f. ReadsFollower merge f key r)) is
+    (subst (λ k. ByKind x (λ h. ReadsHandle merge h k options.durability_filter options.dirty r) (λ f. ReadsFollower merge f k r)) same read)

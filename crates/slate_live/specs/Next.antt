@@ -10,7 +10,7 @@ use Rattle.slate_rows.specs.declared.options.FlushType.{FlushType}
 use Rattle.slate_rows.specs.declared.options.FlushType.TheVariants.{MemTable}
 use Rattle.slate_rows.specs.declared.reads.ReadFault.{ReadFault}
 use Rattle.slate_rows.specs.declared.reads.ReadFault.TheVariants as reads
-use Rattle.slate_rows.specs.Line.{Line, extended}
+use Rattle.slate_rows.specs.Line.{Line, end, extended}
 use Rattle.slate_rows.specs.Operator.{Merge}
 use Rattle.slate_rows.specs.Read.{read_at}
 use Rattle.slate_store.specs.declared.objects.VersionedManifest.{VersionedManifest}

@@ -88,7 +88,7 @@ impl Object {
     ) -> Option<Result<(), SlateError>>
         ensures { ByKind self.old
             (λ h. ByKind self.new (λ h'. FlushesSome h h' result (S.objects store.old) (S.objects store.new) (S.faults store.old) (S.faults store.new)) (λ f'. ⊥))
-            (λ f. (result ≡ None) × (self.new ≡ self.old) × (store.new ≡ store.old)) }
+            (λ f. (result ≡ None) × (self.new ≡ self.old) × (S.objects store.new ≡ S.objects store.old) × (S.faults store.new ≡ S.faults store.old)) }
     {
         match self {
             Object::Handle(writer) => Some(writer.flush(alloc, store, FlushType::Wal)),
@@ -106,7 +106,7 @@ impl Object {
         requires { options.now.flush_type ≢ Some FlushType.MemTable }
         ensures { ByKind self.old
             (λ h. ByKind self.new (λ h'. ClosesObject options.now.flush_type h h' result (S.objects store.old) (S.objects store.new) (S.faults store.old) (S.faults store.new)) (λ f'. ⊥))
-            (λ f. (result ≡ ended (recorded_fault f.result)) × (self.new ≡ objects.Follower (closed_follower f)) × (store.new ≡ store.old)) }
+            (λ f. (result ≡ ended (recorded_fault f.result)) × (self.new ≡ objects.Follower (closed_follower f)) × (S.objects store.new ≡ S.objects store.old) × (S.faults store.new ≡ S.faults store.old)) }
     {
         match self {
             Object::Handle(writer) => writer.close(alloc, store, options),
@@ -143,7 +143,7 @@ impl Object {
     ) -> Option<Result<PollAnswer, SlateError>>
         requires { extractor ≡ None }
         ensures { ByKind self.old
-            (λ h. (result ≡ None) × (self.new ≡ self.old) × (store.new ≡ store.old))
+            (λ h. (result ≡ None) × (self.new ≡ self.old) × (S.objects store.new ≡ S.objects store.old) × (S.faults store.new ≡ S.faults store.old))
             (λ f. ByKind self.new (λ h'. ⊥) (λ f'. PollsSome f f' result (S.objects store.old) (S.objects store.new) (S.faults store.old) (S.faults store.new))) }
     {
         match self {

@@ -30,3 +30,15 @@ returns-in-Close-clause-link g c merge lawful =
     rw (← c.self.view_is) (λ w stands.
     let l = c.close.ensures.link c.self.inside.options c.self.inside.writes.items w stands in
     (l.0, subst (λ a. NextBy (record { merge = merge; options = c.self.inside.options }) w c.args.command.now.moment c.args.command.now.second a c.close.result l.0) (sym c.in-Close.is) l.1, l.2))
+
+pub returns-in-Follow-clause-link : goal.returns-in-Follow-clause-link
+returns-in-Follow-clause-link g c merge lawful =
+    rw (← c.self.view_is) (λ w stands.
+    let l = c.follow.ensures.link c.self.inside.options c.self.inside.writes.items w stands in
+    (l.0, subst (λ a. NextBy (record { merge = merge; options = c.self.inside.options }) w c.args.command.now.moment c.args.command.now.second a c.follow.result l.0) (sym c.in-Follow.is) l.1, l.2))
+
+pub returns-in-Poll-clause-link : goal.returns-in-Poll-clause-link
+returns-in-Poll-clause-link g c merge lawful =
+    rw (← c.self.view_is) (λ w stands.
+    let l = c.poll.ensures.link c.self.inside.options c.self.inside.writes.items w stands in
+    (l.0, subst (λ a. NextBy (record { merge = merge; options = c.self.inside.options }) w c.args.command.now.moment c.args.command.now.second a c.poll.result l.0) (sym c.in-Poll.is) l.1, l.2))

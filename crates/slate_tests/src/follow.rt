@@ -65,7 +65,7 @@ fn polls(rt: HostRuntime) -> Result<(), Fail> {
     Ok(())
 }
 
-fn is_closed<A>(answer: Result<A, SlateError>) -> bool {
+fn is_closed<A: Drop>(answer: Result<A, SlateError>) -> bool {
     matches!(answer, Err(SlateError::Closed))
 }
 

@@ -6,8 +6,6 @@ mod follow;
 #[cfg(test)]
 mod replay;
 #[cfg(test)]
-mod rows;
-#[cfg(test)]
 mod script;
 #[cfg(test)]
 mod session;

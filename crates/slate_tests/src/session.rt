@@ -1,11 +1,14 @@
-ghost use Rattle.std.specs.Prelude.{◌≡◌, None};
+ghost use Rattle.std.specs.Prelude.{IfOk};
+ghost use Rattle.slate_script.specs.Built.{IsBuilt};
 
 use crate::store::{Left, left_in};
 use crate::streams::{sink, source};
+use bytes::Bytes;
 use slate_live::{
-    Action, Command, Finished, LiveState, Options, print_replies, read_script, run, session,
+    Action, Command, Finished, LiveState, Options, ScriptFault, print_replies, read_script, run,
+    session,
 };
-use slate_rows::{ConcatOperator, FixedPrefix, NoMemory, Seq};
+use slate_rows::{ConcatOperator, FixedPrefix, FlushType, NoMemory, Seq};
 use slate_store::{FailingCall, FaultyStore, MemoryStore, Store};
 use std::alloc::{AllocError, Global};
 use std::test::Fail;
@@ -294,54 +297,99 @@ fn failing_closes_and_openings(rt: HostRuntime) -> Result<(), Fail> {
     Ok(())
 }
 
-// Does commands with an operator by one call, and tells the text of the replies.
-fn run_all(alloc: Global, commands: &[Command]) -> Result<Vec<u8>, NoMemory> {
+// The text of the replies to the commands of a script, which one call does with an operator.
+fn run_all(alloc: Global, script: &[u8]) -> Result<Vec<u8>, ScriptFault> {
     let operator = Some(&ConcatOperator);
     let extractor: Option<&FixedPrefix> = None;
+    let commands = read_script(alloc, script)?;
     let mut store = MemoryStore::new(alloc);
-    let replies = run(alloc, &mut store, &OPTIONS, operator, extractor, commands)?;
+    let replies = run(
+        alloc,
+        &mut store,
+        &OPTIONS,
+        operator,
+        extractor,
+        commands.as_slice(),
+    )?;
     let mut text = Vec::new(alloc);
     print_replies(&mut text, replies.as_slice())?;
     Ok(text)
 }
 
-// Does the same one command after another.
-fn apply_each(alloc: Global, commands: &[Command]) -> Result<Vec<u8>, NoMemory> {
+// The text of the reply to one command.
+fn apply_one(
+    alloc: Global,
+    live: &mut LiveState,
+    store: &mut MemoryStore,
+    moment: i64,
+    action: Action,
+) -> Result<Vec<u8>, NoMemory>
+    requires { IsBuilt action }
+{
     let operator = Some(&ConcatOperator);
     let extractor: Option<&FixedPrefix> = None;
-    let mut store = MemoryStore::new(alloc);
-    let mut live = LiveState::new(alloc, &OPTIONS);
+    let command = Command {
+        moment,
+        second: None,
+        action,
+    };
+    let reply = live.apply(alloc, store, operator, extractor, &command);
     let mut text = Vec::new(alloc);
-    for command in commands {
-        let reply = live.apply(alloc, &mut store, operator, extractor, command);
-        print_replies(&mut text, &[reply])?;
-    }
+    print_replies(&mut text, &[reply])?;
     Ok(text)
 }
 
-// What no script line says yet: a put expires, and a read is one from durable batches alone.
-fn extend(action: &mut Action) {
-    match action {
-        Action::Put { expire, .. } => *expire = Some(99),
-        Action::Get { remote, .. } => *remote = true,
-        Action::Open | Action::Flush { .. } | Action::Close { .. } => {}
-    }
-}
-
-// A read from durable batches doesn't see what isn't flushed, and a row keeps the time of expiry of its put.
+// A script's commands are run by one call.
 #[test]
 fn runs(rt: HostRuntime) -> Result<(), Fail> {
-    let script = b"0 open\n1 put 0 a x\n2 get 0 a\n3 flush 0\n4 put 0 a y\n5 get 0 a";
-    let mut commands = read_script(rt.alloc(), script)?;
-    for command in commands.iter_mut() {
-        extend(&mut command.action);
-    }
-    let want =
-        b"handle 0\nwrite 0 number 1\nnone\nflushed\nwrite 1 number 2\nvalue x number 1 created 1 expires 99\n".as_slice();
-    assert_eq!(rt; run_all(rt.alloc(), commands.as_slice())?.as_slice(), want);
-    assert_eq!(rt;
-        apply_each(rt.alloc(), commands.as_slice())?.as_slice(),
-        want
-    );
+    let script = b"0 open\n1 put 0 a x\n2 get 0 a\n3 flush 0";
+    let want = b"handle 0\nwrite 0 number 1\nvalue x number 1 created 1\nflushed\n".as_slice();
+    assert_eq!(rt; run_all(rt.alloc(), script)?.as_slice(), want);
+    Ok(())
+}
+
+fn put(alloc: Global, value: &[u8]) -> Result<Action, NoMemory>
+    ensures { IfOk result IsBuilt }
+{
+    Ok(Action::Put {
+        handle: 0,
+        key: Bytes::copy_from_slice(alloc, b"a")?,
+        value: Bytes::copy_from_slice(alloc, value)?,
+        expire: Some(99),
+    })
+}
+
+fn get(alloc: Global) -> Result<Action, NoMemory>
+    ensures { IfOk result IsBuilt }
+{
+    Ok(Action::Get {
+        object: 0,
+        key: Bytes::copy_from_slice(alloc, b"a")?,
+        remote: true,
+    })
+}
+
+// What no script line says yet: a read from durable batches doesn't see what isn't flushed, and a row keeps the time of
+// expiry of its put.
+#[test]
+fn applied_one_by_one(rt: HostRuntime) -> Result<(), Fail> {
+    let alloc = rt.alloc();
+    let mut store = MemoryStore::new(alloc);
+    let mut live = LiveState::new(alloc, &OPTIONS);
+    let flush = Action::Flush {
+        handle: 0,
+        flush_type: Some(FlushType::Wal),
+    };
+    let text = apply_one(alloc, &mut live, &mut store, 0, Action::Open)?;
+    assert_eq!(rt; text.as_slice(), b"handle 0\n".as_slice());
+    let text = apply_one(alloc, &mut live, &mut store, 1, put(alloc, b"x")?)?;
+    assert_eq!(rt; text.as_slice(), b"write 0 number 1\n".as_slice());
+    let text = apply_one(alloc, &mut live, &mut store, 2, get(alloc)?)?;
+    assert_eq!(rt; text.as_slice(), b"none\n".as_slice());
+    let text = apply_one(alloc, &mut live, &mut store, 3, flush)?;
+    assert_eq!(rt; text.as_slice(), b"flushed\n".as_slice());
+    let text = apply_one(alloc, &mut live, &mut store, 4, get(alloc)?)?;
+    let want = b"value x number 1 created 1 expires 99\n".as_slice();
+    assert_eq!(rt; text.as_slice(), want);
     Ok(())
 }

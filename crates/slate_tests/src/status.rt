@@ -1,68 +1,327 @@
-use slate_status::{CloseCell, CloseFault, CloseReason, ErrorKind, SlateError, write_error};
-use slate_store::StoreFault;
-use std::test::Fail;
+ghost use Rattle.std.specs.Prelude.{IfOk};
+ghost use Rattle.slate_status.specs.Segments.{AreRising};
 
-// The public text of each error, written out.
+use bytes::Bytes;
+use slate_rows::{ByteRange, KeyBound, Name, NoMemory, Seq};
+use slate_status::{
+    CloseCell, CloseFault, CloseReason, DbStatus, DurableAnswer, Error, ErrorKind, SlateError,
+    StatusRecord, write_error,
+};
+use slate_store::{Manifest, StoreFault, VersionedManifest};
+use std::alloc::Global;
+use std::process::Abort;
+use std::test::Fail;
+use uuid::Uuid;
+
+// Each error is written as the text beside it.
+fn shows(rt: &impl Abort, alloc: Global, error: SlateError, want: &str) -> Result<(), NoMemory> {
+    let mut out = Vec::new(alloc);
+    write_error(&mut out, &error)?;
+    assert_eq!(rt; out.as_slice(), want.as_bytes());
+    Ok(())
+}
+
+fn name(alloc: Global, text: &str) -> Result<Name, NoMemory> {
+    Ok(Name::of(String::from_str(alloc, text)?))
+}
+
+fn bytes(text: &'static str) -> Bytes {
+    Bytes::from_static(text.as_bytes())
+}
+
+fn between(low: KeyBound, high: KeyBound) -> ByteRange {
+    ByteRange { low, high }
+}
+
+// The errors of stores and of what they hold.
 #[test]
-fn texts(rt: HostRuntime) -> Result<(), Fail> {
-    for (error, want) in [
-        (SlateError::EmptyKey, "Data error: empty RowEntry key"),
-        (
-            SlateError::EmptyBatch,
-            "Invalid error: empty write batch not allowed",
-        ),
-        (
-            SlateError::ObjectStoreError(StoreFault::NotFound),
-            "Data error: object store error (not found)",
-        ),
-        (
-            SlateError::ObjectStoreError(StoreFault::Unavailable),
-            "Unavailable error: object store error (unavailable)",
-        ),
-        (
-            SlateError::TransactionalObjectVersionExists,
-            "Data error: transactional object (e.g. manifest) version already exists",
-        ),
-        (
-            SlateError::LatestTransactionalObjectVersionMissing,
-            "Data error: failed to find latest transactional object (e.g. manifest) version",
-        ),
-        (
-            SlateError::InvalidDBState,
-            "Data error: invalid DB state error",
-        ),
-        (
-            SlateError::WalTruncated(12),
-            "Data error: wal truncated at wal file `12`",
-        ),
-        (
-            SlateError::InvalidClockTick {
-                last_tick: 10,
-                next_tick: -5,
-            },
-            "Invalid error: invalid clock tick, must be monotonic. last_tick=`10`, next_tick=`-5`",
-        ),
-        (SlateError::Fenced, "Closed error: detected newer DB client"),
-        (SlateError::Closed, "Closed error: db is closed"),
-        (
-            SlateError::MergeOperatorError,
-            "Invalid error: merge operator error",
-        ),
-        (
-            SlateError::MergeOperatorMissing,
-            "Invalid error: merge operator missing. A merge operator is required to read merge operands",
-        ),
-        (
-            SlateError::WalDisabled,
-            "Invalid error: attempted a WAL operation when the WAL is disabled",
-        ),
-        (SlateError::NoMemory, "Memory error: no memory"),
-    ] {
-        let mut out = Vec::from_slice(rt.alloc(), b"> ")?;
-        write_error(&mut out, &error)?;
-        assert_eq!(rt; &out[..2], b"> ".as_slice());
-        assert_eq!(rt; &out[2..], want.as_bytes());
-    }
+fn texts_of_stores(rt: HostRuntime) -> Result<(), NoMemory> {
+    let alloc = rt.alloc();
+    shows(
+        &rt,
+        alloc,
+        SlateError::ObjectStoreError(StoreFault::NotFound),
+        "Data error: object store error (not found)",
+    )?;
+    shows(
+        &rt,
+        alloc,
+        SlateError::ObjectStoreError(StoreFault::Unavailable),
+        "Unavailable error: object store error (unavailable)",
+    )?;
+    shows(
+        &rt,
+        alloc,
+        SlateError::TransactionalObjectVersionExists,
+        "Data error: transactional object (e.g. manifest) version already exists",
+    )?;
+    shows(
+        &rt,
+        alloc,
+        SlateError::LatestTransactionalObjectVersionMissing,
+        "Data error: failed to find latest transactional object (e.g. manifest) version",
+    )?;
+    shows(
+        &rt,
+        alloc,
+        SlateError::TransactionalObjectTimeout { tries: 8 },
+        "Unavailable error: transactional object (e.g. manifest) op timeout after 8 tries",
+    )?;
+    shows(
+        &rt,
+        alloc,
+        SlateError::InvalidDBState,
+        "Data error: invalid DB state error",
+    )?;
+    shows(
+        &rt,
+        alloc,
+        SlateError::WalTruncated(12),
+        "Data error: wal truncated at wal file `12`",
+    )?;
+    shows(
+        &rt,
+        alloc,
+        SlateError::ChecksumMismatch,
+        "Data error: checksum mismatch",
+    )?;
+    shows(
+        &rt,
+        alloc,
+        SlateError::EmptyBlock,
+        "Data error: empty block",
+    )?;
+    shows(
+        &rt,
+        alloc,
+        SlateError::EmptyBlockMeta,
+        "Data error: empty block metadata",
+    )?;
+    shows(
+        &rt,
+        alloc,
+        SlateError::InvalidFilterBlock,
+        "Data error: invalid composite filter block",
+    )?;
+    Ok(())
+}
+
+// The errors of writes and merges.
+#[test]
+fn texts_of_writes(rt: HostRuntime) -> Result<(), NoMemory> {
+    let alloc = rt.alloc();
+    shows(
+        &rt,
+        alloc,
+        SlateError::EmptyKey,
+        "Data error: empty RowEntry key",
+    )?;
+    shows(
+        &rt,
+        alloc,
+        SlateError::EmptyBatch,
+        "Invalid error: empty write batch not allowed",
+    )?;
+    shows(
+        &rt,
+        alloc,
+        SlateError::InvalidClockTick {
+            last_tick: 10,
+            next_tick: -5,
+        },
+        "Invalid error: invalid clock tick, must be monotonic. last_tick=`10`, next_tick=`-5`",
+    )?;
+    shows(
+        &rt,
+        alloc,
+        SlateError::Fenced,
+        "Closed error: detected newer DB client",
+    )?;
+    shows(&rt, alloc, SlateError::Closed, "Closed error: db is closed")?;
+    shows(
+        &rt,
+        alloc,
+        SlateError::WalDisabled,
+        "Invalid error: attempted a WAL operation when the WAL is disabled",
+    )?;
+    shows(
+        &rt,
+        alloc,
+        SlateError::TransactionConflict,
+        "Transaction error: transaction conflict",
+    )?;
+    shows(
+        &rt,
+        alloc,
+        SlateError::Backpressure {
+            unflushed: 8,
+            limit: 9,
+        },
+        "Unavailable error: backpressure 8 of 9",
+    )?;
+    shows(
+        &rt,
+        alloc,
+        SlateError::MergeOperatorError,
+        "Invalid error: merge operator error",
+    )?;
+    shows(
+        &rt,
+        alloc,
+        SlateError::MergeOperatorMissing,
+        "Invalid error: merge operator missing. A merge operator is required to read merge operands",
+    )?;
+    shows(
+        &rt,
+        alloc,
+        SlateError::IncompatibleMergeTtls {
+            key: bytes("k"),
+            previous_expire_ts: Some(-5),
+            current_expire_ts: None,
+        },
+        "Invalid error: only one merge TTL per-key allowed in a batch. key=k, previous=`Some(-5)`, current=`None`",
+    )?;
+    shows(&rt, alloc, SlateError::NoMemory, "Memory error: no memory")?;
+    Ok(())
+}
+
+// The errors of segments and tasks. Bytes are written as byte words.
+#[test]
+fn texts_of_segments(rt: HostRuntime) -> Result<(), NoMemory> {
+    let alloc = rt.alloc();
+    shows(
+        &rt,
+        alloc,
+        SlateError::InvalidSegmentPrefix {
+            prefix: bytes("a b"),
+            conflict: bytes("a"),
+        },
+        "Invalid error: segment prefix a%20b would nest with existing segment a",
+    )?;
+    shows(
+        &rt,
+        alloc,
+        SlateError::RecencyScanPrefixSpansMultipleSegments,
+        "Invalid error: recency scan prefix spans multiple segments, which is unsupported",
+    )?;
+    shows(
+        &rt,
+        alloc,
+        SlateError::EmptySegmentPrefix { key: bytes("") },
+        "Invalid error: segment extractor produced an empty prefix for key %",
+    )?;
+    shows(
+        &rt,
+        alloc,
+        SlateError::SegmentExtractorMismatch {
+            persisted: None,
+            configured: Some(name(alloc, "fixed-2")?),
+        },
+        "Invalid error: segment extractor configuration mismatch (persisted: None, configured: fixed-2)",
+    )?;
+    shows(
+        &rt,
+        alloc,
+        SlateError::SegmentPrefixNotRecognized {
+            prefix: bytes("ab"),
+            extractor: name(alloc, "fixed-3")?,
+        },
+        "Invalid error: segment prefix ab is not recognized by the configured extractor `fixed-3`",
+    )?;
+    shows(
+        &rt,
+        alloc,
+        SlateError::BackgroundTaskExists(name(alloc, "compactor")?),
+        "Internal error: background task exists. name=`compactor`",
+    )?;
+    shows(
+        &rt,
+        alloc,
+        SlateError::BackgroundTaskExecutorStarted,
+        "Internal error: background task executor already started",
+    )?;
+    shows(
+        &rt,
+        alloc,
+        SlateError::Custom(4),
+        "Closed error: task fault 4",
+    )?;
+    Ok(())
+}
+
+// The errors of followers and seeks.
+#[test]
+fn texts_of_followers(rt: HostRuntime) -> Result<(), NoMemory> {
+    let alloc = rt.alloc();
+    shows(
+        &rt,
+        alloc,
+        SlateError::CheckpointMissing(Uuid::from_u128(9)),
+        "Data error: checkpoint missing. checkpoint_id=`00000000-0000-0000-0000-000000000009`",
+    )?;
+    shows(
+        &rt,
+        alloc,
+        SlateError::InvalidCheckpointLifetime(999),
+        "Invalid error: invalid checkpoint lifetime. lifetime=`999ms`",
+    )?;
+    shows(
+        &rt,
+        alloc,
+        SlateError::InvalidManifestPollInterval(7),
+        "Invalid error: invalid manifest poll interval. interval=`7ms`",
+    )?;
+    shows(
+        &rt,
+        alloc,
+        SlateError::CheckpointLifetimeTooShort {
+            lifetime: 1000,
+            interval: 1002,
+        },
+        "Invalid error: checkpoint lifetime must be at least double the manifest poll interval. lifetime=`1000ms`, interval=`1002ms`",
+    )?;
+    shows(
+        &rt,
+        alloc,
+        SlateError::SeekKeyOutOfRange {
+            key: bytes("a"),
+            range: between(
+                KeyBound::Included(bytes("b")),
+                KeyBound::Excluded(bytes("c")),
+            ),
+        },
+        "Invalid error: cannot seek to a key outside the iterator range. key=`a`, range=`[b (c`",
+    )?;
+    shows(
+        &rt,
+        alloc,
+        SlateError::SeekKeyOutOfRange {
+            key: bytes("a"),
+            range: ByteRange::full(),
+        },
+        "Invalid error: cannot seek to a key outside the iterator range. key=`a`, range=`* *`",
+    )?;
+    shows(
+        &rt,
+        alloc,
+        SlateError::SeekKeyLessThanLastReturnedKey,
+        "Invalid error: cannot seek to a key less than the last returned key",
+    )?;
+    Ok(())
+}
+
+// An error that a caller makes, without and with a source.
+#[test]
+fn public_texts(rt: HostRuntime) -> Result<(), Fail> {
+    let alloc = rt.alloc();
+    let mut out = Vec::new(alloc);
+    let error = Error::invalid(name(alloc, "x")?);
+    error.write_text(&mut out)?;
+    error.with_source(name(alloc, "y")?).write_text(&mut out)?;
+    let caused = Error::from(SlateError::ObjectStoreError(StoreFault::NotFound));
+    caused.with_source(name(alloc, "z")?).write_text(&mut out)?;
+    let want = "Invalid error: xInvalid error: x (y)Data error: object store error (z)";
+    assert_eq!(rt; out.as_slice(), want.as_bytes());
     Ok(())
 }
 
@@ -71,10 +330,6 @@ fn kinds(rt: HostRuntime) -> Result<(), Fail> {
     assert_eq!(rt;
         SlateError::Fenced.kind(),
         ErrorKind::Closed(CloseReason::Fenced)
-    );
-    assert_eq!(rt;
-        SlateError::Closed.kind(),
-        ErrorKind::Closed(CloseReason::Clean)
     );
     assert_eq!(rt;
         CloseReason::from(ErrorKind::Closed(CloseReason::Clean)),
@@ -94,4 +349,126 @@ fn close_cell(rt: HostRuntime) {
     assert!(rt; cell.write(Err(CloseFault::Fenced)));
     assert!(rt; !cell.write(Ok(())));
     assert_eq!(rt; cell.read(), Some(Err(CloseFault::Fenced)));
+}
+
+// A prefix for each byte of the text.
+fn prefixes(alloc: Global, text: &[u8]) -> Result<Vec<Bytes>, NoMemory> {
+    let mut list = Vec::new(alloc);
+    for byte in text {
+        list.push(Bytes::copy_from_slice(alloc, &[*byte])?)?;
+    }
+    Ok(list)
+}
+
+fn manifest(alloc: Global, id: u64, segments: &[u8]) -> Result<VersionedManifest, NoMemory> {
+    let manifest = Manifest {
+        writer_epoch: 1,
+        initialized: true,
+        tables: Seq::of(Vec::new(alloc)),
+        last_l0_seq: 0,
+        last_tick: 0,
+        replay_after_wal_id: 0,
+        next_wal_id: 1,
+        checkpoints: Seq::of(Vec::new(alloc)),
+        segments: Seq::of(prefixes(alloc, segments)?),
+        extractor_name: None,
+    };
+    Ok(VersionedManifest { id, manifest })
+}
+
+fn record(alloc: Global, id: u64, segments: &[u8]) -> Result<StatusRecord, NoMemory> {
+    let mut record = StatusRecord::new(alloc, 0, manifest(alloc, id, b"")?);
+    record.add_memtable_segments(alloc, prefixes(alloc, segments)?.as_slice())?;
+    Ok(record)
+}
+
+// The segments of a status, one behind the other.
+fn listed(alloc: Global, status: &DbStatus) -> Result<Vec<u8>, NoMemory> {
+    let mut out = Vec::new(alloc);
+    for segment in status.list_segments(alloc)?.as_slice() {
+        out.extend_from_slice(segment.prefix.as_slice())?;
+    }
+    Ok(out)
+}
+
+fn status(alloc: Global) -> Result<DbStatus, NoMemory> {
+    Ok(DbStatus {
+        durable_seq: 0,
+        current_manifest: manifest(alloc, 1, b"ab")?,
+        memtable_segments: Seq::of(prefixes(alloc, b"bc")?),
+        close_reason: None,
+    })
+}
+
+#[test]
+fn segments_of_both(rt: HostRuntime) -> Result<(), NoMemory> {
+    let out = listed(rt.alloc(), &status(rt.alloc())?)?;
+    assert_eq!(rt; out.as_slice(), b"abc".as_slice());
+    Ok(())
+}
+
+#[test]
+fn clones(rt: HostRuntime) -> Result<(), Fail> {
+    let status = status(rt.alloc())?;
+    let copy = status.clone()?;
+    assert!(rt; copy == status);
+    Ok(())
+}
+
+// The rising prefixes that a record of these tells.
+fn rising(alloc: Global, segments: &[u8]) -> Result<Seq<Bytes>, NoMemory>
+    ensures { IfOk result AreRising }
+{
+    let DbStatus {
+        durable_seq: _,
+        current_manifest: _,
+        memtable_segments,
+        close_reason: _,
+    } = record(alloc, 1, segments)?.status(alloc)?;
+    Ok(memtable_segments)
+}
+
+// The version before and after, and the segments after, a manifest takes over a prefix of memory.
+fn report_both(alloc: Global) -> Result<(u64, u64, Vec<u8>), NoMemory> {
+    let mut record = record(alloc, 1, b"ba")?;
+    let version = record.version();
+    let next = manifest(alloc, 2, b"a")?;
+    record.report_manifest_and_memtable_segments(next, rising(alloc, b"b")?);
+    let segments = listed(alloc, &record.status(alloc)?)?;
+    Ok((version, record.version(), segments))
+}
+
+#[test]
+fn joint_report(rt: HostRuntime) -> Result<(), NoMemory> {
+    let (before, after, segments) = report_both(rt.alloc())?;
+    assert_eq!(rt; (before, after), (1, 2));
+    assert_eq!(rt; segments.as_slice(), b"ab".as_slice());
+    Ok(())
+}
+
+#[test]
+fn older_manifest(rt: HostRuntime) -> Result<(), Fail> {
+    let alloc = rt.alloc();
+    let mut record = record(alloc, 5, b"")?;
+    assert!(rt; !record.report_manifest(manifest(alloc, 3, b"")?));
+    assert_eq!(rt; record.version(), 0);
+    assert_eq!(rt; record.status(alloc)?.current_manifest.id, 5);
+    Ok(())
+}
+
+// What waits for a number is answered before and after a close.
+#[test]
+fn durable_answers(rt: HostRuntime) -> Result<(), Fail> {
+    let mut record = record(rt.alloc(), 1, b"")?;
+    assert!(rt; record.report_durable_seq(3));
+    assert!(rt; matches!(record.durable_answer(3), DurableAnswer::Durable));
+    assert!(rt; matches!(record.durable_answer(4), DurableAnswer::Pending));
+    assert!(rt; record.report_closed(Err(CloseFault::Fenced)));
+    assert!(rt;
+        matches!(
+            record.durable_answer(4),
+            DurableAnswer::Failed(SlateError::Fenced)
+        )
+    );
+    Ok(())
 }

@@ -1,0 +1,5 @@
+//! Tests of reads, scans, batches and ranges, from outside.
+#![tactic(auto)]
+
+#[cfg(test)]
+mod rows;

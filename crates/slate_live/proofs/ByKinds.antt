@@ -1,10 +1,7 @@
-use Rattle.std.proofs.Common.{◌≡◌, ◌≤◌, ℕ, Option, Some, None, Result, Ok, Err, Bool, true, false, refl, subst, arith}
+use Rattle.std.proofs.Common.{◌≡◌, ◌≤◌, ℕ, Option, Some, None, Result, Err, Bool, true, false, refl, subst, arith}
 use Rattle.std.specs.Option.{IfSome}
 use Rattle.slate_store.specs.Objects.{Objects}
 use Rattle.slate_status.specs.declared.errors.SlateError.{SlateError}
-use Rattle.slate_status.specs.declared.endings.Ended.{Ended}
-use Rattle.slate_rows.specs.declared.options.FlushType.{FlushType}
-use Rattle.slate_model.specs.Flush.{CanFlush}
 use Rattle.slate_model.specs.Handle.{CloseResult, Handle, closed_error}
 use Rattle.slate_follow.specs.declared.modes.PollAnswer.{PollAnswer}
 use Rattle.slate_live.specs.declared.states.Object.{Object}

@@ -17,7 +17,6 @@ use Rattle.slate_model.specs.Handle.{Handle, CloseResult}
 use Rattle.slate_model.specs.Flush.{CanFlush, flushed}
 use Rattle.slate_script.specs.Built.{closes_without_table, puts_no_table}
 use Rattle.slate_script.specs.declared.replies.Reply.{Reply}
-use Rattle.slate_script.specs.declared.replies.Reply.TheVariants as replies
 use Rattle.slate_live.specs.declared.states.Object.{Object}
 use Rattle.slate_live.specs.declared.states.Object.TheVariants as objects
 use Rattle.slate_live.specs.Links.{Links}

@@ -1,11 +1,10 @@
-use Rattle.std.proofs.Common.{◌≡◌, inl, inr, ℕ, ◌<◌, ◌≤◌, List, [], ◌∷◌, ◌++◌, length, set, get_or, Bool, true, false, Option, Some, None, Result, Ok, Err, refl, sym, subst, ap, ◌∙◌, arith}
+use Rattle.std.proofs.Common.{◌≡◌, inl, inr, ℕ, ◌<◌, [], ◌∷◌, ◌++◌, length, set, get_or, Bool, true, false, Option, Some, None, Result, Ok, Err, refl, sym, subst, ap, ◌∙◌, arith}
 use Rattle.std.specs.List.{slice_get}
 use Rattle.std.specs.Option.{IfSome}
-use Rattle.std.specs.Result.{IfOk, IfErr}
 use Rattle.slate_rows.specs.Line.{IsPrefix, end}
 use Rattle.slate_store.specs.declared.objects.VersionedManifest.{VersionedManifest}
 use Rattle.slate_store.specs.Objects.{Objects, latest_manifest}
-use Rattle.slate_store.specs.Content.{IsSound, content}
+use Rattle.slate_store.specs.Content.{IsSound}
 use Rattle.slate_status.specs.declared.errors.SlateError.{SlateError}
 use Rattle.slate_status.specs.declared.errors.SlateError.TheVariants as errors
 use Rattle.slate_store.specs.declared.errors.StoreFault.TheVariants.{Unavailable}
@@ -15,7 +14,7 @@ use Rattle.slate_model.specs.Open.{first_manifest}
 use Rattle.slate_model.specs.Handle.{CloseResult, Handle, closed_error}
 use Rattle.slate_follow.specs.Taking.{Follows}
 use Rattle.slate_follow.specs.declared.modes.PollAnswer.{PollAnswer}
-use Rattle.slate_follow.specs.declared.modes.PollAnswer.TheVariants.{Whole, Truncated}
+use Rattle.slate_follow.specs.declared.modes.PollAnswer.TheVariants.{Whole}
 use Rattle.slate_script.specs.declared.replies.Reply.{Reply}
 use Rattle.slate_script.specs.declared.replies.Reply.TheVariants as replies
 use Rattle.slate_live.specs.declared.states.Object.{Object}
@@ -30,7 +29,7 @@ use Rattle.slate_live.proofs.FlushLinks.{object_kept}
 use Rattle.slate_live.proofs.Growing.{prefix-same}
 use Rattle.slate_live.proofs.Handles.{followers-set, handles-set-follower, set-same}
 use Rattle.slate_live.proofs.Objects.{get_read}
-use Rattle.slate_live.proofs.OpenLinks.{erased, faults-erased, get-push}
+use Rattle.slate_live.proofs.OpenLinks.{faults-erased, get-push}
 use Rattle.slate_live.proofs.Replies.{closed-refused}
 
 module _ (live : Live) (told told' : Option Objects) (faults faults' : ℕ) (w : World) (stands : StandsFor live told faults w) where

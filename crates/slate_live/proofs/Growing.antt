@@ -1,4 +1,4 @@
-use Rattle.std.proofs.Common.{◌≡◌, inl, inr, ℕ, ℤ, ◌+◌, ◌-◌, ◌≤◌, Bool, true, false, List, [], ◌∷◌, ◌++◌, length, take, Option, Some, None, Result, Ok, Err, nat_lt, refl, sym, subst, ap, ◌∙◌, arith, append_assoc, if◌then◌else◌}
+use Rattle.std.proofs.Common.{◌≡◌, inl, inr, ℕ, ℤ, ◌-◌, ◌≤◌, Bool, true, false, List, [], ◌∷◌, ◌++◌, Option, Some, None, nat_lt, refl, sym, subst, ap, ◌∙◌, arith, append_assoc, if◌then◌else◌}
 use Rattle.std.specs.List.{slice_get}
 use Rattle.std.proofs.lemmas.List.{append-nil, take_all}
 use Rattle.slate_rows.specs.declared.batches.Batch.{Batch}
@@ -17,7 +17,7 @@ use Rattle.slate_script.specs.declared.replies.Reply.TheVariants as replies
 use Rattle.slate_live.specs.declared.states.Object.{Object}
 use Rattle.slate_live.specs.declared.states.Object.TheVariants as objects
 use Rattle.slate_live.specs.declared.states.Write.{Write}
-use Rattle.slate_live.specs.Next.{AtFollower, AtHandle, AtObject, AwaitsWrite, FollowerReads, PollsUnless, ClosesOpen, ClosesUnless, FlushesUnless, Next, NextBy, OnlyAnswers, ReadsUnless, WritesIn, WritesUnless, flush_of_close, put_op, stored_after}
+use Rattle.slate_live.specs.Next.{AtFollower, AtHandle, AtObject, AwaitsWrite, FollowerReads, PollsUnless, ClosesOpen, ClosesUnless, FlushesUnless, Next, NextBy, OnlyAnswers, ReadsUnless, WritesIn, WritesUnless, flush_of_close, put_op}
 use Rattle.slate_live.specs.Settings.{Settings}
 use Rattle.slate_live.specs.Stands.{up_to}
 use Rattle.slate_live.specs.World.{World}

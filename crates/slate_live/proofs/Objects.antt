@@ -1,9 +1,8 @@
-use Rattle.std.proofs.Common.{◌≡◌, ◌⊎◌, inl, inr, ℕ, ℤ, zero, suc, ◌<◌, List, [], ◌∷◌, ◌++◌, length, get_or, set, Bool, true, false, Option, Some, None, Result, Ok, Err, refl, sym, subst, ap, ◌∙◌}
+use Rattle.std.proofs.Common.{◌≡◌, inl, inr, ℕ, ℤ, zero, suc, ◌<◌, List, [], ◌∷◌, ◌++◌, length, get_or, set, Bool, true, false, Option, Some, None, Result, Ok, Err, refl, sym, subst, ap, ◌∙◌}
 use Rattle.std.specs.List.{slice_get}
 use Rattle.std.proofs.lemmas.Option.{slice_get-get_or}
 use Rattle.slate_rows.specs.declared.batches.KeyOp.{KeyOp}
 use Rattle.slate_status.specs.declared.errors.SlateError.{SlateError}
-use Rattle.slate_status.specs.declared.errors.SlateError.TheVariants as errors
 use Rattle.slate_model.specs.Handle.{Handle}
 use Rattle.slate_model.specs.Write.{written}
 use Rattle.slate_writer.specs.declared.writes.Written.{Written}
@@ -71,9 +70,9 @@ written_as w n h x' ws' ops moment second (Some (Ok done)) xs objs at kept write
       writes.1,
       ap (λ k. replies.Written (length w.writes) k) writes.2,
       ap (λ x. record w { objects = set xs n x; writes = ws' }) writes.3
-      ∙ (ap (λ ys. record w { objects = set ys n (objects.Handle (written h ops done.create_ts)); writes = ws' }) (sym objs)
-      ∙ (ap (λ vs. record w { objects = set w.objects n (objects.Handle (written h ops done.create_ts)); writes = vs }) writes.4
-      ∙ ap (λ k. record w { objects = set w.objects n (objects.Handle (written h ops done.create_ts)); writes = w.writes ++ record { handle = n; number = k } ∷ [] }) writes.2)),
+          ∙ (ap (λ ys. record w { objects = set ys n (objects.Handle (written h ops done.create_ts)); writes = ws' }) (sym objs)
+          ∙ (ap (λ vs. record w { objects = set w.objects n (objects.Handle (written h ops done.create_ts)); writes = vs }) writes.4
+          ∙ ap (λ k. record w { objects = set w.objects n (objects.Handle (written h ops done.create_ts)); writes = w.writes ++ record { handle = n; number = k } ∷ [] }) writes.2)),
     ))
 
 -- a put to the object at a place

@@ -8,10 +8,10 @@ ghost use Rattle.slate_live.specs.Next.{Next};
 ghost use Rattle.slate_live.specs.Valid.{Link};
 
 use crate::{commands, readers};
+use slate_follow::FollowerState;
 use slate_rows::{MergeOperator, PrefixExtractor};
 use slate_script::{Action, Command, Options, Reply};
 use slate_store::Store;
-use slate_follow::FollowerState;
 use slate_writer::WriterState;
 use std::alloc::Global;
 use std::marker::Model;

@@ -126,12 +126,7 @@ fn write_poll(out: &mut Vec<u8>, whole: bool, at: u64) -> Result<(), NoMemory>
     Ok(())
 }
 
-fn write_follower(
-    out: &mut Vec<u8>,
-    object: u64,
-    whole: bool,
-    at: u64,
-) -> Result<(), NoMemory>
+fn write_follower(out: &mut Vec<u8>, object: u64, whole: bool, at: u64) -> Result<(), NoMemory>
     ensures ok { OnOk result (out.new.items ≡ out.old.items ++ reply_words (Reply.Follower object whole at)) }
     ensures err { OnErr result (take (length out.old.items) out.new.items ≡ out.old.items) }
 {

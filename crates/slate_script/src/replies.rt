@@ -9,7 +9,11 @@ pub enum Reply {
         object: u64,
     },
     /// A reader was opened, and sees batches up to this number; whether it took all that is stored.
-    Follower { object: u64, whole: bool, at: u64 },
+    Follower {
+        object: u64,
+        whole: bool,
+        at: u64,
+    },
     /// A write was accepted, under this number of its batch.
     Written {
         write: u64,
@@ -26,7 +30,10 @@ pub enum Reply {
     /// The write isn't durable yet.
     Pending,
     /// A reader sees batches up to this number; whether it took all that is stored.
-    Polled { whole: bool, at: u64 },
+    Polled {
+        whole: bool,
+        at: u64,
+    },
     /// An object was closed, and these tasks were ended. The fault is that of its closing flush, or why it could not
     /// be closed.
     Ended {

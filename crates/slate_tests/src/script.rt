@@ -43,6 +43,11 @@ fn refused_lines(rt: HostRuntime) -> Result<(), Fail> {
         b"0 flush 0 memtable".as_slice(),
         b"0 flush 0 wal wal".as_slice(),
         b"0 close 0".as_slice(),
+        b"0 follow".as_slice(),
+        b"0 follow latest skip".as_slice(),
+        b"0 follow pinned 1".as_slice(),
+        b"0 poll".as_slice(),
+        b"0 await -1".as_slice(),
         b"0 close 0 memtable".as_slice(),
         b"0 close none".as_slice(),
         b"0 close 0 WAL".as_slice(),
@@ -172,6 +177,17 @@ fn printed_replies(rt: HostRuntime) -> Result<(), Fail> {
         Reply::Found(row(alloc, Some(5))?),
         Reply::Absent,
         Reply::Flushed,
+        Reply::Follower {
+            object: 7,
+            whole: true,
+            at: 0,
+        },
+        Reply::Polled {
+            whole: false,
+            at: 12,
+        },
+        Reply::Durable,
+        Reply::Pending,
         Reply::Ended {
             fault: None,
             tasks: ended(),
@@ -187,7 +203,7 @@ fn printed_replies(rt: HostRuntime) -> Result<(), Fail> {
     let mut out = Vec::new(alloc);
     print_replies(&mut out, replies.as_slice())?;
     let want =
-        b"handle 0\nwrite 1 number 2\nvalue v%20w number 3 created -4\nvalue v%20w number 3 created -4 expires 5\nnone\nflushed\nended memtable_flusher compactor compaction_worker garbage_collector batch_writer\nerror Closed error: detected newer DB client; ended\nerror Invalid error: empty write batch not allowed\nerror unknown object\nerror no memory\n";
+        b"handle 0\nwrite 1 number 2\nvalue v%20w number 3 created -4\nvalue v%20w number 3 created -4 expires 5\nnone\nflushed\nfollower 7 whole at 0\ntruncated at 12\ndurable\npending\nended memtable_flusher compactor compaction_worker garbage_collector batch_writer\nerror Closed error: detected newer DB client; ended\nerror Invalid error: empty write batch not allowed\nerror unknown object\nerror no memory\n";
     assert_eq!(rt; out.as_slice(), want.as_slice());
     Ok(())
 }

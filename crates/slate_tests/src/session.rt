@@ -38,7 +38,7 @@ fn play<S: Store>(
 }
 
 // Scripts, and what a session over a fresh store writes.
-const SCRIPTS: [(&[u8], &[u8]); 14] = [
+const SCRIPTS: [(&[u8], &[u8]); 19] = [
     (b"", b""),
     (
         b"0 open\n1 put 0 a x\n2 get 0 a",
@@ -89,6 +89,31 @@ const SCRIPTS: [(&[u8], &[u8]); 14] = [
     (
         b"0 open\n5 put 0 a x\n6 close 0 wal\n7 put 0 a y\n8 flush 0 wal\n9 close 0 none\n9 open\n9 get 1 a\n9 put 1 a z\n9 close 1 none\n9 open\n9 get 2 a\n4 put 2 a y\n9 put 2 a y",
         b"handle 0\nwrite 0 number 1\nended\nerror Closed error: db is closed\nerror Closed error: db is closed\nerror Closed error: db is closed\nhandle 1\nvalue x number 1 created 5\nwrite 1 number 2\nended\nhandle 2\nvalue x number 1 created 5\nerror Invalid error: invalid clock tick, must be monotonic. last_tick=`5`, next_tick=`4`\nwrite 2 number 2\n",
+    ),
+    // A write is durable once it is flushed, and then stays so after its handle is closed.
+    (
+        b"0 open\n1 put 0 a x\n2 await 0\n3 flush 0\n4 await 0\n5 put 0 b y\n6 close 0 none\n7 await 0\n8 await 1",
+        b"handle 0\nwrite 0 number 1\npending\nflushed\ndurable\nwrite 1 number 2\nended\ndurable\nerror Closed error: db is closed\n",
+    ),
+    // A reader sees what was stored at its last poll, and no more.
+    (
+        b"0 open\n1 put 0 a x\n2 follow latest\n3 get 1 a\n4 flush 0\n5 get 1 a\n6 poll 1\n7 get 1 a",
+        b"handle 0\nwrite 0 number 1\nfollower 1 whole at 0\nnone\nflushed\nnone\nwhole at 1\nvalue x number 1 created 1\n",
+    ),
+    // A reader goes on over a second handle; it isn't a handle, and a handle isn't a reader.
+    (
+        b"0 follow latest\n0 open\n1 follow latest\n2 put 0 a x\n3 flush 0\n4 open\n5 put 2 b y\n6 flush 2\n7 poll 1\n8 get 1 a\n9 get 1 b\n10 put 1 a x\n11 flush 1\n12 poll 0\n13 await 2\n14 poll 3",
+        b"error Data error: failed to find latest transactional object (e.g. manifest) version\nhandle 0\nfollower 1 whole at 0\nwrite 0 number 1\nflushed\nhandle 2\nwrite 1 number 2\nflushed\nwhole at 2\nvalue x number 1 created 2\nvalue y number 2 created 5\nerror unknown object\nerror unknown object\nerror unknown object\nerror unknown object\nerror unknown object\n",
+    ),
+    // A reader is closed once.
+    (
+        b"0 open\n0 follow latest\n1 close 1 none\n2 get 1 a\n3 close 1 wal\n4 poll 1\n5 get 0 a",
+        b"handle 0\nfollower 1 whole at 0\nended\nerror Closed error: db is closed\nended\nerror Closed error: db is closed\nnone\n",
+    ),
+    // Batches that weren't flushed before another handle was opened come to no reader.
+    (
+        b"0 open\n1 put 0 a x\n2 open\n3 put 1 b y\n4 flush 1\n5 flush 0\n6 follow latest\n7 get 2 a\n8 get 2 b\n9 await 0",
+        b"handle 0\nwrite 0 number 1\nhandle 1\nwrite 1 number 1\nflushed\nerror Closed error: detected newer DB client\nfollower 2 whole at 1\nnone\nvalue y number 1 created 3\nerror Closed error: detected newer DB client\n",
     ),
     // A close of a handle that is fenced answers so, and stays a clean one.
     (
@@ -236,6 +261,26 @@ fn failing_calls(rt: HostRuntime) -> Result<(), Fail> {
             assert_eq!(rt; (at, status, text.as_slice(), stored), (at, 0, want, left));
         }
     }
+    Ok(())
+}
+
+// The log file of a flush is put, though the flush answers a fault: the handle doesn't know, and the next poll does.
+#[test]
+fn landed_though_failed(rt: HostRuntime) -> Result<(), Fail> {
+    let alloc = rt.alloc();
+    let failing = Seq::of(vec![in alloc;
+        FailingCall {
+            at: 10,
+            landed: true
+        },
+    ]?);
+    let mut store = FaultyStore::new(MemoryStore::new(alloc), failing);
+    let script =
+        b"0 open\n1 follow latest\n2 put 0 a x\n3 flush 0\n4 await 0\n5 get 0 a\n6 poll 1\n7 get 1 a";
+    let (_, text) = play(alloc, &[], script, (0, 0), &mut store)?;
+    let want =
+        b"handle 0\nfollower 1 whole at 0\nwrite 0 number 1\nerror Unavailable error: object store error (unavailable)\nerror Unavailable error: object store error (unavailable)\nerror Unavailable error: object store error (unavailable)\nwhole at 1\nvalue x number 1 created 2\n".as_slice();
+    assert_eq!(rt; text.as_slice(), want);
     Ok(())
 }
 

@@ -1,4 +1,4 @@
-use Rattle.std.proofs.Common.{arith, ap, sym, ◌∙◌, None, Ok}
+use Rattle.std.proofs.Common.{arith, ap, sym, ◌∙◌, Ok}
 use Rattle.slate_live.proofs.Reading.{read_as, read_object, read_reply}
 use Rattle.slate_live.proofs.commands.get.Goals as goal
 

@@ -1,5 +1,4 @@
 use Rattle.std.proofs.Common.{arith}
-use Rattle.slate_live.proofs.ByKinds.{poll_count}
 use Rattle.slate_live.proofs.FollowLinks.{poll_object}
 use Rattle.slate_live.proofs.readers.poll.Goals as goal
 

@@ -14,4 +14,5 @@ pub mod Reading
 pub mod Replies
 pub mod Endings
 pub mod Writing
+pub mod Rising
 pub mod StoreLinks

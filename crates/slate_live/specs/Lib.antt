@@ -2,6 +2,7 @@ pub mod Answers
 pub mod Links
 pub mod Live
 pub mod Next
+pub mod Rising
 pub mod Run
 pub mod Session
 pub mod Settings

@@ -23,6 +23,7 @@ use Rattle.slate_script.specs.declared.replies.Reply.{Reply}
 use Rattle.slate_script.specs.declared.replies.Reply.TheVariants as replies
 use Rattle.slate_live.specs.declared.states.Object.TheVariants as objects
 use Rattle.slate_live.specs.Next.{AtFollower, AtHandle, AtObject, Next, flush_of_close, level_of}
+use Rattle.slate_live.specs.Rising.{Rise}
 use Rattle.slate_live.specs.Settings.{Settings}
 use Rattle.slate_live.specs.Stands.{up_to}
 use Rattle.slate_live.specs.World.{World}
@@ -101,13 +102,14 @@ IsOkOrNoMemory (replies.Polled false at) = ⊥
 IsOkOrNoMemory reply = Unit {0}
 
 -- The link of a command: its reply and the world that it leads to are such as follow. A valid command that meets no
--- fault of the store is refused nothing. What is stored stays stored, and what a handle knows
--- to be durable is.
+-- fault of the store is refused nothing. What is stored stays stored, what a handle knows to
+-- be durable is, and the number of no follower falls.
 pub record Link (settings : Settings) (w : World) (command : Command) (reply : Reply) (w' : World) : Type 0 where
   pub next : Next settings w command reply w'
   pub completes : IsValidCommand settings.merge w command → (HasRisen w.faults w'.faults → ⊥) → IsOkOrNoMemory reply
   pub grows : IsPrefix w.stored w'.stored
   pub durable : (n : ℕ) (handle : Handle) → slice_get w'.objects n ≡ Some (objects.Handle handle) → IsPrefix (up_to handle.durable handle.line) w'.stored
+  pub rises : Rise w.objects w'.objects
 
 -- the worlds that commands with these replies lead through, one link each
 abbrev pub Chain : Settings → World → List Command → List Reply → World → Type 0

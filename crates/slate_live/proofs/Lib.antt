@@ -12,6 +12,7 @@ pub mod Objects
 pub mod OpenLinks
 pub mod Reading
 pub mod Replies
+pub mod Confirming
 pub mod Endings
 pub mod Writing
 pub mod Rising

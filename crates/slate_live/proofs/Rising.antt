@@ -1,4 +1,4 @@
-use Rattle.std.proofs.Common.{◌≡◌, inl, inr, ℕ, ℤ, zero, suc, ◌+◌, ◌≤◌, Bool, true, false, List, [], ◌∷◌, ◌++◌, length, set, Option, Some, None, Result, Ok, Err, refl, sym, subst, ap, ◌∙◌, arith, length-append}
+use Rattle.std.proofs.Common.{◌≡◌, inl, inr, ℕ, ℤ, zero, suc, ◌≤◌, Bool, true, false, List, [], ◌∷◌, ◌++◌, set, Option, Some, None, Result, Ok, Err, refl, sym, subst, ap, ◌∙◌, arith, length-append}
 use Rattle.std.specs.List.{slice_get}
 use Rattle.std.proofs.lemmas.Bool.{cases_eq}
 use Rattle.slate_rows.specs.declared.batches.KeyOp.{KeyOp}
@@ -17,14 +17,14 @@ use Rattle.slate_script.specs.declared.replies.Reply.{Reply}
 use Rattle.slate_live.specs.declared.states.Object.{Object}
 use Rattle.slate_live.specs.declared.states.Object.TheVariants as objects
 use Rattle.slate_live.specs.declared.states.Write.{Write}
-use Rattle.slate_live.specs.Next.{AtHandle, AtObject, AwaitsWrite, ClosesOpen, ClosesUnless, FlushesUnless, FollowerReads, Next, NextBy, PollsUnless, ReadsUnless, WritesIn, WritesUnless, closed_follower, flush_of_close, objects_after_follow, objects_after_open, polled, put_op}
+use Rattle.slate_live.specs.Next.{AtObject, AwaitsWrite, ClosesOpen, ClosesUnless, FlushesUnless, FollowerReads, Next, NextBy, PollsUnless, ReadsUnless, WritesIn, WritesUnless, closed_follower, flush_of_close, objects_after_follow, objects_after_open, polled, put_op}
 use Rattle.slate_live.specs.Rising.{Rise}
 use Rattle.slate_live.specs.Settings.{Settings}
-use Rattle.slate_live.specs.Stands.{IsFollowerAt, IsValid}
+use Rattle.slate_live.specs.Stands.{IsValid}
 use Rattle.slate_live.specs.World.{World}
 use Rattle.slate_live.proofs.Handles.{get-set_other, get-set_same}
 
-prefix-end : (a b : Line) → IsPrefix a b → end a ≤ end b
+pub prefix-end : (a b : Line) → IsPrefix a b → end a ≤ end b
 prefix-end a b p =
     let longer = ap (λ (l : Line). end l) p.1 in
     let count = length-append a.batches p.0 in
@@ -75,7 +75,7 @@ rise-follower xs ys m f g at low is n old new at_old at_new =
       | inr other ↦ rise-same xs xs refl n old new at_old (sym (get-set_other xs m n (objects.Follower g) other) ∙ there)
     ]
 
-by-kind : (object : Option Object) (said : Handle → Type 0) (told : Follower → Type 0) (unknown goal : Type 0) → AtObject object said told unknown → ((h : Handle) → object ≡ Some (objects.Handle h) → said h → goal) → ((f : Follower) → object ≡ Some (objects.Follower f) → told f → goal) → (unknown → goal) → goal
+pub by-kind : (object : Option Object) (said : Handle → Type 0) (told : Follower → Type 0) (unknown goal : Type 0) → AtObject object said told unknown → ((h : Handle) → object ≡ Some (objects.Handle h) → said h → goal) → ((f : Follower) → object ≡ Some (objects.Follower f) → told f → goal) → (unknown → goal) → goal
 by-kind None said told unknown goal next f g u = u next
 by-kind (Some (objects.Handle h)) said told unknown goal next f g u = f h refl next
 by-kind (Some (objects.Follower x)) said told unknown goal next f g u = g x refl next

@@ -2,7 +2,7 @@
 use Rattle.std.specs.Prelude.{◌≡◌, ℕ, ℤ, ◌<◌, ◌≤◌, Bool, true, false, List, [], ◌∷◌, length, slice_get, Option, Some, None, Ok, Err}
 use Rattle.slate_rows.specs.declared.batches.KeyValue.{KeyValue}
 use Rattle.slate_rows.specs.Counts.{HasRisen}
-use Rattle.slate_rows.specs.Line.{IsPrefix}
+use Rattle.slate_rows.specs.Line.{IsPrefix, end}
 use Rattle.slate_rows.specs.Operator.{Merge}
 use Rattle.slate_rows.specs.Read.{read_at}
 use Rattle.slate_store.specs.declared.objects.VersionedManifest.{VersionedManifest}
@@ -101,15 +101,20 @@ IsOkOrNoMemory (replies.Follower object false at) = ⊥
 IsOkOrNoMemory (replies.Polled false at) = ⊥
 IsOkOrNoMemory reply = Unit {0}
 
+-- the write with this number is among the batches that are stored
+abbrev pub IsConfirmed : World → ℕ → Type 0
+IsConfirmed w n = (write : Write) × (slice_get w.writes n ≡ Some write) × (write.number ≤ end w.stored)
+
 -- The link of a command: its reply and the world that it leads to are such as follow. A valid command that meets no
 -- fault of the store is refused nothing. What is stored stays stored, what a handle knows to
--- be durable is, and the number of no follower falls.
+-- be durable is, the number of no follower falls, and a write that is told to be durable is stored.
 pub record Link (settings : Settings) (w : World) (command : Command) (reply : Reply) (w' : World) : Type 0 where
   pub next : Next settings w command reply w'
   pub completes : IsValidCommand settings.merge w command → (HasRisen w.faults w'.faults → ⊥) → IsOkOrNoMemory reply
   pub grows : IsPrefix w.stored w'.stored
   pub durable : (n : ℕ) (handle : Handle) → slice_get w'.objects n ≡ Some (objects.Handle handle) → IsPrefix (up_to handle.durable handle.line) w'.stored
   pub rises : Rise w.objects w'.objects
+  pub confirms : (n : ℕ) → command.action ≡ actions.Await n → reply ≡ replies.Durable → IsConfirmed w n
 
 -- the worlds that commands with these replies lead through, one link each
 abbrev pub Chain : Settings → World → List Command → List Reply → World → Type 0

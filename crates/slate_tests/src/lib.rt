@@ -2,8 +2,6 @@
 #![tactic(auto)]
 
 #[cfg(test)]
-mod follow;
-#[cfg(test)]
 mod replay;
 #[cfg(test)]
 mod script;

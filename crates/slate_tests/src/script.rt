@@ -1,5 +1,5 @@
 use bytes::Bytes;
-use slate_rows::KeyValue;
+use slate_rows::{KeyValue, NoMemory};
 use slate_script::{
     Action, LineAnswer, Options, Reply, ScriptFault, print_replies, read_line, read_script,
     read_words, script_fields,
@@ -154,6 +154,12 @@ fn row(alloc: Global, expire_ts: Option<i64>) -> Result<KeyValue, Fail> {
     })
 }
 
+fn printed(alloc: Global, reply: Reply) -> Result<Vec<u8>, NoMemory> {
+    let mut out = Vec::new(alloc);
+    print_replies(&mut out, &[reply])?;
+    Ok(out)
+}
+
 fn ended() -> Ending {
     let mut tasks = Ending::new();
     tasks.push(TaskName::MemtableFlusher);
@@ -162,6 +168,52 @@ fn ended() -> Ending {
     tasks.push(TaskName::GarbageCollector);
     tasks.push(TaskName::BatchWriter);
     tasks
+}
+
+#[test]
+fn printed_endings(rt: HostRuntime) -> Result<(), Fail> {
+    let reply = Reply::Ended {
+        fault: None,
+        tasks: ended(),
+    };
+    let want =
+        b"ended memtable_flusher compactor compaction_worker garbage_collector batch_writer\n".as_slice();
+    assert_eq!(rt; printed(rt.alloc(), reply)?.as_slice(), want);
+    let reply = Reply::Ended {
+        fault: Some(SlateError::Fenced),
+        tasks: Ending::new(),
+    };
+    let want = b"error Closed error: detected newer DB client; ended\n".as_slice();
+    assert_eq!(rt; printed(rt.alloc(), reply)?.as_slice(), want);
+    Ok(())
+}
+
+#[test]
+fn printed_readers(rt: HostRuntime) -> Result<(), Fail> {
+    let reply = Reply::Follower {
+        object: 7,
+        whole: true,
+        at: 0,
+    };
+    let want = b"follower 7 whole at 0\n".as_slice();
+    assert_eq!(rt; printed(rt.alloc(), reply)?.as_slice(), want);
+    let reply = Reply::Polled {
+        whole: false,
+        at: 12,
+    };
+    assert_eq!(rt;
+        printed(rt.alloc(), reply)?.as_slice(),
+        b"truncated at 12\n".as_slice()
+    );
+    assert_eq!(rt;
+        printed(rt.alloc(), Reply::Durable)?.as_slice(),
+        b"durable\n".as_slice()
+    );
+    assert_eq!(rt;
+        printed(rt.alloc(), Reply::Pending)?.as_slice(),
+        b"pending\n".as_slice()
+    );
+    Ok(())
 }
 
 #[test]
@@ -177,25 +229,6 @@ fn printed_replies(rt: HostRuntime) -> Result<(), Fail> {
         Reply::Found(row(alloc, Some(5))?),
         Reply::Absent,
         Reply::Flushed,
-        Reply::Follower {
-            object: 7,
-            whole: true,
-            at: 0,
-        },
-        Reply::Polled {
-            whole: false,
-            at: 12,
-        },
-        Reply::Durable,
-        Reply::Pending,
-        Reply::Ended {
-            fault: None,
-            tasks: ended(),
-        },
-        Reply::Ended {
-            fault: Some(SlateError::Fenced),
-            tasks: Ending::new(),
-        },
         Reply::Refused(SlateError::EmptyBatch),
         Reply::Unknown,
         Reply::NoMemory,
@@ -203,7 +236,7 @@ fn printed_replies(rt: HostRuntime) -> Result<(), Fail> {
     let mut out = Vec::new(alloc);
     print_replies(&mut out, replies.as_slice())?;
     let want =
-        b"handle 0\nwrite 1 number 2\nvalue v%20w number 3 created -4\nvalue v%20w number 3 created -4 expires 5\nnone\nflushed\nfollower 7 whole at 0\ntruncated at 12\ndurable\npending\nended memtable_flusher compactor compaction_worker garbage_collector batch_writer\nerror Closed error: detected newer DB client; ended\nerror Invalid error: empty write batch not allowed\nerror unknown object\nerror no memory\n";
+        b"handle 0\nwrite 1 number 2\nvalue v%20w number 3 created -4\nvalue v%20w number 3 created -4 expires 5\nnone\nflushed\nerror Invalid error: empty write batch not allowed\nerror unknown object\nerror no memory\n";
     assert_eq!(rt; out.as_slice(), want.as_slice());
     Ok(())
 }

@@ -1,0 +1,7 @@
+//! Tests of script lines, replies and the words of both, from outside.
+#![tactic(auto)]
+
+#[cfg(test)]
+mod script;
+#[cfg(test)]
+mod text;

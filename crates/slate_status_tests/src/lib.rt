@@ -1,0 +1,5 @@
+//! Tests of errors, statuses and closing, from outside.
+#![tactic(auto)]
+
+#[cfg(test)]
+mod status;

@@ -1,25 +1,21 @@
-use Rattle.std.proofs.Common.{◌≡◌, ◌≤◌, ◌<◌, ◌+◌, ℕ, length, take, get_or, List, [], ◌∷◌, ◌++◌, Option, Some, refl, sym, subst, ap, ◌∙◌}
-use Rattle.std.proofs.lemmas.List.{take_all, take_more}
+use Rattle.std.proofs.Common.{◌≡◌, ◌≤◌, ◌<◌, ◌+◌, ◌-◌, ℕ, zero, suc, length, take, map, get_or, List, [], ◌∷◌, ◌++◌, Option, Some, refl, sym, subst, ap, ◌∙◌, arith}
+use Rattle.std.proofs.lemmas.List.{map-append, take_all, take_more}
+use Rattle.slate_rows.specs.Line.{IsPrefix}
+use Rattle.slate_rows.specs.Operator.{Merge}
 use Rattle.slate_store.specs.Objects.{Objects}
 use Rattle.slate_store.specs.Content.{IsSound}
 use Rattle.slate_script.specs.declared.commands.Command.{Command}
+use Rattle.slate_script.specs.declared.options.Options.{Options}
 use Rattle.slate_script.specs.declared.replies.Reply.{Reply}
 use Rattle.slate_live.specs.Live.{Live}
-use Rattle.slate_live.specs.Valid.{Chain, Link}
 use Rattle.slate_live.specs.Run.{LeadsTo}
-use Rattle.slate_rows.specs.Line.{IsPrefix}
-use Rattle.slate_live.proofs.Growing.{prefix-same, prefix-then}
 use Rattle.slate_live.specs.Settings.{Settings}
 use Rattle.slate_live.specs.Stands.{StandsFor}
+use Rattle.slate_live.specs.Steps.{Chain, Step, last_world}
+use Rattle.slate_live.specs.Valid.{Link}
 use Rattle.slate_live.specs.World.{World, start}
-
--- a chain goes on by one more link
-pub chain-push : (settings : Settings) (first mid last : World) (commands : List Command) (replies : List Reply) (command : Command) (reply : Reply) → Chain settings first commands replies mid → Link settings mid command reply last → Chain settings first (commands ++ command ∷ []) (replies ++ reply ∷ []) last
-chain-push settings first mid last [] [] command reply chain next = (last, subst (λ w. Link settings w command reply last) chain next, refl)
-chain-push settings first mid last [] (r ∷ replies) command reply chain next = absurd chain
-chain-push settings first mid last (c ∷ commands) [] command reply chain next = absurd chain
-chain-push settings first mid last (c ∷ commands) (r ∷ replies) command reply chain next =
-    (chain.0, chain.1, chain-push settings chain.0 mid last commands replies command reply chain.2 next)
+use Rattle.slate_live.proofs.Growing.{prefix-same, prefix-then}
+use Rattle.slate_live.proofs.Staying.{stay_confirmed}
 
 -- no object yet, over sound objects, stands for the world of their start
 pub stands_start : (o : Objects) (told : Option Objects) (faults : ℕ) (live : Live) → live.objects ≡ [] → live.writes ≡ [] → told ≡ Some o → IsSound o → StandsFor live told faults (start o faults)
@@ -37,42 +33,68 @@ stands_start o told faults live no_object no_write is sound =
       };
     }
 
--- what is stored in the first world of a chain is stored in the last
-pub chain-grows : (settings : Settings) (first last : World) (commands : List Command) (replies : List Reply) → Chain settings first commands replies last → IsPrefix first.stored last.stored
-chain-grows settings first last [] [] chain = subst (λ (w : World). IsPrefix first.stored w.stored) (sym chain) (prefix-same first.stored)
-chain-grows settings first last [] (r ∷ replies) chain = absurd chain
-chain-grows settings first last (c ∷ commands) [] chain = absurd chain
-chain-grows settings first last (c ∷ commands) (r ∷ replies) chain =
-    prefix-then first.stored (chain.0).stored last.stored (chain.1).grows (chain-grows settings chain.0 last commands replies chain.2)
+chain-push : (settings : Settings) (first : World) (steps : List Step) (step : Step) → Chain settings first steps → Link settings (last_world first steps) step.command step.reply step.world → Chain settings first (steps ++ step ∷ [])
+chain-push settings first [] step chain link = (link, tt)
+chain-push settings first (s ∷ steps) step chain link = (chain.0, chain-push settings s.world steps step chain.1 link)
 
--- what the last world of a chain says of the store
-pub leads_to : (settings : Settings) (commands : List Command) (replies : List Reply) (o : Objects) (faults : ℕ) (live : Live) (told : Option Objects) (faults' : ℕ) (w : World) → Chain settings (start o faults) commands replies w → StandsFor live told faults' w → LeadsTo settings commands replies o faults told faults'
-leads_to settings commands replies o faults live told faults' w chain stands =
+last-push : (first : World) (steps : List Step) (step : Step) → last_world first (steps ++ step ∷ []) ≡ step.world
+last-push first [] step = refl
+last-push first (s ∷ steps) step = last-push s.world steps step
+
+-- steps for these commands with these replies, from this world on
+pub record Done (settings : Settings) (first : World) (commands : List Command) (replies : List Reply) (steps : List Step) : Type 0 where
+  pub commands_are : map (λ (step : Step). step.command) steps ≡ commands
+  pub replies_are : map (λ (step : Step). step.reply) steps ≡ replies
+  pub chain : Chain settings first steps
+
+-- no command, done
+pub done_none : (settings : Settings) (first : World) (replies : List Reply) → replies ≡ [] → Done settings first [] replies []
+done_none settings first replies none = record { commands_are = refl; replies_are = sym none; chain = tt }
+
+-- the command at a place of a list, done after those before it
+done-at : (settings : Settings) (first last : World) (steps : List Step) (commands : List Command) (i : ℕ) (command : Command) (replies replies' : List Reply) (reply : Reply) → i < length commands → command ≡ get_or commands i command → replies' ≡ replies ++ reply ∷ [] → Done settings first (take i commands) replies steps → Link settings (last_world first steps) command reply last → Done settings first (take (i + 1) commands) replies' (steps ++ record { command = command; reply = reply; world = last } ∷ [])
+done-at settings first last steps commands i command replies replies' reply inside item pushed done link =
+    let step : Step = record { command = command; reply = reply; world = last } in
+    let more : take (i + 1) commands ≡ take i commands ++ command ∷ [] = take_more commands i command inside ∙ ap (λ c. take i commands ++ c ∷ []) (sym item) in
+    record {
+      commands_are = map-append (λ (s : Step). s.command) steps (step ∷ []) ∙ ap (λ cs. cs ++ command ∷ []) done.commands_are ∙ sym more;
+      replies_are = map-append (λ (s : Step). s.reply) steps (step ∷ []) ∙ ap (λ rs. rs ++ reply ∷ []) done.replies_are ∙ sym pushed;
+      chain = chain-push settings first steps step done.chain link;
+    }
+
+-- the same, where the link is one with options that are these
+pub done-next : (merge : Option Merge) (options options' : Options) (first last : World) (steps : List Step) (commands : List Command) (i : ℕ) (command : Command) (replies replies' : List Reply) (reply : Reply) → options' ≡ options → i < length commands → command ≡ get_or commands i command → replies' ≡ replies ++ reply ∷ [] → Done (record { merge = merge; options = options }) first (take i commands) replies steps → Link (record { merge = merge; options = options' }) (last_world first steps) command reply last → Done (record { merge = merge; options = options }) first (take (i + 1) commands) replies' (steps ++ record { command = command; reply = reply; world = last } ∷ [])
+done-next merge options options' first last steps commands i command replies replies' reply same inside item pushed done link =
+    done-at (record { merge = merge; options = options }) first last steps commands i command replies replies' reply inside item pushed done
+    (subst (λ o. Link (record { merge = merge; options = o }) (last_world first steps) command reply last) same link)
+
+-- the world after the command that was done last
+pub stands-push : (first last : World) (steps : List Step) (command : Command) (reply : Reply) (live : Live) (told : Option Objects) (faults : ℕ) → StandsFor live told faults last → StandsFor live told faults (last_world first (steps ++ record { command = command; reply = reply; world = last } ∷ []))
+stands-push first last steps command reply live told faults stands =
+    subst (StandsFor live told faults) (sym (last-push first steps (record { command = command; reply = reply; world = last }))) stands
+
+-- what is stored in the first world is stored in the last
+chain-grows : (settings : Settings) (first : World) (steps : List Step) → Chain settings first steps → IsPrefix first.stored (last_world first steps).stored
+chain-grows settings first [] chain = prefix-same first.stored
+chain-grows settings first (s ∷ steps) chain =
+    prefix-then first.stored (s.world).stored (last_world s.world steps).stored (chain.0).grows (chain-grows settings s.world steps chain.1)
+
+-- where all of the commands are done
+pub leads_all : (settings : Settings) (commands : List Command) (i : ℕ) (replies : List Reply) (o : Objects) (faults : ℕ) (live : Live) (told : Option Objects) (faults' : ℕ) (steps : List Step) → length commands ≤ i → Done settings (start o faults) (take i commands) replies steps → StandsFor live told faults' (last_world (start o faults) steps) → LeadsTo settings commands replies o faults told faults'
+leads_all settings commands i replies o faults live told faults' steps all done stands =
     let held = stands.held in
     record {
-      last = w;
-      chain = chain;
-      grows = chain-grows settings (start o faults) w commands replies chain;
+      steps = steps;
+      commands_are = done.commands_are ∙ take_all i commands all;
+      replies_are = done.replies_are;
+      chain = done.chain;
+      last = last_world (start o faults) steps;
+      is_last = refl;
+      grows = chain-grows settings (start o faults) steps done.chain;
+      confirmed = stay_confirmed settings (start o faults) steps refl done.chain;
       after = held.0;
       told_after = held.1;
       sound = held.2;
       holds = held.3;
       fault_count = stands.faults;
     }
-
--- no command, done: the world of the start
-pub chain_none : (settings : Settings) (first : World) (replies : List Reply) → replies ≡ [] → Chain settings first [] replies first
-chain_none settings first replies none = subst (λ rs. Chain settings first [] rs first) (sym none) refl
-
--- the same, of the command at a place of a list
-pub chain-at : (settings : Settings) (first mid last : World) (commands : List Command) (i : ℕ) (command : Command) (replies replies' : List Reply) (reply : Reply) → i < length commands → command ≡ get_or commands i command → replies' ≡ replies ++ reply ∷ [] → Chain settings first (take i commands) replies mid → Link settings mid command reply last → Chain settings first (take (i + 1) commands) replies' last
-chain-at settings first mid last commands i command replies replies' reply inside item pushed chain next =
-    let longer : Chain settings first (take i commands ++ command ∷ []) (replies ++ reply ∷ []) last = chain-push settings first mid last (take i commands) replies command reply chain next in
-    let more : take (i + 1) commands ≡ take i commands ++ command ∷ [] = take_more commands i command inside ∙ ap (λ c. take i commands ++ c ∷ []) (sym item) in
-    subst (λ rs. Chain settings first (take (i + 1) commands) rs last) (sym pushed)
-    (subst (λ cs. Chain settings first cs (replies ++ reply ∷ []) last) (sym more) longer)
-
--- the same where all of the commands are done
-pub leads_all : (settings : Settings) (commands : List Command) (i : ℕ) (replies : List Reply) (o : Objects) (faults : ℕ) (live : Live) (told : Option Objects) (faults' : ℕ) (w : World) → length commands ≤ i → Chain settings (start o faults) (take i commands) replies w → StandsFor live told faults' w → LeadsTo settings commands replies o faults told faults'
-leads_all settings commands i replies o faults live told faults' w done chain stands =
-    leads_to settings commands replies o faults live told faults' w (subst (λ cs. Chain settings (start o faults) cs replies w) (take_all i commands done) chain) stands

@@ -21,7 +21,7 @@ not-pending : (r : CloseResult) → replies.Durable ≡ pending_reply r → ⊥
 not-pending None h = absurd (cc)
 not-pending (Some q) h = absurd (cc)
 
-durable-by : (b : Bool) (k d : ℕ) (r : CloseResult) → leb k d ≡ b → replies.Durable ≡ (if b then replies.Durable else pending_reply r) → k ≤ d
+pub durable-by : (b : Bool) (k d : ℕ) (r : CloseResult) → leb k d ≡ b → replies.Durable ≡ (if b then replies.Durable else pending_reply r) → k ≤ d
 durable-by true k d r is h = leb-true k d is
 durable-by false k d r is h = absurd (not-pending r h)
 

@@ -17,3 +17,6 @@ pub mod Endings
 pub mod Writing
 pub mod Rising
 pub mod StoreLinks
+pub mod Keeping
+pub mod Seeing
+pub mod Staying

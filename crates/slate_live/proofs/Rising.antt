@@ -39,7 +39,7 @@ rise-same xs ys same n old new at_old at_new =
 rise-world : (w w' : World) → w' ≡ w → Rise w.objects w'.objects
 rise-world w w' same = rise-same w.objects w'.objects (ap (λ (x : World). x.objects) same)
 
-get-before : {X : Type 0} (xs ys : List X) (n : ℕ) (x : X) → slice_get xs n ≡ Some x → slice_get (xs ++ ys) n ≡ Some x
+pub get-before : {X : Type 0} (xs ys : List X) (n : ℕ) (x : X) → slice_get xs n ≡ Some x → slice_get (xs ++ ys) n ≡ Some x
 get-before [] ys n x h = absurd (cc)
 get-before (z ∷ xs) ys zero x h = h
 get-before (z ∷ xs) ys (suc n) x h = get-before xs ys n x h
@@ -122,15 +122,15 @@ poll-rises w w' (Some r) n f reply front at next = rise-world w w' next.1
 poll-rises w w' None n f reply front at next =
     rise-follower w.objects w'.objects n f (polled w f next.view next.result) at (polled-rises w f next.view next.result front) (record-objects w next.after)
 
-read-same : (merge : Option Merge) (w w' : World) (result : CloseResult) (h : Handle) (key : List ℕ) (remote : Bool) (reply : Reply) → ReadsUnless result merge w h key remote reply w' → w' ≡ w
+pub read-same : (merge : Option Merge) (w w' : World) (result : CloseResult) (h : Handle) (key : List ℕ) (remote : Bool) (reply : Reply) → ReadsUnless result merge w h key remote reply w' → w' ≡ w
 read-same merge w w' (Some r) h key remote reply next = next.1
 read-same merge w w' None h key remote reply next = next.1
 
-follower-read-same : (merge : Option Merge) (w w' : World) (result : CloseResult) (f : Follower) (key : List ℕ) (reply : Reply) → FollowerReads result merge w f key reply w' → w' ≡ w
+pub follower-read-same : (merge : Option Merge) (w w' : World) (result : CloseResult) (f : Follower) (key : List ℕ) (reply : Reply) → FollowerReads result merge w f key reply w' → w' ≡ w
 follower-read-same merge w w' (Some r) f key reply next = next.1
 follower-read-same merge w w' None f key reply next = next.1
 
-await-same : (w w' : World) (write : Option Write) (reply : Reply) → AwaitsWrite write w reply w' → w' ≡ w
+pub await-same : (w w' : World) (write : Option Write) (reply : Reply) → AwaitsWrite write w reply w' → w' ≡ w
 await-same w w' None reply next = next.1
 await-same w w' (Some write) reply next = by-kind (slice_get w.objects write.handle) _ _ _ (w' ≡ w) next (λ h at only. only.1) (λ f at only. only.1) (λ only. only.1)
 

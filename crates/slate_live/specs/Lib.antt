@@ -1,4 +1,5 @@
 pub mod Answers
+pub mod Confirmed
 pub mod Links
 pub mod Live
 pub mod Next
@@ -7,5 +8,6 @@ pub mod Run
 pub mod Session
 pub mod Settings
 pub mod Stands
+pub mod Steps
 pub mod Valid
 pub mod World

@@ -1,20 +1,25 @@
-use Rattle.std.specs.Prelude.{◌≡◌, ℕ, List, Option, Some}
+use Rattle.std.specs.Prelude.{◌≡◌, ℕ, List, map, Option, Some}
 use Rattle.slate_store.specs.Objects.{Objects}
 use Rattle.slate_rows.specs.Line.{IsPrefix}
 use Rattle.slate_store.specs.Content.{IsSound, content}
 use Rattle.slate_script.specs.declared.commands.Command.{Command}
 use Rattle.slate_script.specs.declared.replies.Reply.{Reply}
-use Rattle.slate_live.specs.Valid.{Chain}
+use Rattle.slate_live.specs.Steps.{Chain, StayConfirmed, Step, last_world}
 use Rattle.slate_live.specs.Stands.{Holds}
 use Rattle.slate_live.specs.Settings.{Settings}
 use Rattle.slate_live.specs.World.{World, start}
 
--- The commands lead from the world of these objects to one that the store holds afterwards, by one link each with its
--- reply. What was stored before is stored afterwards.
+-- The commands lead from the world of these objects, by one step each with its reply, to a world that the store holds
+-- afterwards. What was stored before is stored afterwards, and a write that is told to be durable is confirmed for good.
 pub record LeadsTo (settings : Settings) (commands : List Command) (replies : List Reply) (before : Objects) (faults : ℕ) (told : Option Objects) (faults' : ℕ) : Type 0 where
+  pub steps : List Step
+  pub commands_are : map (λ step. step.command) steps ≡ commands
+  pub replies_are : map (λ step. step.reply) steps ≡ replies
+  pub chain : Chain settings (start before faults) steps
   pub last : World
-  pub chain : Chain settings (start before faults) commands replies last
+  pub is_last : last ≡ last_world (start before faults) steps
   pub grows : IsPrefix (content before) last.stored
+  pub confirmed : StayConfirmed steps
   pub after : Objects
   pub told_after : told ≡ Some after
   pub sound : IsSound after

@@ -1,5 +1,6 @@
 -- Commands that nothing in a world stands against, and the link of a command, which such a one answers.
 use Rattle.std.specs.Prelude.{◌≡◌, ℕ, ℤ, ◌<◌, ◌≤◌, Bool, true, false, List, [], ◌∷◌, length, slice_get, Option, Some, None, Ok, Err}
+use Rattle.slate_rows.specs.declared.batches.Batch.{Batch}
 use Rattle.slate_rows.specs.declared.batches.KeyValue.{KeyValue}
 use Rattle.slate_rows.specs.Counts.{HasRisen}
 use Rattle.slate_rows.specs.Line.{IsPrefix, end}
@@ -22,6 +23,7 @@ use Rattle.slate_script.specs.declared.commands.Command.{Command}
 use Rattle.slate_script.specs.declared.replies.Reply.{Reply}
 use Rattle.slate_script.specs.declared.replies.Reply.TheVariants as replies
 use Rattle.slate_live.specs.declared.states.Object.TheVariants as objects
+use Rattle.slate_live.specs.Confirmed.{Sees, StandsIn}
 use Rattle.slate_live.specs.Next.{AtFollower, AtHandle, AtObject, Next, flush_of_close, level_of}
 use Rattle.slate_live.specs.Rising.{Rise}
 use Rattle.slate_live.specs.Settings.{Settings}
@@ -107,7 +109,8 @@ IsConfirmed w n = (write : Write) × (slice_get w.writes n ≡ Some write) × (w
 
 -- The link of a command: its reply and the world that it leads to are such as follow. A valid command that meets no
 -- fault of the store is refused nothing. What is stored stays stored, what a handle knows to
--- be durable is, the number of no follower falls, and a write that is told to be durable is stored.
+-- be durable is, the number of no follower falls, a write that is told to be durable is stored, and what is stored is
+-- seen by each opening and each poll.
 pub record Link (settings : Settings) (w : World) (command : Command) (reply : Reply) (w' : World) : Type 0 where
   pub next : Next settings w command reply w'
   pub completes : IsValidCommand settings.merge w command → (HasRisen w.faults w'.faults → ⊥) → IsOkOrNoMemory reply
@@ -115,11 +118,4 @@ pub record Link (settings : Settings) (w : World) (command : Command) (reply : R
   pub durable : (n : ℕ) (handle : Handle) → slice_get w'.objects n ≡ Some (objects.Handle handle) → IsPrefix (up_to handle.durable handle.line) w'.stored
   pub rises : Rise w.objects w'.objects
   pub confirms : (n : ℕ) → command.action ≡ actions.Await n → reply ≡ replies.Durable → IsConfirmed w n
-
--- the worlds that commands with these replies lead through, one link each
-abbrev pub Chain : Settings → World → List Command → List Reply → World → Type 0
-Chain settings w [] [] last = last ≡ w
-Chain settings w (command ∷ commands) (reply ∷ replies) last =
-    (next : World) × Link settings w command reply next × Chain settings next commands replies last
-Chain settings w [] (reply ∷ replies) last = ⊥
-Chain settings w (command ∷ commands) [] last = ⊥
+  pub sees : (batch : Batch) → StandsIn batch w.stored → Sees batch command.action reply w'

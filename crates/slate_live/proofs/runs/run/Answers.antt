@@ -1,8 +1,6 @@
-use Rattle.std.proofs.Common.{arith, ap, subst, ◌∙◌}
+use Rattle.std.proofs.Common.{arith, ap, ◌∙◌, ◌++◌, ◌∷◌, []}
 use Rattle.slate_live.specs.Live.{Live}
-use Rattle.slate_live.specs.Valid.{Link}
-use Rattle.slate_live.specs.World.{start}
-use Rattle.slate_live.proofs.Chains.{leads_all, chain_none, stands_start, chain-at}
+use Rattle.slate_live.proofs.Chains.{done-next, done_none, leads_all, stands-push, stands_start}
 use Rattle.slate_live.proofs.runs.run.Goals as goal
 
 pub loop-command-init : goal.loop-command-init
@@ -13,8 +11,8 @@ loop-command-init g c =
       room = c.in_ok-replies.ensures.capacity;
       options = ap (λ (l : Live). l.options) c.new-live.ensures;
       leads = λ merge lawful before is sound. (
-        start before _,
-        chain_none (record { merge = merge; options = c.args.options.now }) _ _ c.in_ok-replies.ensures.items,
+        [],
+        done_none (record { merge = merge; options = c.args.options.now }) _ _ c.in_ok-replies.ensures.items,
         stands_start before _ _ c.new-live.result (ap (λ (l : Live). l.objects) c.new-live.ensures) (ap (λ (l : Live). l.writes) c.new-live.ensures) is sound,
       );
     }
@@ -28,10 +26,10 @@ loop-command-preserved g c =
       options = c.apply-reply.ensures.options ∙ c.loop-command.invariant.options;
       leads = λ merge lawful before is sound.
           let prev = c.loop-command.invariant.leads merge lawful before is sound in
-          let link = c.apply-reply.ensures.link merge lawful prev.0 prev.2 in (
-            link.0,
-            chain-at (record { merge = merge; options = c.args.options.now }) _ prev.0 link.0 c.args.commands.now c.loop-command.command-index c.command-item.result _ _ _ c.loop-command-test.true c.command-item.is c.push_reserved.ensures.items prev.1 (subst (λ o. Link (record { merge = merge; options = o }) prev.0 c.command-item.result c.apply-reply.result link.0) c.loop-command.invariant.options link.1),
-            link.2,
+          let link = c.apply-reply.ensures.link merge lawful _ prev.2 in (
+            prev.0 ++ record { command = c.command-item.result; reply = c.apply-reply.result; world = link.0 } ∷ [],
+            done-next merge c.args.options.now _ _ link.0 prev.0 c.args.commands.now c.loop-command.command-index c.command-item.result _ _ c.apply-reply.result c.loop-command.invariant.options c.loop-command-test.true c.command-item.is c.push_reserved.ensures.items prev.1 link.1,
+            stands-push _ link.0 prev.0 c.command-item.result c.apply-reply.result _ _ _ link.2,
           );
     }
 

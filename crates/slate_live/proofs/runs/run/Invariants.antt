@@ -1,12 +1,13 @@
-use Rattle.std.proofs.Common.{◌≡◌, ◌≤◌, Option, Some, length, take, vec_len, vec_capacity}
+use Rattle.std.proofs.Common.{◌≡◌, ◌≤◌, List, Option, Some, length, take, vec_len, vec_capacity}
 use Rattle.std.specs.Option.{option_copied}
 use Rattle.slate_rows.specs.Operator.{Merge}
 use Rattle.slate_rows.specs.Read.{IsOperator}
 use Rattle.slate_store.specs.Objects.{Objects}
 use Rattle.slate_store.specs.Content.{IsSound}
-use Rattle.slate_live.specs.Valid.{Chain}
+use Rattle.slate_live.specs.Steps.{Step, last_world}
 use Rattle.slate_live.specs.Stands.{StandsFor}
-use Rattle.slate_live.specs.World.{World, start}
+use Rattle.slate_live.specs.World.{start}
+use Rattle.slate_live.proofs.Chains.{Done}
 use Rattle.slate_live.proofs.runs.run.Given as goal
 
 -- the commands so far led to a world that state and store stand for, and there is room for the replies to the others
@@ -19,6 +20,6 @@ invariant-loop-command g l =
       options : l.live.options ≡ l.options;
       leads : (merge : Option Merge) → IsOperator g.M.MergeOperator.may_answer (option_copied l.operator) merge →
           (before : Objects) → g.S.Store.objects l.fn.store ≡ Some before → IsSound before →
-          (w : World) × Chain (record { merge = merge; options = l.options }) (start before (g.S.Store.faults l.fn.store)) (take l.command-index l.commands) l.replies.items w
-          × StandsFor l.live (g.S.Store.objects l.store) (g.S.Store.faults l.store) w;
+          (steps : List Step) × Done (record { merge = merge; options = l.options }) (start before (g.S.Store.faults l.fn.store)) (take l.command-index l.commands) l.replies.items steps
+          × StandsFor l.live (g.S.Store.objects l.store) (g.S.Store.faults l.store) (last_world (start before (g.S.Store.faults l.fn.store)) steps);
     }

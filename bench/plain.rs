@@ -1,0 +1,238 @@
+//! A plain program that does the job of `slate` on the scripts of the benchmark: the same commands, replies and
+//! answers, over std's maps, without a proof. It knows no failing store and no limit of memory.
+use std::collections::BTreeMap;
+use std::fmt::Write as _;
+use std::io::{Read, Write};
+use std::rc::Rc;
+
+#[derive(Clone)]
+struct Row {
+    value: Rc<[u8]>,
+    number: u64,
+    created: i64,
+}
+
+struct Batch {
+    key: Rc<[u8]>,
+    row: Row,
+}
+
+type Rows = BTreeMap<Rc<[u8]>, Row>;
+
+/// Log files in order, and the epoch of the last opening.
+struct Store {
+    logs: Vec<Rc<Vec<Batch>>>,
+    epoch: u64,
+}
+
+struct Handle {
+    rows: Rows,
+    unflushed: Vec<Batch>,
+    last: u64,
+    tick: i64,
+    epoch: u64,
+    durable: u64,
+}
+
+struct Follower {
+    rows: Rows,
+    number: u64,
+    logs: usize,
+}
+
+enum Object {
+    Handle(Handle),
+    Follower(Follower),
+}
+
+impl Store {
+    /// Applies the log files from one on; the number of the last batch.
+    fn replay(&self, from: usize, rows: &mut Rows, mut last: u64, tick: &mut i64) -> u64 {
+        for log in &self.logs[from..] {
+            for batch in log.iter() {
+                rows.insert(batch.key.clone(), batch.row.clone());
+                last = batch.row.number;
+                *tick = (*tick).max(batch.row.created);
+            }
+        }
+        last
+    }
+
+    fn open(&mut self) -> Handle {
+        self.epoch += 1;
+        self.logs.push(Rc::new(Vec::new()));
+        let mut rows = Rows::new();
+        let mut tick = i64::MIN;
+        let last = self.replay(0, &mut rows, 0, &mut tick);
+        Handle { rows, unflushed: Vec::new(), last, tick, epoch: self.epoch, durable: last }
+    }
+
+    fn follow(&self) -> Follower {
+        let mut follower = Follower { rows: Rows::new(), number: 0, logs: 0 };
+        self.poll(&mut follower);
+        follower
+    }
+
+    fn poll(&self, follower: &mut Follower) {
+        let mut tick = i64::MIN;
+        follower.number = self.replay(follower.logs, &mut follower.rows, follower.number, &mut tick);
+        follower.logs = self.logs.len();
+    }
+}
+
+fn put(handle: &mut Handle, moment: i64, key: &[u8], value: &[u8]) -> Option<u64> {
+    if key.is_empty() || moment < handle.tick {
+        return None;
+    }
+    handle.last += 1;
+    handle.tick = moment;
+    let row = Row { value: value.into(), number: handle.last, created: moment };
+    let key: Rc<[u8]> = key.into();
+    handle.rows.insert(key.clone(), row.clone());
+    handle.unflushed.push(Batch { key, row });
+    Some(handle.last)
+}
+
+fn flush(store: &mut Store, handle: &mut Handle) -> bool {
+    if handle.epoch < store.epoch {
+        return false;
+    }
+    if !handle.unflushed.is_empty() {
+        store.logs.push(Rc::new(std::mem::take(&mut handle.unflushed)));
+    }
+    handle.durable = handle.last;
+    true
+}
+
+/// The bytes of a byte word.
+fn read_word(word: &[u8]) -> Option<Vec<u8>> {
+    if word == b"%" {
+        return Some(Vec::new());
+    }
+    let mut out = Vec::with_capacity(word.len());
+    let mut rest = word;
+    while let [first, tail @ ..] = rest {
+        if *first != b'%' {
+            out.push(*first);
+            rest = tail;
+            continue;
+        }
+        let [high, low, tail @ ..] = tail else { return None };
+        let digit = |byte: u8| (byte as char).to_digit(16);
+        out.push((digit(*high)? * 16 + digit(*low)?) as u8);
+        rest = tail;
+    }
+    Some(out)
+}
+
+fn write_word(out: &mut String, bytes: &[u8]) {
+    if bytes.is_empty() {
+        out.push('%');
+    }
+    for byte in bytes {
+        if (0x21..=0x7e).contains(byte) && *byte != b'%' {
+            out.push(*byte as char);
+        } else {
+            let _ = write!(out, "%{byte:02x}");
+        }
+    }
+}
+
+fn write_row(out: &mut String, row: Option<&Row>) {
+    match row {
+        None => out.push_str("none\n"),
+        Some(row) => {
+            out.push_str("value ");
+            write_word(out, &row.value);
+            let _ = writeln!(out, " number {} created {}", row.number, row.created);
+        }
+    }
+}
+
+struct Live {
+    store: Store,
+    objects: Vec<Object>,
+    writes: Vec<(usize, u64)>,
+}
+
+impl Live {
+    fn add(&mut self, object: Object) -> usize {
+        self.objects.push(object);
+        self.objects.len() - 1
+    }
+
+    /// Does the command of one line; None where the line isn't a script line.
+    fn apply(&mut self, out: &mut String, line: &[u8]) -> Option<()> {
+        let mut fields = line.split(|byte| *byte == b' ');
+        let moment: i64 = std::str::from_utf8(fields.next()?).ok()?.parse().ok()?;
+        let name = fields.next()?;
+        if name == b"open" {
+            let handle = self.store.open();
+            let object = self.add(Object::Handle(handle));
+            let _ = writeln!(out, "handle {object}");
+            return Some(());
+        }
+        let first = fields.next()?;
+        if name == b"follow" {
+            let follower = self.store.follow();
+            let at = follower.number;
+            let object = self.add(Object::Follower(follower));
+            let _ = writeln!(out, "follower {object} whole at {at}");
+            return Some(());
+        }
+        let number: usize = std::str::from_utf8(first).ok()?.parse().ok()?;
+        if name == b"await" {
+            let text = match self.writes.get(number) {
+                Some((handle, batch)) => match &self.objects[*handle] {
+                    Object::Handle(handle) if *batch <= handle.durable => "durable\n",
+                    _ => "pending\n",
+                },
+                None => "error unknown object\n",
+            };
+            out.push_str(text);
+            return Some(());
+        }
+        let Some(object) = self.objects.get_mut(number) else {
+            out.push_str("error unknown object\n");
+            return Some(());
+        };
+        match (name, object) {
+            (b"put", Object::Handle(handle)) => {
+                let key = read_word(fields.next()?)?;
+                let value = read_word(fields.next()?)?;
+                match put(handle, moment, &key, &value) {
+                    Some(batch) => {
+                        let _ = writeln!(out, "write {} number {batch}", self.writes.len());
+                        self.writes.push((number, batch));
+                    }
+                    None => out.push_str("error\n"),
+                }
+            }
+            (b"flush", Object::Handle(handle)) => {
+                let done = flush(&mut self.store, handle);
+                out.push_str(if done { "flushed\n" } else { "error Closed error: detected newer DB client\n" });
+            }
+            (b"get", Object::Handle(handle)) => write_row(out, handle.rows.get(read_word(fields.next()?)?.as_slice())),
+            (b"get", Object::Follower(follower)) => write_row(out, follower.rows.get(read_word(fields.next()?)?.as_slice())),
+            (b"poll", Object::Follower(follower)) => {
+                self.store.poll(follower);
+                let _ = writeln!(out, "whole at {}", follower.number);
+            }
+            _ => out.push_str("error unknown object\n"),
+        }
+        Some(())
+    }
+}
+
+fn main() {
+    let mut script = Vec::new();
+    std::io::stdin().read_to_end(&mut script).expect("a script");
+    let mut live = Live { store: Store { logs: Vec::new(), epoch: 0 }, objects: Vec::new(), writes: Vec::new() };
+    let mut out = String::new();
+    for line in script.split(|byte| *byte == b'\n') {
+        if !line.is_empty() && live.apply(&mut out, line).is_none() {
+            std::process::exit(2);
+        }
+    }
+    std::io::stdout().write_all(out.as_bytes()).expect("to be written");
+}

@@ -1,0 +1,152 @@
+-- A write that is told to be durable is confirmed for good.
+use Rattle.std.proofs.Common.{◌≡◌, ◌≤◌, ◌<◌, ◌+◌, ◌-◌, ℕ, zero, suc, take, List, [], ◌∷◌, Option, Some, None, leb, refl, sym, subst, ap, ◌∙◌, arith}
+use Rattle.std.specs.List.{slice_get}
+use Rattle.slate_rows.specs.declared.batches.Batch.{Batch}
+use Rattle.slate_rows.specs.Line.{Line}
+use Rattle.slate_model.specs.Handle.{Handle}
+use Rattle.slate_script.specs.declared.commands.Action.TheVariants as actions
+use Rattle.slate_script.specs.declared.replies.Reply.{Reply}
+use Rattle.slate_script.specs.declared.replies.Reply.TheVariants as replies
+use Rattle.slate_live.specs.declared.states.Object.TheVariants as objects
+use Rattle.slate_live.specs.declared.states.Write.{Write}
+use Rattle.slate_live.specs.Confirmed.{IsBatchOf, Sees, StandsIn}
+use Rattle.slate_live.specs.Next.{AwaitsWrite, NextBy}
+use Rattle.slate_live.specs.Settings.{Settings}
+use Rattle.slate_live.specs.Stands.{IsHandleAt, up_to}
+use Rattle.slate_live.specs.Steps.{Chain, StayConfirmed, StaysConfirmed, Step}
+use Rattle.slate_live.specs.Valid.{Link}
+use Rattle.slate_live.specs.World.{World}
+use Rattle.slate_live.proofs.Confirming.{durable-by}
+use Rattle.slate_live.proofs.Keeping.{AreWritten, Keeps, Steps, Tells, stands-prefix, steps}
+use Rattle.slate_live.proofs.Rising.{by-kind}
+
+get-take : {X : Type 0} (xs : List X) (m k : ℕ) (x : X) → k < m → slice_get xs k ≡ Some x → slice_get (take m xs) k ≡ Some x
+get-take [] m k x low is = absurd (cc)
+get-take (y ∷ xs) zero k x low is = absurd (omega (arith, low))
+get-take (y ∷ xs) (suc m) zero x low is = is
+get-take (y ∷ xs) (suc m) (suc k) x low is = get-take xs m k x (omega (arith, low)) is
+
+-- what stands in a line stands in its front up to a number that isn't below its own
+stands-front : (batch : Batch) (line : Line) (number : ℕ) → batch.number ≤ number → StandsIn batch line → StandsIn batch (up_to number line)
+stands-front batch line number low s =
+    let is = s.2 in
+    (s.0, get-take line.batches (number - line.floor) s.0 batch (omega (arith, low, is)) s.1, s.2)
+
+-- the batch of a write that is told to be durable is stored
+pub record Confirms (w : World) (n : ℕ) : Type 0 where
+  pub batch : Batch
+  pub of_write : IsBatchOf w n batch
+  pub stored : StandsIn batch w.stored
+
+confirms-write : (settings : Settings) (w : World) (n : ℕ) (step : Step) (write : Option Write) → AreWritten w → Link settings w step.command step.reply step.world → slice_get w.writes n ≡ write → AwaitsWrite write w step.reply step.world → step.reply ≡ replies.Durable → Confirms step.world n
+confirms-write settings w n step None written link is next durable = absurd (let told = next.0 in cc)
+confirms-write settings w n step (Some write) written link is next durable =
+    by-kind (slice_get w.objects write.handle) _ _ _ (Confirms step.world n) next
+    (λ h at told.
+    let known = written n write is in
+    let same : known.0 ≡ h = let there = known.2 in cc in
+    let low = durable-by (leb write.number h.durable) write.number h.durable h.result refl (sym durable ∙ told.0) in
+    let stands : StandsIn known.1 h.line = subst (λ (x : Handle). StandsIn known.1 x.line) same known.3 in
+    let number = known.4 in
+    let at_after : IsHandleAt (step.world).objects write.handle h = subst (λ (x : World). IsHandleAt x.objects write.handle h) (sym told.1) at in
+    record {
+      batch = known.1;
+      of_write = record {
+        write = write;
+        is_write = subst (λ (x : World). slice_get x.writes n ≡ Some write) (sym told.1) is;
+        handle = h;
+        is_handle = at_after;
+        accepted = stands;
+        number = known.4;
+      };
+      stored = stands-prefix known.1 (up_to h.durable h.line) (step.world).stored (link.durable write.handle h at_after)
+          (stands-front known.1 h.line h.durable (omega (arith, low, number)) stands);
+    })
+    (λ f at told. absurd (let answer = told.0 in cc))
+    (λ told. absurd (let answer = told.0 in cc))
+
+confirms-step : (settings : Settings) (w : World) (n : ℕ) (step : Step) → AreWritten w → Link settings w step.command step.reply step.world → step.command.action ≡ actions.Await n → step.reply ≡ replies.Durable → Confirms step.world n
+confirms-step settings w n step written link is durable =
+    let awaits : NextBy settings w (step.command).moment (step.command).second (actions.Await n) step.reply step.world = subst (λ a. NextBy settings w (step.command).moment (step.command).second a step.reply step.world) is link.next in
+    confirms-write settings w n step (slice_get w.writes n) written link refl awaits durable
+
+kept : (settings : Settings) (w : World) (step : Step) → Link settings w step.command step.reply step.world → Steps w step.reply step.world
+kept settings w step link = steps settings w step.command step.reply step.world link.next
+
+-- what is stored stays stored over steps
+stored-later : (settings : Settings) (batch : Batch) (w : World) (steps : List Step) → Chain settings w steps → StandsIn batch w.stored → (j : ℕ) (step : Step) → slice_get steps j ≡ Some step → StandsIn batch (step.world).stored
+stored-later settings batch w [] chain stands j step at = absurd (cc)
+stored-later settings batch w (s ∷ steps) chain stands zero step at =
+    let is : s ≡ step = cc in
+    subst (λ (x : Step). StandsIn batch (x.world).stored) is (stands-prefix batch w.stored (s.world).stored (chain.0).grows stands)
+stored-later settings batch w (s ∷ steps) chain stands (suc j) step at =
+    stored-later settings batch s.world steps chain.1 (stands-prefix batch w.stored (s.world).stored (chain.0).grows stands) j step at
+
+-- what is stored is seen by steps
+seen-later : (settings : Settings) (batch : Batch) (w : World) (steps : List Step) → Chain settings w steps → StandsIn batch w.stored → (j : ℕ) (step : Step) → slice_get steps j ≡ Some step → Sees batch (step.command).action step.reply step.world
+seen-later settings batch w [] chain stands j step at = absurd (cc)
+seen-later settings batch w (s ∷ steps) chain stands zero step at =
+    let is : s ≡ step = cc in
+    subst (λ (x : Step). Sees batch (x.command).action x.reply x.world) is ((chain.0).sees batch stands)
+seen-later settings batch w (s ∷ steps) chain stands (suc j) step at =
+    seen-later settings batch s.world steps chain.1 (stands-prefix batch w.stored (s.world).stored (chain.0).grows stands) j step at
+
+-- a write stays one over steps
+write-later : (settings : Settings) (w : World) (steps : List Step) → Chain settings w steps → (n : ℕ) (write : Write) → slice_get w.writes n ≡ Some write → (j : ℕ) (step : Step) → slice_get steps j ≡ Some step → slice_get (step.world).writes n ≡ Some write
+write-later settings w [] chain n write there j step at = absurd (cc)
+write-later settings w (s ∷ steps) chain n write there zero step at =
+    let is : s ≡ step = cc in
+    subst (λ (x : Step). slice_get (x.world).writes n ≡ Some write) is ((kept settings w s chain.0).keeps.writes n write there)
+write-later settings w (s ∷ steps) chain n write there (suc j) step at =
+    write-later settings s.world steps chain.1 n write ((kept settings w s chain.0).keeps.writes n write there) j step at
+
+-- the number that a write was answered is that of its batch
+number-told : (settings : Settings) (w : World) (s : Step) (steps : List Step) (i n k : ℕ) (told : Step) (batch : Batch) → Link settings w s.command s.reply s.world → Chain settings s.world steps → slice_get steps i ≡ Some told → IsBatchOf told.world n batch → s.reply ≡ replies.Written n k → batch.number ≡ k
+number-told settings w s steps i n k told batch link chain at of_write reply =
+    let answered : Tells s.world (replies.Written n k) = subst (Tells s.world) reply (kept settings w s link).tells in
+    let there = write-later settings s.world steps chain n answered.0 answered.1 i told at in
+    let here = of_write.is_write in
+    let same : of_write.write ≡ answered.0 = cc in
+    of_write.number ∙ (ap (λ (x : Write). x.number) same ∙ answered.2)
+
+number-later : (settings : Settings) (w : World) (steps : List Step) (i n : ℕ) (told : Step) (batch : Batch) → Chain settings w steps → slice_get steps i ≡ Some told → IsBatchOf told.world n batch → (h k : ℕ) (write : Step) → h < i → slice_get steps h ≡ Some write → write.reply ≡ replies.Written n k → batch.number ≡ k
+number-later settings w [] i n told batch chain at of_write h k write low at_h reply = absurd (cc)
+number-later settings w (s ∷ steps) zero n told batch chain at of_write h k write low at_h reply = absurd (omega (arith, low))
+number-later settings w (s ∷ steps) (suc i) n told batch chain at of_write zero k write low at_h reply =
+    let is : s ≡ write = cc in
+    number-told settings w s steps i n k told batch chain.0 chain.1 at of_write (ap (λ (x : Step). x.reply) is ∙ reply)
+number-later settings w (s ∷ steps) (suc i) n told batch chain at of_write (suc h) k write low at_h reply =
+    number-later settings s.world steps i n told batch chain.1 at of_write h k write (omega (arith, low)) at_h reply
+
+-- steps after one: their places are those of the rest
+stored-after : (settings : Settings) (batch : Batch) (steps : List Step) (i : ℕ) (told : Step) (w : World) → Chain settings w steps → slice_get steps i ≡ Some told → StandsIn batch (told.world).stored → (j : ℕ) (step : Step) → i < j → slice_get steps j ≡ Some step → StandsIn batch (step.world).stored × Sees batch (step.command).action step.reply step.world
+stored-after settings batch [] i told w chain at stands j step low at_j = absurd (cc)
+stored-after settings batch (s ∷ steps) i told w chain at stands zero step low at_j = absurd (omega (arith, low))
+stored-after settings batch (s ∷ steps) zero told w chain at stands (suc j) step low at_j =
+    let is : told ≡ s = cc in
+    let here : StandsIn batch (s.world).stored = subst (λ (x : Step). StandsIn batch (x.world).stored) is stands in
+    (stored-later settings batch s.world steps chain.1 here j step at_j, seen-later settings batch s.world steps chain.1 here j step at_j)
+stored-after settings batch (s ∷ steps) (suc i) told w chain at stands (suc j) step low at_j =
+    stored-after settings batch steps i told s.world chain.1 at stands j step (omega (arith, low)) at_j
+
+confirms-at : (settings : Settings) (w : World) (steps : List Step) → Chain settings w steps → AreWritten w → (i n : ℕ) (told : Step) → slice_get steps i ≡ Some told → told.command.action ≡ actions.Await n → told.reply ≡ replies.Durable → Confirms told.world n
+confirms-at settings w [] chain written i n told at is durable = absurd (cc)
+confirms-at settings w (s ∷ steps) chain written zero n told at is durable =
+    let same : s ≡ told = cc in
+    subst (λ (x : Step). Confirms x.world n) same
+    (confirms-step settings w n s written chain.0 (ap (λ (x : Step). (x.command).action) same ∙ is) (ap (λ (x : Step). x.reply) same ∙ durable))
+confirms-at settings w (s ∷ steps) chain written (suc i) n told at is durable =
+    confirms-at settings s.world steps chain.1 ((kept settings w s chain.0).keeps.written written) i n told at is durable
+
+-- from a world without a write on, each write that is told to be durable is confirmed for good
+pub stay_confirmed : (settings : Settings) (w : World) (steps : List Step) → w.writes ≡ [] → Chain settings w steps → StayConfirmed steps
+stay_confirmed settings w steps none chain i n told at is durable =
+    let c = confirms-at settings w steps chain (λ m write there. absurd (cc)) i n told at is durable in
+    record {
+      batch = c.batch;
+      of_write = c.of_write;
+      number = number-later settings w steps i n told c.batch chain at c.of_write;
+      stored = c.stored;
+      later = λ j step low at_j. (stored-after settings c.batch steps i told w chain at c.stored j step low at_j).0;
+      seen = λ j step low at_j. (stored-after settings c.batch steps i told w chain at c.stored j step low at_j).1;
+    }

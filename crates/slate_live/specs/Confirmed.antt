@@ -1,0 +1,33 @@
+-- What is seen of a batch once it is stored.
+use Rattle.std.specs.Prelude.{◌≡◌, ℕ, ◌+◌, ◌≤◌, true, slice_get, Some}
+use Rattle.slate_rows.specs.declared.batches.Batch.{Batch}
+use Rattle.slate_rows.specs.Line.{Line}
+use Rattle.slate_model.specs.Handle.{Handle}
+use Rattle.slate_script.specs.declared.commands.Action.{Action}
+use Rattle.slate_script.specs.declared.commands.Action.TheVariants as actions
+use Rattle.slate_script.specs.declared.replies.Reply.{Reply}
+use Rattle.slate_script.specs.declared.replies.Reply.TheVariants as replies
+use Rattle.slate_live.specs.declared.states.Write.{Write}
+use Rattle.slate_live.specs.Stands.{IsHandleAt}
+use Rattle.slate_live.specs.World.{World}
+
+-- the batch stands in the line, at the place of its number
+abbrev pub StandsIn : Batch → Line → Type 0
+StandsIn batch line = (k : ℕ) × (slice_get line.batches k ≡ Some batch) × (batch.number ≡ line.floor + k + 1)
+
+-- What an opening or a poll answers and leaves that begins after this batch was stored: a handle that is opened has it
+-- in its line, and a reader that is opened or polled tells a number at or above its own.
+abbrev pub Sees : Batch → Action → Reply → World → Type 0
+Sees batch actions.Open (replies.Handle n) w = (handle : Handle) × IsHandleAt w.objects n handle × StandsIn batch handle.line
+Sees batch (actions.Follow mode managed skip) (replies.Follower n true at) w = batch.number ≤ at
+Sees batch (actions.Poll n) (replies.Polled true at) w = batch.number ≤ at
+Sees batch action reply w = Unit {0}
+
+-- the batch that the write with this number added to the line of its handle
+pub record IsBatchOf (w : World) (n : ℕ) (batch : Batch) : Type 0 where
+  pub write : Write
+  pub is_write : slice_get w.writes n ≡ Some write
+  pub handle : Handle
+  pub is_handle : IsHandleAt w.objects write.handle handle
+  pub accepted : StandsIn batch handle.line
+  pub number : batch.number ≡ write.number

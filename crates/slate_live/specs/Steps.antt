@@ -1,0 +1,42 @@
+-- A run, step by step, and what holds over all of it.
+use Rattle.std.specs.Prelude.{◌≡◌, ℕ, ◌<◌, List, [], ◌∷◌, slice_get, Some}
+use Rattle.slate_rows.specs.declared.batches.Batch.{Batch}
+use Rattle.slate_script.specs.declared.commands.Action.TheVariants as actions
+use Rattle.slate_script.specs.declared.commands.Command.{Command}
+use Rattle.slate_script.specs.declared.replies.Reply.{Reply}
+use Rattle.slate_script.specs.declared.replies.Reply.TheVariants as replies
+use Rattle.slate_live.specs.Confirmed.{IsBatchOf, Sees, StandsIn}
+use Rattle.slate_live.specs.Settings.{Settings}
+use Rattle.slate_live.specs.Valid.{Link}
+use Rattle.slate_live.specs.World.{World}
+
+-- a command, its reply, and the world after it
+pub record Step : Type 0 where
+  pub command : Command
+  pub reply : Reply
+  pub world : World
+
+-- steps from a world on, one link each
+abbrev pub Chain : Settings → World → List Step → Type 0
+Chain settings w [] = Unit {0}
+Chain settings w (step ∷ steps) = Link settings w step.command step.reply step.world × Chain settings step.world steps
+
+-- the world after steps from this one on
+abbrev pub last_world : World → List Step → World
+last_world w [] = w
+last_world w (step ∷ steps) = last_world step.world steps
+
+-- After step i told that the write n is durable: the batch of the write, whose number the write was answered, is
+-- stored, stays stored, and is seen by each opening and each poll from then on.
+pub record StaysConfirmed (steps : List Step) (i n : ℕ) (told : Step) : Type 0 where
+  pub batch : Batch
+  pub of_write : IsBatchOf told.world n batch
+  pub number : (h k : ℕ) (write : Step) → h < i → slice_get steps h ≡ Some write → write.reply ≡ replies.Written n k → batch.number ≡ k
+  pub stored : StandsIn batch told.world.stored
+  pub later : (j : ℕ) (step : Step) → i < j → slice_get steps j ≡ Some step → StandsIn batch step.world.stored
+  pub seen : (j : ℕ) (step : Step) → i < j → slice_get steps j ≡ Some step → Sees batch step.command.action step.reply step.world
+
+-- a write that is told to be durable is confirmed for good
+abbrev pub StayConfirmed : List Step → Type 0
+StayConfirmed steps =
+    (i n : ℕ) (told : Step) → slice_get steps i ≡ Some told → told.command.action ≡ actions.Await n → told.reply ≡ replies.Durable → StaysConfirmed steps i n told

@@ -3,10 +3,9 @@ ghost use Rattle.slate_store.specs.Content.{IsSound};
 ghost use Rattle.slate_store.specs.Objects.{Objects};
 ghost use Rattle.slate_model.specs.Flush.{TellsFaults};
 ghost use Rattle.slate_model.specs.Follower.{FollowCause, number};
-ghost use Rattle.slate_model.specs.Handle.{closed_error};
+ghost use Rattle.slate_status.specs.Errors.{closed_error};
 ghost use Rattle.slate_follow.specs.Taking.{AnswersAt, Follows, Takes};
 
-use crate::reads::closed_error;
 use crate::takes::take;
 use crate::{DbReaderMode, DbReaderOptions, FollowerState, PollAnswer};
 use slate_rows::PrefixExtractor;
@@ -74,7 +73,7 @@ impl FollowerState {
         ensures cause { self.old.result ≡ None → IfErr result (λ e. IfSome (S.objects store.old) (λ o. FollowCause false o e)) }
     {
         if let Some(result) = self.result {
-            return Err(closed_error(result));
+            return Err(SlateError::of_closed(result));
         }
         let (taken, answer) = take(alloc, store, false)?;
         *self = taken;

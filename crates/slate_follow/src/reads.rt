@@ -3,12 +3,12 @@ ghost use Rattle.std.specs.Option.{option_copied};
 ghost use Rattle.slate_rows.specs.Operator.{Merge};
 ghost use Rattle.slate_rows.specs.Read.{IsOperator, read_at};
 ghost use Rattle.slate_model.specs.Follower.{number};
-ghost use Rattle.slate_model.specs.Handle.{closed_error};
+ghost use Rattle.slate_status.specs.Errors.{closed_error};
 ghost use Rattle.slate_model.specs.Read.{AnswersRead};
 
 use crate::FollowerState;
 use slate_rows::{KeyValue, MergeOperator, read};
-use slate_status::{CloseFault, SlateError};
+use slate_status::SlateError;
 use slate_store::Store;
 use std::alloc::Global;
 
@@ -33,7 +33,7 @@ impl FollowerState {
         ensures store { store.new ≡ store.old }
     {
         if let Some(result) = self.result {
-            return Err(closed_error(result));
+            return Err(SlateError::of_closed(result));
         }
         Ok(read(
             alloc,
@@ -42,15 +42,5 @@ impl FollowerState {
             key,
             operator,
         )?)
-    }
-}
-
-/// What a checked call on something closed answers.
-pub(crate) fn closed_error(recorded: Result<(), CloseFault>) -> SlateError
-    ensures { result ≡ closed_error recorded }
-{
-    match recorded {
-        Ok(()) => SlateError::Closed,
-        Err(fault) => SlateError::from(fault),
     }
 }

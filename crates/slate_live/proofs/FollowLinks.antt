@@ -11,7 +11,8 @@ use Rattle.slate_store.specs.declared.errors.StoreFault.TheVariants.{Unavailable
 use Rattle.slate_model.specs.Flush.{TellsFaults}
 use Rattle.slate_model.specs.Follower.{FollowCause, Follower, taken}
 use Rattle.slate_model.specs.Open.{first_manifest}
-use Rattle.slate_model.specs.Handle.{CloseResult, Handle, closed_error}
+use Rattle.slate_model.specs.Handle.{CloseResult, Handle}
+use Rattle.slate_status.specs.Errors.{closed_error}
 use Rattle.slate_follow.specs.Taking.{Follows}
 use Rattle.slate_follow.specs.declared.modes.PollAnswer.{PollAnswer}
 use Rattle.slate_follow.specs.declared.modes.PollAnswer.TheVariants.{Whole}

@@ -19,7 +19,8 @@ use Rattle.slate_status.specs.declared.errors.SlateError.TheVariants as errors
 use Rattle.slate_rows.specs.Line.{AreNumberedFrom, IsLine, IsPrefix, Line, end, extended}
 use Rattle.slate_model.proofs.Reopened.{numbered_rest}
 use Rattle.slate_model.specs.Follower.{Follower, number}
-use Rattle.slate_model.specs.Handle.{Handle, CloseResult, accepted, closed_error}
+use Rattle.slate_model.specs.Handle.{Handle, CloseResult, accepted}
+use Rattle.slate_status.specs.Errors.{closed_error}
 use Rattle.slate_model.specs.Read.{AnswersRead, cut}
 use Rattle.slate_script.specs.declared.replies.Reply.{Reply}
 use Rattle.slate_script.specs.declared.replies.Reply.TheVariants as replies

@@ -5,7 +5,8 @@ use Rattle.slate_status.specs.declared.closing.CloseFault.{CloseFault}
 use Rattle.slate_status.specs.declared.closing.CloseFault.TheVariants as faults
 use Rattle.slate_status.specs.declared.errors.SlateError.{SlateError}
 use Rattle.slate_status.specs.declared.errors.SlateError.TheVariants as errors
-use Rattle.slate_model.specs.Handle.{Handle, CloseResult, accepted, closed_error}
+use Rattle.slate_model.specs.Handle.{Handle, CloseResult, accepted}
+use Rattle.slate_status.specs.Errors.{closed_error}
 use Rattle.slate_model.specs.Write.{write_refusal, closed_refusal, batch_refusal, has_empty_key, number_refusal, clock_refusal, accepted_moment, last_number}
 use Rattle.slate_script.specs.declared.replies.Reply.TheVariants as replies
 use Rattle.slate_live.specs.Next.{refusal}

@@ -16,7 +16,8 @@ use Rattle.slate_status.specs.declared.errors.SlateError.TheVariants as errors
 use Rattle.slate_model.specs.Close.{closed, closing_flush, ended, fault_again}
 use Rattle.slate_model.specs.Flush.{CanFlush, StoresBatches, TellsFaults, flushed}
 use Rattle.slate_model.specs.Follower.{FollowCause, Follower, number}
-use Rattle.slate_model.specs.Handle.{Handle, accepted, closed_error, unstored}
+use Rattle.slate_model.specs.Handle.{Handle, accepted, unstored}
+use Rattle.slate_status.specs.Errors.{closed_error}
 use Rattle.slate_model.specs.Read.{AnswersRead}
 use Rattle.slate_model.specs.Write.{accepted_moment, write_refusal, written}
 use Rattle.slate_writer.specs.declared.writes.Written.{Written}

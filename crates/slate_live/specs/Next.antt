@@ -22,7 +22,8 @@ use Rattle.slate_model.specs.Catalogue.{span}
 use Rattle.slate_model.specs.Close.{closed, fault_again, fault_of}
 use Rattle.slate_model.specs.Follower.{FollowCause, Follower, number, taken}
 use Rattle.slate_follow.specs.Closing.{recorded_fault}
-use Rattle.slate_model.specs.Handle.{Handle, CloseResult, accepted, unstored, closed_error}
+use Rattle.slate_model.specs.Handle.{Handle, CloseResult, accepted, unstored}
+use Rattle.slate_status.specs.Errors.{closed_error}
 use Rattle.slate_model.specs.Open.{Opens, opened_handle, opened_manifest}
 use Rattle.slate_model.specs.Write.{write_refusal, accepted_moment, written}
 use Rattle.slate_model.specs.Flush.{StoresBatches, TellsFaults, flushed}

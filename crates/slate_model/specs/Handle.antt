@@ -1,11 +1,8 @@
-use Rattle.std.specs.Prelude.{ℕ, ℤ, Bool, List, Option, Result, Ok, Err}
+use Rattle.std.specs.Prelude.{ℕ, ℤ, Bool, List, Option, Result}
 use Rattle.slate_rows.specs.declared.batches.Batch.{Batch}
 use Rattle.slate_rows.specs.Line.{Line, end, batches_above}
 use Rattle.slate_store.specs.declared.objects.VersionedManifest.{VersionedManifest}
 use Rattle.slate_status.specs.declared.closing.CloseFault.{CloseFault}
-use Rattle.slate_status.specs.declared.errors.SlateError.{SlateError}
-use Rattle.slate_status.specs.declared.errors.SlateError.TheVariants.{Closed}
-use Rattle.slate_status.specs.Errors.{error_of_fault}
 
 -- the result with which something closed, or None while it is open
 abbrev pub CloseResult : Type 0
@@ -29,8 +26,3 @@ accepted handle = end handle.line
 -- the batches that it accepted and that aren't stored yet
 abbrev pub unstored : Handle → List Batch
 unstored handle = batches_above handle.durable handle.line.batches
-
--- what a checked call on something that closed answers
-abbrev pub closed_error : Result (Unit {0}) CloseFault → SlateError
-closed_error (Ok _) = Closed
-closed_error (Err fault) = error_of_fault fault

@@ -6,7 +6,8 @@ use Rattle.slate_rows.specs.declared.batches.KeyOp.{KeyOp}
 use Rattle.slate_rows.specs.Line.{extended}
 use Rattle.slate_status.specs.declared.errors.SlateError.{SlateError}
 use Rattle.slate_status.specs.declared.errors.SlateError.TheVariants.{EmptyBatch, EmptyKey, InvalidDBState, InvalidClockTick}
-use Rattle.slate_model.specs.Handle.{Handle, CloseResult, accepted, closed_error}
+use Rattle.slate_model.specs.Handle.{Handle, CloseResult, accepted}
+use Rattle.slate_status.specs.Errors.{closed_error}
 
 -- the greatest number of a batch, manifest or log file
 abbrev pub last_number : ℕ

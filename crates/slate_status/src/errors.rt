@@ -1,7 +1,7 @@
 ghost use Rattle.std.specs.Prelude.{◌≡◌, ◌↔◌, IsTrue};
 ghost use Rattle.slate_store.specs.declared.errors.StoreFault.TheVariants.{NotFound};
 ghost use Rattle.slate_status.specs.declared.errors.SlateError.TheVariants.{NoMemory as OutOfMemory};
-ghost use Rattle.slate_status.specs.Errors.{error_of_read, error_of_store, error_of_fault};
+ghost use Rattle.slate_status.specs.Errors.{closed_error, error_of_read, error_of_store, error_of_fault};
 ghost use Rattle.slate_status.specs.Kinds.{kind_of, retry_reason};
 
 use crate::{CloseFault, CloseReason, ErrorKind};
@@ -122,6 +122,17 @@ pub enum SlateError {
 }
 
 impl SlateError {
+    /// What a checked call on something that closed with this result answers: `Closed`, or the error that closed it. It
+    /// takes no memory.
+    pub fn of_closed(recorded: Result<(), CloseFault>) -> SlateError
+        ensures { result ≡ closed_error recorded }
+    {
+        match recorded {
+            Ok(()) => SlateError::Closed,
+            Err(fault) => SlateError::from(fault),
+        }
+    }
+
     /// What kind of error it is. It takes no memory.
     pub fn kind(&self) -> ErrorKind
         ensures { result ≡ kind_of self.now }

@@ -170,8 +170,7 @@ impl StatusRecord {
         }
         match self.closed.read() {
             None => DurableAnswer::Pending,
-            Some(Ok(())) => DurableAnswer::Failed(SlateError::Closed),
-            Some(Err(fault)) => DurableAnswer::Failed(SlateError::from(fault)),
+            Some(result) => DurableAnswer::Failed(SlateError::of_closed(result)),
         }
     }
 

@@ -1,11 +1,11 @@
 ghost use Rattle.std.specs.Prelude.{◌≡◌, ℕ, false, None, Err, IfSome};
 ghost use Rattle.slate_store.specs.Calls.{Told};
-ghost use Rattle.slate_model.specs.Handle.{closed_error, unstored};
+ghost use Rattle.slate_model.specs.Handle.{unstored};
+ghost use Rattle.slate_status.specs.Errors.{closed_error};
 ghost use Rattle.slate_model.specs.Flush.{CanFlush, FindsCurrent, StoresBatches, TellsFaults, flushed, recorded};
 ghost use Rattle.slate_writer.specs.Appends.{AppendsLog};
 
 use crate::WriterState;
-use crate::writes::closed_error;
 use slate_rows::{Batch, FlushType};
 use slate_status::{CloseFault, SlateError};
 use slate_store::{Store, VersionedManifest};
@@ -38,7 +38,7 @@ impl WriterState {
             (S.objects store.old) (S.objects store.new) }
     {
         if let Some(result) = self.result {
-            return Err(closed_error(result));
+            return Err(SlateError::of_closed(result));
         }
         if !self.keeps_log {
             return Err(SlateError::WalDisabled);

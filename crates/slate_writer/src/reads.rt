@@ -3,11 +3,11 @@ ghost use Rattle.std.specs.Option.{option_copied};
 ghost use Rattle.slate_rows.specs.Operator.{Merge};
 ghost use Rattle.slate_rows.specs.Bound.{read_bound};
 ghost use Rattle.slate_rows.specs.Read.{IsOperator, read_at};
-ghost use Rattle.slate_model.specs.Handle.{accepted, closed_error};
+ghost use Rattle.slate_model.specs.Handle.{accepted};
+ghost use Rattle.slate_status.specs.Errors.{closed_error};
 ghost use Rattle.slate_model.specs.Read.{AnswersRead};
 
 use crate::WriterState;
-use crate::writes::closed_error;
 use slate_rows::{KeyValue, MergeOperator, ReadOptions, prepare_max_seq, read};
 use slate_status::SlateError;
 use slate_store::Store;
@@ -37,7 +37,7 @@ impl WriterState {
         ensures store { store.new ≡ store.old }
     {
         if let Some(result) = self.result {
-            return Err(closed_error(result));
+            return Err(SlateError::of_closed(result));
         }
         let bound = prepare_max_seq(
             snapshot,

@@ -1,10 +1,11 @@
 ghost use Rattle.std.specs.Prelude.{◌≡◌, ◌⊎◌, ◌+◌, Option, Some, None, Err, IfOk, IfErr};
-ghost use Rattle.slate_model.specs.Handle.{accepted, closed_error};
+ghost use Rattle.slate_model.specs.Handle.{accepted};
+ghost use Rattle.slate_status.specs.Errors.{closed_error};
 ghost use Rattle.slate_model.specs.Write.{write_refusal, written, accepted_moment, batch_refusal, has_empty_key};
 
 use crate::WriterState;
 use slate_rows::{Batch, KeyOp, NoMemory, PrefixExtractor, WriteBatch};
-use slate_status::{CloseFault, SlateError};
+use slate_status::SlateError;
 use std::alloc::Global;
 
 /// An accepted write: the number of its batch, and its creation time in milliseconds.
@@ -45,7 +46,7 @@ impl WriterState {
             × ((r.error ≡ SlateError.NoMemory) ⊎ (write_refusal self.old batch.ops moment second ≡ Some r.error))) }
     {
         if let Some(result) = self.result {
-            return refuse(closed_error(result), batch);
+            return refuse(SlateError::of_closed(result), batch);
         }
         if let Some(error) = batch_refusal(&batch) {
             return refuse(error, batch);
@@ -77,16 +78,6 @@ fn refuse(error: SlateError, batch: WriteBatch) -> Result<Written, WriteRefusal>
     ensures { result ≡ Err (record { error = error; batch = batch }) }
 {
     Err(WriteRefusal { error, batch })
-}
-
-/// What a checked call on something closed answers.
-pub(crate) fn closed_error(recorded: Result<(), CloseFault>) -> SlateError
-    ensures { result ≡ closed_error recorded }
-{
-    match recorded {
-        Ok(()) => SlateError::Closed,
-        Err(fault) => SlateError::from(fault),
-    }
 }
 
 /// The refusal of a batch without an operation, or with an empty key.

@@ -16,9 +16,10 @@ pub struct MemoryStore {
 }
 
 impl MemoryStore {
-    /// An empty store. It takes no memory.
+    /// An empty store that wasn't called yet. It takes no memory.
     pub fn new(alloc: Global) -> MemoryStore
-        ensures { ⟦<MemoryStore as Store>⟧.objects result ≡ Some empty }
+        ensures objects { ⟦<MemoryStore as Store>⟧.objects result ≡ Some empty }
+        ensures calls { ⟦<MemoryStore as Store>⟧.calls result ≡ 0 }
     {
         MemoryStore {
             manifests: BTreeMap::new(alloc),

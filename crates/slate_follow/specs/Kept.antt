@@ -5,7 +5,7 @@ use Rattle.slate_follow.specs.declared.states.FollowerState.TheInside.{Inside}
 
 -- the follower that the fields stand for
 abbrev pub kept_follower : Inside → Follower
-kept_follower a = record { view = a.view; line = record { floor = a.floor; batches = a.memory }; result = a.result }
+kept_follower a = record { view = a.view; line = record { floor = a.floor; batches = a.memory }; result = a.closed }
 
 -- the batches in memory are numbered from the floor on
 pub record IsKept (a : Inside) : Type 0 where

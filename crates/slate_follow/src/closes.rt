@@ -16,11 +16,11 @@ impl FollowerState {
         ensures closed { self.new ≡ record self.old { result = Some (unwrap_or self.old.result (Ok tt)) } }
         ensures store { store.new ≡ store.old }
     {
-        let fault = match self.result {
+        let fault = match self.closed.read() {
             Some(Err(fault)) => Some(SlateError::from(fault)),
             _ => None,
         };
-        self.result = Some(self.result.unwrap_or(Ok(())));
+        self.closed.write(Ok(()));
         Ended {
             fault,
             tasks: Ending::new(),

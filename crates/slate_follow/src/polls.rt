@@ -72,7 +72,7 @@ impl FollowerState {
         ensures faults { self.old.result ≡ None → TellsFaults (S.faults store.old) (S.faults store.new) result }
         ensures cause { self.old.result ≡ None → IfErr result (λ e. IfSome (S.objects store.old) (λ o. FollowCause false o e)) }
     {
-        if let Some(result) = self.result {
+        if let Some(result) = self.closed.read() {
             return Err(SlateError::of_closed(result));
         }
         let (taken, answer) = take(alloc, store, false)?;

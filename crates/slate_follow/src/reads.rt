@@ -32,7 +32,7 @@ impl FollowerState {
             AnswersRead (read_at merge self.now.line.batches (Some (number self.now)) key.now) result }
         ensures store { store.new ≡ store.old }
     {
-        if let Some(result) = self.result {
+        if let Some(result) = self.closed.read() {
             return Err(SlateError::of_closed(result));
         }
         Ok(read(

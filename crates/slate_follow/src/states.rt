@@ -2,7 +2,7 @@ ghost use Rattle.std.specs.Prelude.{◌≡◌};
 ghost use Rattle.slate_model.specs.Follower.{number};
 
 use slate_rows::IndexedTable;
-use slate_status::CloseFault;
+use slate_status::CloseCell;
 use slate_store::VersionedManifest;
 use std::marker::Model;
 
@@ -14,7 +14,7 @@ pub struct FollowerState {
     pub(crate) floor: u64,
     pub(crate) memory: IndexedTable,
     pub(crate) view: VersionedManifest,
-    pub(crate) result: Option<Result<(), CloseFault>>,
+    pub(crate) closed: CloseCell,
 }
 
 impl Model for FollowerState {

@@ -9,7 +9,7 @@ ghost use Rattle.slate_follow.specs.Taking.{AnswersAt, FindsView, Follows, GiveB
 use crate::{FollowerState, PollAnswer};
 use slate_replay::{Replayed, replay};
 use slate_rows::IndexedTable;
-use slate_status::SlateError;
+use slate_status::{CloseCell, SlateError};
 use slate_store::{Store, VersionedManifest};
 use std::alloc::Global;
 
@@ -32,7 +32,7 @@ pub(crate) fn take<S: Store>(
         floor: view.manifest.last_l0_seq,
         memory,
         view,
-        result: None,
+        closed: CloseCell::new(),
     };
     let at = follower.number();
     let answer = match replayed {

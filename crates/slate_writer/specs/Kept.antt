@@ -14,7 +14,7 @@ kept_handle a =
       epoch = a.epoch;
       tick = a.tick;
       view = a.view;
-      result = a.result;
+      result = a.closed;
     }
 
 -- the batches in memory are numbered from the floor on, and those that aren't stored are among them

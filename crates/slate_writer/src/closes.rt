@@ -36,11 +36,11 @@ impl WriterState {
             Told (λ o o'. (made : ℕ) × StoresBatches (λ batches. batches) self.old.epoch (unstored self.old) o (closing_flush result.fault) self.old.view self.new.view made o')
             (S.objects store.old) (S.objects store.new) }
     {
-        match self.result {
+        match self.closed.read() {
             Some(Ok(())) => ended(Some(SlateError::Closed)),
             Some(Err(_)) => ended(None),
             None => {
-                self.result = Some(Ok(()));
+                self.closed.write(Ok(()));
                 match options.flush_type {
                     None => ended(None),
                     Some(_) if !self.keeps_log => ended(Some(SlateError::WalDisabled)),

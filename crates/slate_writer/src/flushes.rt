@@ -37,7 +37,7 @@ impl WriterState {
         ensures told { CanFlush self.old → Told (λ o o'. (made : ℕ) × StoresBatches (λ batches. batches) self.old.epoch (unstored self.old) o result self.old.view self.new.view made o')
             (S.objects store.old) (S.objects store.new) }
     {
-        if let Some(result) = self.result {
+        if let Some(result) = self.closed.read() {
             return Err(SlateError::of_closed(result));
         }
         if !self.keeps_log {
@@ -46,7 +46,9 @@ impl WriterState {
         match self.store_unstored(alloc, store) {
             Ok(()) => Ok(()),
             Err(error) => {
-                self.result = recorded(&error);
+                if let Some(outcome) = recorded(&error) {
+                    self.closed.write(outcome);
+                }
                 Err(error)
             }
         }

@@ -11,7 +11,7 @@ ghost use Rattle.slate_writer.specs.Opening.{FindsNext, PutsOpening, Recovers};
 use crate::WriterState;
 use slate_replay::{Replayed, replay};
 use slate_rows::{Batch, IndexedTable, PrefixExtractor, Seq};
-use slate_status::SlateError;
+use slate_status::{CloseCell, SlateError};
 use slate_store::{Manifest, Store, VersionedManifest};
 use std::alloc::Global;
 
@@ -81,7 +81,7 @@ impl WriterState {
             tick: latest_tick(view.manifest.last_tick, memory.batches()),
             memory,
             view,
-            result: None,
+            closed: CloseCell::new(),
         })
     }
 }

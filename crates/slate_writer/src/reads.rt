@@ -36,7 +36,7 @@ impl WriterState {
             (read_bound snapshot self.now.durable (accepted self.now) options.now.durability_filter options.now.dirty) key.now) result }
         ensures store { store.new ≡ store.old }
     {
-        if let Some(result) = self.result {
+        if let Some(result) = self.closed.read() {
             return Err(SlateError::of_closed(result));
         }
         let bound = prepare_max_seq(

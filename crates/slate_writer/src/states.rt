@@ -2,7 +2,7 @@ ghost use Rattle.std.specs.Prelude.{◌≡◌};
 ghost use Rattle.slate_model.specs.Handle.{accepted};
 
 use slate_rows::IndexedTable;
-use slate_status::CloseFault;
+use slate_status::{CloseCell, CloseFault};
 use slate_store::VersionedManifest;
 use std::marker::Model;
 
@@ -19,7 +19,7 @@ pub struct WriterState {
     pub(crate) epoch: u64,
     pub(crate) tick: i64,
     pub(crate) view: VersionedManifest,
-    pub(crate) result: Option<Result<(), CloseFault>>,
+    pub(crate) closed: CloseCell,
 }
 
 impl Model for WriterState {
@@ -53,6 +53,6 @@ impl WriterState {
     pub fn closed(&self) -> Option<Result<(), CloseFault>>
         ensures { result ≡ self.now.result }
     {
-        self.result
+        self.closed.read()
     }
 }

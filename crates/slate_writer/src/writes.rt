@@ -45,7 +45,7 @@ impl WriterState {
         ensures refused { IfErr result (λ r. (r.batch ≡ batch) × (self.new ≡ self.old)
             × ((r.error ≡ SlateError.NoMemory) ⊎ (write_refusal self.old batch.ops moment second ≡ Some r.error))) }
     {
-        if let Some(result) = self.result {
+        if let Some(result) = self.closed.read() {
             return refuse(SlateError::of_closed(result), batch);
         }
         if let Some(error) = batch_refusal(&batch) {

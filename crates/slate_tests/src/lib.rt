@@ -1,8 +1,6 @@
-//! Tests of stores, streams, replays and sessions, from outside.
+//! Tests of stores, streams and sessions, from outside.
 #![tactic(auto)]
 
-#[cfg(test)]
-mod replay;
 #[cfg(test)]
 mod session;
 #[cfg(test)]

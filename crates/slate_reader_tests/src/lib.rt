@@ -1,0 +1,7 @@
+//! Tests of replays and of readers that follow a database, from outside.
+#![tactic(auto)]
+
+#[cfg(test)]
+mod follow;
+#[cfg(test)]
+mod replay;

@@ -1,0 +1,54 @@
+-- The table allows each step of a seat, since each is one of the kinds of step; and what the step tells the seat.
+use Rattle.std.proofs.Common.{◌≡◌, ℕ, ◌<◌, ◌≤◌, max, true, slice_index, slice_set, refl, sym, subst, arith}
+use mathlib.Core.Option.{none, some}
+use lib.ListN.{get_elem?}
+use Rattle.atomic_table.specs.Table.{Me, step, keeps, Allows}
+use Rattle.slate_board.specs.declared.views.BoardView.{BoardView}
+use Rattle.slate_board.specs.declared.rules.Knowledge.{Knowledge}
+use Rattle.slate_board.specs.Views.{IsAtMost}
+use Rattle.slate_board.specs.Words.{numbers_of, with_word}
+use Rattle.slate_board.specs.Rule.{Standing, IsRuled, IsRuledState}
+use Rattle.slate_board.specs.Steps.{knowing, Writes, IsStep, loads, ticks, advances}
+use Rattle.slate_board.specs.Tells.{Tells, looked, raised}
+use Rattle.slate_board.proofs.Numbers.{IsAtMost-with_word, with_word-forward, with_word-same, numbers_of-set, code_within}
+use Rattle.slate_board.proofs.Stepping.{step_kept}
+
+told : (before : Standing) (place word id : ℕ) (v : Knowledge) → place < 3 → IsRuled before → get_elem? before.views id ≡ some v
+    → IsAtMost (numbers_of before.words) (with_word place word (numbers_of before.words)) → (with_word place word (numbers_of before.words)).close ≤ 3
+    → Tells place (slice_index before.words place) word v (knowing place word v)
+told before place word id v low kept at forward code =
+    let now : BoardView = numbers_of before.words in
+    let below : IsAtMost v.seen now = kept.none_ahead id v at in
+    let after : IsAtMost (with_word place word v.seen) (with_word place word now) = IsAtMost-with_word place word v.seen now below in
+    record {
+      known = refl;
+      forward = with_word-forward place word v.seen now below forward;
+      lead_found = λ leads. subst (λ (x : BoardView). with_word place (slice_index before.words place) x ≡ x) (sym (kept.lead_knows id v at leads)) (with_word-same before.words place low);
+      code = code_within (with_word place word v.seen).close (with_word place word now).close after.close code;
+    }
+
+-- a seat that writes one word takes one of the kinds of step
+abbrev IsStepBy : ℕ → (ℕ → ℕ) → ℕ → Knowledge → Type 0
+IsStepBy place f id v = (before after : Standing) → Writes place (f (slice_index before.words place)) id v before after → IsStep before after
+
+pub allowed : (slots id place : ℕ) (me : Me (Unit {0}) Knowledge) (f : ℕ → ℕ) → place < 3 → IsStepBy place f id me.0
+    → Allows IsRuledState slots id me place f (λ found after. Tells place found (f found) me.0 after.0 × (after.1 ≡ me.1))
+allowed slots id place me f low is_step state kept _ at _ =
+    let before : Standing = record { words = state.words; views = state.views } in
+    let word : ℕ = f (slice_index state.words place) in
+    let after : Standing = record { words = slice_set state.words place word; views = slice_set state.views id (knowing place word me.0) } in
+    let writes : Writes place word id me.0 before after = record { seat = at; words = refl; views = refl } in
+    let kept' = step_kept before after kept (is_step before after writes) in
+    let is : numbers_of after.words ≡ with_word place word (numbers_of before.words) = numbers_of-set before.words place word kept.three low in
+    let forward : IsAtMost (numbers_of before.words) (with_word place word (numbers_of before.words)) = subst (λ (z : BoardView). IsAtMost (numbers_of before.words) z) is kept'.1 in
+    let code : (with_word place word (numbers_of before.words)).close ≤ 3 = subst (λ (z : BoardView). z.close ≤ 3) is kept'.0.code in
+    (knowing place word me.0, keeps, tt, kept'.0, (told before place word id me.0 low kept at forward code, refl))
+
+pub looks : (slots id place : ℕ) (me : Me (Unit {0}) Knowledge) → place < 3 → Allows IsRuledState slots id me place (λ n. n) (looked (step slots place 0 0 none) me)
+looks slots id place me low = allowed slots id place me (λ n. n) low (λ before after writes. loads place id me.0 low writes)
+
+pub raises_tick : (slots id word : ℕ) (me : Me (Unit {0}) Knowledge) → me.0.lead ≡ true → Allows IsRuledState slots id me 0 (λ n. max n word) (raised (step slots 0 word 0 none) me)
+raises_tick slots id word me leads = allowed slots id 0 me (λ n. max n word) (omega arith) (λ before after writes. ticks word id me.0 leads writes)
+
+pub raises_durable : (slots id word : ℕ) (me : Me (Unit {0}) Knowledge) → me.0.lead ≡ true → Allows IsRuledState slots id me 1 (λ n. max n word) (raised (step slots 1 word 0 none) me)
+raises_durable slots id word me leads = allowed slots id 1 me (λ n. max n word) (omega arith) (λ before after writes. advances word id me.0 leads writes)

@@ -1,15 +1,16 @@
 -- The table allows each step of a seat, since each is one of the kinds of step; and what the step tells the seat.
-use Rattle.std.proofs.Common.{◌≡◌, ℕ, ◌<◌, ◌≤◌, max, true, slice_index, slice_set, refl, sym, subst, arith}
+use Rattle.std.proofs.Common.{◌≡◌, ℕ, ◌<◌, ◌≤◌, max, Bool, true, false, ◌==◌, if◌then◌else◌, slice_index, slice_set, refl, sym, subst, arith}
 use mathlib.Core.Option.{none, some}
 use lib.ListN.{get_elem?}
+use prog.Atomic.{either}
 use Rattle.atomic_table.specs.Table.{Me, step, keeps, Allows}
 use Rattle.slate_board.specs.declared.views.BoardView.{BoardView}
 use Rattle.slate_board.specs.declared.rules.Knowledge.{Knowledge}
-use Rattle.slate_board.specs.Views.{IsAtMost}
+use Rattle.slate_board.specs.Views.{IsAtMost, first_code}
 use Rattle.slate_board.specs.Words.{numbers_of, with_word}
 use Rattle.slate_board.specs.Rule.{Standing, IsRuled, IsRuledState}
-use Rattle.slate_board.specs.Steps.{knowing, Writes, IsStep, loads, ticks, advances}
-use Rattle.slate_board.specs.Tells.{Tells, looked, raised}
+use Rattle.slate_board.specs.Steps.{knowing, Writes, IsStep, loads, ticks, advances, closes}
+use Rattle.slate_board.specs.Tells.{Tells, looked, raised, exchanged}
 use Rattle.slate_board.proofs.Numbers.{IsAtMost-with_word, with_word-forward, with_word-same, numbers_of-set, code_within}
 use Rattle.slate_board.proofs.Stepping.{step_kept}
 
@@ -52,3 +53,14 @@ raises_tick slots id word me leads = allowed slots id 0 me (λ n. max n word) (o
 
 pub raises_durable : (slots id word : ℕ) (me : Me (Unit {0}) Knowledge) → me.0.lead ≡ true → Allows IsRuledState slots id me 1 (λ n. max n word) (raised (step slots 1 word 0 none) me)
 raises_durable slots id word me leads = allowed slots id 1 me (λ n. max n word) (omega arith) (λ before after writes. advances word id me.0 leads writes)
+
+either_is : (b : Bool) (x y : ℕ) → either b x y ≡ (if b then x else y)
+either_is true x y = refl
+either_is false x y = refl
+
+pub exchanges_close : (slots id code : ℕ) (me : Me (Unit {0}) Knowledge) → me.0.lead ≡ true → code ≤ 3
+    → Allows IsRuledState slots id me 2 (λ n. either (n == 0) code n) (exchanged (step slots 2 0 code none) me)
+exchanges_close slots id code me leads within =
+    let f : ℕ → ℕ = λ n. first_code n code in
+    let F : (ℕ → ℕ) → Type 0 = λ g. Allows IsRuledState slots id me 2 g (exchanged (step slots 2 0 code none) me) in
+    subst F (λ i n. sym (either_is (n == 0) code n) i) (allowed slots id 2 me f (omega arith) (λ before after writes. closes code id me.0 leads within writes))

@@ -1,5 +1,5 @@
 -- Each kind of step keeps the rule, and no word goes back.
-use Rattle.std.proofs.Common.{◌≡◌, ◌≢◌, ℕ, zero, suc, ◌<◌, ◌≤◌, ◌⊎◌, max, Bool, true, false, ◌==◌, if◌then◌else◌, List, [], ◌∷◌, ◌++◌, slice_index, slice_set, refl, sym, ap, ◌∙◌, subst, eq-eqb, ne_eqb, inl, inr, ⊎_elim, arith, length-set}
+use Rattle.std.proofs.Common.{◌≡◌, ◌≢◌, ℕ, zero, suc, ◌<◌, ◌≤◌, ◌⊎◌, max, Bool, true, false, if◌then◌else◌, List, [], ◌∷◌, ◌++◌, slice_index, slice_set, refl, sym, ap, ◌∙◌, subst, eq-eqb, ne_eqb, inl, inr, ⊎_elim, arith, length-set}
 use mathlib.Core.Logic.{dite}
 use native.Mathlib.Decide.{ℕ_discrete}
 use mathlib.Core.Option.{some, some-injective, some-ne-none}
@@ -8,7 +8,7 @@ use lib.Signed.{≤ℤ_refl}
 use Rattle.atomic_table.proofs.Lists.{at_set, at_snoc}
 use Rattle.slate_board.specs.declared.views.BoardView.{BoardView}
 use Rattle.slate_board.specs.declared.rules.Knowledge.{Knowledge}
-use Rattle.slate_board.specs.Views.{IsAtMost, greater_of}
+use Rattle.slate_board.specs.Views.{IsAtMost, greater_of, first_code}
 use Rattle.slate_board.specs.Words.{numbers_of, with_word, tick_of}
 use Rattle.slate_board.specs.Rule.{Standing, IsRuled}
 use Rattle.slate_board.specs.Steps.{knowing, following, joined, spent, Writes, IsStep, loads, ticks, advances, closes, splits, joins, IsRun}
@@ -147,19 +147,19 @@ advance_rises number v before kept leads = record {
 }
 
 -- the first close code stays
-first_close : (old code : ℕ) (P : ℕ → Type 0) → (old ≡ 0 → P code) → (old ≢ 0 → P old) → P (if old == 0 then code else old)
-first_close old code P first later = dite (ℕ_discrete old 0)
+first_code-cases : (old code : ℕ) (P : ℕ → Type 0) → (old ≡ 0 → P code) → (old ≢ 0 → P old) → P (first_code old code)
+first_code-cases old code P first later = dite (ℕ_discrete old 0)
     (λ (e : old ≡ 0). subst (λ (b : Bool). P (if b then code else old)) (sym (eq-eqb old 0 e)) (first e))
     (λ (ne : old ≢ 0). subst (λ (b : Bool). P (if b then code else old)) (sym (ne_eqb old 0 ne)) (later ne))
 
 pub close_rises : (code : ℕ) (v : Knowledge) (before : Standing) → IsRuled before → v.lead ≡ true → code ≤ 3
-    → Rises 2 (if slice_index before.words 2 == 0 then code else slice_index before.words 2) v before
+    → Rises 2 (first_code (slice_index before.words 2) code) v before
 close_rises code v before kept leads within =
     let word : ℕ = slice_index before.words 2 in
     record {
       in_place = omega arith;
-      forward = record { tick = ≤ℤ_refl (tick_of (slice_index before.words 0)); durable = omega arith; close = first_close word code (λ (n : ℕ). (word ≡ 0) ⊎ (word ≡ n)) (λ e. inl e) (λ _. inr refl) };
-      code = first_close word code (λ (n : ℕ). n ≤ 3) (λ _. within) (λ _. kept.code);
+      forward = record { tick = ≤ℤ_refl (tick_of (slice_index before.words 0)); durable = omega arith; close = first_code-cases word code (λ (n : ℕ). (word ≡ 0) ⊎ (word ≡ n)) (λ e. inl e) (λ _. inr refl) };
+      code = first_code-cases word code (λ (n : ℕ). n ≤ 3) (λ _. within) (λ _. kept.code);
       by_lead = inl leads;
     }
 
@@ -182,7 +182,7 @@ step_kept before after kept (ticks tick id v leads writes) = written_kept before
 step_kept before after kept (advances number id v leads writes) =
     written_kept before after 1 (max (slice_index before.words 1) number) id v kept (advance_rises number v before kept leads) writes
 step_kept before after kept (closes code id v leads within writes) =
-    written_kept before after 2 (if slice_index before.words 2 == 0 then code else slice_index before.words 2) id v kept (close_rises code v before kept leads within) writes
+    written_kept before after 2 (first_code (slice_index before.words 2) code) id v kept (close_rises code v before kept leads within) writes
 step_kept before after kept (splits id v at is) = subst (λ (z : Standing). IsKept before z) (sym is) (split_off before id v kept at, IsAtMost-refl (numbers_of before.words))
 step_kept before after kept (joins id other v w apart at there is) =
     subst (λ (z : Standing). IsKept before z) (sym is) (put_together before id other v w kept at there, IsAtMost-refl (numbers_of before.words))

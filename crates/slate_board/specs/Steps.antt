@@ -1,9 +1,9 @@
 -- The six kinds of step of a board's seats, and any number of them in any order.
-use Rattle.std.specs.Prelude.{◌≡◌, ◌≢◌, ℕ, negsuc, ◌-◌, ◌^◌, ◌<◌, ◌≤◌, max, true, false, ◌==◌, if◌then◌else◌, List, [], ◌∷◌, ◌++◌, slice_index, slice_set}
+use Rattle.std.specs.Prelude.{◌≡◌, ◌≢◌, ℕ, negsuc, ◌-◌, ◌^◌, ◌<◌, ◌≤◌, max, true, false, List, [], ◌∷◌, ◌++◌, slice_index, slice_set}
 use mathlib.Core.Option.{some}
 use lib.ListN.{get_elem?}
 use Rattle.slate_board.specs.declared.rules.Knowledge.{Knowledge}
-use Rattle.slate_board.specs.Views.{greater_of}
+use Rattle.slate_board.specs.Views.{greater_of, first_code}
 use Rattle.slate_board.specs.Words.{with_word}
 use Rattle.slate_board.specs.Rule.{Standing}
 
@@ -34,8 +34,7 @@ pub data IsStep (before after : Standing) : Type 0 where
   loads : (place id : ℕ) (v : Knowledge) → place < 3 → Writes place (slice_index before.words place) id v before after → IsStep before after
   ticks : (tick id : ℕ) (v : Knowledge) → v.lead ≡ true → Writes 0 (max (slice_index before.words 0) tick) id v before after → IsStep before after
   advances : (number id : ℕ) (v : Knowledge) → v.lead ≡ true → Writes 1 (max (slice_index before.words 1) number) id v before after → IsStep before after
-  closes : (code id : ℕ) (v : Knowledge) → v.lead ≡ true → code ≤ 3
-      → Writes 2 (if slice_index before.words 2 == 0 then code else slice_index before.words 2) id v before after → IsStep before after
+  closes : (code id : ℕ) (v : Knowledge) → v.lead ≡ true → code ≤ 3 → Writes 2 (first_code (slice_index before.words 2) code) id v before after → IsStep before after
   splits : (id : ℕ) (v : Knowledge) → get_elem? before.views id ≡ some v → after ≡ record { words = before.words; views = before.views ++ following v ∷ [] } → IsStep before after
   joins : (id other : ℕ) (v w : Knowledge) → other ≢ id → get_elem? before.views id ≡ some v → get_elem? before.views other ≡ some w
       → after ≡ record { words = before.words; views = slice_set (slice_set before.views id (joined v w)) other spent } → IsStep before after

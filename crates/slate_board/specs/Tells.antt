@@ -1,5 +1,5 @@
 -- What a step tells the seat that takes it.
-use Rattle.std.specs.Prelude.{◌≡◌, ℕ, ◌≤◌, max, true}
+use Rattle.std.specs.Prelude.{◌≡◌, ℕ, ◌≤◌, max, true, ◌==◌, if◌then◌else◌}
 use Rattle.atomic_table.specs.Table.{Me, Step}
 use Rattle.slate_board.specs.declared.rules.Knowledge.{Knowledge}
 use Rattle.slate_board.specs.Views.{IsAtMost}
@@ -19,3 +19,7 @@ looked step before found after = Tells step.word found found before.0 after.0 ×
 
 abbrev pub raised : Step (Unit {0}) → Me (Unit {0}) Knowledge → ℕ → Me (Unit {0}) Knowledge → Type 0
 raised step before found after = Tells step.word found (max found step.first) before.0 after.0 × (after.1 ≡ before.1)
+
+-- the word becomes the second operand where it was the first
+abbrev pub exchanged : Step (Unit {0}) → Me (Unit {0}) Knowledge → ℕ → Me (Unit {0}) Knowledge → Type 0
+exchanged step before found after = Tells step.word found (if found == step.first then step.second else found) before.0 after.0 × (after.1 ≡ before.1)

@@ -1,5 +1,5 @@
 -- The numbers of a board at two moments.
-use Rattle.std.specs.Prelude.{◌≡◌, ◌≤◌, ◌≤ℤ◌, ◌⊎◌, max}
+use Rattle.std.specs.Prelude.{◌≡◌, ℕ, ◌≤◌, ◌≤ℤ◌, ◌⊎◌, ◌==◌, if◌then◌else◌, max}
 use Rattle.std.specs.Int.{int_max}
 use Rattle.slate_board.specs.declared.views.BoardView.{BoardView}
 
@@ -11,3 +11,7 @@ pub record IsAtMost (x y : BoardView) : Type 0 where
 
 abbrev pub greater_of : BoardView → BoardView → BoardView
 greater_of x y = record { tick = int_max x.tick y.tick; durable = max x.durable y.durable; close = max x.close y.close }
+
+-- the close code after a close with this one: the first code stays
+abbrev pub first_code : ℕ → ℕ → ℕ
+first_code old code = if old == 0 then code else old

@@ -1,8 +1,8 @@
-ghost use Rattle.std.specs.Prelude.{◌≡◌, ◌≤◌, ◌≤ℤ◌, ◌<ℤ◌, max, true, IsTrue, IfOk, IfErr};
+ghost use Rattle.std.specs.Prelude.{◌≡◌, ◌≤◌, ◌≤ℤ◌, ◌<ℤ◌, ◌↔◌, max, true, IsTrue, IfOk, IfErr};
 ghost use Rattle.std.specs.Int.{int_max};
-ghost use Rattle.slate_board.specs.Views.{IsAtMost};
+ghost use Rattle.slate_board.specs.Views.{IsAtMost, first_code};
 
-use crate::rules::{Knowledge, Look, NoWordGoesBack, Raise};
+use crate::rules::{Exchange, Knowledge, Look, NoWordGoesBack, Raise};
 use crate::ticks::{tick_in, word_of};
 use crate::{BoardView, ClockFault};
 use atomic_table::{Seat, Table};
@@ -16,6 +16,9 @@ const TICK: usize = 0;
 const DURABLE: usize = 1;
 
 const CLOSE: usize = 2;
+
+/// The close code of a handle that is open.
+const OPEN: u64 = 0;
 
 /// Three words that never go back: the tick, the durable number and the close code of a handle. Threads share it by
 /// reference. Each call takes a seat of this board; but for `new`, none takes memory or a lock, or waits.
@@ -65,9 +68,9 @@ impl Board {
         let start = BoardView {
             tick,
             durable,
-            close: 0,
+            close: OPEN,
         };
-        let (table, seat) = Table::of_words(alloc, &[word_of(tick), durable, 0], &start)?;
+        let (table, seat) = Table::of_words(alloc, &[word_of(tick), durable, OPEN], &start)?;
         Ok((Board { table }, BoardSeat { seat }))
     }
 
@@ -102,6 +105,19 @@ impl Board {
         let shared = &self.table.shared;
         let before = shared.fetch_max::<Raise>(&mut seat.seat, DURABLE, number);
         before.max(number)
+    }
+
+    /// Records how the handle closed, by a code from 1 to 3, and answers whether it was open. The first code stays. It
+    /// is one step, and `seat` is the lead.
+    pub fn close_once(&self, seat: &mut BoardSeat, code: u64) -> bool
+        requires board { seat.old.board ≡ self.now }
+        requires lead { IsTrue seat.old.lead }
+        requires code { (1 ≤ code) × (code ≤ 3) }
+        ensures first { IsTrue result ↔ (seat.old.seen.close ≡ 0) }
+        ensures seat { seat.new ≡ record seat.old { seen = record seat.old.seen { close = first_code seat.old.seen.close code } } }
+    {
+        let shared = &self.table.shared;
+        shared.compare_exchange::<Exchange>(&mut seat.seat, CLOSE, OPEN, code) == OPEN
     }
 
     /// The three numbers, each read by a step of its own. None is behind what the seat had seen; the lead reads just

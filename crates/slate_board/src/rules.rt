@@ -1,6 +1,6 @@
 // The rule that each step on a board's words keeps, and what the steps tell.
 ghost use Rattle.slate_board.specs.Rule.{IsRuledState, leading};
-ghost use Rattle.slate_board.specs.Tells.{looked, raised};
+ghost use Rattle.slate_board.specs.Tells.{looked, raised, exchanged};
 
 use crate::BoardView;
 use atomic_table::{Play, TableRule};
@@ -29,4 +29,10 @@ pub struct Raise;
 
 impl Play<(), Knowledge> for Raise {
     ghost then = { raised };
+}
+
+pub struct Exchange;
+
+impl Play<(), Knowledge> for Exchange {
+    ghost then = { exchanged };
 }

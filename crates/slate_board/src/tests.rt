@@ -41,3 +41,12 @@ fn durable_number_rises(rt: HostRuntime) -> Result<(), Fail> {
     assert_eq!(rt; board.advance_durable(&mut lead, u64::MAX), u64::MAX);
     Ok(())
 }
+
+#[test]
+fn closes_once(rt: HostRuntime) -> Result<(), Fail> {
+    let (board, mut lead) = Board::new(rt.alloc(), 0, 0)?;
+    assert!(rt; board.close_once(&mut lead, 2));
+    assert!(rt; !board.close_once(&mut lead, 1));
+    assert_eq!(rt; board.load(&mut lead).close, 2);
+    Ok(())
+}

@@ -1,15 +1,16 @@
 -- The table allows each step of a seat, since each is one of the kinds of step; and what the step tells the seat.
-use Rattle.std.proofs.Common.{◌≡◌, ℕ, ◌<◌, ◌≤◌, max, Bool, true, false, ◌==◌, if◌then◌else◌, slice_index, slice_set, refl, sym, subst, arith}
+use Rattle.std.proofs.Common.{◌≡◌, ℕ, ◌<◌, ◌≤◌, max, Bool, true, false, ◌==◌, if◌then◌else◌, List, [], ◌∷◌, ◌++◌, ◌∙◌, slice_index, slice_set, refl, sym, subst, arith}
 use mathlib.Core.Option.{none, some}
 use lib.ListN.{get_elem?}
 use prog.Atomic.{either}
-use Rattle.atomic_table.specs.Table.{Me, step, keeps, Allows}
+use Rattle.atomic_table.specs.Table.{Me, step, keeps, Allows, Splits, Joins}
+use Rattle.atomic_table.proofs.Lists.{set_again, set_else}
 use Rattle.slate_board.specs.declared.views.BoardView.{BoardView}
 use Rattle.slate_board.specs.declared.rules.Knowledge.{Knowledge}
 use Rattle.slate_board.specs.Views.{IsAtMost, first_code}
 use Rattle.slate_board.specs.Words.{numbers_of, with_word}
 use Rattle.slate_board.specs.Rule.{Standing, IsRuled, IsRuledState}
-use Rattle.slate_board.specs.Steps.{knowing, Writes, IsStep, loads, ticks, advances, closes}
+use Rattle.slate_board.specs.Steps.{knowing, following, joined, spent, Writes, IsStep, loads, ticks, advances, closes, splits, joins}
 use Rattle.slate_board.specs.Tells.{Tells, looked, raised, exchanged}
 use Rattle.slate_board.proofs.Numbers.{IsAtMost-with_word, with_word-forward, with_word-same, numbers_of-set, code_within}
 use Rattle.slate_board.proofs.Stepping.{step_kept}
@@ -64,3 +65,16 @@ exchanges_close slots id code me leads within =
     let f : ℕ → ℕ = λ n. first_code n code in
     let F : (ℕ → ℕ) → Type 0 = λ g. Allows IsRuledState slots id me 2 g (exchanged (step slots 2 0 code none) me) in
     subst F (λ i n. sym (either_is (n == 0) code n) i) (allowed slots id 2 me f (omega arith) (λ before after writes. closes code id me.0 leads within writes))
+
+pub splits_seat : (id : ℕ) (v : Knowledge) → Splits IsRuledState id v v (following v)
+splits_seat id v state kept at =
+    let before : Standing = record { words = state.words; views = state.views } in
+    let same : slice_set state.views id v ≡ state.views = set_again state.views id v at in
+    subst (λ (views : List Knowledge). IsRuled record { words = state.words; views = views ++ following v ∷ [] }) (sym same)
+    (step_kept before record { words = state.words; views = state.views ++ following v ∷ [] } kept (splits id v at refl)).0
+
+pub joins_seat : (id other : ℕ) (v w : Knowledge) → Joins IsRuledState id v other w (joined v w) spent
+joins_seat id other v w state kept at apart there =
+    let before : Standing = record { words = state.words; views = state.views } in
+    let after : Standing = record { words = state.words; views = slice_set (slice_set state.views id (joined v w)) other spent } in
+    (step_kept before after kept (joins id other v w apart at (sym (set_else state.views id other (joined v w) apart) ∙ there) refl)).0

@@ -1,8 +1,8 @@
-ghost use Rattle.std.specs.Prelude.{◌≡◌, ◌≤◌, ◌≤ℤ◌, ◌<ℤ◌, ◌↔◌, max, true, IsTrue, IfOk, IfErr};
+ghost use Rattle.std.specs.Prelude.{◌≡◌, ◌≤◌, ◌≤ℤ◌, ◌<ℤ◌, ◌↔◌, max, true, false, IsTrue, IsFalse, IfOk, IfErr};
 ghost use Rattle.std.specs.Int.{int_max};
-ghost use Rattle.slate_board.specs.Views.{IsAtMost, first_code};
+ghost use Rattle.slate_board.specs.Views.{IsAtMost, first_code, greater_of};
 
-use crate::rules::{Exchange, Knowledge, Look, NoWordGoesBack, Raise};
+use crate::rules::{Exchange, Follow, Gather, Knowledge, Look, NoWordGoesBack, Raise};
 use crate::ticks::{tick_in, word_of};
 use crate::{BoardView, ClockFault};
 use atomic_table::{Seat, Table};
@@ -138,5 +138,25 @@ impl Board {
             durable,
             close,
         }
+    }
+    /// A second seat, which has seen as much and isn't the lead.
+    pub fn split(&self, seat: &mut BoardSeat) -> BoardSeat
+        requires { seat.old.board ≡ self.now }
+        ensures same { seat.new ≡ seat.old }
+        ensures second { result ≡ record seat.old { lead = false } }
+    {
+        let second = self.table.shared.split_seat::<Follow>(&mut seat.seat);
+        BoardSeat { seat: second }
+    }
+
+    /// Ends the other seat, which isn't the lead. What it has seen goes to `seat`, which has seen the greater of each
+    /// number then.
+    pub fn join(&self, seat: &mut BoardSeat, other: BoardSeat)
+        requires board { (seat.old.board ≡ self.now) × (other.board ≡ self.now) }
+        requires other { IsFalse other.lead }
+        ensures { seat.new ≡ record seat.old { seen = greater_of seat.old.seen other.seen } }
+    {
+        let BoardSeat { seat: other } = other;
+        self.table.shared.join_seat::<Gather>(&mut seat.seat, other);
     }
 }

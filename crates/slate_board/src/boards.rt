@@ -2,7 +2,7 @@ ghost use Rattle.std.specs.Prelude.{◌≡◌, ◌≤◌, ◌≤ℤ◌, ◌<ℤ�
 ghost use Rattle.std.specs.Int.{int_max};
 ghost use Rattle.slate_board.specs.Views.{IsAtMost, first_code, greater_of};
 
-use crate::rules::{Exchange, Follow, Gather, Knowledge, Look, NoWordGoesBack, Raise};
+use crate::rules::{Exchange, Follow, Gather, Look, NoWordGoesBack, Raise, SeatView};
 use crate::ticks::{tick_in, word_of};
 use crate::{BoardView, ClockFault};
 use atomic_table::{Seat, Table};
@@ -26,7 +26,7 @@ const OPEN: u64 = 0;
 /// A contract sees of a board which one it is.
 #[derive(Drop)]
 pub struct Board {
-    table: Table<(), Knowledge, BoardView, NoWordGoesBack, Global>,
+    table: Table<(), SeatView, BoardView, NoWordGoesBack, Global>,
 }
 
 impl Model for Board {
@@ -46,7 +46,7 @@ impl Model for Board {
 /// most one seat of a board is the lead, which alone changes the words, so the numbers that it has seen are the words.
 #[derive(Drop)]
 pub struct BoardSeat {
-    seat: Seat<(), Knowledge>,
+    seat: Seat<(), SeatView>,
 }
 
 impl Model for BoardSeat {

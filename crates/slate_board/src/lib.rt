@@ -10,5 +10,5 @@ mod ticks;
 mod views;
 
 pub use boards::{Board, BoardSeat};
-pub use laws::no_word_goes_back;
+pub use laws::{no_word_goes_back, words_are_ordered_as_ticks};
 pub use views::{BoardView, ClockFault};

@@ -13,13 +13,17 @@ pub record Standing : Type 0 where
   pub words : List ℕ
   pub views : List SeatView
 
+-- the seat of that number knows this
+abbrev pub Knows : List SeatView → ℕ → SeatView → Type 0
+Knows views id v = get_elem? views id ≡ some v
+
 -- at most one seat is the lead and its numbers are the words; no seat has seen more than the words
 pub record IsRuled (board : Standing) : Type 0 where
   pub three : length board.words ≡ 3
   pub code : slice_index board.words 2 ≤ 3
-  pub one_lead : (i j : ℕ) (v w : SeatView) → get_elem? board.views i ≡ some v → get_elem? board.views j ≡ some w → v.lead ≡ true → w.lead ≡ true → i ≡ j
-  pub lead_knows : (i : ℕ) (v : SeatView) → get_elem? board.views i ≡ some v → v.lead ≡ true → v.seen ≡ numbers_of board.words
-  pub none_ahead : (i : ℕ) (v : SeatView) → get_elem? board.views i ≡ some v → IsAtMost v.seen (numbers_of board.words)
+  pub one_lead : (i j : ℕ) (v w : SeatView) → Knows board.views i v → Knows board.views j w → v.lead ≡ true → w.lead ≡ true → i ≡ j
+  pub lead_knows : (i : ℕ) (v : SeatView) → Knows board.views i v → v.lead ≡ true → v.seen ≡ numbers_of board.words
+  pub none_ahead : (i : ℕ) (v : SeatView) → Knows board.views i v → IsAtMost v.seen (numbers_of board.words)
 
 abbrev pub IsRuledState : State (Unit {0}) SeatView → Type 0
 IsRuledState state = IsRuled record { words = state.words; views = state.views }

@@ -4,7 +4,7 @@ use Rattle.atomic_table.specs.Seated.{TableId}
 use Rattle.slate_board.specs.declared.views.BoardView.{BoardView}
 
 -- the board that it belongs to, whether it is the lead, and the numbers that it has seen
-pub record Seated : Type 0 where
+pub record SeatState : Type 0 where
   pub board : TableId
   pub lead : Bool
   pub seen : BoardView

@@ -1,11 +1,9 @@
 -- The six kinds of step of a board's seats, and any number of them in any order.
 use Rattle.std.specs.Prelude.{◌≡◌, ◌≢◌, ℕ, negsuc, ◌-◌, ◌^◌, ◌<◌, ◌≤◌, max, true, false, List, [], ◌∷◌, ◌++◌, slice_index, slice_set}
-use mathlib.Core.Option.{some}
-use lib.ListN.{get_elem?}
 use Rattle.slate_board.specs.declared.rules.SeatView.{SeatView}
 use Rattle.slate_board.specs.Views.{greater_of, first_code}
 use Rattle.slate_board.specs.Words.{with_word}
-use Rattle.slate_board.specs.Rule.{Standing}
+use Rattle.slate_board.specs.Rule.{Standing, Knows}
 
 -- a seat knows the word in that place, beside what else it has seen
 abbrev pub view_with : ℕ → ℕ → SeatView → SeatView
@@ -25,19 +23,25 @@ spent_view = record { lead = false; seen = record { tick = negsuc (2 ^ 63 - 1); 
 
 -- one word becomes this, and one seat, which knew v, knows the word then; no other word and no other view changes
 pub record Writes (place word id : ℕ) (v : SeatView) (before after : Standing) : Type 0 where
-  pub seat : get_elem? before.views id ≡ some v
+  pub seat : Knows before.views id v
   pub words : after.words ≡ slice_set before.words place word
   pub views : after.views ≡ slice_set before.views id (view_with place word v)
 
--- all steps but the load, the split and the join are the lead's
+-- a load, a raise of the tick, a raise of the durable number, a close, a split and a join; the three that change a word
+-- are the lead's
 pub data IsStep (before after : Standing) : Type 0 where
-  loads : (place id : ℕ) (v : SeatView) → place < 3 → Writes place (slice_index before.words place) id v before after → IsStep before after
-  ticks : (tick id : ℕ) (v : SeatView) → v.lead ≡ true → Writes 0 (max (slice_index before.words 0) tick) id v before after → IsStep before after
-  advances : (number id : ℕ) (v : SeatView) → v.lead ≡ true → Writes 1 (max (slice_index before.words 1) number) id v before after → IsStep before after
-  closes : (code id : ℕ) (v : SeatView) → v.lead ≡ true → code ≤ 3 → Writes 2 (first_code (slice_index before.words 2) code) id v before after → IsStep before after
-  splits : (id : ℕ) (v : SeatView) → get_elem? before.views id ≡ some v → after ≡ record { words = before.words; views = before.views ++ follower_of v ∷ [] } → IsStep before after
-  joins : (id other : ℕ) (v w : SeatView) → other ≢ id → get_elem? before.views id ≡ some v → get_elem? before.views other ≡ some w
-      → after ≡ record { words = before.words; views = slice_set (slice_set before.views id (union_of v w)) other spent_view } → IsStep before after
+  loads : (place id : ℕ) (v : SeatView) → place < 3
+      → Writes place (slice_index before.words place) id v before after → IsStep before after
+  ticks : (tick id : ℕ) (v : SeatView) → v.lead ≡ true
+      → Writes 0 (max (slice_index before.words 0) tick) id v before after → IsStep before after
+  advances : (number id : ℕ) (v : SeatView) → v.lead ≡ true
+      → Writes 1 (max (slice_index before.words 1) number) id v before after → IsStep before after
+  closes : (code id : ℕ) (v : SeatView) → v.lead ≡ true → code ≤ 3
+      → Writes 2 (first_code (slice_index before.words 2) code) id v before after → IsStep before after
+  splits : (id : ℕ) (v : SeatView) → Knows before.views id v
+      → after ≡ record before { views = before.views ++ follower_of v ∷ [] } → IsStep before after
+  joins : (id other : ℕ) (v w : SeatView) → other ≢ id → Knows before.views id v → Knows before.views other w
+      → after ≡ record before { views = slice_set (slice_set before.views id (union_of v w)) other spent_view } → IsStep before after
 
 -- each of these comes from the one before it by a step
 abbrev pub IsRun : Standing → List Standing → Type 0

@@ -14,12 +14,16 @@ pub record Tells (place found left : ℕ) (v w : SeatView) : Type 0 where
   pub lead_found : v.lead ≡ true → with_word place found v.seen ≡ v.seen
   pub code : w.seen.close ≤ 3
 
-abbrev pub Looks : Step (Unit {0}) → Me (Unit {0}) SeatView → ℕ → Me (Unit {0}) SeatView → Type 0
+-- of a step, the seat before it, the word that it found and the seat after it
+abbrev pub Telling : Type 1
+Telling = Step (Unit {0}) → Me (Unit {0}) SeatView → ℕ → Me (Unit {0}) SeatView → Type 0
+
+abbrev pub Looks : Telling
 Looks step before found after = Tells step.word found found before.0 after.0 × (after.1 ≡ before.1)
 
-abbrev pub Raises : Step (Unit {0}) → Me (Unit {0}) SeatView → ℕ → Me (Unit {0}) SeatView → Type 0
+abbrev pub Raises : Telling
 Raises step before found after = Tells step.word found (max found step.first) before.0 after.0 × (after.1 ≡ before.1)
 
 -- the word becomes the second operand where it was the first
-abbrev pub Exchanges : Step (Unit {0}) → Me (Unit {0}) SeatView → ℕ → Me (Unit {0}) SeatView → Type 0
+abbrev pub Exchanges : Telling
 Exchanges step before found after = Tells step.word found (if found == step.first then step.second else found) before.0 after.0 × (after.1 ≡ before.1)

@@ -21,7 +21,8 @@ const CLOSE: usize = 2;
 const OPEN: u64 = 0;
 
 /// Three words that never go back: the tick, the durable number and the close code of a handle. Threads share it by
-/// reference. Each call takes a seat of this board; but for `new`, none takes memory or a lock, or waits.
+/// reference. Each call takes a seat of this board, and a constant number of steps; but for `new`, none takes memory or
+/// a lock, or waits.
 ///
 /// A contract sees of a board which one it is.
 #[derive(Drop)]
@@ -51,9 +52,9 @@ pub struct BoardSeat {
 
 impl Model for BoardSeat {
     ghost use Rattle.std.specs.Prelude.{◌≡◌, []};
-    ghost use Rattle.slate_board.specs.Seat.{Seated};
+    ghost use Rattle.slate_board.specs.Seat.{SeatState};
 
-    ghost Value = { Seated };
+    ghost Value = { SeatState };
 
     ghost view = { λ seat. record { board = seat.seat.table_id; lead = seat.seat.me.0.lead; seen = seat.seat.me.0.seen } };
 
@@ -74,8 +75,8 @@ impl Board {
         Ok((Board { table }, BoardSeat { seat }))
     }
 
-    /// Accepts a moment as the last tick, unless the tick is above it: then it is refused and changes nothing. It is
-    /// one step, and `seat` is the lead.
+    /// Accepts a moment, in milliseconds, as the last tick, unless the tick is above it: then it is refused and changes
+    /// nothing. It is one step, and `seat` is the lead. SlateDB's `MonotonicClock` does this as `enforce_monotonic`.
     pub fn tick(&self, seat: &mut BoardSeat, moment: i64) -> Result<i64, ClockFault>
         requires board { seat.old.board ≡ self.now }
         requires lead { IsTrue seat.old.lead }
@@ -139,6 +140,7 @@ impl Board {
             close,
         }
     }
+
     /// A second seat, which has seen as much and isn't the lead.
     pub fn split(&self, seat: &mut BoardSeat) -> BoardSeat
         requires { seat.old.board ≡ self.now }

@@ -12,6 +12,7 @@ pub struct SeatView {
     pub seen: BoardView,
 }
 
+/// The rule of the table: at most one lead, whose numbers are the words, and no seat ahead of the words.
 pub struct NoWordGoesBack;
 
 impl TableRule<(), SeatView, BoardView> for NoWordGoesBack {
@@ -20,24 +21,28 @@ impl TableRule<(), SeatView, BoardView> for NoWordGoesBack {
     ghost first = { lead_with };
 }
 
+/// A load.
 pub struct Look;
 
 impl Play<(), SeatView> for Look {
     ghost then = { Looks };
 }
 
+/// A raise of a word to at least a number.
 pub struct Raise;
 
 impl Play<(), SeatView> for Raise {
     ghost then = { Raises };
 }
 
+/// A change of a word where it is as expected.
 pub struct Exchange;
 
 impl Play<(), SeatView> for Exchange {
     ghost then = { Exchanges };
 }
 
+/// A second seat that follows.
 pub struct Follow;
 
 impl Split<SeatView> for Follow {
@@ -46,6 +51,7 @@ impl Split<SeatView> for Follow {
     ghost right = { follower_of };
 }
 
+/// Two seats made one.
 pub struct Gather;
 
 impl Join<SeatView> for Gather {

@@ -9,7 +9,7 @@ pub struct BoardView {
     pub close: u64,
 }
 
-/// A clock went back: a moment is below the last tick.
+/// A clock went back: a moment is below the last tick. These are the two moments of SlateDB's `InvalidClockTick`.
 #[derive(Clone, Copy, Debug, PartialEq, Eq)]
 pub struct ClockFault {
     /// The last tick, in milliseconds.

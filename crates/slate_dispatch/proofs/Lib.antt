@@ -1,0 +1,2 @@
+pub mod FirstReady
+pub mod TurnLemmas

@@ -1,0 +1,5 @@
+pub mod Handlers
+pub mod Origins
+pub mod Tasks
+pub mod Tickers
+pub mod Turns

@@ -12,7 +12,7 @@ AreFalseBelow n tests = (k : ℕ) → k < n → get_or tests k false ≡ false
 pub first-none : (tests : List Bool) (n : ℕ) → n ≡ length tests → AreFalseBelow n tests → position (λ test. test) tests ≡ None
 first-none tests n all below =
     let at_end : position_or_len (λ test. test) tests ≡ n =
-        position_or_len_is (λ test. test) tests n false (omega (arith, all)) below (λ h. absurd (omega (arith, all, h))) in
+    position_or_len_is (λ test. test) tests n false (omega (arith, all)) below (λ h. absurd (omega (arith, all, h))) in
     grind (arith, nat_tests, at_end, all)
 
 true_unless : (b : Bool) → (b ≡ false → ⊥) → b ≡ true
@@ -23,5 +23,5 @@ pub first-some : (tests : List Bool) (i : ℕ) → i < length tests → AreFalse
 first-some tests i within below here =
     let passes : get_or tests i false ≡ true = true_unless _ (λ e. here (slice_get-get_or tests i false within ∙ ap Some e)) in
     let at_i : position_or_len (λ test. test) tests ≡ i =
-        position_or_len_is (λ test. test) tests i false (omega arith) below (λ _. passes) in
+    position_or_len_is (λ test. test) tests i false (omega arith) below (λ _. passes) in
     grind (arith, nat_tests, at_i)

@@ -51,8 +51,8 @@ Takes steps tickers moment random (Sent first rest) old (Some message) new = (me
 Takes steps tickers moment random (Due index) old (Some message) new =
     steps old.handler (Tick index message) new.handler
     × ((ticker : TickerDef)
-       × (slice_get (tickers old.handler) index ≡ Some ticker)
-       × (new ≡ record old { handler = new.handler; dues = slice_set old.dues index (moment +ℤ pos (wait_of ticker random)) }))
+    × (slice_get (tickers old.handler) index ≡ Some ticker)
+    × (new ≡ record old { handler = new.handler; dues = slice_set old.dues index (moment +ℤ pos (wait_of ticker random)) }))
 Takes steps tickers moment random (Ready index) old (Some message) new =
     steps old.handler (Notify index message) new.handler × (new ≡ record old { handler = new.handler })
 Takes steps tickers moment random Nowhere old None new = new ≡ old

@@ -21,7 +21,9 @@ pub enum SendRefusal<M> {
         result: Option<Result<(), CloseFault>>,
     },
     /// Memory ran out.
-    NoMemory { message: M },
+    NoMemory {
+        message: M,
+    },
 }
 
 /// A task that hands messages to a handler, one in a turn. SlateDB's `MessageDispatcher`.
@@ -52,18 +54,16 @@ impl<H: MessageHandler> Model for Dispatcher<H> {
 
     ghost Value = { Dispatching H H.Message };
 
-    ghost view = {
-        λ d.
-            record {
-              handler = d.handler;
-              queue = d.queue.items;
-              is_closed = d.is_closed;
-              dues = d.dues.items;
-              is_cancelled = d.is_cancelled;
-              last_answer = d.last_answer;
-              finished = d.finished;
-            }
-    };
+    ghost view = { λ d.
+        record {
+          handler = d.handler;
+          queue = d.queue.items;
+          is_closed = d.is_closed;
+          dues = d.dues.items;
+          is_cancelled = d.is_cancelled;
+          last_answer = d.last_answer;
+          finished = d.finished;
+        } };
 
     ghost invariant = { λ d. All IsTicker (H.schedule d.handler) × (length d.dues.items ≡ length (H.schedule d.handler)) };
 }

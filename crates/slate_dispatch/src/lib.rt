@@ -1,6 +1,8 @@
 //! Runs background tasks one turn at a time: a dispatcher hands messages to a handler.
 #![tactic(auto)]
 
+#[cfg(test)]
+mod dispatcher_tests;
 mod dispatchers;
 mod handlers;
 mod tasks;

@@ -21,7 +21,7 @@ loop-index-preserved g c =
       passed =
           below_more _ _ c.loop-index.invariant.passed
           (subst (λ h. get_or (g.H.MessageHandler.ready h) c.loop-index.index false ≡ false) c.loop-index.invariant.same
-           (get_or_from_slice_get (g.H.MessageHandler.ready c.loop-index.handler) c.loop-index.index false false (c.in_default.ensures.none.0 refl)));
+          (get_or_from_slice_get (g.H.MessageHandler.ready c.loop-index.handler) c.loop-index.index false false (c.in_default.ensures.none.0 refl)));
     }
 
 pub returns-clause-none : goal.returns-clause-none

@@ -13,9 +13,12 @@ pub returns-clause-acts : goal.returns-clause-acts
 returns-clause-acts g c =
     let moment_back : to_z w64 (of_z w64 c.args.moment) ≡ c.args.moment = to_z-of_z w64 _ c.ranges.moment in
     let answer : c.match-handle.result ≡ answer_of c.handle.result =
-        elim c.match-handle.branch [
-          in-Ok w ↦ w.result-is ∙ sym (ap answer_of w.in-Ok.is)
-          | in-Err w ↦ w.result-is ∙ sym (ap answer_of w.in-Err.is)
-        ] in
-    (Some c.in-Some.message, _, rw (moment_back, ← c.self.view_is) at c.in-Some.ensures.takes,
-     (c.handle.result, record { step = c.handle.ensures.step; told = c.handle.ensures.answer }, answer, refl))
+    elim c.match-handle.branch [
+      | in-Ok w ↦ w.result-is ∙ sym (ap answer_of w.in-Ok.is)
+      | in-Err w ↦ w.result-is ∙ sym (ap answer_of w.in-Err.is)
+    ] in (
+      Some c.in-Some.message,
+      _,
+      rw (moment_back, ← c.self.view_is) at c.in-Some.ensures.takes,
+      (c.handle.result, record { step = c.handle.ensures.step; told = c.handle.ensures.answer }, answer, refl),
+    )

@@ -177,8 +177,6 @@ impl<H: MessageHandler + Drop> Task for Dispatcher<H>
 where
     H::Message: Drop,
 {
-    ghost use Rattle.std.specs.Prelude.{◌≡◌, ◌↔◌, Some, true, IsTrue};
-    ghost use Rattle.slate_dispatch.specs.Tasks.{Turn, Cancel, Finish, HasEnded};
     ghost use Rattle.slate_dispatch.specs.Turns.{DispatcherSteps};
 
     ghost is_cancelled = { λ d. d.is_cancelled };

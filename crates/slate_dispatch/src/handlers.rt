@@ -1,4 +1,4 @@
-ghost use Rattle.std.specs.Prelude.{◌≡◌, ◌↔◌, ◌<◌, ℕ, Bool, false, List, length, slice_get, Option, Some, Result, IsNone, IfSome, IfNone};
+ghost use Rattle.std.specs.Prelude.{◌≡◌, ◌↔◌, ◌<◌, Bool, false, List, length, slice_get, Option, Some, Result, IsNone, IfSome, IfNone};
 ghost use Rattle.slate_status.specs.declared.closing.CloseFault.{CloseFault};
 ghost use Rattle.slate_dispatch.specs.declared.tickers.TickerDef.{TickerDef};
 ghost use Rattle.slate_dispatch.specs.Handlers.{HandlerCall, Tick, Notify, Handle, Cleanup};

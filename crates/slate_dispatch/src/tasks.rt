@@ -1,4 +1,4 @@
-ghost use Rattle.std.specs.Prelude.{◌≡◌, ◌↔◌, ℤ, ℕ, Bool, true, Option, Some, Result, IsTrue};
+ghost use Rattle.std.specs.Prelude.{◌≡◌, ◌↔◌, Bool, Option, Some, Result, IsTrue};
 ghost use Rattle.slate_status.specs.declared.closing.CloseFault.{CloseFault};
 ghost use Rattle.slate_dispatch.specs.declared.tasks.TurnAnswer.{TurnAnswer};
 ghost use Rattle.slate_dispatch.specs.Tasks.{TaskCall, Turn, Cancel, Finish, HasEnded};

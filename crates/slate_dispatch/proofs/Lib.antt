@@ -1,0 +1,5 @@
+pub mod BoxLemmas
+pub mod FirstReady
+pub mod GroupLemmas
+pub mod RunLemmas
+pub mod TurnLemmas

@@ -1,0 +1,13 @@
+use Rattle.std.specs.Prelude.{ℕ, List, Result}
+use Rattle.slate_status.specs.declared.closing.CloseFault.{CloseFault}
+
+-- a call of a message handler that may change it
+pub data HandlerCall (M : Type 0) : Type 0 where
+  -- the message of the ticker with this index
+  Tick : ℕ → M → HandlerCall M
+  -- the message that the notifier with this index had ready
+  Notify : ℕ → M → HandlerCall M
+  -- a message, and whether it was handled well
+  Handle : M → Result (Unit {0}) CloseFault → HandlerCall M
+  -- the messages that are left, and the result with which all closed
+  Cleanup : List M → Result (Unit {0}) CloseFault → HandlerCall M

@@ -1,0 +1,56 @@
+-- Whole runs of a dispatcher, and what its handler is given of the messages that are sent.
+use Rattle.std.specs.Prelude.{◌≡◌, ◌⊎◌, Bool, List, [], ◌∷◌, ◌++◌, Option, Result}
+use Rattle.slate_status.specs.declared.closing.CloseFault.{CloseFault}
+use Rattle.slate_dispatch.specs.declared.tickers.TickerDef.{TickerDef}
+use Rattle.slate_dispatch.specs.Handlers.{HandlerCall, Handle, Cleanup}
+use Rattle.slate_dispatch.specs.Tasks.{TaskCall, Turn, Cancel, Finish}
+use Rattle.slate_dispatch.specs.Turns.{Dispatching, DispatcherSteps}
+
+-- what is done with a dispatcher: a message is sent to it and accepted, or a call of its task is made
+pub data Deed (M : Type 0) : Type 0 where
+  Send : M → Deed M
+  Call : TaskCall → Deed M
+
+-- the messages that were sent, in order
+abbrev pub sent : {M : Type 0} → List (Deed M) → List M
+sent [] = []
+sent (Send message ∷ deeds) = message ∷ sent deeds
+sent (Call call ∷ deeds) = sent deeds
+
+-- The handler is given these messages in a call: a turn has it handle one of them at most, and the end offers them.
+abbrev pub Gives : {H M : Type 0} → (H → HandlerCall M → H → Type 0) → Dispatching H M → TaskCall → List M → Dispatching H M → Type 0
+Gives {H} {M} steps old (Turn moment random answer) given new =
+    (given ≡ [])
+    ⊎ ((message : M)
+    × (result : Result (Unit {0}) CloseFault)
+    × (given ≡ message ∷ [])
+    × steps old.handler (Handle message result) new.handler)
+Gives steps old Cancel given new = given ≡ []
+Gives steps old (Finish outcome) given new = steps old.handler (Cleanup given outcome) new.handler
+
+abbrev pub with_sent : {H M : Type 0} → M → Dispatching H M → Dispatching H M
+with_sent message d = record d { queue = d.queue ++ message ∷ [] }
+
+-- a run, one thing after another
+abbrev pub Runs : {H M : Type 0} → (H → HandlerCall M → H → Type 0) → (H → List TickerDef) → (H → List Bool) → (H → Option (Result (Unit {0}) CloseFault)) → Dispatching H M → List (Deed M) → Dispatching H M → Type 0
+Runs steps tickers ready tells old [] new = new ≡ old
+Runs steps tickers ready tells old (Send message ∷ deeds) new = Runs steps tickers ready tells (with_sent message old) deeds new
+Runs {H} {M} steps tickers ready tells old (Call call ∷ deeds) new =
+    (mid : Dispatching H M) × DispatcherSteps steps tickers ready tells old call mid × Runs steps tickers ready tells mid deeds new
+
+-- The same run, in which the handler is given these messages, in order.
+abbrev pub RunsGiving : {H M : Type 0} → (H → HandlerCall M → H → Type 0) → (H → List TickerDef) → (H → List Bool) → (H → Option (Result (Unit {0}) CloseFault)) → Dispatching H M → List (Deed M) → List M → Dispatching H M → Type 0
+RunsGiving steps tickers ready tells old [] given new = (given ≡ []) × (new ≡ old)
+RunsGiving steps tickers ready tells old (Send message ∷ deeds) given new = RunsGiving steps tickers ready tells (with_sent message old) deeds given new
+RunsGiving {H} {M} steps tickers ready tells old (Call call ∷ deeds) given new =
+    (mid : Dispatching H M)
+    × (now later : List M)
+    × (given ≡ now ++ later)
+    × DispatcherSteps steps tickers ready tells old call mid
+    × Gives steps old call now mid
+    × RunsGiving steps tickers ready tells mid deeds later new
+
+-- Each message that is sent is given once, in order, or is still in the queue.
+abbrev pub GivesOnce : {H M : Type 0} → (H → HandlerCall M → H → Type 0) → (H → List TickerDef) → (H → List Bool) → (H → Option (Result (Unit {0}) CloseFault)) → Dispatching H M → List (Deed M) → Dispatching H M → Type 0
+GivesOnce {H} {M} steps tickers ready tells old deeds new =
+    (given : List M) × RunsGiving steps tickers ready tells old deeds given new × (old.queue ++ sent deeds ≡ given ++ new.queue)

@@ -1,8 +1,8 @@
 use bytes::Bytes;
 use slate_rows::{KeyValue, NoMemory};
 use slate_script::{
-    Action, LineAnswer, Options, Reply, ScriptFault, print_replies, read_line, read_script,
-    read_words, script_fields,
+    Action, Command, LineAnswer, Options, Reply, ScriptFault, print_replies, read_line,
+    read_script, read_words, script_fields,
 };
 use slate_status::{Ending, SlateError, TaskName};
 use std::alloc::Global;
@@ -97,36 +97,51 @@ fn puts(rt: HostRuntime) -> Result<(), Fail> {
 
 // Comments and blank lines are counted; a carriage return before a newline or at the end is dropped.
 #[test]
-fn scripts(rt: HostRuntime) -> Result<(), Fail> {
-    let fault = read_script(rt.alloc(), b"# c\n\n0 open\r\n0 fly").err();
-    assert_eq!(rt; fault, Some(ScriptFault::Line(4)));
-    let fault = read_script(rt.alloc(), b"0 fly\n0 fly\n").err();
-    assert_eq!(rt; fault, Some(ScriptFault::Line(1)));
-    let fault = read_script(rt.alloc(), b"0 open\r\r\n").err();
-    assert_eq!(rt; fault, Some(ScriptFault::Line(1)));
-    let commands = read_script(rt.alloc(), b"0 open\n\n1 put 0 a %\n2 flush 0\n3 get 0 a\r")?;
-    assert_eq!(rt; commands.len(), 4);
-    assert!(rt; matches!(&commands[0].action, Action::Open));
-    assert!(rt;
-        matches!(
-            &commands[2].action,
+fn refused_scripts(rt: HostRuntime) -> Result<(), Fail> {
+    for (script, line) in [
+        (b"# c\n\n0 open\r\n0 fly".as_slice(), 4),
+        (b"0 fly\n0 fly\n".as_slice(), 1),
+        (b"0 open\r\r\n".as_slice(), 1),
+    ] {
+        let fault = read_script(rt.alloc(), script).err();
+        assert_eq!(rt; fault, Some(ScriptFault::Line(line)));
+    }
+    Ok(())
+}
+
+// Whether these are an opening, a put, a flush and a get of what is there.
+fn are_four(commands: &[Command]) -> bool {
+    let [first, _, third, fourth] = commands else {
+        return false;
+    };
+    matches!(&first.action, Action::Open)
+        && matches!(
+            &third.action,
             Action::Flush {
                 handle: 0,
                 flush_type: None
             }
         )
-    );
-    assert!(rt;
-        matches!(
-            &commands[3].action,
+        && matches!(
+            &fourth.action,
             Action::Get {
                 object: 0,
                 remote: false,
                 ..
             }
         )
-    );
-    assert_eq!(rt; commands[3].moment, 3);
+        && fourth.moment == 3
+}
+
+#[test]
+fn scripts(rt: HostRuntime) -> Result<(), Fail> {
+    let commands = read_script(rt.alloc(), b"0 open\n\n1 put 0 a %\n2 flush 0\n3 get 0 a\r")?;
+    assert!(rt; are_four(commands.as_slice()));
+    Ok(())
+}
+
+#[test]
+fn empty_scripts(rt: HostRuntime) -> Result<(), Fail> {
     for empty in [b"".as_slice(), b"\n\r\n#x".as_slice()] {
         assert!(rt; read_script(rt.alloc(), empty)?.is_empty());
     }
@@ -154,9 +169,9 @@ fn row(alloc: Global, expire_ts: Option<i64>) -> Result<KeyValue, Fail> {
     })
 }
 
-fn printed(alloc: Global, reply: Reply) -> Result<Vec<u8>, NoMemory> {
+fn printed(alloc: Global, replies: &[Reply]) -> Result<Vec<u8>, NoMemory> {
     let mut out = Vec::new(alloc);
-    print_replies(&mut out, &[reply])?;
+    print_replies(&mut out, replies)?;
     Ok(out)
 }
 
@@ -170,74 +185,77 @@ fn ended() -> Ending {
     tasks
 }
 
-#[test]
-fn printed_endings(rt: HostRuntime) -> Result<(), Fail> {
-    let reply = Reply::Ended {
-        fault: None,
-        tasks: ended(),
-    };
-    let want =
-        b"ended memtable_flusher compactor compaction_worker garbage_collector batch_writer\n".as_slice();
-    assert_eq!(rt; printed(rt.alloc(), reply)?.as_slice(), want);
-    let reply = Reply::Ended {
-        fault: Some(SlateError::Fenced),
-        tasks: Ending::new(),
-    };
-    let want = b"error Closed error: detected newer DB client; ended\n".as_slice();
-    assert_eq!(rt; printed(rt.alloc(), reply)?.as_slice(), want);
-    Ok(())
+// A row, with and without a time at which it expires.
+fn rows(alloc: Global) -> Result<Vec<Reply>, Fail> {
+    let mut replies = Vec::with_capacity(alloc, 2)?;
+    replies.push(Reply::Found(row(alloc, None)?))?;
+    replies.push(Reply::Found(row(alloc, Some(5))?))?;
+    Ok(replies)
 }
 
 #[test]
-fn printed_readers(rt: HostRuntime) -> Result<(), Fail> {
-    let reply = Reply::Follower {
-        object: 7,
-        whole: true,
-        at: 0,
-    };
-    let want = b"follower 7 whole at 0\n".as_slice();
-    assert_eq!(rt; printed(rt.alloc(), reply)?.as_slice(), want);
-    let reply = Reply::Polled {
-        whole: false,
-        at: 12,
-    };
-    assert_eq!(rt;
-        printed(rt.alloc(), reply)?.as_slice(),
-        b"truncated at 12\n".as_slice()
-    );
-    assert_eq!(rt;
-        printed(rt.alloc(), Reply::Durable)?.as_slice(),
-        b"durable\n".as_slice()
-    );
-    assert_eq!(rt;
-        printed(rt.alloc(), Reply::Pending)?.as_slice(),
-        b"pending\n".as_slice()
-    );
+fn printed_rows(rt: HostRuntime) -> Result<(), Fail> {
+    let want = "value v%20w number 3 created -4\nvalue v%20w number 3 created -4 expires 5\n";
+    let text = printed(rt.alloc(), rows(rt.alloc())?.as_slice())?;
+    assert_eq!(rt; text.as_slice(), want.as_bytes());
     Ok(())
 }
 
 #[test]
 fn printed_replies(rt: HostRuntime) -> Result<(), Fail> {
-    let alloc = rt.alloc();
-    let replies = vec![in alloc;
+    let replies = [
         Reply::Handle { object: 0 },
         Reply::Written {
             write: 1,
-            number: 2
+            number: 2,
         },
-        Reply::Found(row(alloc, None)?),
-        Reply::Found(row(alloc, Some(5))?),
         Reply::Absent,
         Reply::Flushed,
         Reply::Refused(SlateError::EmptyBatch),
         Reply::Unknown,
         Reply::NoMemory,
-    ]?;
-    let mut out = Vec::new(alloc);
-    print_replies(&mut out, replies.as_slice())?;
+    ];
     let want =
-        b"handle 0\nwrite 1 number 2\nvalue v%20w number 3 created -4\nvalue v%20w number 3 created -4 expires 5\nnone\nflushed\nerror Invalid error: empty write batch not allowed\nerror unknown object\nerror no memory\n";
-    assert_eq!(rt; out.as_slice(), want.as_slice());
+        "handle 0\nwrite 1 number 2\nnone\nflushed\nerror Invalid error: empty write batch not allowed\nerror unknown object\nerror no memory\n";
+    assert_eq!(rt; printed(rt.alloc(), &replies)?.as_slice(), want.as_bytes());
+    Ok(())
+}
+
+#[test]
+fn printed_readers(rt: HostRuntime) -> Result<(), Fail> {
+    let replies = [
+        Reply::Follower {
+            object: 7,
+            whole: true,
+            at: 0,
+        },
+        Reply::Polled {
+            whole: false,
+            at: 12,
+        },
+        Reply::Durable,
+        Reply::Pending,
+    ];
+    let want = "follower 7 whole at 0\ntruncated at 12\ndurable\npending\n";
+    assert_eq!(rt; printed(rt.alloc(), &replies)?.as_slice(), want.as_bytes());
+    Ok(())
+}
+
+#[test]
+fn printed_endings(rt: HostRuntime) -> Result<(), Fail> {
+    let replies = [
+        Reply::Ended {
+            fault: None,
+            tasks: ended(),
+        },
+        Reply::Ended {
+            fault: Some(SlateError::Fenced),
+            tasks: Ending::new(),
+        },
+    ];
+    let want =
+        "ended memtable_flusher compactor compaction_worker garbage_collector batch_writer\nerror Closed error: detected newer DB client; ended\n";
+    assert_eq!(rt; printed(rt.alloc(), &replies)?.as_slice(), want.as_bytes());
     Ok(())
 }
 

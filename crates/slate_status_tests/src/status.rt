@@ -9,16 +9,14 @@ use slate_status::{
 };
 use slate_store::{Manifest, StoreFault, VersionedManifest};
 use std::alloc::Global;
-use std::process::Abort;
 use std::test::Fail;
 use uuid::Uuid;
 
-// Each error is written as the text beside it.
-fn shows(rt: &impl Abort, alloc: Global, error: SlateError, want: &str) -> Result<(), NoMemory> {
+// The text of an error.
+fn shown(alloc: Global, error: SlateError) -> Result<Vec<u8>, NoMemory> {
     let mut out = Vec::new(alloc);
     write_error(&mut out, &error)?;
-    assert_eq!(rt; out.as_slice(), want.as_bytes());
-    Ok(())
+    Ok(out)
 }
 
 fn name(alloc: Global, text: &str) -> Result<Name, NoMemory> {
@@ -36,152 +34,107 @@ fn between(low: KeyBound, high: KeyBound) -> ByteRange {
 // The errors of stores and of what they hold.
 #[test]
 fn texts_of_stores(rt: HostRuntime) -> Result<(), NoMemory> {
-    let alloc = rt.alloc();
-    shows(
-        &rt,
-        alloc,
-        SlateError::ObjectStoreError(StoreFault::NotFound),
-        "Data error: object store error (not found)",
-    )?;
-    shows(
-        &rt,
-        alloc,
-        SlateError::ObjectStoreError(StoreFault::Unavailable),
-        "Unavailable error: object store error (unavailable)",
-    )?;
-    shows(
-        &rt,
-        alloc,
-        SlateError::TransactionalObjectVersionExists,
-        "Data error: transactional object (e.g. manifest) version already exists",
-    )?;
-    shows(
-        &rt,
-        alloc,
-        SlateError::LatestTransactionalObjectVersionMissing,
-        "Data error: failed to find latest transactional object (e.g. manifest) version",
-    )?;
-    shows(
-        &rt,
-        alloc,
-        SlateError::TransactionalObjectTimeout { tries: 8 },
-        "Unavailable error: transactional object (e.g. manifest) op timeout after 8 tries",
-    )?;
-    shows(
-        &rt,
-        alloc,
-        SlateError::InvalidDBState,
-        "Data error: invalid DB state error",
-    )?;
-    shows(
-        &rt,
-        alloc,
-        SlateError::WalTruncated(12),
-        "Data error: wal truncated at wal file `12`",
-    )?;
-    shows(
-        &rt,
-        alloc,
-        SlateError::ChecksumMismatch,
-        "Data error: checksum mismatch",
-    )?;
-    shows(
-        &rt,
-        alloc,
-        SlateError::EmptyBlock,
-        "Data error: empty block",
-    )?;
-    shows(
-        &rt,
-        alloc,
-        SlateError::EmptyBlockMeta,
-        "Data error: empty block metadata",
-    )?;
-    shows(
-        &rt,
-        alloc,
-        SlateError::InvalidFilterBlock,
-        "Data error: invalid composite filter block",
-    )?;
+    for (error, want) in [
+        (
+            SlateError::ObjectStoreError(StoreFault::NotFound),
+            "Data error: object store error (not found)",
+        ),
+        (
+            SlateError::ObjectStoreError(StoreFault::Unavailable),
+            "Unavailable error: object store error (unavailable)",
+        ),
+        (
+            SlateError::TransactionalObjectVersionExists,
+            "Data error: transactional object (e.g. manifest) version already exists",
+        ),
+        (
+            SlateError::LatestTransactionalObjectVersionMissing,
+            "Data error: failed to find latest transactional object (e.g. manifest) version",
+        ),
+        (
+            SlateError::TransactionalObjectTimeout { tries: 8 },
+            "Unavailable error: transactional object (e.g. manifest) op timeout after 8 tries",
+        ),
+        (
+            SlateError::InvalidDBState,
+            "Data error: invalid DB state error",
+        ),
+        (
+            SlateError::WalTruncated(12),
+            "Data error: wal truncated at wal file `12`",
+        ),
+        (
+            SlateError::ChecksumMismatch,
+            "Data error: checksum mismatch",
+        ),
+        (SlateError::EmptyBlock, "Data error: empty block"),
+        (
+            SlateError::EmptyBlockMeta,
+            "Data error: empty block metadata",
+        ),
+        (
+            SlateError::InvalidFilterBlock,
+            "Data error: invalid composite filter block",
+        ),
+    ] {
+        assert_eq!(rt; shown(rt.alloc(), error)?.as_slice(), want.as_bytes());
+    }
     Ok(())
 }
 
 // The errors of writes and merges.
 #[test]
 fn texts_of_writes(rt: HostRuntime) -> Result<(), NoMemory> {
-    let alloc = rt.alloc();
-    shows(
-        &rt,
-        alloc,
-        SlateError::EmptyKey,
-        "Data error: empty RowEntry key",
-    )?;
-    shows(
-        &rt,
-        alloc,
-        SlateError::EmptyBatch,
-        "Invalid error: empty write batch not allowed",
-    )?;
-    shows(
-        &rt,
-        alloc,
-        SlateError::InvalidClockTick {
-            last_tick: 10,
-            next_tick: -5,
-        },
-        "Invalid error: invalid clock tick, must be monotonic. last_tick=`10`, next_tick=`-5`",
-    )?;
-    shows(
-        &rt,
-        alloc,
-        SlateError::Fenced,
-        "Closed error: detected newer DB client",
-    )?;
-    shows(&rt, alloc, SlateError::Closed, "Closed error: db is closed")?;
-    shows(
-        &rt,
-        alloc,
-        SlateError::WalDisabled,
-        "Invalid error: attempted a WAL operation when the WAL is disabled",
-    )?;
-    shows(
-        &rt,
-        alloc,
-        SlateError::TransactionConflict,
-        "Transaction error: transaction conflict",
-    )?;
-    shows(
-        &rt,
-        alloc,
-        SlateError::Backpressure {
-            unflushed: 8,
-            limit: 9,
-        },
-        "Unavailable error: backpressure 8 of 9",
-    )?;
-    shows(
-        &rt,
-        alloc,
-        SlateError::MergeOperatorError,
-        "Invalid error: merge operator error",
-    )?;
-    shows(
-        &rt,
-        alloc,
-        SlateError::MergeOperatorMissing,
-        "Invalid error: merge operator missing. A merge operator is required to read merge operands",
-    )?;
-    shows(
-        &rt,
-        alloc,
-        SlateError::IncompatibleMergeTtls {
-            key: bytes("k"),
-            previous_expire_ts: Some(-5),
-            current_expire_ts: None,
-        },
-        "Invalid error: only one merge TTL per-key allowed in a batch. key=k, previous=`Some(-5)`, current=`None`",
-    )?;
-    shows(&rt, alloc, SlateError::NoMemory, "Memory error: no memory")?;
+    for (error, want) in [
+        (SlateError::EmptyKey, "Data error: empty RowEntry key"),
+        (
+            SlateError::EmptyBatch,
+            "Invalid error: empty write batch not allowed",
+        ),
+        (
+            SlateError::InvalidClockTick {
+                last_tick: 10,
+                next_tick: -5,
+            },
+            "Invalid error: invalid clock tick, must be monotonic. last_tick=`10`, next_tick=`-5`",
+        ),
+        (SlateError::Fenced, "Closed error: detected newer DB client"),
+        (SlateError::Closed, "Closed error: db is closed"),
+        (
+            SlateError::WalDisabled,
+            "Invalid error: attempted a WAL operation when the WAL is disabled",
+        ),
+        (
+            SlateError::TransactionConflict,
+            "Transaction error: transaction conflict",
+        ),
+        (
+            SlateError::Backpressure {
+                unflushed: 8,
+                limit: 9,
+            },
+            "Unavailable error: backpressure 8 of 9",
+        ),
+        (
+            SlateError::MergeOperatorError,
+            "Invalid error: merge operator error",
+        ),
+        (
+            SlateError::MergeOperatorMissing,
+            "Invalid error: merge operator missing. A merge operator is required to read merge operands",
+        ),
+        (
+            SlateError::IncompatibleMergeTtls {
+                key: bytes("k"),
+                previous_expire_ts: Some(-5),
+                current_expire_ts: None,
+            },
+            "Invalid error: only one merge TTL per-key allowed in a batch. key=k, previous=`Some(-5)`, current=`None`",
+        ),
+        (SlateError::NoMemory, "Memory error: no memory"),
+    ] {
+        assert_eq!(rt; shown(rt.alloc(), error)?.as_slice(), want.as_bytes());
+    }
     Ok(())
 }
 
@@ -189,124 +142,101 @@ fn texts_of_writes(rt: HostRuntime) -> Result<(), NoMemory> {
 #[test]
 fn texts_of_segments(rt: HostRuntime) -> Result<(), NoMemory> {
     let alloc = rt.alloc();
-    shows(
-        &rt,
-        alloc,
-        SlateError::InvalidSegmentPrefix {
-            prefix: bytes("a b"),
-            conflict: bytes("a"),
-        },
-        "Invalid error: segment prefix a%20b would nest with existing segment a",
-    )?;
-    shows(
-        &rt,
-        alloc,
-        SlateError::RecencyScanPrefixSpansMultipleSegments,
-        "Invalid error: recency scan prefix spans multiple segments, which is unsupported",
-    )?;
-    shows(
-        &rt,
-        alloc,
-        SlateError::EmptySegmentPrefix { key: bytes("") },
-        "Invalid error: segment extractor produced an empty prefix for key %",
-    )?;
-    shows(
-        &rt,
-        alloc,
-        SlateError::SegmentExtractorMismatch {
-            persisted: None,
-            configured: Some(name(alloc, "fixed-2")?),
-        },
-        "Invalid error: segment extractor configuration mismatch (persisted: None, configured: fixed-2)",
-    )?;
-    shows(
-        &rt,
-        alloc,
-        SlateError::SegmentPrefixNotRecognized {
-            prefix: bytes("ab"),
-            extractor: name(alloc, "fixed-3")?,
-        },
-        "Invalid error: segment prefix ab is not recognized by the configured extractor `fixed-3`",
-    )?;
-    shows(
-        &rt,
-        alloc,
-        SlateError::BackgroundTaskExists(name(alloc, "compactor")?),
-        "Internal error: background task exists. name=`compactor`",
-    )?;
-    shows(
-        &rt,
-        alloc,
-        SlateError::BackgroundTaskExecutorStarted,
-        "Internal error: background task executor already started",
-    )?;
-    shows(
-        &rt,
-        alloc,
-        SlateError::Custom(4),
-        "Closed error: task fault 4",
-    )?;
+    let extractor = name(alloc, "fixed-2")?;
+    let other = name(alloc, "fixed-3")?;
+    let task = name(alloc, "compactor")?;
+    for (error, want) in [
+        (
+            SlateError::InvalidSegmentPrefix {
+                prefix: bytes("a b"),
+                conflict: bytes("a"),
+            },
+            "Invalid error: segment prefix a%20b would nest with existing segment a",
+        ),
+        (
+            SlateError::RecencyScanPrefixSpansMultipleSegments,
+            "Invalid error: recency scan prefix spans multiple segments, which is unsupported",
+        ),
+        (
+            SlateError::EmptySegmentPrefix { key: bytes("") },
+            "Invalid error: segment extractor produced an empty prefix for key %",
+        ),
+        (
+            SlateError::SegmentExtractorMismatch {
+                persisted: None,
+                configured: Some(extractor),
+            },
+            "Invalid error: segment extractor configuration mismatch (persisted: None, configured: fixed-2)",
+        ),
+        (
+            SlateError::SegmentPrefixNotRecognized {
+                prefix: bytes("ab"),
+                extractor: other,
+            },
+            "Invalid error: segment prefix ab is not recognized by the configured extractor `fixed-3`",
+        ),
+        (
+            SlateError::BackgroundTaskExists(task),
+            "Internal error: background task exists. name=`compactor`",
+        ),
+        (
+            SlateError::BackgroundTaskExecutorStarted,
+            "Internal error: background task executor already started",
+        ),
+        (SlateError::Custom(4), "Closed error: task fault 4"),
+    ] {
+        assert_eq!(rt; shown(alloc, error)?.as_slice(), want.as_bytes());
+    }
     Ok(())
 }
 
 // The errors of followers and seeks.
 #[test]
 fn texts_of_followers(rt: HostRuntime) -> Result<(), NoMemory> {
-    let alloc = rt.alloc();
-    shows(
-        &rt,
-        alloc,
-        SlateError::CheckpointMissing(Uuid::from_u128(9)),
-        "Data error: checkpoint missing. checkpoint_id=`00000000-0000-0000-0000-000000000009`",
-    )?;
-    shows(
-        &rt,
-        alloc,
-        SlateError::InvalidCheckpointLifetime(999),
-        "Invalid error: invalid checkpoint lifetime. lifetime=`999ms`",
-    )?;
-    shows(
-        &rt,
-        alloc,
-        SlateError::InvalidManifestPollInterval(7),
-        "Invalid error: invalid manifest poll interval. interval=`7ms`",
-    )?;
-    shows(
-        &rt,
-        alloc,
-        SlateError::CheckpointLifetimeTooShort {
-            lifetime: 1000,
-            interval: 1002,
-        },
-        "Invalid error: checkpoint lifetime must be at least double the manifest poll interval. lifetime=`1000ms`, interval=`1002ms`",
-    )?;
-    shows(
-        &rt,
-        alloc,
-        SlateError::SeekKeyOutOfRange {
-            key: bytes("a"),
-            range: between(
-                KeyBound::Included(bytes("b")),
-                KeyBound::Excluded(bytes("c")),
-            ),
-        },
-        "Invalid error: cannot seek to a key outside the iterator range. key=`a`, range=`[b (c`",
-    )?;
-    shows(
-        &rt,
-        alloc,
-        SlateError::SeekKeyOutOfRange {
-            key: bytes("a"),
-            range: ByteRange::full(),
-        },
-        "Invalid error: cannot seek to a key outside the iterator range. key=`a`, range=`* *`",
-    )?;
-    shows(
-        &rt,
-        alloc,
-        SlateError::SeekKeyLessThanLastReturnedKey,
-        "Invalid error: cannot seek to a key less than the last returned key",
-    )?;
+    for (error, want) in [
+        (
+            SlateError::CheckpointMissing(Uuid::from_u128(9)),
+            "Data error: checkpoint missing. checkpoint_id=`00000000-0000-0000-0000-000000000009`",
+        ),
+        (
+            SlateError::InvalidCheckpointLifetime(999),
+            "Invalid error: invalid checkpoint lifetime. lifetime=`999ms`",
+        ),
+        (
+            SlateError::InvalidManifestPollInterval(7),
+            "Invalid error: invalid manifest poll interval. interval=`7ms`",
+        ),
+        (
+            SlateError::CheckpointLifetimeTooShort {
+                lifetime: 1000,
+                interval: 1002,
+            },
+            "Invalid error: checkpoint lifetime must be at least double the manifest poll interval. lifetime=`1000ms`, interval=`1002ms`",
+        ),
+        (
+            SlateError::SeekKeyOutOfRange {
+                key: bytes("a"),
+                range: between(
+                    KeyBound::Included(bytes("b")),
+                    KeyBound::Excluded(bytes("c")),
+                ),
+            },
+            "Invalid error: cannot seek to a key outside the iterator range. key=`a`, range=`[b (c`",
+        ),
+        (
+            SlateError::SeekKeyOutOfRange {
+                key: bytes("a"),
+                range: ByteRange::full(),
+            },
+            "Invalid error: cannot seek to a key outside the iterator range. key=`a`, range=`* *`",
+        ),
+        (
+            SlateError::SeekKeyLessThanLastReturnedKey,
+            "Invalid error: cannot seek to a key less than the last returned key",
+        ),
+    ] {
+        assert_eq!(rt; shown(rt.alloc(), error)?.as_slice(), want.as_bytes());
+    }
     Ok(())
 }
 

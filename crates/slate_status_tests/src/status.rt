@@ -240,32 +240,63 @@ fn texts_of_followers(rt: HostRuntime) -> Result<(), NoMemory> {
     Ok(())
 }
 
-// An error that a caller makes, without and with a source.
-#[test]
-fn public_texts(rt: HostRuntime) -> Result<(), Fail> {
-    let alloc = rt.alloc();
+// The public text of an error.
+fn public_text(alloc: Global, error: Error) -> Result<Vec<u8>, NoMemory> {
     let mut out = Vec::new(alloc);
-    let error = Error::invalid(name(alloc, "x")?);
     error.write_text(&mut out)?;
-    error.with_source(name(alloc, "y")?).write_text(&mut out)?;
-    let caused = Error::from(SlateError::ObjectStoreError(StoreFault::NotFound));
-    caused.with_source(name(alloc, "z")?).write_text(&mut out)?;
-    let want = "Invalid error: xInvalid error: x (y)Data error: object store error (z)";
-    assert_eq!(rt; out.as_slice(), want.as_bytes());
+    Ok(out)
+}
+
+#[test]
+fn error_of_a_caller(rt: HostRuntime) -> Result<(), NoMemory> {
+    let error = Error::invalid(name(rt.alloc(), "x")?);
+    assert_eq!(rt;
+        public_text(rt.alloc(), error)?.as_slice(),
+        b"Invalid error: x".as_slice()
+    );
+    Ok(())
+}
+
+fn with_source(alloc: Global, error: Error) -> Result<Error, NoMemory> {
+    Ok(error.with_source(name(alloc, "y")?))
+}
+
+#[test]
+fn error_with_a_source(rt: HostRuntime) -> Result<(), NoMemory> {
+    let error = with_source(rt.alloc(), Error::invalid(name(rt.alloc(), "x")?))?;
+    assert_eq!(rt;
+        public_text(rt.alloc(), error)?.as_slice(),
+        b"Invalid error: x (y)".as_slice()
+    );
     Ok(())
 }
 
 #[test]
-fn kinds(rt: HostRuntime) -> Result<(), Fail> {
-    assert_eq!(rt;
+fn source_of_a_cause(rt: HostRuntime) -> Result<(), NoMemory> {
+    let caused = Error::from(SlateError::ObjectStoreError(StoreFault::NotFound));
+    let error = with_source(rt.alloc(), caused)?;
+    let want = b"Data error: object store error (y)".as_slice();
+    assert_eq!(rt; public_text(rt.alloc(), error)?.as_slice(), want);
+    Ok(())
+}
+
+#[test]
+fn kinds(rt: HostRuntime) {
+    let kinds = (
         SlateError::Fenced.kind(),
-        ErrorKind::Closed(CloseReason::Fenced)
-    );
-    assert_eq!(rt;
         CloseReason::from(ErrorKind::Closed(CloseReason::Clean)),
-        CloseReason::Clean
+        CloseReason::from(ErrorKind::Data),
     );
-    assert_eq!(rt; CloseReason::from(ErrorKind::Data), CloseReason::Panic);
+    let want = (
+        ErrorKind::Closed(CloseReason::Fenced),
+        CloseReason::Clean,
+        CloseReason::Panic,
+    );
+    assert_eq!(rt; kinds, want);
+}
+
+#[test]
+fn words_of_a_kind(rt: HostRuntime) -> Result<(), Fail> {
     let words = ErrorKind::Transaction.to_string(rt.alloc())?;
     assert_eq!(rt; words.as_str(), "Transaction error");
     Ok(())
@@ -376,29 +407,46 @@ fn joint_report(rt: HostRuntime) -> Result<(), NoMemory> {
     Ok(())
 }
 
-#[test]
-fn older_manifest(rt: HostRuntime) -> Result<(), Fail> {
-    let alloc = rt.alloc();
+// Whether the version rose, the version and the id of the manifest, after a manifest with a smaller id is reported.
+fn report_older(alloc: Global) -> Result<(bool, u64, u64), NoMemory> {
     let mut record = record(alloc, 5, b"")?;
-    assert!(rt; !record.report_manifest(manifest(alloc, 3, b"")?));
-    assert_eq!(rt; record.version(), 0);
-    assert_eq!(rt; record.status(alloc)?.current_manifest.id, 5);
+    let rose = record.report_manifest(manifest(alloc, 3, b"")?);
+    let id = record.status(alloc)?.current_manifest.id;
+    Ok((rose, record.version(), id))
+}
+
+#[test]
+fn older_manifest(rt: HostRuntime) -> Result<(), NoMemory> {
+    assert_eq!(rt; report_older(rt.alloc())?, (false, 0, 5));
     Ok(())
+}
+
+fn is_durable(record: &StatusRecord, number: u64) -> bool {
+    matches!(record.durable_answer(number), DurableAnswer::Durable)
+}
+
+fn is_pending(record: &StatusRecord, number: u64) -> bool {
+    matches!(record.durable_answer(number), DurableAnswer::Pending)
+}
+
+fn is_fenced(record: &StatusRecord, number: u64) -> bool {
+    matches!(
+        record.durable_answer(number),
+        DurableAnswer::Failed(SlateError::Fenced)
+    )
 }
 
 // What waits for a number is answered before and after a close.
 #[test]
-fn durable_answers(rt: HostRuntime) -> Result<(), Fail> {
+fn durable_answers(rt: HostRuntime) -> Result<(), NoMemory> {
     let mut record = record(rt.alloc(), 1, b"")?;
-    assert!(rt; record.report_durable_seq(3));
-    assert!(rt; matches!(record.durable_answer(3), DurableAnswer::Durable));
-    assert!(rt; matches!(record.durable_answer(4), DurableAnswer::Pending));
-    assert!(rt; record.report_closed(Err(CloseFault::Fenced)));
-    assert!(rt;
-        matches!(
-            record.durable_answer(4),
-            DurableAnswer::Failed(SlateError::Fenced)
-        )
+    let rose = record.report_durable_seq(3);
+    let open = (is_durable(&record, 3), is_pending(&record, 4));
+    let closed = record.report_closed(Err(CloseFault::Fenced));
+    let after = (is_durable(&record, 3), is_fenced(&record, 4));
+    assert_eq!(rt;
+        (rose, open, closed, after),
+        (true, (true, true), true, (true, true))
     );
     Ok(())
 }

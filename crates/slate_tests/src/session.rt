@@ -361,14 +361,15 @@ fn run_all(alloc: Global, script: &[u8]) -> Result<Vec<u8>, ScriptFault> {
     Ok(text)
 }
 
-// The text of the reply to one command.
+// Does one command, and adds the text of the reply.
 fn apply_one(
     alloc: Global,
     live: &mut LiveState,
     store: &mut MemoryStore,
+    text: &mut Vec<u8>,
     moment: i64,
     action: Action,
-) -> Result<Vec<u8>, NoMemory>
+) -> Result<(), NoMemory>
     requires { IsBuilt action }
 {
     let operator = Some(&ConcatOperator);
@@ -379,9 +380,7 @@ fn apply_one(
         action,
     };
     let reply = live.apply(alloc, store, operator, extractor, &command);
-    let mut text = Vec::new(alloc);
-    print_replies(&mut text, &[reply])?;
-    Ok(text)
+    print_replies(text, &[reply])
 }
 
 // A script's commands are run by one call.
@@ -414,27 +413,35 @@ fn get(alloc: Global) -> Result<Action, NoMemory>
     })
 }
 
-// What no script line says yet: a read from durable batches doesn't see what isn't flushed, and a row keeps the time of
-// expiry of its put.
-#[test]
-fn applied_one_by_one(rt: HostRuntime) -> Result<(), Fail> {
-    let alloc = rt.alloc();
+// The text of the replies to an opening, a put, a durable get, a flush and the same get.
+fn applied(alloc: Global) -> Result<Vec<u8>, NoMemory> {
     let mut store = MemoryStore::new(alloc);
     let mut live = LiveState::new(alloc, &OPTIONS);
+    let mut text = Vec::new(alloc);
     let flush = Action::Flush {
         handle: 0,
         flush_type: Some(FlushType::Wal),
     };
-    let text = apply_one(alloc, &mut live, &mut store, 0, Action::Open)?;
-    assert_eq!(rt; text.as_slice(), b"handle 0\n".as_slice());
-    let text = apply_one(alloc, &mut live, &mut store, 1, put(alloc, b"x")?)?;
-    assert_eq!(rt; text.as_slice(), b"write 0 number 1\n".as_slice());
-    let text = apply_one(alloc, &mut live, &mut store, 2, get(alloc)?)?;
-    assert_eq!(rt; text.as_slice(), b"none\n".as_slice());
-    let text = apply_one(alloc, &mut live, &mut store, 3, flush)?;
-    assert_eq!(rt; text.as_slice(), b"flushed\n".as_slice());
-    let text = apply_one(alloc, &mut live, &mut store, 4, get(alloc)?)?;
-    let want = b"value x number 1 created 1 expires 99\n".as_slice();
-    assert_eq!(rt; text.as_slice(), want);
+    apply_one(alloc, &mut live, &mut store, &mut text, 0, Action::Open)?;
+    apply_one(
+        alloc,
+        &mut live,
+        &mut store,
+        &mut text,
+        1,
+        put(alloc, b"x")?,
+    )?;
+    apply_one(alloc, &mut live, &mut store, &mut text, 2, get(alloc)?)?;
+    apply_one(alloc, &mut live, &mut store, &mut text, 3, flush)?;
+    apply_one(alloc, &mut live, &mut store, &mut text, 4, get(alloc)?)?;
+    Ok(text)
+}
+
+// What no script line says yet: a read from durable batches doesn't see what isn't flushed, and a row keeps the time of
+// expiry of its put.
+#[test]
+fn applied_one_by_one(rt: HostRuntime) -> Result<(), NoMemory> {
+    let want = "handle 0\nwrite 0 number 1\nnone\nflushed\nvalue x number 1 created 1 expires 99\n";
+    assert_eq!(rt; applied(rt.alloc())?.as_slice(), want.as_bytes());
     Ok(())
 }

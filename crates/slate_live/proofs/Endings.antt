@@ -2,7 +2,7 @@ use Rattle.std.proofs.Common.{◌≡◌, inl, inr, List, [], Option, Some, None,
 use Rattle.slate_script.specs.declared.options.Options.{Options}
 use Rattle.slate_script.specs.declared.replies.Reply.{Reply}
 use Rattle.slate_live.specs.Session.{Ends, KeepsOutput, Sides}
-use Rattle.slate_live.specs.declared.sessions.Ending.TheVariants.{NoMemory, WordsRefused}
+use Rattle.slate_live.specs.declared.sessions.Outcome.TheVariants.{NoMemory, WordsRefused}
 
 -- words that spell no options end a session before anything is read
 pub ends-refused : (words : Option Options) (replies : List Reply) (s : Sides) → words ≡ None → replies ≡ [] → Ends words replies WordsRefused s s

@@ -1,5 +1,5 @@
 -- What commands keep: the handles with their lines, and the writes with their batches.
-use Rattle.std.proofs.Common.{◌≡◌, ◌⊎◌, inl, inr, ℕ, ℤ, zero, suc, ◌+◌, Bool, true, false, List, [], ◌∷◌, ◌++◌, set, length, Option, Some, None, Result, Ok, Err, refl, sym, subst, ap, ◌∙◌, arith, leb, if◌then◌else◌}
+use Rattle.std.proofs.Common.{◌≡◌, ◌⊎◌, inl, inr, ℕ, ℤ, zero, suc, ◌+◌, Bool, true, false, List, [], ◌∷◌, ◌++◌, set, length, Option, Some, None, Result, Ok, Err, refl, sym, subst, ap, ◌∙◌, leb, if◌then◌else◌}
 use Rattle.std.specs.List.{slice_get}
 use Rattle.std.proofs.lemmas.Bool.{cases_eq}
 use Rattle.slate_rows.specs.declared.batches.Batch.{Batch}
@@ -10,7 +10,6 @@ use Rattle.slate_rows.specs.declared.reads.ReadFault.{ReadFault}
 use Rattle.slate_rows.specs.Line.{IsPrefix, Line, end}
 use Rattle.slate_rows.specs.Operator.{Merge}
 use Rattle.slate_store.specs.declared.objects.VersionedManifest.{VersionedManifest}
-use Rattle.slate_status.specs.declared.closing.CloseFault.{CloseFault}
 use Rattle.slate_status.specs.declared.endings.TaskName.{TaskName}
 use Rattle.slate_status.specs.declared.errors.SlateError.{SlateError}
 use Rattle.slate_status.specs.declared.errors.SlateError.TheVariants as errors
@@ -28,13 +27,13 @@ use Rattle.slate_live.specs.declared.states.Object.{Object}
 use Rattle.slate_live.specs.declared.states.Object.TheVariants as objects
 use Rattle.slate_live.specs.declared.states.Write.{Write}
 use Rattle.slate_live.specs.Confirmed.{StandsIn}
-use Rattle.slate_live.specs.Next.{AwaitsWrite, ClosesOpen, ClosesUnless, FlushesUnless, FollowerReads, IsReadReply, Next, NextBy, PollsUnless, ReadsUnless, WritesIn, WritesUnless, closed_follower, done_or_refused, durable_reply, ended_reply, flush_of_close, follower_ended, follower_reply, objects_after_follow, objects_after_open, pending_reply, polled, polled_reply, put_op, refusal}
+use Rattle.slate_live.specs.Next.{AwaitsWrite, ClosesOpen, ClosesUnless, FlushesUnless, FollowerReads, IsReadReply, Next, NextBy, PollsUnless, ReadsUnless, WritesIn, WritesUnless, closed_follower, done_or_refused, ended_reply, flush_of_close, follower_ended, follower_reply, objects_after_follow, objects_after_open, pending_reply, polled, polled_reply, put_op, refusal}
 use Rattle.slate_live.specs.Settings.{Settings}
 use Rattle.slate_live.specs.Stands.{IsHandleAt}
 use Rattle.slate_live.specs.World.{World}
-use Rattle.slate_live.proofs.Growing.{prefix-extend, prefix-same}
+use Rattle.slate_live.proofs.Growing.{prefix-same}
 use Rattle.slate_live.proofs.Handles.{get-set_other, get-set_same}
-use Rattle.slate_live.proofs.Rising.{await-same, by-kind, follower-read-same, get-before, read-same}
+use Rattle.slate_live.proofs.Rising.{by-kind, get-before}
 
 -- handles stay handles, and their lines only grow
 abbrev pub KeepsHandles : List Object → List Object → Type 0
@@ -178,14 +177,14 @@ tells-durable w true r = tt
 tells-durable w false r = tells-pending w r
 
 -- what a command keeps, and that it tells its write
-pub record Steps (w : World) (reply : Reply) (w' : World) : Type 0 where
+pub record KeepsAndTells (w : World) (reply : Reply) (w' : World) : Type 0 where
   pub keeps : Keeps w w'
   pub tells : Tells w' reply
 
-only : (w : World) (answer reply : Reply) (w' : World) → Tells w' answer → reply ≡ answer → w' ≡ w → Steps w reply w'
+only : (w : World) (answer reply : Reply) (w' : World) → Tells w' answer → reply ≡ answer → w' ≡ w → KeepsAndTells w reply w'
 only w answer reply w' tells is same = record { keeps = keeps-world w w' same; tells = tells-by w' is tells }
 
-write-steps : (w w' : World) (refused : Option SlateError) (n : ℕ) (h : Handle) (ops : List KeyOp) (moment : Option ℤ) (reply : Reply) → IsHandleAt w.objects n h → WritesUnless refused w n h ops moment reply w' → Steps w reply w'
+write-steps : (w w' : World) (refused : Option SlateError) (n : ℕ) (h : Handle) (ops : List KeyOp) (moment : Option ℤ) (reply : Reply) → IsHandleAt w.objects n h → WritesUnless refused w n h ops moment reply w' → KeepsAndTells w reply w'
 write-steps w w' (Some error) n h ops moment reply at next = only w (replies.Refused error) reply w' tt next.0 next.1
 write-steps w w' None n h ops moment reply at next =
     let write : Write = record { handle = n; number = accepted h + 1 } in
@@ -195,12 +194,12 @@ write-steps w w' None n h ops moment reply at next =
       tells = tells-by w' next.2 (write, subst (λ ws. slice_get ws (length w.writes) ≡ Some write) (sym writes_are) (get-seam w.writes write), refl);
     }
 
-writes-step : (w w' : World) (n : ℕ) (h : Handle) (ops : List KeyOp) (moment : ℤ) (second : Option ℤ) (reply : Reply) → IsHandleAt w.objects n h → WritesIn w n h ops moment second reply w' → Steps w reply w'
+writes-step : (w w' : World) (n : ℕ) (h : Handle) (ops : List KeyOp) (moment : ℤ) (second : Option ℤ) (reply : Reply) → IsHandleAt w.objects n h → WritesIn w n h ops moment second reply w' → KeepsAndTells w reply w'
 writes-step w w' n h ops moment second reply at (inl same) = only w replies.NoMemory reply w' tt same.0 same.1
 writes-step w w' n h ops moment second reply at (inr next) = write-steps w w' _ n h ops _ reply at next
 
 -- a handle that was changed, its line kept
-handle-steps : (w w' : World) (n : ℕ) (h h' : Handle) (reply : Reply) → IsHandleAt w.objects n h → h'.line ≡ h.line → w'.objects ≡ set w.objects n (objects.Handle h') → w'.writes ≡ w.writes → Tells w' reply → Steps w reply w'
+handle-steps : (w w' : World) (n : ℕ) (h h' : Handle) (reply : Reply) → IsHandleAt w.objects n h → h'.line ≡ h.line → w'.objects ≡ set w.objects n (objects.Handle h') → w'.writes ≡ w.writes → Tells w' reply → KeepsAndTells w reply w'
 handle-steps w w' n h h' reply at line objects_are writes_are tells =
     record {
       keeps = keeps-by w w' (keeps-handle w.objects w'.objects n h h' at (subst (IsPrefix h.line) (sym line) (prefix-same h.line)) objects_are) writes_are;
@@ -211,14 +210,14 @@ flushed-line : (h : Handle) (view : VersionedManifest) (r : Result (Unit {0}) Sl
 flushed-line h view (Ok x) = refl
 flushed-line h view (Err e) = refl
 
-flush-steps : (w w' : World) (result : CloseResult) (keeps : Bool) (n : ℕ) (h : Handle) (reply : Reply) → IsHandleAt w.objects n h → FlushesUnless result keeps w n h reply w' → Steps w reply w'
+flush-steps : (w w' : World) (result : CloseResult) (keeps : Bool) (n : ℕ) (h : Handle) (reply : Reply) → IsHandleAt w.objects n h → FlushesUnless result keeps w n h reply w' → KeepsAndTells w reply w'
 flush-steps w w' (Some r) keeps n h reply at next = only w _ reply w' tt next.0 next.1
 flush-steps w w' None false n h reply at next = only w _ reply w' tt next.0 next.1
 flush-steps w w' None true n h reply at next =
     handle-steps w w' n h (flushed h next.view next.result) reply at (flushed-line h next.view next.result) next.objects_after next.writes
     (tells-by w' next.answered (tells-done w' replies.Flushed next.result tt))
 
-close-steps : (w w' : World) (flush_type : Option FlushType) (keeps : Bool) (n : ℕ) (h : Handle) (reply : Reply) → IsHandleAt w.objects n h → ClosesOpen flush_type keeps w n h reply w' → Steps w reply w'
+close-steps : (w w' : World) (flush_type : Option FlushType) (keeps : Bool) (n : ℕ) (h : Handle) (reply : Reply) → IsHandleAt w.objects n h → ClosesOpen flush_type keeps w n h reply w' → KeepsAndTells w reply w'
 close-steps w w' None keeps n h reply at next =
     handle-steps w w' n h _ reply at refl (ap (λ (x : World). x.objects) next.1) (ap (λ (x : World). x.writes) next.1) (tells-by w' next.0 (tells-ended w' None []))
 close-steps w w' (Some flush_type) false n h reply at next =
@@ -226,7 +225,7 @@ close-steps w w' (Some flush_type) false n h reply at next =
 close-steps w w' (Some flush_type) true n h reply at next =
     handle-steps w w' n h _ reply at (flushed-line h next.view next.result) next.objects_after next.writes (tells-by w' next.answered (tells-ended w' _ []))
 
-closes-step : (w w' : World) (result : CloseResult) (flush_type : Option FlushType) (n : ℕ) (h : Handle) (reply : Reply) → IsHandleAt w.objects n h → ClosesUnless result flush_type h.keeps_log w n h reply w' → Steps w reply w'
+closes-step : (w w' : World) (result : CloseResult) (flush_type : Option FlushType) (n : ℕ) (h : Handle) (reply : Reply) → IsHandleAt w.objects n h → ClosesUnless result flush_type h.keeps_log w n h reply w' → KeepsAndTells w reply w'
 closes-step w w' (Some r) flush_type n h reply at next = only w _ reply w' (tells-ended w' _ []) next.0 next.1
 closes-step w w' None flush_type n h reply at next = close-steps w w' flush_type h.keeps_log n h reply at next
 
@@ -250,7 +249,7 @@ tells-poll : (w : World) (at : ℕ) (r : Result (Unit {0}) SlateError) → Tells
 tells-poll w at (Ok x) = tt
 tells-poll w at (Err e) = tells-refusal w e
 
-poll-steps : (w w' : World) (result : CloseResult) (n : ℕ) (f : Follower) (reply : Reply) → slice_get w.objects n ≡ Some (objects.Follower f) → PollsUnless result w n f reply w' → Steps w reply w'
+poll-steps : (w w' : World) (result : CloseResult) (n : ℕ) (f : Follower) (reply : Reply) → slice_get w.objects n ≡ Some (objects.Follower f) → PollsUnless result w n f reply w' → KeepsAndTells w reply w'
 poll-steps w w' (Some r) n f reply at next = only w _ reply w' tt next.0 next.1
 poll-steps w w' None n f reply at next =
     record {
@@ -258,39 +257,39 @@ poll-steps w w' None n f reply at next =
       tells = tells-by w' next.answered (tells-poll w' (end w.stored) next.result);
     }
 
-read-steps : (merge : Option Merge) (w w' : World) (result : CloseResult) (h : Handle) (key : List ℕ) (remote : Bool) (reply : Reply) → ReadsUnless result merge w h key remote reply w' → Steps w reply w'
+read-steps : (merge : Option Merge) (w w' : World) (result : CloseResult) (h : Handle) (key : List ℕ) (remote : Bool) (reply : Reply) → ReadsUnless result merge w h key remote reply w' → KeepsAndTells w reply w'
 read-steps merge w w' (Some r) h key remote reply next = only w _ reply w' tt next.0 next.1
 read-steps merge w w' None h key remote reply next = only w reply reply w' (tells-read w' _ reply next.0) refl next.1
 
-follower-read-steps : (merge : Option Merge) (w w' : World) (result : CloseResult) (f : Follower) (key : List ℕ) (reply : Reply) → FollowerReads result merge w f key reply w' → Steps w reply w'
+follower-read-steps : (merge : Option Merge) (w w' : World) (result : CloseResult) (f : Follower) (key : List ℕ) (reply : Reply) → FollowerReads result merge w f key reply w' → KeepsAndTells w reply w'
 follower-read-steps merge w w' (Some r) f key reply next = only w _ reply w' tt next.0 next.1
 follower-read-steps merge w w' None f key reply next = only w reply reply w' (tells-read w' _ reply next.0) refl next.1
 
-await-steps : (w w' : World) (write : Option Write) (reply : Reply) → AwaitsWrite write w reply w' → Steps w reply w'
+await-steps : (w w' : World) (write : Option Write) (reply : Reply) → AwaitsWrite write w reply w' → KeepsAndTells w reply w'
 await-steps w w' None reply next = only w _ reply w' tt next.0 next.1
 await-steps w w' (Some write) reply next =
-    by-kind (slice_get w.objects write.handle) _ _ _ (Steps w reply w') next
+    by-kind (slice_get w.objects write.handle) _ _ _ (KeepsAndTells w reply w') next
     (λ h at told. only w _ reply w' (tells-durable w' (leb write.number h.durable) h.result) told.0 told.1)
     (λ f at told. only w _ reply w' tt told.0 told.1) (λ told. only w _ reply w' tt told.0 told.1)
 
-steps-by : (settings : Settings) (w : World) (moment : ℤ) (second : Option ℤ) (action : Action) (reply : Reply) (w' : World) → NextBy settings w moment second action reply w' → Steps w reply w'
+steps-by : (settings : Settings) (w : World) (moment : ℤ) (second : Option ℤ) (action : Action) (reply : Reply) (w' : World) → NextBy settings w moment second action reply w' → KeepsAndTells w reply w'
 steps-by settings w moment second actions.Open reply w' next =
     record {
       keeps = keeps-by w w' (open-steps settings.options w w' next.result next.objects_after) next.writes;
       tells = tells-by w' next.answered (tells-done w' _ next.result tt);
     }
 steps-by settings w moment second (actions.Put n key value expire) reply w' next =
-    by-kind (slice_get w.objects n) _ _ _ (Steps w reply w') next
+    by-kind (slice_get w.objects n) _ _ _ (KeepsAndTells w reply w') next
     (λ h at writes. writes-step w w' n h (put_op key value expire ∷ []) moment second reply at writes) (λ f at told. only w _ reply w' tt told.0 told.1) (λ told. only w _ reply w' tt told.0 told.1)
 steps-by settings w moment second (actions.Flush n flush_type) reply w' next =
-    by-kind (slice_get w.objects n) _ _ _ (Steps w reply w') next
+    by-kind (slice_get w.objects n) _ _ _ (KeepsAndTells w reply w') next
     (λ h at flushes. flush-steps w w' h.result h.keeps_log n h reply at flushes) (λ f at told. only w _ reply w' tt told.0 told.1) (λ told. only w _ reply w' tt told.0 told.1)
 steps-by settings w moment second (actions.Get n key remote) reply w' next =
-    by-kind (slice_get w.objects n) _ _ _ (Steps w reply w') next
+    by-kind (slice_get w.objects n) _ _ _ (KeepsAndTells w reply w') next
     (λ h at reads. read-steps settings.merge w w' h.result h key remote reply reads)
     (λ f at reads. follower-read-steps settings.merge w w' f.result f key reply reads) (λ told. only w _ reply w' tt told.0 told.1)
 steps-by settings w moment second (actions.Close n options) reply w' next =
-    by-kind (slice_get w.objects n) _ _ _ (Steps w reply w') next
+    by-kind (slice_get w.objects n) _ _ _ (KeepsAndTells w reply w') next
     (λ h at closes. closes-step w w' h.result (flush_of_close options) n h reply at closes)
     (λ f at closes. record {
       keeps = keeps-by w w' (keeps-follower w.objects w'.objects n f (closed_follower f) at (ap (λ (x : World). x.objects) closes.1)) (ap (λ (x : World). x.writes) closes.1);
@@ -302,10 +301,10 @@ steps-by settings w moment second (actions.Follow mode managed skip) reply w' ne
       tells = tells-by w' next.answered (tells-follow w' (length w.objects) (end w.stored) next.result);
     }
 steps-by settings w moment second (actions.Poll n) reply w' next =
-    by-kind (slice_get w.objects n) _ _ _ (Steps w reply w') next
+    by-kind (slice_get w.objects n) _ _ _ (KeepsAndTells w reply w') next
     (λ h at told. only w _ reply w' tt told.0 told.1) (λ f at polls. poll-steps w w' f.result n f reply at polls) (λ told. only w _ reply w' tt told.0 told.1)
 steps-by settings w moment second (actions.Await n) reply w' next = await-steps w w' (slice_get w.writes n) reply next
 
 -- what every command keeps
-pub steps : (settings : Settings) (w : World) (command : Command) (reply : Reply) (w' : World) → Next settings w command reply w' → Steps w reply w'
+pub steps : (settings : Settings) (w : World) (command : Command) (reply : Reply) (w' : World) → Next settings w command reply w' → KeepsAndTells w reply w'
 steps settings w command reply w' next = steps-by settings w command.moment command.second command.action reply w' next

@@ -1,5 +1,5 @@
 -- What is stored is seen by each opening and each poll.
-use Rattle.std.proofs.Common.{◌≡◌, ℕ, ℤ, true, ◌≤◌, List, ◌∷◌, [], ◌++◌, length, Option, Some, None, Result, Ok, Err, refl, sym, subst, ap, ◌∙◌, arith}
+use Rattle.std.proofs.Common.{◌≡◌, ℕ, ℤ, true, ◌≤◌, length, Option, Some, None, Result, Ok, Err, sym, subst, arith}
 use Rattle.std.specs.List.{slice_get}
 use Rattle.std.proofs.lemmas.Option.{slice_get_within}
 use Rattle.slate_rows.specs.declared.batches.Batch.{Batch}

@@ -1,23 +1,21 @@
 -- A write that is told to be durable is confirmed for good.
-use Rattle.std.proofs.Common.{◌≡◌, ◌≤◌, ◌<◌, ◌+◌, ◌-◌, ℕ, zero, suc, take, List, [], ◌∷◌, Option, Some, None, leb, refl, sym, subst, ap, ◌∙◌, arith}
+use Rattle.std.proofs.Common.{◌≡◌, ◌≤◌, ◌<◌, ◌-◌, ℕ, zero, suc, take, List, [], ◌∷◌, Option, Some, None, leb, refl, sym, subst, ap, ◌∙◌, arith}
 use Rattle.std.specs.List.{slice_get}
 use Rattle.slate_rows.specs.declared.batches.Batch.{Batch}
 use Rattle.slate_rows.specs.Line.{Line}
 use Rattle.slate_model.specs.Handle.{Handle}
 use Rattle.slate_script.specs.declared.commands.Action.TheVariants as actions
-use Rattle.slate_script.specs.declared.replies.Reply.{Reply}
 use Rattle.slate_script.specs.declared.replies.Reply.TheVariants as replies
-use Rattle.slate_live.specs.declared.states.Object.TheVariants as objects
 use Rattle.slate_live.specs.declared.states.Write.{Write}
 use Rattle.slate_live.specs.Confirmed.{IsBatchOf, Sees, StandsIn}
 use Rattle.slate_live.specs.Next.{AwaitsWrite, NextBy}
 use Rattle.slate_live.specs.Settings.{Settings}
 use Rattle.slate_live.specs.Stands.{IsHandleAt, up_to}
-use Rattle.slate_live.specs.Steps.{Chain, StayConfirmed, StaysConfirmed, Step}
+use Rattle.slate_live.specs.Steps.{Chain, StayConfirmed, Step}
 use Rattle.slate_live.specs.Valid.{Link}
 use Rattle.slate_live.specs.World.{World}
 use Rattle.slate_live.proofs.Confirming.{durable-by}
-use Rattle.slate_live.proofs.Keeping.{AreWritten, Keeps, Steps, Tells, stands-prefix, steps}
+use Rattle.slate_live.proofs.Keeping.{AreWritten, KeepsAndTells, Tells, stands-prefix, steps}
 use Rattle.slate_live.proofs.Rising.{by-kind}
 
 get-take : {X : Type 0} (xs : List X) (m k : ℕ) (x : X) → k < m → slice_get xs k ≡ Some x → slice_get (take m xs) k ≡ Some x
@@ -70,7 +68,7 @@ confirms-step settings w n step written link is durable =
     let awaits : NextBy settings w (step.command).moment (step.command).second (actions.Await n) step.reply step.world = subst (λ a. NextBy settings w (step.command).moment (step.command).second a step.reply step.world) is link.next in
     confirms-write settings w n step (slice_get w.writes n) written link refl awaits durable
 
-kept : (settings : Settings) (w : World) (step : Step) → Link settings w step.command step.reply step.world → Steps w step.reply step.world
+kept : (settings : Settings) (w : World) (step : Step) → Link settings w step.command step.reply step.world → KeepsAndTells w step.reply step.world
 kept settings w step link = steps settings w step.command step.reply step.world link.next
 
 -- what is stored stays stored over steps

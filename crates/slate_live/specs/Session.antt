@@ -15,11 +15,11 @@ use Rattle.slate_script.specs.declared.commands.Command.{Command}
 use Rattle.slate_script.specs.declared.options.Options.{Options}
 use Rattle.slate_script.specs.declared.replies.Reply.{Reply}
 use Rattle.slate_live.specs.Run.{IsRun}
-use Rattle.slate_live.specs.declared.sessions.Ending.{Ending}
-use Rattle.slate_live.specs.declared.sessions.Ending.TheVariants.{Done, LineRefused, ReadFault, WriteFault, NoMemory, TooLong, WordsRefused}
+use Rattle.slate_live.specs.declared.sessions.Outcome.{Outcome}
+use Rattle.slate_live.specs.declared.sessions.Outcome.TheVariants.{Done, LineRefused, ReadFault, WriteFault, NoMemory, TooLong, WordsRefused}
 
 -- the status of an ending, and the number of the line that was refused
-abbrev pub status_of : Ending → ℕ
+abbrev pub status_of : Outcome → ℕ
 status_of Done = 0
 status_of (LineRefused number) = 2
 status_of ReadFault = 3
@@ -28,7 +28,7 @@ status_of NoMemory = 5
 status_of TooLong = 6
 status_of WordsRefused = 64
 
-abbrev pub refused_line : Ending → ℕ
+abbrev pub refused_line : Outcome → ℕ
 refused_line Done = 0
 refused_line (LineRefused number) = number
 refused_line ReadFault = 0
@@ -38,12 +38,12 @@ refused_line TooLong = 0
 refused_line WordsRefused = 0
 
 -- how a fault of reading a source, or a script, ends a session
-abbrev pub input_ending : InputFault → Ending
+abbrev pub input_ending : InputFault → Outcome
 input_ending inputs.Failed = ReadFault
 input_ending inputs.TooLong = TooLong
 input_ending inputs.NoMemory = NoMemory
 
-abbrev pub script_ending : ScriptFault → Ending
+abbrev pub script_ending : ScriptFault → Outcome
 script_ending (scripts.Line number) = LineRefused number
 script_ending scripts.NoMemory = NoMemory
 
@@ -62,7 +62,7 @@ pub record WasRead (bytes : List ℕ) (left left' : Option (List ℕ)) : Type 0 
   pub told : Told (λ old new. (old ≡ bytes) × (new ≡ [])) left left'
 
 -- why no script came of a source
-abbrev pub StopsReading : Ending → (left left' : Option (List ℕ)) → (faults faults' : ℕ) → Type 0
+abbrev pub StopsReading : Outcome → (left left' : Option (List ℕ)) → (faults faults' : ℕ) → Type 0
 StopsReading (LineRefused number) left left' faults faults' = (bytes : List ℕ) × WasRead bytes left left' × (script_of bytes ≡ Err number)
 StopsReading ReadFault left left' faults faults' = HasRisen faults faults'
 StopsReading TooLong left left' faults faults' = Told (λ old new. (taken : List ℕ) × (old ≡ taken ++ new) × (MAX_SCRIPT < length taken)) left left'
@@ -72,12 +72,12 @@ StopsReading WriteFault left left' faults faults' = ⊥
 StopsReading WordsRefused left left' faults faults' = ⊥
 
 -- what reading a script gave: its commands, or why none came
-abbrev pub ReadsScript : Result (Vec Command) Ending → (left left' : Option (List ℕ)) → (faults faults' : ℕ) → Type 0
+abbrev pub ReadsScript : Result (Vec Command) Outcome → (left left' : Option (List ℕ)) → (faults faults' : ℕ) → Type 0
 ReadsScript (Ok commands) left left' faults faults' = (bytes : List ℕ) × WasRead bytes left left' × (script_of bytes ≡ Ok commands.items)
 ReadsScript (Err ending) left left' faults faults' = StopsReading ending left left' faults faults'
 
 -- how writing a text ends: all of it is written, or a part of it, or none
-abbrev pub EndsWriting : Ending → List ℕ → (written written' : Option (List ℕ)) → (faults faults' : ℕ) → Type 0
+abbrev pub EndsWriting : Outcome → List ℕ → (written written' : Option (List ℕ)) → (faults faults' : ℕ) → Type 0
 EndsWriting Done text written written' faults faults' = Told (λ old new. new ≡ old ++ text) written written'
 EndsWriting WriteFault text written written' faults faults' =
     HasRisen faults faults' × Told (λ old new. (count : ℕ) × (count < length text) × (new ≡ old ++ take count text)) written written'
@@ -95,14 +95,14 @@ pub record KeepsOutput (s s' : Sides) : Type 0 where
   pub store_faults : s'.store_faults ≡ s.store_faults
 
 -- The words were refused: nothing was read, run or written.
-pub record RefusesWords (words : Option Options) (replies : List Reply) (ending : Ending) (s s' : Sides) : Type 0 where
+pub record RefusesWords (words : Option Options) (replies : List Reply) (ending : Outcome) (s s' : Sides) : Type 0 where
   pub refused : words ≡ None
   pub ending_is : ending ≡ WordsRefused
   pub nothing : s' ≡ s
   pub no_reply : replies ≡ []
 
 -- No script came of the source: nothing was run or written.
-pub record RunsNothing (words : Option Options) (replies : List Reply) (ending : Ending) (s s' : Sides) : Type 0 where
+pub record RunsNothing (words : Option Options) (replies : List Reply) (ending : Outcome) (s s' : Sides) : Type 0 where
   pub options : Options
   pub accepted : words ≡ Some options
   pub stops : StopsReading ending s.left s'.left s.source_faults s'.source_faults
@@ -110,7 +110,7 @@ pub record RunsNothing (words : Option Options) (replies : List Reply) (ending :
   pub no_reply : replies ≡ []
 
 -- The script was read whole, its commands were run, and the text of the replies was written, or writing it ended.
-pub record RunsScript (words : Option Options) (replies : List Reply) (ending : Ending) (s s' : Sides) : Type 0 where
+pub record RunsScript (words : Option Options) (replies : List Reply) (ending : Outcome) (s s' : Sides) : Type 0 where
   pub options : Options
   pub accepted : words ≡ Some options
   pub bytes : List ℕ
@@ -120,7 +120,7 @@ pub record RunsScript (words : Option Options) (replies : List Reply) (ending : 
   pub run : IsRun (record { merge = None; options = options }) commands replies s.objects s.store_faults s'.objects s'.store_faults
   pub writing : EndsWriting ending (replies_text replies) s.written s'.written s.sink_faults s'.sink_faults
 
-abbrev pub Ends : Option Options → List Reply → Ending → Sides → Sides → Type 0
+abbrev pub Ends : Option Options → List Reply → Outcome → Sides → Sides → Type 0
 Ends words replies ending s s' =
     RefusesWords words replies ending s s' ⊎ (RunsNothing words replies ending s s' ⊎ RunsScript words replies ending s s')
 

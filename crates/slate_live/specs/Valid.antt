@@ -1,5 +1,5 @@
 -- Commands that nothing in a world stands against, and the link of a command, which such a one answers.
-use Rattle.std.specs.Prelude.{◌≡◌, ℕ, ℤ, ◌<◌, ◌≤◌, Bool, true, false, List, [], ◌∷◌, length, slice_get, Option, Some, None, Ok, Err}
+use Rattle.std.specs.Prelude.{◌≡◌, ℕ, ℤ, ◌<◌, ◌≤◌, Bool, true, false, List, length, slice_get, Option, Some, None, Ok, Err}
 use Rattle.slate_rows.specs.declared.batches.Batch.{Batch}
 use Rattle.slate_rows.specs.declared.batches.KeyValue.{KeyValue}
 use Rattle.slate_rows.specs.Counts.{HasRisen}

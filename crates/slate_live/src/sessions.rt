@@ -13,7 +13,7 @@ use std::alloc::Global;
 
 /// How a session ended.
 #[derive(Clone, Copy, Debug, PartialEq, Eq)]
-pub(crate) enum Ending {
+pub(crate) enum Outcome {
     /// The text of all replies was written.
     Done,
     /// The line with this number is the first that isn't a script line.
@@ -41,42 +41,42 @@ pub struct Finished {
     pub replies: Seq<Reply>,
 }
 
-impl From<InputFault> for Ending {
+impl From<InputFault> for Outcome {
     ghost from_gives = { λ fault ending. ending ≡ input_ending fault };
 
-    fn from(fault: InputFault) -> Ending {
+    fn from(fault: InputFault) -> Outcome {
         match fault {
-            InputFault::Failed => Ending::ReadFault,
-            InputFault::TooLong => Ending::TooLong,
-            InputFault::NoMemory => Ending::NoMemory,
+            InputFault::Failed => Outcome::ReadFault,
+            InputFault::TooLong => Outcome::TooLong,
+            InputFault::NoMemory => Outcome::NoMemory,
         }
     }
 }
 
-impl From<ScriptFault> for Ending {
+impl From<ScriptFault> for Outcome {
     ghost from_gives = { λ fault ending. ending ≡ script_ending fault };
 
-    fn from(fault: ScriptFault) -> Ending {
+    fn from(fault: ScriptFault) -> Outcome {
         match fault {
-            ScriptFault::Line(number) => Ending::LineRefused(number),
-            ScriptFault::NoMemory => Ending::NoMemory,
+            ScriptFault::Line(number) => Outcome::LineRefused(number),
+            ScriptFault::NoMemory => Outcome::NoMemory,
         }
     }
 }
 
-impl Ending {
+impl Outcome {
     /// The exit status that says how a session ended.
     fn status(self) -> u8
         ensures { result ≡ status_of self }
     {
         match self {
-            Ending::Done => 0,
-            Ending::LineRefused(_) => 2,
-            Ending::ReadFault => 3,
-            Ending::WriteFault => 4,
-            Ending::NoMemory => 5,
-            Ending::TooLong => 6,
-            Ending::WordsRefused => 64,
+            Outcome::Done => 0,
+            Outcome::LineRefused(_) => 2,
+            Outcome::ReadFault => 3,
+            Outcome::WriteFault => 4,
+            Outcome::NoMemory => 5,
+            Outcome::TooLong => 6,
+            Outcome::WordsRefused => 64,
         }
     }
 
@@ -85,7 +85,7 @@ impl Ending {
         ensures { result ≡ refused_line self }
     {
         match self {
-            Ending::LineRefused(number) => number,
+            Outcome::LineRefused(number) => number,
             _ => 0,
         }
     }
@@ -105,7 +105,7 @@ impl Ending {
 }
 
 /// Reads the commands of a script from a source, to its end.
-fn read_commands<I: Source>(alloc: Global, source: &mut I) -> Result<Vec<Command>, Ending>
+fn read_commands<I: Source>(alloc: Global, source: &mut I) -> Result<Vec<Command>, Outcome>
     ensures faults { I.faults source.old ≤ I.faults source.new }
     ensures built { IfOk result (λ commands. All (λ command. IsBuilt command.action) commands.items) }
     ensures reads { ReadsScript result (I.left source.old) (I.left source.new) (I.faults source.old) (I.faults source.new) }
@@ -116,18 +116,18 @@ fn read_commands<I: Source>(alloc: Global, source: &mut I) -> Result<Vec<Command
 }
 
 /// Writes the text of replies to a sink.
-fn write_replies<O: Sink>(alloc: Global, sink: &mut O, replies: &[Reply]) -> Ending
+fn write_replies<O: Sink>(alloc: Global, sink: &mut O, replies: &[Reply]) -> Outcome
     ensures faults { O.faults sink.old ≤ O.faults sink.new }
     ensures writes { EndsWriting result (replies_text replies.now) (O.written sink.old) (O.written sink.new) (O.faults sink.old) (O.faults sink.new) }
 {
     let mut text = Vec::new(alloc);
     if print_replies(&mut text, replies).is_err() {
-        return Ending::NoMemory;
+        return Outcome::NoMemory;
     }
     if write_whole(sink, text.as_slice()) {
-        Ending::Done
+        Outcome::Done
     } else {
-        Ending::WriteFault
+        Outcome::WriteFault
     }
 }
 
@@ -148,7 +148,7 @@ pub fn session<I: Source, O: Sink, S: Store>(
     ensures source_faults { I.faults source.old ≤ I.faults source.new }
     ensures sink_faults { O.faults sink.old ≤ O.faults sink.new }
     ensures store_faults { S.faults store.old ≤ S.faults store.new }
-    ensures ends { (ending : Ending) × (result.status ≡ status_of ending) × (result.line ≡ refused_line ending)
+    ensures ends { (ending : Outcome) × (result.status ≡ status_of ending) × (result.line ≡ refused_line ending)
         × Ends (options_of (map string_bytes words.now)) result.replies ending
         (record { left = I.left source.old; source_faults = I.faults source.old; written = O.written sink.old; sink_faults = O.faults sink.old; objects = S.objects store.old; store_faults = S.faults store.old })
         (record { left = I.left source.new; source_faults = I.faults source.new; written = O.written sink.new; sink_faults = O.faults sink.new; objects = S.objects store.new; store_faults = S.faults store.new }) }
@@ -158,7 +158,7 @@ pub fn session<I: Source, O: Sink, S: Store>(
         → (result.status ≡ 0) ⊎ (result.status ≡ 5) }
 {
     let Some(options) = read_words(words) else {
-        return Ending::WordsRefused.finished(Vec::new(alloc));
+        return Outcome::WordsRefused.finished(Vec::new(alloc));
     };
     let commands = match read_commands(alloc, source) {
         Ok(commands) => commands,
@@ -174,7 +174,7 @@ pub fn session<I: Source, O: Sink, S: Store>(
         extractor,
         commands.as_slice(),
     ) else {
-        return Ending::NoMemory.finished(Vec::new(alloc));
+        return Outcome::NoMemory.finished(Vec::new(alloc));
     };
     let ending = write_replies(alloc, sink, replies.as_slice());
     ending.finished(replies)

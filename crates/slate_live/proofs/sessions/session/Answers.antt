@@ -1,5 +1,5 @@
 use Rattle.std.proofs.Common.{ap, refl, sym, ◌∙◌}
-use Rattle.slate_live.specs.declared.sessions.Ending.TheVariants.{NoMemory, WordsRefused}
+use Rattle.slate_live.specs.declared.sessions.Outcome.TheVariants.{NoMemory, WordsRefused}
 use Rattle.slate_live.proofs.Endings.{ends-refused, ends-unrun}
 use Rattle.slate_live.proofs.sessions.session.Goals as goal
 

@@ -52,7 +52,7 @@ AreGathered-skip f range held batch o all out = record {
     go false is = refl
     go true is = absurd (false≢true (sym out ∙ ap (contains range) ((bytes_eq-Decides o.key key).0 is) ∙ in_range))
 
-one_more : (f : List ℕ → List Version) (batch : Batch) (items : List KeyOp) (i : ℕ) (o : KeyOp) → items ≡ batch.ops → i < length items → o ≡ get_or items i o → (key : List ℕ) →
+pub one_more : (f : List ℕ → List Version) (batch : Batch) (items : List KeyOp) (i : ℕ) (o : KeyOp) → items ≡ batch.ops → i < length items → o ≡ get_or items i o → (key : List ℕ) →
     (f key ++ versions_in key (record batch { ops = take i batch.ops })) ++ versions_in key (record batch { ops = o ∷ [] }) ≡ f key ++ versions_in key (record batch { ops = take (i + 1) batch.ops })
 one_more f batch items i o same lt at key = append_assoc (f key) _ _ ∙ ap (λ x. f key ++ x) (sym (versions_in-more key batch items i o same lt at))
 

@@ -8,6 +8,8 @@ pub mod Telling
 pub mod Passing
 pub mod Grouping
 pub mod Gathering
+pub mod Index
+pub mod Ends
 pub mod Scanning
 pub mod Steps
 pub mod Scanned

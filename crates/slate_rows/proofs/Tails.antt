@@ -31,7 +31,7 @@ since_base-merge (version ∷ versions) last merge =
     (λ b. cond (b || false) (since_base (versions ++ last ∷ [])) (version ∷ (versions ++ last ∷ [])) ≡ cond b (since_base versions) (version ∷ versions) ++ last ∷ [])
     [ true ↦ since_base-merge versions last merge | false ↦ refl ]))
 
-same_key-push : (key : List ℕ) (held : List Held) (last : Held) → AllByRecursion (λ h. h.key_op.now.key ≡ key) held → last.key_op.now.key ≡ key →
+pub same_key-push : (key : List ℕ) (held : List Held) (last : Held) → AllByRecursion (λ h. h.key_op.now.key ≡ key) held → last.key_op.now.key ≡ key →
     AllByRecursion (λ h. h.key_op.now.key ≡ key) (held ++ last ∷ [])
 same_key-push key [] last all same = (same, tt)
 same_key-push key (h ∷ held) last all same = (all.0, same_key-push key held last all.1 same)

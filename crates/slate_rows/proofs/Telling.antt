@@ -1,4 +1,4 @@
-use Rattle.std.proofs.Common.{◌≡◌, Option, Some, None, ◌∙◌, refl}
+use Rattle.std.proofs.Common.{◌≡◌, Option, Some, ◌∙◌, refl}
 use Rattle.slate_rows.specs.Telling.{Told}
 
 -- what is told goes on to be told

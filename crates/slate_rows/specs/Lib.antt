@@ -1,6 +1,7 @@
 pub mod Bound
 pub mod Counts
 pub mod Gathered
+pub mod Index
 pub mod IndexKey
 pub mod Iteration
 pub mod Kept

@@ -4,6 +4,7 @@
 mod batches;
 mod entries;
 mod index_keys;
+mod indexed_reads;
 mod iterators;
 mod memory;
 mod operators;
@@ -20,6 +21,7 @@ mod varints;
 pub use batches::{Batch, KeyOp, KeyValue, Op, WriteBatch};
 pub use entries::{RowEntry, ValueDeletable};
 pub use index_keys::compute_index_key;
+pub use indexed_reads::read_indexed;
 pub use iterators::DbIterator;
 pub use memory::NoMemory;
 pub use operators::{ConcatOperator, FixedPrefix, MergeFault, MergeOperator, PrefixExtractor};

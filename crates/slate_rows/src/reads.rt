@@ -95,7 +95,7 @@ pub fn read<M: MergeOperator>(
 }
 
 /// Adds a batch's versions of a key to a tail. A put or a delete begins it anew.
-fn take_versions<'a>(
+pub(crate) fn take_versions<'a>(
     versions: &mut Vec<Version<'a>>,
     batch: &'a Batch,
     key: &[u8],

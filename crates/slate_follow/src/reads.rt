@@ -7,7 +7,7 @@ ghost use Rattle.slate_status.specs.Errors.{closed_error};
 ghost use Rattle.slate_model.specs.Read.{AnswersRead};
 
 use crate::FollowerState;
-use slate_rows::{KeyValue, MergeOperator, read};
+use slate_rows::{KeyValue, MergeOperator, read_indexed};
 use slate_status::SlateError;
 use slate_store::Store;
 use std::alloc::Global;
@@ -18,8 +18,8 @@ impl FollowerState {
     ///
     /// On a closed reader it answers `Closed` or the error that closed it. It answers `MergeOperatorMissing` where
     /// operands are to be merged and there is no operator, `MergeOperatorError` where the operator refuses one, and
-    /// `NoMemory`. Until batches are indexed by key, and stored in tables, it goes over the batches in memory once, and
-    /// touches no store. SlateDB's `get`.
+    /// `NoMemory`. It touches no store. It takes a look-up, and goes over the key's operations since its last put or
+    /// delete. SlateDB's `get`.
     pub fn get<S: Store, M: MergeOperator>(
         &self,
         alloc: Global,
@@ -35,12 +35,8 @@ impl FollowerState {
         if let Some(result) = self.closed.read() {
             return Err(SlateError::of_closed(result));
         }
-        Ok(read(
-            alloc,
-            self.memory.batches(),
-            Some(self.number()),
-            key,
-            operator,
-        )?)
+        let tables = std::slice::from_ref(&self.memory);
+        let bound = Some(self.number());
+        Ok(read_indexed(alloc, &[], tables, bound, key, operator)?)
     }
 }

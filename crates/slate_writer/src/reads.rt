@@ -8,7 +8,7 @@ ghost use Rattle.slate_status.specs.Errors.{closed_error};
 ghost use Rattle.slate_model.specs.Read.{AnswersRead};
 
 use crate::WriterState;
-use slate_rows::{KeyValue, MergeOperator, ReadOptions, prepare_max_seq, read};
+use slate_rows::{KeyValue, MergeOperator, ReadOptions, prepare_max_seq, read_indexed};
 use slate_status::SlateError;
 use slate_store::Store;
 use std::alloc::Global;
@@ -19,8 +19,8 @@ impl WriterState {
     ///
     /// On a closed handle it answers `Closed` or the error that closed it. It answers `MergeOperatorMissing` where
     /// operands are to be merged and there is no operator, `MergeOperatorError` where the operator refuses one, and
-    /// `NoMemory`. A read changes nothing. Until batches are indexed by key, and stored in tables, it goes over the
-    /// batches in memory once, and touches no store. SlateDB's `get`.
+    /// `NoMemory`. A read changes nothing, and touches no store. It takes a look-up, and goes over the key's operations
+    /// since the last put or delete up to the number, with those above it. SlateDB's `get`.
     pub fn get<S: Store, M: MergeOperator>(
         &self,
         alloc: Global,
@@ -46,6 +46,7 @@ impl WriterState {
             options.durability_filter,
             options.dirty,
         );
-        Ok(read(alloc, self.memory.batches(), bound, key, operator)?)
+        let tables = std::slice::from_ref(&self.memory);
+        Ok(read_indexed(alloc, &[], tables, bound, key, operator)?)
     }
 }

@@ -3,10 +3,10 @@ ghost use Rattle.std.specs.Prelude.{◌≡◌, None};
 use bytes::Bytes;
 use slate_rows::{
     Batch, ByteRange, CloseOptions, ConcatOperator, DbIterator, DurabilityLevel, FixedPrefix,
-    FlushType, IterationOrder, KeyBound, KeyOp, MergeFault, MergeOperator, MergeOptions, NoMemory,
-    Op, PrefixExtractor, PutOptions, ReadFault, ReadOptions, ScanOptions, SeekFault, Seq,
-    ValueDeletable, VarintFault, WriteBatch, WriteOptions, compute_index_key, decode_varint,
-    encode_varint, prepare_max_seq, read, recency, scan, varint_len,
+    FlushType, IndexedTable, IterationOrder, KeyBound, KeyOp, MergeFault, MergeOperator,
+    MergeOptions, NoMemory, Op, PrefixExtractor, PutOptions, ReadFault, ReadOptions, ScanOptions,
+    SeekFault, Seq, ValueDeletable, VarintFault, WriteBatch, WriteOptions, compute_index_key,
+    decode_varint, encode_varint, prepare_max_seq, read, read_indexed, recency, scan, varint_len,
 };
 use std::alloc::Global;
 use std::test::Fail;
@@ -203,6 +203,38 @@ fn merges(rt: HostRuntime) -> Result<(), Fail> {
         let row = read(alloc, &batches, None, key, Some(&ConcatOperator))?.ok_or("a row")?;
         assert_eq!(rt; row.value.as_slice(), value);
         assert_eq!(rt; (row.seq, row.create_ts, row.expire_ts), stamp);
+    }
+    Ok(())
+}
+
+fn table(alloc: Global, batch: Batch) -> Result<IndexedTable, NoMemory> {
+    let mut table = IndexedTable::new(alloc);
+    match table.push(batch) {
+        Ok(()) => Ok(table),
+        Err(_batch) => Err(NoMemory),
+    }
+}
+
+// A read by the index folds what the tables have of a key on what is older, up to the bound.
+#[test]
+fn indexed_reads(rt: HostRuntime) -> Result<(), Fail> {
+    let alloc = rt.alloc();
+    let older = [puts(alloc, 0, &[(b"b", b"8"), (b"d", b"9")])?];
+    let tables = [
+        table(alloc, older_merges(alloc)?)?,
+        table(alloc, newer_merges(alloc)?)?,
+    ];
+    for (key, bound, want) in [
+        (b"a", None, Some(b"xyz".as_slice())),
+        (b"a", Some(1), Some(b"xy".as_slice())),
+        (b"a", Some(0), None),
+        (b"b", None, Some(b"4".as_slice())),
+        (b"b", Some(1), Some(b"81".as_slice())),
+        (b"c", Some(2), Some(b"2".as_slice())),
+        (b"d", None, Some(b"9".as_slice())),
+    ] {
+        let row = read_indexed(alloc, &older, &tables, bound, key, Some(&ConcatOperator))?;
+        assert_eq!(rt; row.as_ref().map(|row| row.value.as_slice()), want);
     }
     Ok(())
 }

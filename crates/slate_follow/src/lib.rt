@@ -8,5 +8,6 @@ mod reads;
 mod states;
 mod takes;
 
-pub use modes::{DbReaderMode, DbReaderOptions, PollAnswer};
+pub use modes::{DbReaderOptions, PollAnswer};
+pub use slate_store::DbReaderMode;
 pub use states::FollowerState;

@@ -36,9 +36,6 @@ within bound versions = filter (λ (v : Version). is_within bound v.number) vers
 
 within-versions_in : (bound : Option ℕ) (key : List ℕ) (batch : Batch) → within bound (versions_in key batch) ≡ cond (is_within bound batch.number) (versions_in key batch) []
 within-versions_in bound key batch = go (filter (λ (o : KeyOp). bytes_eq o.key key) batch.ops) where
-  version : KeyOp → Version
-  version o = record { op = o.op; number = batch.number; create_ts = batch.create_ts }
-
   put : (b : Bool) (v : Version) (vs : List Version) → cond b (v ∷ cond b vs []) (cond b vs []) ≡ cond b (v ∷ vs) []
   put true v vs = refl
   put false v vs = refl

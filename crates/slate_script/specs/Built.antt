@@ -3,8 +3,8 @@ use Rattle.std.specs.Prelude.{◌≡◌, Bool, true, false, not, Option, Some, N
 use Rattle.slate_rows.specs.declared.options.CloseOptions.{CloseOptions}
 use Rattle.slate_rows.specs.declared.options.FlushType.{FlushType}
 use Rattle.slate_rows.specs.declared.options.FlushType.TheVariants.{Wal, MemTable}
-use Rattle.slate_follow.specs.declared.modes.DbReaderMode.{DbReaderMode}
-use Rattle.slate_follow.specs.declared.modes.DbReaderMode.TheVariants.{FollowLatest}
+use Rattle.slate_store.specs.declared.reader_modes.DbReaderMode.{DbReaderMode}
+use Rattle.slate_store.specs.declared.reader_modes.DbReaderMode.TheVariants.{FollowLatest}
 use Rattle.slate_script.specs.declared.commands.Action.{Action}
 use Rattle.slate_script.specs.declared.commands.Action.TheVariants as actions
 

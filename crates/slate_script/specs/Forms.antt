@@ -4,7 +4,7 @@ use Rattle.std.specs.Str.{bytes_eq}
 use Rattle.slate_rows.specs.declared.options.CloseOptions.{CloseOptions}
 use Rattle.slate_rows.specs.declared.options.FlushType.{FlushType}
 use Rattle.slate_rows.specs.declared.options.FlushType.TheVariants.{Wal}
-use Rattle.slate_follow.specs.declared.modes.DbReaderMode.TheVariants.{FollowLatest}
+use Rattle.slate_store.specs.declared.reader_modes.DbReaderMode.TheVariants.{FollowLatest}
 use Rattle.slate_text.specs.Numbers.{number_of, moment_of}
 use Rattle.slate_text.specs.Words.{word_of}
 use Rattle.slate_script.specs.Lines.{fields_of}

@@ -5,10 +5,12 @@ mod errors;
 mod faulty_store;
 mod memory_store;
 mod objects;
+mod reader_modes;
 mod stores;
 
 pub use errors::{StoreError, StoreFault};
 pub use faulty_store::{FailingCall, FaultyStore};
 pub use memory_store::MemoryStore;
 pub use objects::{Checkpoint, Manifest, TableId, VersionedManifest};
+pub use reader_modes::DbReaderMode;
 pub use stores::Store;

@@ -6,7 +6,7 @@ use crate::rules::{Exchange, Follow, Gather, Look, NoWordGoesBack, Raise, SeatVi
 use crate::ticks::{tick_in, word_of};
 use crate::{BoardView, ClockFault};
 use atomic_table::{Seat, Table};
-use slate_rows::NoMemory;
+use slate_types::NoMemory;
 use std::alloc::Global;
 use std::marker::Model;
 

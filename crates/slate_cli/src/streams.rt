@@ -1,6 +1,6 @@
 ghost use Rattle.std.specs.Prelude.{◌≡◌, ◌≤◌, None, length};
-ghost use Rattle.slate_rows.specs.Counts.{HasRisen};
-ghost use Rattle.slate_rows.specs.Telling.{Told};
+ghost use Rattle.slate_types.specs.Counts.{HasRisen};
+ghost use Rattle.slate_types.specs.Telling.{Told};
 ghost use Rattle.slate_streams.specs.Streams.{Fits, Reads, Takes, Writes};
 
 use slate_live::{ReadAnswer, Sink, Source, WriteAnswer};

@@ -1,6 +1,6 @@
 -- In a run, what the queue loses is what the handler is given.
 use Rattle.std.proofs.Common.{◌≡◌, ℕ, ℤ, Bool, true, false, inl, inr, List, [], ◌∷◌, ◌++◌, Option, Some, None, Result, refl, sym, ◌∙◌, ap, subst, append_assoc, append-nil}
-use Rattle.slate_status.specs.declared.closing.CloseFault.{CloseFault}
+use Rattle.slate_errors.specs.declared.closing.CloseFault.{CloseFault}
 use Rattle.slate_dispatch.specs.declared.tasks.TurnAnswer.{TurnAnswer}
 use Rattle.slate_dispatch.specs.declared.tickers.TickerDef.{TickerDef}
 use Rattle.slate_dispatch.specs.Handlers.{HandlerCall, Handle}

@@ -1,6 +1,6 @@
 -- How the next message of a dispatcher is taken.
 use Rattle.std.proofs.Common.{◌≡◌, ℕ, ◌<◌, length, true, false, Result, ℤ, pos, ◌+ℤ◌, Bool, List, [], slice_get, slice_set, Option, Some, None, IfSome, IfNone, sym, ◌∙◌, ap, subst}
-use Rattle.slate_status.specs.declared.closing.CloseFault.{CloseFault}
+use Rattle.slate_errors.specs.declared.closing.CloseFault.{CloseFault}
 use Rattle.slate_dispatch.specs.declared.tasks.TurnAnswer.{TurnAnswer}
 use Rattle.slate_dispatch.specs.declared.tasks.TurnAnswer.TheVariants.{Cancelled}
 use Rattle.slate_dispatch.specs.declared.tickers.TickerDef.{TickerDef}

@@ -2,9 +2,9 @@
 use Rattle.std.specs.Prelude.{◌≡◌, ℕ, Bool, false, if◌then◌else◌, List, [], ◌∷◌, ◌++◌, map, nat_eq, remove, slice_get, slice_set, Option, Some, None, MatchOption, Result, Ok, Err}
 use Rattle.std.specs.Cmp.Lexicographic.{pointwise}
 use Rattle.std.specs.List.{position}
-use Rattle.slate_status.specs.declared.closing.CloseFault.{CloseFault}
-use Rattle.slate_status.specs.declared.errors.SlateError.{SlateError}
-use Rattle.slate_status.specs.declared.errors.SlateError.TheVariants as errors
+use Rattle.slate_errors.specs.declared.closing.CloseFault.{CloseFault}
+use Rattle.slate_errors.specs.declared.errors.SlateError.{SlateError}
+use Rattle.slate_errors.specs.declared.errors.SlateError.TheVariants as errors
 use Rattle.slate_dispatch.specs.declared.executors.ExecutorRefusal.{ExecutorRefusal}
 use Rattle.slate_dispatch.specs.declared.groups.Member.{Member}
 use Rattle.slate_dispatch.specs.Groups.{TaskGroup, CancelsGroup, ShutsGroup, outcome_of}

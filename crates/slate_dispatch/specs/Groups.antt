@@ -1,7 +1,7 @@
 -- Groups of tasks, and what a turn makes of them.
 use Rattle.std.specs.Prelude.{◌≡◌, ◌||◌, ℕ, ℤ, pos, Bool, true, false, IsTrue, if◌then◌else◌, List, [], ◌∷◌, ◌++◌, filter, Option, Some, None, is_none, Result, Ok, Err, is_err, unwrap_or}
 use Rattle.std.specs.List.{AllZip, AllByRecursion as ByRecursion, FoldsTo, list_any}
-use Rattle.slate_status.specs.declared.closing.CloseFault.{CloseFault}
+use Rattle.slate_errors.specs.declared.closing.CloseFault.{CloseFault}
 use Rattle.slate_dispatch.specs.declared.groups.Member.{Member}
 use Rattle.slate_dispatch.specs.declared.tasks.TurnAnswer.{TurnAnswer}
 use Rattle.slate_dispatch.specs.Tasks.{TaskCall, Turn, Cancel, Finish, ending_of}

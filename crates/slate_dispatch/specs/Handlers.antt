@@ -1,5 +1,5 @@
 use Rattle.std.specs.Prelude.{ℕ, List, Result}
-use Rattle.slate_status.specs.declared.closing.CloseFault.{CloseFault}
+use Rattle.slate_errors.specs.declared.closing.CloseFault.{CloseFault}
 
 -- a call of a message handler that may change it
 pub data HandlerCall (M : Type 0) : Type 0 where

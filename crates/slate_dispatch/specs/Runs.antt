@@ -1,6 +1,6 @@
 -- Whole runs of a dispatcher, and what its handler is given of the messages that are sent.
 use Rattle.std.specs.Prelude.{◌≡◌, ◌⊎◌, Bool, List, [], ◌∷◌, ◌++◌, Option, Result}
-use Rattle.slate_status.specs.declared.closing.CloseFault.{CloseFault}
+use Rattle.slate_errors.specs.declared.closing.CloseFault.{CloseFault}
 use Rattle.slate_dispatch.specs.declared.tickers.TickerDef.{TickerDef}
 use Rattle.slate_dispatch.specs.Handlers.{HandlerCall, Handle, Cleanup}
 use Rattle.slate_dispatch.specs.Tasks.{TaskCall, Turn, Cancel, Finish}

@@ -1,5 +1,5 @@
 use Rattle.std.specs.Prelude.{ℕ, ℤ, Option, Some, None, Result, Ok, Err}
-use Rattle.slate_status.specs.declared.closing.CloseFault.{CloseFault}
+use Rattle.slate_errors.specs.declared.closing.CloseFault.{CloseFault}
 use Rattle.slate_dispatch.specs.declared.tasks.TurnAnswer.{TurnAnswer}
 use Rattle.slate_dispatch.specs.declared.tasks.TurnAnswer.TheVariants.{Cancelled, Handled, Idle, Failed}
 

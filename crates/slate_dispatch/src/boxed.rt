@@ -1,5 +1,5 @@
 use crate::{Task, TurnAnswer};
-use slate_status::CloseFault;
+use slate_errors::CloseFault;
 
 /// A task in a box, whichever it is. It is used like the task inside.
 #[derive(Drop)]

@@ -2,8 +2,8 @@ ghost use Rattle.std.specs.Prelude.{◌≡◌, All, length};
 ghost use Rattle.slate_dispatch.specs.Tickers.{IsTicker};
 
 use crate::{Dispatcher, MessageHandler, SendRefusal, Task, TickerDef, TurnAnswer};
-use slate_rows::NoMemory;
-use slate_status::{CloseCell, CloseFault};
+use slate_errors::{CloseCell, CloseFault};
+use slate_types::NoMemory;
 use std::alloc::Global;
 use std::cell::Cell;
 use std::collections::VecDeque;

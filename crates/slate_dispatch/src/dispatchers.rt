@@ -4,8 +4,8 @@ ghost use Rattle.slate_dispatch.specs.Tickers.{IsTicker};
 
 use crate::tickers::first_dues;
 use crate::{MessageHandler, Task, TurnAnswer};
-use slate_rows::NoMemory;
-use slate_status::{CloseCell, CloseFault};
+use slate_errors::{CloseCell, CloseFault};
+use slate_types::NoMemory;
 use std::alloc::Global;
 use std::collections::VecDeque;
 use std::marker::Model;

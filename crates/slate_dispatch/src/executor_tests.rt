@@ -1,8 +1,8 @@
 ghost use Rattle.std.specs.Prelude.{◌≡◌, IfOk, IsTrue};
 
 use crate::{BoxedTask, Executor, ExecutorRefusal, Task, TurnAnswer};
-use slate_rows::Name;
-use slate_status::{CloseCell, CloseFault, SlateError};
+use slate_errors::{CloseCell, CloseFault, SlateError};
+use slate_types::Name;
 use std::alloc::{AllocError, Global};
 use std::cell::Cell;
 use std::rc::Rc;

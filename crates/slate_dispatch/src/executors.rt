@@ -1,13 +1,13 @@
 ghost use Rattle.std.specs.Prelude.{◌≡◌, ◌<◌, ◌≤◌, ◌∷◌, ◌++◌, [], true, false, IsTrue, map, Ok, Err, if◌then◌else◌, vec_capacity, vec_len};
 ghost use Rattle.std.specs.List.{AllZip};
-ghost use Rattle.slate_status.specs.declared.errors.SlateError.TheVariants.{BackgroundTaskExecutorStarted as Started};
+ghost use Rattle.slate_errors.specs.declared.errors.SlateError.TheVariants.{BackgroundTaskExecutorStarted as Started};
 ghost use Rattle.slate_dispatch.specs.Executors.{index_of, new_member};
 ghost use Rattle.slate_dispatch.specs.Groups.{CancelsGroup, TurnsGroups, PassesGroups};
 
 use crate::Task;
 use crate::groups::{Group, Member};
-use slate_rows::Name;
-use slate_status::{CloseCell, CloseFault, SlateError};
+use slate_errors::{CloseCell, CloseFault, SlateError};
+use slate_types::Name;
 use std::alloc::Global;
 use std::marker::Model;
 use std::mem;

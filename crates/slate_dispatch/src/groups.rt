@@ -4,8 +4,8 @@ ghost use Rattle.std.specs.Option.{option_to_list};
 ghost use Rattle.slate_dispatch.specs.Groups.{TurnsMember, CancelsMember, EndsWell, Passes, ending, endings, after_writes, first_error, has_running};
 
 use crate::{Task, TurnAnswer};
-use slate_rows::Name;
-use slate_status::{CloseCell, CloseFault};
+use slate_errors::{CloseCell, CloseFault};
+use slate_types::Name;
 use std::marker::Model;
 
 /// A task of a group, and its result once it has ended.

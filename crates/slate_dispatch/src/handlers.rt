@@ -1,10 +1,10 @@
 ghost use Rattle.std.specs.Prelude.{◌≡◌, ◌↔◌, ◌<◌, Bool, false, List, length, slice_get, Option, Some, Result, IsNone, IfSome, IfNone};
-ghost use Rattle.slate_status.specs.declared.closing.CloseFault.{CloseFault};
+ghost use Rattle.slate_errors.specs.declared.closing.CloseFault.{CloseFault};
 ghost use Rattle.slate_dispatch.specs.declared.tickers.TickerDef.{TickerDef};
 ghost use Rattle.slate_dispatch.specs.Handlers.{HandlerCall, Tick, Notify, Handle, Cleanup};
 
 use crate::TickerDef;
-use slate_status::CloseFault;
+use slate_errors::CloseFault;
 use std::collections::VecDeque;
 
 /// What a dispatcher hands messages to. SlateDB's `MessageHandler`.

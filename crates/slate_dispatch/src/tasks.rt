@@ -1,9 +1,9 @@
 ghost use Rattle.std.specs.Prelude.{◌≡◌, ◌↔◌, Bool, Option, Some, Result, IsTrue};
-ghost use Rattle.slate_status.specs.declared.closing.CloseFault.{CloseFault};
+ghost use Rattle.slate_errors.specs.declared.closing.CloseFault.{CloseFault};
 ghost use Rattle.slate_dispatch.specs.declared.tasks.TurnAnswer.{TurnAnswer};
 ghost use Rattle.slate_dispatch.specs.Tasks.{TaskCall, Turn, Cancel, Finish, HasEnded};
 
-use slate_status::CloseFault;
+use slate_errors::CloseFault;
 
 /// What a turn of a task came to.
 #[derive(Clone, Copy, Debug, PartialEq, Eq)]

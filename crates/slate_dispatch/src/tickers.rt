@@ -1,7 +1,7 @@
 ghost use Rattle.std.specs.Prelude.{◌≡◌, ◌<◌, ◌^◌, ◌+ℤ◌, pos, IfOk};
 ghost use Rattle.slate_dispatch.specs.Tickers.{wait_of, first_dues, IsTicker};
 
-use slate_rows::NoMemory;
+use slate_types::NoMemory;
 use std::alloc::Global;
 
 /// How often a handler is given a message without being sent one. SlateDB's `MessageTickerDef`.

@@ -1,7 +1,7 @@
 use Rattle.std.proofs.Common.{◌≡◌, ℕ, ◌+◌, Bool, List, Option, Some, None, Ok, refl, sym, subst, ap, ◌∙◌, arith}
 use Rattle.std.specs.Option.{IfSome}
-use Rattle.slate_rows.specs.declared.batches.Batch.{Batch}
-use Rattle.slate_rows.specs.Line.{Line, end}
+use Rattle.slate_types.specs.declared.batches.Batch.{Batch}
+use Rattle.slate_types.specs.Line.{Line, end}
 use Rattle.slate_store.specs.declared.objects.VersionedManifest.{VersionedManifest}
 use Rattle.slate_store.specs.Content.{IsSound, content, content_by}
 use Rattle.slate_store.specs.Objects.{Objects, last_log}

@@ -1,6 +1,6 @@
 use Rattle.std.specs.Prelude.{Option, Some, None, Ok, Err}
-use Rattle.slate_status.specs.Errors.{error_of_fault}
-use Rattle.slate_status.specs.declared.errors.SlateError.{SlateError}
+use Rattle.slate_errors.specs.Errors.{error_of_fault}
+use Rattle.slate_errors.specs.declared.errors.SlateError.{SlateError}
 use Rattle.slate_model.specs.Handle.{CloseResult}
 
 -- the error that was recorded, where one was

@@ -1,5 +1,5 @@
 use Rattle.std.specs.Prelude.{◌+◌, ◌<◌, ◌^◌, length}
-use Rattle.slate_rows.specs.Line.{AreNumberedFrom}
+use Rattle.slate_types.specs.Line.{AreNumberedFrom}
 use Rattle.slate_model.specs.Follower.{Follower}
 use Rattle.slate_follow.specs.declared.states.FollowerState.TheInside.{Inside}
 

@@ -3,7 +3,7 @@ ghost use Rattle.slate_model.specs.Close.{ended};
 ghost use Rattle.slate_follow.specs.Closing.{recorded_fault};
 
 use crate::FollowerState;
-use slate_status::{Ended, Ending, SlateError};
+use slate_errors::{Ended, Ending, SlateError};
 use slate_store::Store;
 
 impl FollowerState {

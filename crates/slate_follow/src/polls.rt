@@ -3,14 +3,14 @@ ghost use Rattle.slate_store.specs.Content.{IsSound};
 ghost use Rattle.slate_store.specs.Objects.{Objects};
 ghost use Rattle.slate_model.specs.Flush.{TellsFaults};
 ghost use Rattle.slate_model.specs.Follower.{FollowCause, number};
-ghost use Rattle.slate_status.specs.Errors.{closed_error};
+ghost use Rattle.slate_errors.specs.Errors.{closed_error};
 ghost use Rattle.slate_follow.specs.Taking.{AnswersAt, Follows, Takes};
 
 use crate::takes::take;
 use crate::{DbReaderMode, DbReaderOptions, FollowerState, PollAnswer};
-use slate_rows::PrefixExtractor;
-use slate_status::SlateError;
+use slate_errors::SlateError;
 use slate_store::Store;
+use slate_types::PrefixExtractor;
 use std::alloc::Global;
 
 impl FollowerState {

@@ -1,8 +1,8 @@
 ghost use Rattle.std.specs.Prelude.{◌≡◌};
 ghost use Rattle.slate_model.specs.Follower.{number};
 
-use slate_rows::IndexedTable;
-use slate_status::CloseCell;
+use slate_errors::CloseCell;
+use slate_reads::IndexedTable;
 use slate_store::VersionedManifest;
 use std::marker::Model;
 

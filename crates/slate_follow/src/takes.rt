@@ -1,5 +1,5 @@
 ghost use Rattle.std.specs.Prelude.{◌≡◌, ◌+◌, ◌<◌, ◌^◌, None, Some, length, IfOk, IfErr, IfSome};
-ghost use Rattle.slate_rows.specs.Line.{AreNumberedFrom};
+ghost use Rattle.slate_types.specs.Line.{AreNumberedFrom};
 ghost use Rattle.slate_store.specs.Content.{IsSound};
 ghost use Rattle.slate_store.specs.Objects.{Objects};
 ghost use Rattle.slate_model.specs.Flush.{TellsFaults};
@@ -7,9 +7,9 @@ ghost use Rattle.slate_model.specs.Follower.{FollowCause, can_follow, number};
 ghost use Rattle.slate_follow.specs.Taking.{AnswersAt, FindsView, Follows, GiveBatches, IsOfReplay, Takes};
 
 use crate::{FollowerState, PollAnswer};
+use slate_errors::{CloseCell, SlateError};
+use slate_reads::IndexedTable;
 use slate_replay::{Replayed, replay};
-use slate_rows::IndexedTable;
-use slate_status::{CloseCell, SlateError};
 use slate_store::{Store, VersionedManifest};
 use std::alloc::Global;
 

@@ -1,9 +1,9 @@
 use Rattle.std.proofs.Common.{◌≡◌, ◌≤◌, ℕ, Option, Some, None, Result, Err, Bool, true, false, refl, subst, arith}
 use Rattle.std.specs.Option.{IfSome}
 use Rattle.slate_store.specs.Objects.{Objects}
-use Rattle.slate_status.specs.declared.errors.SlateError.{SlateError}
+use Rattle.slate_errors.specs.declared.errors.SlateError.{SlateError}
 use Rattle.slate_model.specs.Handle.{CloseResult, Handle}
-use Rattle.slate_status.specs.Errors.{closed_error}
+use Rattle.slate_errors.specs.Errors.{closed_error}
 use Rattle.slate_follow.specs.declared.modes.PollAnswer.{PollAnswer}
 use Rattle.slate_live.specs.declared.states.Object.{Object}
 use Rattle.slate_live.specs.declared.states.Object.TheVariants as objects

@@ -1,7 +1,7 @@
 use Rattle.std.proofs.Common.{◌≡◌, ◌≤◌, ◌<◌, ◌+◌, ℕ, length, take, map, get_or, List, [], ◌∷◌, ◌++◌, Option, Some, refl, sym, subst, ap, ◌∙◌}
 use Rattle.std.proofs.lemmas.List.{map-append, take_all, take_more}
-use Rattle.slate_rows.specs.Line.{IsPrefix}
-use Rattle.slate_rows.specs.Operator.{Merge}
+use Rattle.slate_types.specs.Line.{IsPrefix}
+use Rattle.slate_types.specs.Operator.{Merge}
 use Rattle.slate_store.specs.Objects.{Objects}
 use Rattle.slate_store.specs.Content.{IsSound}
 use Rattle.slate_script.specs.declared.commands.Command.{Command}

@@ -1,17 +1,17 @@
 use Rattle.std.proofs.Common.{◌≡◌, ℕ, ◌<◌, length, set, get_or, [], Option, Some, None, Result, Bool, true, false, refl, sym, subst, ap, ◌∙◌}
 use Rattle.std.specs.List.{slice_get}
 use Rattle.std.specs.Option.{IfSome, UnwrapsOrElse}
-use Rattle.slate_rows.specs.Line.{IsPrefix, Line}
+use Rattle.slate_types.specs.Line.{IsPrefix, Line}
 use Rattle.slate_follow.specs.Closing.{recorded_fault}
 use Rattle.slate_model.specs.Follower.{Follower}
-use Rattle.slate_rows.specs.declared.options.CloseOptions.{CloseOptions}
-use Rattle.slate_rows.specs.declared.options.FlushType.{FlushType}
-use Rattle.slate_rows.specs.declared.options.FlushType.TheVariants.{Wal, MemTable}
+use Rattle.slate_types.specs.declared.options.CloseOptions.{CloseOptions}
+use Rattle.slate_types.specs.declared.options.FlushType.{FlushType}
+use Rattle.slate_types.specs.declared.options.FlushType.TheVariants.{Wal, MemTable}
 use Rattle.slate_store.specs.declared.objects.VersionedManifest.{VersionedManifest}
 use Rattle.slate_store.specs.Objects.{Objects, latest_manifest}
-use Rattle.slate_status.specs.declared.endings.Ended.{Ended}
-use Rattle.slate_status.specs.declared.errors.SlateError.{SlateError}
-use Rattle.slate_status.specs.declared.errors.SlateError.TheVariants as errors
+use Rattle.slate_errors.specs.declared.endings.Ended.{Ended}
+use Rattle.slate_errors.specs.declared.errors.SlateError.{SlateError}
+use Rattle.slate_errors.specs.declared.errors.SlateError.TheVariants as errors
 use Rattle.slate_model.specs.Close.{closed, closing_flush, ended, fault_again, fault_of}
 use Rattle.slate_model.specs.Handle.{Handle, CloseResult}
 use Rattle.slate_model.specs.Flush.{CanFlush, flushed}

@@ -1,13 +1,13 @@
 use Rattle.std.proofs.Common.{◌≡◌, ℕ, ◌≤◌, List, [], ◌∷◌, length, Some, None, Result, Ok, Err, refl, sym, subst, ap, ◌∙◌, arith}
 use Rattle.std.proofs.lemmas.List.{append-nil}
-use Rattle.slate_rows.specs.declared.batches.Batch.{Batch}
-use Rattle.slate_rows.specs.Line.{Line, IsPrefix, AreNumberedFrom, IsLine, end, extended, batches_above}
-use Rattle.slate_rows.proofs.Lines.{above-none}
+use Rattle.slate_types.specs.declared.batches.Batch.{Batch}
+use Rattle.slate_types.specs.Line.{Line, IsPrefix, AreNumberedFrom, IsLine, end, extended, batches_above}
+use Rattle.slate_types.proofs.Lines.{above-none}
 use Rattle.slate_store.specs.declared.objects.VersionedManifest.{VersionedManifest}
-use Rattle.slate_store.specs.declared.errors.StoreFault.TheVariants.{Unavailable}
+use Rattle.slate_types.specs.declared.store_errors.StoreFault.TheVariants.{Unavailable}
 use Rattle.slate_store.specs.Objects.{Objects, ObjectsOf, latest_manifest}
-use Rattle.slate_status.specs.declared.errors.SlateError.{SlateError}
-use Rattle.slate_status.specs.declared.errors.SlateError.TheVariants as errors
+use Rattle.slate_errors.specs.declared.errors.SlateError.{SlateError}
+use Rattle.slate_errors.specs.declared.errors.SlateError.TheVariants as errors
 use Rattle.slate_model.specs.Changes.{PartMade}
 use Rattle.slate_model.specs.Handle.{Handle, accepted, unstored}
 use Rattle.slate_model.specs.Flush.{CanFlush, FlushAnswer, FlushCause, StoresBatches, StoresOnly, flush_changes, flush_changes_by, flushed, recorded}

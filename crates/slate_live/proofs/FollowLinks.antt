@@ -1,18 +1,18 @@
 use Rattle.std.proofs.Common.{◌≡◌, inl, inr, ℕ, ◌<◌, [], ◌∷◌, ◌++◌, length, set, get_or, Bool, true, false, Option, Some, None, Result, Ok, Err, refl, sym, subst, ap, ◌∙◌, arith}
 use Rattle.std.specs.List.{slice_get}
 use Rattle.std.specs.Option.{IfSome}
-use Rattle.slate_rows.specs.Line.{IsPrefix, end}
+use Rattle.slate_types.specs.Line.{IsPrefix, end}
 use Rattle.slate_store.specs.declared.objects.VersionedManifest.{VersionedManifest}
 use Rattle.slate_store.specs.Objects.{Objects, latest_manifest}
 use Rattle.slate_store.specs.Content.{IsSound}
-use Rattle.slate_status.specs.declared.errors.SlateError.{SlateError}
-use Rattle.slate_status.specs.declared.errors.SlateError.TheVariants as errors
-use Rattle.slate_store.specs.declared.errors.StoreFault.TheVariants.{Unavailable}
+use Rattle.slate_errors.specs.declared.errors.SlateError.{SlateError}
+use Rattle.slate_errors.specs.declared.errors.SlateError.TheVariants as errors
+use Rattle.slate_types.specs.declared.store_errors.StoreFault.TheVariants.{Unavailable}
 use Rattle.slate_model.specs.Flush.{TellsFaults}
 use Rattle.slate_model.specs.Follower.{FollowCause, Follower, taken}
 use Rattle.slate_model.specs.Open.{first_manifest}
 use Rattle.slate_model.specs.Handle.{CloseResult, Handle}
-use Rattle.slate_status.specs.Errors.{closed_error}
+use Rattle.slate_errors.specs.Errors.{closed_error}
 use Rattle.slate_follow.specs.Taking.{Follows}
 use Rattle.slate_follow.specs.declared.modes.PollAnswer.{PollAnswer}
 use Rattle.slate_follow.specs.declared.modes.PollAnswer.TheVariants.{Whole}

@@ -2,17 +2,17 @@
 use Rattle.std.proofs.Common.{◌≡◌, ◌⊎◌, inl, inr, ℕ, ℤ, zero, suc, ◌+◌, Bool, true, false, List, [], ◌∷◌, ◌++◌, set, length, Option, Some, None, Result, Ok, Err, refl, sym, subst, ap, ◌∙◌, leb, if◌then◌else◌}
 use Rattle.std.specs.List.{slice_get}
 use Rattle.std.proofs.lemmas.Bool.{cases_eq}
-use Rattle.slate_rows.specs.declared.batches.Batch.{Batch}
-use Rattle.slate_rows.specs.declared.batches.KeyOp.{KeyOp}
-use Rattle.slate_rows.specs.declared.batches.KeyValue.{KeyValue}
-use Rattle.slate_rows.specs.declared.options.FlushType.{FlushType}
-use Rattle.slate_rows.specs.declared.reads.ReadFault.{ReadFault}
-use Rattle.slate_rows.specs.Line.{IsPrefix, Line, end}
-use Rattle.slate_rows.specs.Operator.{Merge}
+use Rattle.slate_types.specs.declared.batches.Batch.{Batch}
+use Rattle.slate_types.specs.declared.batches.KeyOp.{KeyOp}
+use Rattle.slate_types.specs.declared.batches.KeyValue.{KeyValue}
+use Rattle.slate_types.specs.declared.options.FlushType.{FlushType}
+use Rattle.slate_types.specs.declared.read_faults.ReadFault.{ReadFault}
+use Rattle.slate_types.specs.Line.{IsPrefix, Line, end}
+use Rattle.slate_types.specs.Operator.{Merge}
 use Rattle.slate_store.specs.declared.objects.VersionedManifest.{VersionedManifest}
-use Rattle.slate_status.specs.declared.endings.TaskName.{TaskName}
-use Rattle.slate_status.specs.declared.errors.SlateError.{SlateError}
-use Rattle.slate_status.specs.declared.errors.SlateError.TheVariants as errors
+use Rattle.slate_errors.specs.declared.endings.TaskName.{TaskName}
+use Rattle.slate_errors.specs.declared.errors.SlateError.{SlateError}
+use Rattle.slate_errors.specs.declared.errors.SlateError.TheVariants as errors
 use Rattle.slate_model.specs.Follower.{Follower}
 use Rattle.slate_model.specs.Handle.{CloseResult, Handle, accepted}
 use Rattle.slate_model.specs.Flush.{flushed}

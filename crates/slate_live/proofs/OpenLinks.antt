@@ -1,14 +1,14 @@
 use Rattle.std.proofs.Common.{◌≡◌, ◌⊎◌, inl, inr, ℕ, zero, suc, ◌+◌, ◌<◌, ◌≤◌, List, [], ◌∷◌, ◌++◌, length, Option, Some, Result, Ok, Err, true, refl, sym, subst, ap, ◌∙◌, arith}
 use Rattle.std.specs.List.{slice_get}
 use Rattle.std.proofs.lemmas.List.{append-nil}
-use Rattle.slate_rows.specs.Line.{Line, IsLine, IsPrefix, end, extended}
-use Rattle.slate_rows.proofs.Lines.{above-none}
+use Rattle.slate_types.specs.Line.{Line, IsLine, IsPrefix, end, extended}
+use Rattle.slate_types.proofs.Lines.{above-none}
 use Rattle.slate_store.specs.declared.objects.VersionedManifest.{VersionedManifest}
 use Rattle.slate_store.specs.Objects.{Objects, latest_manifest}
 use Rattle.slate_store.specs.Calls.{Told}
 use Rattle.slate_store.specs.Content.{IsSound, content}
-use Rattle.slate_status.specs.declared.errors.SlateError.{SlateError}
-use Rattle.slate_status.specs.declared.errors.SlateError.TheVariants as errors
+use Rattle.slate_errors.specs.declared.errors.SlateError.{SlateError}
+use Rattle.slate_errors.specs.declared.errors.SlateError.TheVariants as errors
 use Rattle.slate_model.specs.Catalogue.{catalogue_of, span}
 use Rattle.slate_model.specs.Changes.{after_part}
 use Rattle.slate_model.specs.Follower.{Follower}

@@ -4,23 +4,23 @@ use Rattle.std.proofs.lemmas.Bool.{lt-leb}
 use Rattle.std.proofs.lemmas.List.{append-nil}
 use Rattle.std.proofs.lemmas.List.Elements.{filter-append}
 use Rattle.std.specs.Option.{IfSome, option_map}
-use Rattle.slate_rows.specs.declared.batches.Batch.{Batch}
-use Rattle.slate_rows.specs.declared.batches.KeyValue.{KeyValue}
-use Rattle.slate_rows.specs.declared.batches.Op.{Op}
-use Rattle.slate_rows.specs.declared.batches.Op.TheVariants.{Put, Delete, Merge as MergeOperand}
-use Rattle.slate_rows.specs.declared.options.ReadOptions.{ReadOptions}
-use Rattle.slate_rows.specs.declared.reads.ReadFault.{ReadFault}
-use Rattle.slate_rows.specs.declared.reads.ReadFault.TheVariants as reads
-use Rattle.slate_rows.specs.Bound.{read_bound}
-use Rattle.slate_rows.specs.Operator.{Merge}
-use Rattle.slate_rows.specs.Read.{Version, and_then, fold_versions, is_within, merged_row, read_at, row_after, since_base, tail, versions_in}
-use Rattle.slate_status.specs.declared.errors.SlateError.{SlateError}
-use Rattle.slate_status.specs.declared.errors.SlateError.TheVariants as errors
-use Rattle.slate_rows.specs.Line.{AreNumberedFrom, IsLine, IsPrefix, Line, end, extended}
+use Rattle.slate_types.specs.declared.batches.Batch.{Batch}
+use Rattle.slate_types.specs.declared.batches.KeyValue.{KeyValue}
+use Rattle.slate_types.specs.declared.batches.Op.{Op}
+use Rattle.slate_types.specs.declared.batches.Op.TheVariants.{Put, Delete, Merge as MergeOperand}
+use Rattle.slate_types.specs.declared.options.ReadOptions.{ReadOptions}
+use Rattle.slate_types.specs.declared.read_faults.ReadFault.{ReadFault}
+use Rattle.slate_types.specs.declared.read_faults.ReadFault.TheVariants as reads
+use Rattle.slate_reads.specs.Bound.{read_bound}
+use Rattle.slate_types.specs.Operator.{Merge}
+use Rattle.slate_reads.specs.Read.{Version, and_then, fold_versions, is_within, merged_row, read_at, row_after, since_base, tail, versions_in}
+use Rattle.slate_errors.specs.declared.errors.SlateError.{SlateError}
+use Rattle.slate_errors.specs.declared.errors.SlateError.TheVariants as errors
+use Rattle.slate_types.specs.Line.{AreNumberedFrom, IsLine, IsPrefix, Line, end, extended}
 use Rattle.slate_model.proofs.Reopened.{numbered_rest}
 use Rattle.slate_model.specs.Follower.{Follower, number}
 use Rattle.slate_model.specs.Handle.{Handle, CloseResult, accepted}
-use Rattle.slate_status.specs.Errors.{closed_error}
+use Rattle.slate_errors.specs.Errors.{closed_error}
 use Rattle.slate_model.specs.Read.{AnswersRead, cut}
 use Rattle.slate_script.specs.declared.replies.Reply.{Reply}
 use Rattle.slate_script.specs.declared.replies.Reply.TheVariants as replies

@@ -2,10 +2,10 @@
 use Rattle.std.proofs.Common.{◌≡◌, ℕ, ℤ, true, ◌≤◌, length, Option, Some, None, Result, Ok, Err, sym, subst, arith}
 use Rattle.std.specs.List.{slice_get}
 use Rattle.std.proofs.lemmas.Option.{slice_get_within}
-use Rattle.slate_rows.specs.declared.batches.Batch.{Batch}
-use Rattle.slate_rows.specs.Line.{Line, end}
-use Rattle.slate_status.specs.declared.errors.SlateError.{SlateError}
-use Rattle.slate_status.specs.declared.errors.SlateError.TheVariants as errors
+use Rattle.slate_types.specs.declared.batches.Batch.{Batch}
+use Rattle.slate_types.specs.Line.{Line, end}
+use Rattle.slate_errors.specs.declared.errors.SlateError.{SlateError}
+use Rattle.slate_errors.specs.declared.errors.SlateError.TheVariants as errors
 use Rattle.slate_model.specs.Handle.{CloseResult}
 use Rattle.slate_model.specs.Follower.{Follower}
 use Rattle.slate_script.specs.declared.commands.Action.{Action}

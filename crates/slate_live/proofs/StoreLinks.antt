@@ -1,10 +1,10 @@
 use Rattle.std.proofs.Common.{◌≡◌, ◌≢◌, nat_lt, inl, inr, ℕ, ◌≤◌, set, Option, Some, Result, refl, sym, subst, ap, ◌∙◌, arith}
-use Rattle.slate_rows.specs.Line.{AreNumberedFrom, IsLine, IsPrefix, Line, end, extended}
+use Rattle.slate_types.specs.Line.{AreNumberedFrom, IsLine, IsPrefix, Line, end, extended}
 use Rattle.slate_store.specs.Calls.{Told}
 use Rattle.slate_store.specs.declared.objects.VersionedManifest.{VersionedManifest}
 use Rattle.slate_store.specs.Objects.{Objects, latest_manifest}
 use Rattle.slate_store.specs.Content.{IsSound, content}
-use Rattle.slate_status.specs.declared.errors.SlateError.{SlateError}
+use Rattle.slate_errors.specs.declared.errors.SlateError.{SlateError}
 use Rattle.slate_model.specs.Catalogue.{catalogue_of, span}
 use Rattle.slate_model.specs.Handle.{Handle, unstored}
 use Rattle.slate_model.specs.Flush.{CanFlush, StoresBatches, TellsFaults, flushed}

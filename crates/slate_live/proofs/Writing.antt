@@ -1,9 +1,9 @@
 use Rattle.std.proofs.Common.{◌≡◌, inl, inr, ℕ, ℤ, List, set, Option, Some, None, refl, sym, subst}
 use Rattle.std.specs.List.{slice_get}
-use Rattle.slate_rows.specs.declared.batches.KeyOp.{KeyOp}
-use Rattle.slate_rows.specs.Line.{IsPrefix}
+use Rattle.slate_types.specs.declared.batches.KeyOp.{KeyOp}
+use Rattle.slate_types.specs.Line.{IsPrefix}
 use Rattle.slate_store.specs.Objects.{Objects, latest_manifest}
-use Rattle.slate_status.specs.declared.errors.SlateError.{SlateError}
+use Rattle.slate_errors.specs.declared.errors.SlateError.{SlateError}
 use Rattle.slate_model.specs.Handle.{Handle}
 use Rattle.slate_model.specs.Write.{write_refusal, written, accepted_moment}
 use Rattle.slate_script.specs.declared.replies.Reply.{Reply}

@@ -1,6 +1,6 @@
 -- The replies to what the own calls of objects answer.
 use Rattle.std.specs.Prelude.{ℕ, true, false, Option, Some, None, Result, Ok, Err}
-use Rattle.slate_status.specs.declared.errors.SlateError.{SlateError}
+use Rattle.slate_errors.specs.declared.errors.SlateError.{SlateError}
 use Rattle.slate_writer.specs.declared.writes.Written.{Written}
 use Rattle.slate_follow.specs.declared.modes.PollAnswer.{PollAnswer}
 use Rattle.slate_follow.specs.declared.modes.PollAnswer.TheVariants.{Whole, Truncated}

@@ -1,23 +1,23 @@
 use Rattle.std.specs.Prelude.{◌≡◌, ◌≤◌, ◌⊎◌, ℕ, ℤ, ◌+◌, ◌++◌, ◌∷◌, Bool, false, List, [], Option, Some, None, Result, Ok, Err, IfSome, IfOk, IfErr}
-use Rattle.slate_rows.specs.Bound.{read_bound}
-use Rattle.slate_rows.specs.Operator.{Merge}
-use Rattle.slate_rows.specs.Read.{read_at}
-use Rattle.slate_rows.specs.declared.batches.KeyOp.{KeyOp}
-use Rattle.slate_rows.specs.declared.batches.KeyValue.{KeyValue}
-use Rattle.slate_rows.specs.declared.options.DurabilityLevel.{DurabilityLevel}
-use Rattle.slate_rows.specs.declared.options.FlushType.{FlushType}
-use Rattle.slate_rows.specs.declared.options.FlushType.TheVariants.{Wal}
+use Rattle.slate_reads.specs.Bound.{read_bound}
+use Rattle.slate_types.specs.Operator.{Merge}
+use Rattle.slate_reads.specs.Read.{read_at}
+use Rattle.slate_types.specs.declared.batches.KeyOp.{KeyOp}
+use Rattle.slate_types.specs.declared.batches.KeyValue.{KeyValue}
+use Rattle.slate_types.specs.declared.options.DurabilityLevel.{DurabilityLevel}
+use Rattle.slate_types.specs.declared.options.FlushType.{FlushType}
+use Rattle.slate_types.specs.declared.options.FlushType.TheVariants.{Wal}
 use Rattle.slate_store.specs.Calls.{Told}
 use Rattle.slate_store.specs.Content.{IsSound}
 use Rattle.slate_store.specs.Objects.{Objects}
-use Rattle.slate_status.specs.declared.endings.Ended.{Ended}
-use Rattle.slate_status.specs.declared.errors.SlateError.{SlateError}
-use Rattle.slate_status.specs.declared.errors.SlateError.TheVariants as errors
+use Rattle.slate_errors.specs.declared.endings.Ended.{Ended}
+use Rattle.slate_errors.specs.declared.errors.SlateError.{SlateError}
+use Rattle.slate_errors.specs.declared.errors.SlateError.TheVariants as errors
 use Rattle.slate_model.specs.Close.{closed, closing_flush, ended, fault_again}
 use Rattle.slate_model.specs.Flush.{CanFlush, StoresBatches, TellsFaults, flushed}
 use Rattle.slate_model.specs.Follower.{FollowCause, Follower, number}
 use Rattle.slate_model.specs.Handle.{Handle, accepted, unstored}
-use Rattle.slate_status.specs.Errors.{closed_error}
+use Rattle.slate_errors.specs.Errors.{closed_error}
 use Rattle.slate_model.specs.Read.{AnswersRead}
 use Rattle.slate_model.specs.Write.{accepted_moment, write_refusal, written}
 use Rattle.slate_writer.specs.declared.writes.Written.{Written}

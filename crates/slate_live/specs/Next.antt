@@ -1,29 +1,29 @@
 use Rattle.std.specs.Prelude.{◌≡◌, ℕ, ℤ, ◌+◌, ◌⊎◌, Bool, true, false, if◌then◌else◌, nat_le, nat_lt, unwrap_or, List, [], ◌∷◌, ◌++◌, length, slice_get, slice_set, Option, Some, None, Result, Ok, Err}
-use Rattle.slate_rows.specs.declared.batches.Batch.{Batch}
-use Rattle.slate_rows.specs.declared.batches.KeyOp.{KeyOp}
-use Rattle.slate_rows.specs.declared.batches.KeyValue.{KeyValue}
-use Rattle.slate_rows.specs.declared.batches.Op.TheVariants.{Put as PutOp}
-use Rattle.slate_rows.specs.declared.options.DurabilityLevel.{DurabilityLevel}
-use Rattle.slate_rows.specs.declared.options.DurabilityLevel.TheVariants.{Memory, Remote}
-use Rattle.slate_rows.specs.declared.options.CloseOptions.{CloseOptions}
-use Rattle.slate_rows.specs.declared.options.FlushType.{FlushType}
-use Rattle.slate_rows.specs.declared.options.FlushType.TheVariants.{MemTable}
-use Rattle.slate_rows.specs.declared.reads.ReadFault.{ReadFault}
-use Rattle.slate_rows.specs.declared.reads.ReadFault.TheVariants as reads
-use Rattle.slate_rows.specs.Line.{Line, end, extended}
-use Rattle.slate_rows.specs.Operator.{Merge}
-use Rattle.slate_rows.specs.Read.{read_at}
+use Rattle.slate_types.specs.declared.batches.Batch.{Batch}
+use Rattle.slate_types.specs.declared.batches.KeyOp.{KeyOp}
+use Rattle.slate_types.specs.declared.batches.KeyValue.{KeyValue}
+use Rattle.slate_types.specs.declared.batches.Op.TheVariants.{Put as PutOp}
+use Rattle.slate_types.specs.declared.options.DurabilityLevel.{DurabilityLevel}
+use Rattle.slate_types.specs.declared.options.DurabilityLevel.TheVariants.{Memory, Remote}
+use Rattle.slate_types.specs.declared.options.CloseOptions.{CloseOptions}
+use Rattle.slate_types.specs.declared.options.FlushType.{FlushType}
+use Rattle.slate_types.specs.declared.options.FlushType.TheVariants.{MemTable}
+use Rattle.slate_types.specs.declared.read_faults.ReadFault.{ReadFault}
+use Rattle.slate_types.specs.declared.read_faults.ReadFault.TheVariants as reads
+use Rattle.slate_types.specs.Line.{Line, end, extended}
+use Rattle.slate_types.specs.Operator.{Merge}
+use Rattle.slate_reads.specs.Read.{read_at}
 use Rattle.slate_store.specs.declared.objects.VersionedManifest.{VersionedManifest}
 use Rattle.slate_store.specs.Objects.{ObjectsOf, latest_manifest}
-use Rattle.slate_status.specs.declared.errors.SlateError.{SlateError}
-use Rattle.slate_status.specs.declared.errors.SlateError.TheVariants as errors
-use Rattle.slate_status.specs.declared.endings.TaskName.{TaskName}
+use Rattle.slate_errors.specs.declared.errors.SlateError.{SlateError}
+use Rattle.slate_errors.specs.declared.errors.SlateError.TheVariants as errors
+use Rattle.slate_errors.specs.declared.endings.TaskName.{TaskName}
 use Rattle.slate_model.specs.Catalogue.{span}
 use Rattle.slate_model.specs.Close.{closed, fault_again, fault_of}
 use Rattle.slate_model.specs.Follower.{FollowCause, Follower, number, taken}
 use Rattle.slate_follow.specs.Closing.{recorded_fault}
 use Rattle.slate_model.specs.Handle.{Handle, CloseResult, accepted, unstored}
-use Rattle.slate_status.specs.Errors.{closed_error}
+use Rattle.slate_errors.specs.Errors.{closed_error}
 use Rattle.slate_model.specs.Open.{Opens, opened_handle, opened_manifest}
 use Rattle.slate_model.specs.Write.{write_refusal, accepted_moment, written}
 use Rattle.slate_model.specs.Flush.{StoresBatches, TellsFaults, flushed}

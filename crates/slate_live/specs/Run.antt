@@ -1,6 +1,6 @@
 use Rattle.std.specs.Prelude.{◌≡◌, ℕ, List, map, Option, Some}
 use Rattle.slate_store.specs.Objects.{Objects}
-use Rattle.slate_rows.specs.Line.{IsPrefix}
+use Rattle.slate_types.specs.Line.{IsPrefix}
 use Rattle.slate_store.specs.Content.{IsSound, content}
 use Rattle.slate_script.specs.declared.commands.Command.{Command}
 use Rattle.slate_script.specs.declared.replies.Reply.{Reply}

@@ -1,8 +1,8 @@
 -- What a session did, by how it ended.
 use Rattle.std.specs.Prelude.{◌≡◌, ℕ, ◌<◌, ◌≤◌, ◌⊎◌, List, [], ◌++◌, length, take, Option, Some, None, Result, Ok, Err}
 use Rattle.std.specs.Global.{Vec}
-use Rattle.slate_rows.specs.Counts.{HasRisen}
-use Rattle.slate_rows.specs.Telling.{Told}
+use Rattle.slate_types.specs.Counts.{HasRisen}
+use Rattle.slate_types.specs.Telling.{Told}
 use Rattle.slate_store.specs.Objects.{Objects}
 use Rattle.slate_streams.specs.declared.whole.TheConstants.{MAX_SCRIPT}
 use Rattle.slate_streams.specs.declared.whole.InputFault.{InputFault}

@@ -1,5 +1,5 @@
 use Rattle.std.specs.Prelude.{Option}
-use Rattle.slate_rows.specs.Operator.{Merge}
+use Rattle.slate_types.specs.Operator.{Merge}
 use Rattle.slate_script.specs.declared.options.Options.{Options}
 
 -- what commands are run with: the operator, where there is one, and the options of the handles

@@ -1,5 +1,5 @@
 use Rattle.std.specs.Prelude.{◌≡◌, ℕ, ◌-◌, ◌≤◌, List, slice_get, take, Option, Some, None}
-use Rattle.slate_rows.specs.Line.{Line, IsLine, IsPrefix, extended}
+use Rattle.slate_types.specs.Line.{Line, IsLine, IsPrefix, extended}
 use Rattle.slate_store.specs.declared.objects.VersionedManifest.{VersionedManifest}
 use Rattle.slate_store.specs.Objects.{Objects, latest_manifest}
 use Rattle.slate_store.specs.Content.{IsSound, content}

@@ -1,6 +1,6 @@
 -- A run, step by step, and what holds over all of it.
 use Rattle.std.specs.Prelude.{◌≡◌, ℕ, ◌<◌, List, [], ◌∷◌, slice_get, Some}
-use Rattle.slate_rows.specs.declared.batches.Batch.{Batch}
+use Rattle.slate_types.specs.declared.batches.Batch.{Batch}
 use Rattle.slate_script.specs.declared.commands.Action.TheVariants as actions
 use Rattle.slate_script.specs.declared.commands.Command.{Command}
 use Rattle.slate_script.specs.declared.replies.Reply.{Reply}

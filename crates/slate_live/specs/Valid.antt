@@ -1,15 +1,15 @@
 -- Commands that nothing in a world stands against, and the link of a command, which such a one answers.
 use Rattle.std.specs.Prelude.{◌≡◌, ℕ, ℤ, ◌<◌, ◌≤◌, Bool, true, false, List, length, slice_get, Option, Some, None, Ok, Err}
-use Rattle.slate_rows.specs.declared.batches.Batch.{Batch}
-use Rattle.slate_rows.specs.declared.batches.KeyValue.{KeyValue}
-use Rattle.slate_rows.specs.Counts.{HasRisen}
-use Rattle.slate_rows.specs.Line.{IsPrefix, end}
-use Rattle.slate_rows.specs.Operator.{Merge}
-use Rattle.slate_rows.specs.Read.{read_at}
+use Rattle.slate_types.specs.declared.batches.Batch.{Batch}
+use Rattle.slate_types.specs.declared.batches.KeyValue.{KeyValue}
+use Rattle.slate_types.specs.Counts.{HasRisen}
+use Rattle.slate_types.specs.Line.{IsPrefix, end}
+use Rattle.slate_types.specs.Operator.{Merge}
+use Rattle.slate_reads.specs.Read.{read_at}
 use Rattle.slate_store.specs.declared.objects.VersionedManifest.{VersionedManifest}
 use Rattle.slate_store.specs.Objects.{latest_manifest, last_log}
-use Rattle.slate_rows.specs.declared.options.FlushType.{FlushType}
-use Rattle.slate_status.specs.declared.errors.SlateError.TheVariants as errors
+use Rattle.slate_types.specs.declared.options.FlushType.{FlushType}
+use Rattle.slate_errors.specs.declared.errors.SlateError.TheVariants as errors
 use Rattle.slate_model.specs.Handle.{CloseResult, Handle, accepted}
 use Rattle.slate_model.specs.Follower.{Follower, can_follow, number}
 use Rattle.slate_follow.specs.Closing.{recorded_fault}

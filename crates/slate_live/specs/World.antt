@@ -1,5 +1,5 @@
 use Rattle.std.specs.Prelude.{ℕ, List, []}
-use Rattle.slate_rows.specs.Line.{Line}
+use Rattle.slate_types.specs.Line.{Line}
 use Rattle.slate_store.specs.Objects.{Objects}
 use Rattle.slate_store.specs.Content.{content}
 use Rattle.slate_model.specs.Catalogue.{Catalogue, catalogue_of}

@@ -1,11 +1,11 @@
 // What each command does to the live objects, over lists.
 ghost use Rattle.std.specs.Prelude.{◌≡◌, ◌≢◌, ◌⊎◌, ◌+◌, ℕ, ◌∷◌, [], ◌++◌, length, Ok, Err, Some, None, Option, List, IfOk, IfErr, IfSome, ◌≤◌, true, false};
 ghost use Rattle.std.specs.Option.{option_copied};
-ghost use Rattle.slate_rows.specs.Operator.{Merge};
-ghost use Rattle.slate_rows.specs.Read.{IsOperator, read_at};
-ghost use Rattle.slate_rows.specs.Bound.{read_bound};
+ghost use Rattle.slate_types.specs.Operator.{Merge};
+ghost use Rattle.slate_reads.specs.Read.{IsOperator, read_at};
+ghost use Rattle.slate_reads.specs.Bound.{read_bound};
 ghost use Rattle.slate_model.specs.Handle.{accepted};
-ghost use Rattle.slate_status.specs.Errors.{closed_error};
+ghost use Rattle.slate_errors.specs.Errors.{closed_error};
 ghost use Rattle.slate_model.specs.Read.{AnswersRead};
 ghost use Rattle.slate_live.specs.Answers.{flush_answer, write_answer};
 ghost use Rattle.slate_script.specs.Built.{closes_without_table};
@@ -20,13 +20,13 @@ ghost use Rattle.slate_script.specs.declared.options.Options.{Options};
 
 use crate::states::{Object, Write};
 use bytes::Bytes;
-use slate_rows::{
+use slate_errors::{Ended, Ending, SlateError};
+use slate_script::{Command, Options, Reply};
+use slate_store::Store;
+use slate_types::{
     CloseOptions, DurabilityLevel, FlushType, KeyOp, KeyValue, MergeOperator, NoMemory, Op,
     PrefixExtractor, ReadOptions, Seq, WriteBatch,
 };
-use slate_script::{Command, Options, Reply};
-use slate_status::{Ended, Ending, SlateError};
-use slate_store::Store;
 use slate_writer::{WriterOptions, WriterState, Written};
 use std::alloc::Global;
 

@@ -1,8 +1,8 @@
 // What each kind of object does at a command.
 ghost use Rattle.std.specs.Prelude.{◌≡◌, ◌≢◌, true, false, Some, None, Option};
 ghost use Rattle.std.specs.Option.{option_copied};
-ghost use Rattle.slate_rows.specs.Operator.{Merge};
-ghost use Rattle.slate_rows.specs.Read.{IsOperator};
+ghost use Rattle.slate_types.specs.Operator.{Merge};
+ghost use Rattle.slate_reads.specs.Read.{IsOperator};
 ghost use Rattle.slate_model.specs.Close.{ended};
 ghost use Rattle.slate_follow.specs.Closing.{recorded_fault};
 ghost use Rattle.slate_live.specs.Live.{ByKind, ClosesObject, FlushesSome, PollsSome, ReadsFollower, ReadsHandle, WritesObject};
@@ -10,14 +10,14 @@ ghost use Rattle.slate_live.specs.Next.{closed_follower, durable_reply};
 ghost use Rattle.slate_live.specs.declared.states.Object.TheVariants as objects;
 
 use crate::states::{Object, Write};
+use slate_errors::{Ended, SlateError};
 use slate_follow::PollAnswer;
-use slate_rows::{
+use slate_script::{Command, Reply};
+use slate_store::Store;
+use slate_types::{
     CloseOptions, FlushType, KeyValue, MergeOperator, NoMemory, PrefixExtractor, ReadOptions,
     WriteBatch,
 };
-use slate_script::{Command, Reply};
-use slate_status::{Ended, SlateError};
-use slate_store::Store;
 use slate_writer::{WriterState, Written};
 use std::alloc::Global;
 

@@ -9,11 +9,11 @@ ghost use Rattle.slate_live.specs.Answers.{follow_answer, poll_answer};
 
 use crate::commands::refusal;
 use crate::states::Object;
+use slate_errors::SlateError;
 use slate_follow::{DbReaderMode, DbReaderOptions, FollowerState, PollAnswer};
-use slate_rows::PrefixExtractor;
 use slate_script::Reply;
-use slate_status::SlateError;
 use slate_store::Store;
+use slate_types::PrefixExtractor;
 use std::alloc::Global;
 
 /// The reply to an opening of a reader.

@@ -1,14 +1,14 @@
 ghost use Rattle.std.specs.Prelude.{All, ◌≡◌, ◌≤◌, None, Option, IfOk, OnErr};
 ghost use Rattle.std.specs.Option.{option_copied};
-ghost use Rattle.slate_rows.specs.Operator.{Merge};
-ghost use Rattle.slate_rows.specs.Read.{IsOperator};
+ghost use Rattle.slate_types.specs.Operator.{Merge};
+ghost use Rattle.slate_reads.specs.Read.{IsOperator};
 ghost use Rattle.slate_script.specs.Built.{IsBuilt};
 ghost use Rattle.slate_live.specs.Run.{IsRun};
 
 use crate::LiveState;
-use slate_rows::{MergeOperator, NoMemory, PrefixExtractor};
 use slate_script::{Command, Options, Reply};
 use slate_store::Store;
+use slate_types::{MergeOperator, NoMemory, PrefixExtractor};
 use std::alloc::Global;
 
 /// Does a list of commands on a store, one after another, and answers a reply to each.

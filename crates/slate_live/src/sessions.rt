@@ -5,10 +5,10 @@ ghost use Rattle.slate_script.specs.Replies.{replies_text};
 ghost use Rattle.slate_live.specs.Session.{Ends, EndsWriting, IsGiven, ReadsScript, input_ending, refused_line, script_ending, status_of};
 
 use crate::run;
-use slate_rows::{ConcatOperator, FixedPrefix, Seq};
 use slate_script::{Command, Reply, ScriptFault, print_replies, read_script, read_words};
 use slate_store::Store;
 use slate_streams::{InputFault, Sink, Source, read_whole, write_whole};
+use slate_types::{ConcatOperator, FixedPrefix, Seq};
 use std::alloc::Global;
 
 /// How a session ended.

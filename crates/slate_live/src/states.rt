@@ -1,7 +1,7 @@
 ghost use Rattle.std.specs.Prelude.{◌≡◌, ℕ, ◌≤◌, [], None, Option, true};
 ghost use Rattle.std.specs.Option.{option_copied};
-ghost use Rattle.slate_rows.specs.Operator.{Merge};
-ghost use Rattle.slate_rows.specs.Read.{IsOperator};
+ghost use Rattle.slate_types.specs.Operator.{Merge};
+ghost use Rattle.slate_reads.specs.Read.{IsOperator};
 ghost use Rattle.slate_script.specs.Built.{IsBuilt};
 ghost use Rattle.slate_live.specs.Links.{Links};
 ghost use Rattle.slate_live.specs.Next.{Next};
@@ -9,9 +9,9 @@ ghost use Rattle.slate_live.specs.Valid.{Link};
 
 use crate::{commands, readers};
 use slate_follow::FollowerState;
-use slate_rows::{MergeOperator, PrefixExtractor};
 use slate_script::{Action, Command, Options, Reply};
 use slate_store::Store;
+use slate_types::{MergeOperator, PrefixExtractor};
 use slate_writer::WriterState;
 use std::alloc::Global;
 use std::marker::Model;

@@ -1,9 +1,9 @@
 use Rattle.std.proofs.Common.{◌≡◌, ℕ, zero, suc, ◌<◌, ◌≤◌, ◌⊎◌, inl, inr, List, [], ◌∷◌, length, Some, Result, Ok, Err, Bool, true, false, refl, subst, ap, ◌∙◌, arith}
 use Rattle.std.specs.Bool.{MatchBool}
-use Rattle.slate_rows.specs.declared.batches.Batch.{Batch}
+use Rattle.slate_types.specs.declared.batches.Batch.{Batch}
 use Rattle.slate_store.specs.declared.objects.VersionedManifest.{VersionedManifest}
 use Rattle.slate_store.specs.Objects.{Objects, Change, latest_manifest}
-use Rattle.slate_status.specs.declared.errors.SlateError.{SlateError}
+use Rattle.slate_errors.specs.declared.errors.SlateError.{SlateError}
 use Rattle.slate_model.specs.Changes.{PartMade, after_part, breaks_off}
 use Rattle.slate_model.specs.Flush.{StoresBatches, flush_changes, flush_changes_by}
 use Rattle.slate_model.proofs.Sound.{with_log}

@@ -3,16 +3,16 @@ use Rattle.std.proofs.Math.Dec.{eqb-suc-zero}
 use Rattle.std.specs.List.{AllByRecursion, filter, flat_map}
 use Rattle.std.specs.Option.{IfSome, option_map}
 use Rattle.std.proofs.lemmas.List.{append-nil, length-map, map-append, take_all, take_at}
-use Rattle.slate_rows.specs.declared.batches.Batch.{Batch}
-use Rattle.slate_rows.specs.Line.{AreNumberedFrom, IsLine, Line, batches_above}
-use Rattle.slate_rows.proofs.Lines.{above-all}
+use Rattle.slate_types.specs.declared.batches.Batch.{Batch}
+use Rattle.slate_types.specs.Line.{AreNumberedFrom, IsLine, Line, batches_above}
+use Rattle.slate_types.proofs.Lines.{above-all}
 use Rattle.slate_store.specs.declared.objects.Manifest.{Manifest}
 use Rattle.slate_store.specs.declared.objects.VersionedManifest.{VersionedManifest}
 use Rattle.slate_store.specs.Objects.{Objects, PutManifest, PutLog, changed, empty, greatest, is_taken, last, last_log, latest_manifest, versioned}
 use Rattle.slate_store.specs.Content.{AreGapless, AreRising, HasItsLogs, HasItsTables, IsSound, content, content_by, logged, logs_above, number_before, table_batches}
 use Rattle.slate_replay.specs.Replay.{IsReplayable, replayed}
-use Rattle.slate_status.specs.declared.errors.SlateError.{SlateError}
-use Rattle.slate_status.specs.declared.errors.SlateError.TheVariants as errors
+use Rattle.slate_errors.specs.declared.errors.SlateError.{SlateError}
+use Rattle.slate_errors.specs.declared.errors.SlateError.TheVariants as errors
 use Rattle.slate_model.specs.Changes.{after_part}
 use Rattle.slate_model.specs.Handle.{Handle}
 use Rattle.slate_model.specs.Open.{OpenFault, can_open, can_open_by, first_manifest, can_reopen, found_log, latest_tick, mark_of, next_manifest, open_changes, opened_handle, opened_manifest}

@@ -1,7 +1,7 @@
 use Rattle.std.specs.Prelude.{◌≡◌, ℕ, ◌≤◌, Bool, true, false, MatchBool, List, take, Result, Ok, Err}
 use Rattle.slate_store.specs.Objects.{ObjectsOf, ChangeOf, changed_all}
-use Rattle.slate_status.specs.declared.errors.SlateError.{SlateError}
-use Rattle.slate_status.specs.declared.errors.SlateError.TheVariants.{ObjectStoreError, TransactionalObjectVersionExists, WalTruncated, InvalidDBState, NoMemory}
+use Rattle.slate_errors.specs.declared.errors.SlateError.{SlateError}
+use Rattle.slate_errors.specs.declared.errors.SlateError.TheVariants.{ObjectStoreError, TransactionalObjectVersionExists, WalTruncated, InvalidDBState, NoMemory}
 
 -- the errors that break a command off: a fault of the store, log files with a gap, a number at its end, or want of memory
 abbrev pub breaks_off : SlateError → Bool

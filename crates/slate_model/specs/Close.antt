@@ -1,8 +1,8 @@
 use Rattle.std.specs.Prelude.{[], Option, Some, None, Result, Ok, Err}
-use Rattle.slate_status.specs.declared.closing.CloseFault.{CloseFault}
-use Rattle.slate_status.specs.declared.endings.Ended.{Ended}
-use Rattle.slate_status.specs.declared.errors.SlateError.{SlateError}
-use Rattle.slate_status.specs.declared.errors.SlateError.TheVariants.{Closed}
+use Rattle.slate_errors.specs.declared.closing.CloseFault.{CloseFault}
+use Rattle.slate_errors.specs.declared.endings.Ended.{Ended}
+use Rattle.slate_errors.specs.declared.errors.SlateError.{SlateError}
+use Rattle.slate_errors.specs.declared.errors.SlateError.TheVariants.{Closed}
 use Rattle.slate_model.specs.Handle.{Handle}
 
 -- the handle after its close

@@ -1,12 +1,12 @@
 use Rattle.std.specs.Prelude.{◌≡◌, ◌≢◌, ℕ, ◌+◌, ◌<◌, ◌≤◌, ◌⊎◌, true, List, [], ◌∷◌, length, Option, Some, None, Result, Ok, Err}
-use Rattle.slate_rows.specs.declared.batches.Batch.{Batch}
+use Rattle.slate_types.specs.declared.batches.Batch.{Batch}
 use Rattle.slate_store.specs.declared.objects.VersionedManifest.{VersionedManifest}
-use Rattle.slate_store.specs.declared.errors.StoreFault.TheVariants.{NotFound, Unavailable}
+use Rattle.slate_types.specs.declared.store_errors.StoreFault.TheVariants.{NotFound, Unavailable}
 use Rattle.slate_store.specs.Objects.{ObjectsOf, ChangeOf, PutLog, latest_manifest, last_log}
 use Rattle.slate_store.specs.Calls.{HasRisen}
-use Rattle.slate_status.specs.declared.closing.CloseFault.TheVariants as faults
-use Rattle.slate_status.specs.declared.errors.SlateError.{SlateError}
-use Rattle.slate_status.specs.declared.errors.SlateError.TheVariants as errors
+use Rattle.slate_errors.specs.declared.closing.CloseFault.TheVariants as faults
+use Rattle.slate_errors.specs.declared.errors.SlateError.{SlateError}
+use Rattle.slate_errors.specs.declared.errors.SlateError.TheVariants as errors
 use Rattle.slate_model.specs.Changes.{PartMade, after_part}
 use Rattle.slate_model.specs.Handle.{Handle, CloseResult, accepted}
 use Rattle.slate_model.specs.Write.{last_number}

@@ -1,8 +1,8 @@
 use Rattle.std.specs.Prelude.{ℕ, ℤ, Bool, List, Option, Result}
-use Rattle.slate_rows.specs.declared.batches.Batch.{Batch}
-use Rattle.slate_rows.specs.Line.{Line, end, batches_above}
+use Rattle.slate_types.specs.declared.batches.Batch.{Batch}
+use Rattle.slate_types.specs.Line.{Line, end, batches_above}
 use Rattle.slate_store.specs.declared.objects.VersionedManifest.{VersionedManifest}
-use Rattle.slate_status.specs.declared.closing.CloseFault.{CloseFault}
+use Rattle.slate_errors.specs.declared.closing.CloseFault.{CloseFault}
 
 -- the result with which something closed, or None while it is open
 abbrev pub CloseResult : Type 0

@@ -1,10 +1,10 @@
 use Rattle.std.specs.Prelude.{◌≡◌, ℕ, Result, Ok, Err}
-use Rattle.slate_rows.specs.declared.options.DurabilityLevel.{DurabilityLevel}
-use Rattle.slate_rows.specs.declared.options.DurabilityLevel.TheVariants.{Memory, Remote}
-use Rattle.slate_rows.specs.declared.reads.ReadFault.{ReadFault}
-use Rattle.slate_rows.specs.declared.reads.ReadFault.TheVariants as reads
-use Rattle.slate_status.specs.declared.errors.SlateError.{SlateError}
-use Rattle.slate_status.specs.declared.errors.SlateError.TheVariants as errors
+use Rattle.slate_types.specs.declared.options.DurabilityLevel.{DurabilityLevel}
+use Rattle.slate_types.specs.declared.options.DurabilityLevel.TheVariants.{Memory, Remote}
+use Rattle.slate_types.specs.declared.read_faults.ReadFault.{ReadFault}
+use Rattle.slate_types.specs.declared.read_faults.ReadFault.TheVariants as reads
+use Rattle.slate_errors.specs.declared.errors.SlateError.{SlateError}
+use Rattle.slate_errors.specs.declared.errors.SlateError.TheVariants as errors
 use Rattle.slate_model.specs.Handle.{Handle, accepted}
 
 -- up to which number a read of a handle sees its line

@@ -1,13 +1,13 @@
 use Rattle.std.specs.Prelude.{ℕ, ℤ, ◌+◌, ◌==◌, Bool, if◌then◌else◌, nat_lt, int_lt, List, [], ◌∷◌, length, Option, Some, None, unwrap_or}
 use Rattle.std.specs.List.{list_any}
 use Rattle.std.specs.Option.{option_or}
-use Rattle.slate_rows.specs.declared.batches.Batch.{Batch}
-use Rattle.slate_rows.specs.declared.batches.KeyOp.{KeyOp}
-use Rattle.slate_rows.specs.Line.{extended}
-use Rattle.slate_status.specs.declared.errors.SlateError.{SlateError}
-use Rattle.slate_status.specs.declared.errors.SlateError.TheVariants.{EmptyBatch, EmptyKey, InvalidDBState, InvalidClockTick}
+use Rattle.slate_types.specs.declared.batches.Batch.{Batch}
+use Rattle.slate_types.specs.declared.batches.KeyOp.{KeyOp}
+use Rattle.slate_types.specs.Line.{extended}
+use Rattle.slate_errors.specs.declared.errors.SlateError.{SlateError}
+use Rattle.slate_errors.specs.declared.errors.SlateError.TheVariants.{EmptyBatch, EmptyKey, InvalidDBState, InvalidClockTick}
 use Rattle.slate_model.specs.Handle.{Handle, CloseResult, accepted}
-use Rattle.slate_status.specs.Errors.{closed_error}
+use Rattle.slate_errors.specs.Errors.{closed_error}
 
 -- the greatest number of a batch, manifest or log file
 abbrev pub last_number : ℕ

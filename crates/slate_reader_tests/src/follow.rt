@@ -1,8 +1,8 @@
 use crate::replay::{Logs, store_of};
+use slate_errors::SlateError;
 use slate_follow::{DbReaderMode, DbReaderOptions, FollowerState, PollAnswer};
-use slate_rows::{ConcatOperator, FixedPrefix, Seq};
-use slate_status::SlateError;
 use slate_store::{Manifest, MemoryStore, Store};
+use slate_types::{ConcatOperator, FixedPrefix, Seq};
 use std::alloc::Global;
 use std::test::Fail;
 

@@ -1,6 +1,7 @@
+use slate_reads::IndexedTable;
 use slate_replay::{Replayed, replay};
-use slate_rows::{Batch, IndexedTable, Seq};
 use slate_store::{MemoryStore, Store};
+use slate_types::{Batch, Seq};
 use std::alloc::Global;
 use std::test::Fail;
 

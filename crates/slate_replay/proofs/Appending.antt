@@ -2,9 +2,9 @@ use Rattle.std.proofs.Common.{◌≡◌, ℕ, ◌+◌, ◌<◌, ◌≤◌, inl, 
 use Rattle.std.proofs.lemmas.Bool.{le-ltb, cases_lt}
 use Rattle.std.proofs.lemmas.List.{append-nil, take_more, take-append-drop}
 use Rattle.std.proofs.lemmas.List.Elements.{All-append, All-from_recursion, filter-append}
-use Rattle.slate_rows.specs.declared.batches.Batch.{Batch}
-use Rattle.slate_rows.specs.Line.{AreNumberedFrom, batches_above}
-use Rattle.slate_rows.proofs.Lines.{above-push}
+use Rattle.slate_types.specs.declared.batches.Batch.{Batch}
+use Rattle.slate_types.specs.Line.{AreNumberedFrom, batches_above}
+use Rattle.slate_types.proofs.Lines.{above-push}
 use Rattle.slate_replay.specs.Replay.{EndBy, ComeNext, AppendsNext, IsFront}
 use Rattle.slate_replay.proofs.Logs.{numbered-parts}
 

@@ -7,9 +7,9 @@ use Rattle.std.specs.Cmp.{nat_cmp_is, unsigned_ties}
 use Rattle.std.specs.BTreeMap.{is_at}
 use Rattle.std.proofs.lemmas.Map.Entries.{lookup-filter-keys}
 use Rattle.std.proofs.lemmas.Bool.{lt-ltb, le-ltb, cases_lt}
-use Rattle.slate_rows.proofs.Prefixes.{nat_cmp-greater}
-use Rattle.slate_rows.specs.declared.batches.Batch.{Batch}
-use Rattle.slate_rows.specs.Line.{AreNumberedFrom, batches_above}
+use Rattle.slate_types.proofs.Prefixes.{nat_cmp-greater}
+use Rattle.slate_types.specs.declared.batches.Batch.{Batch}
+use Rattle.slate_types.specs.Line.{AreNumberedFrom, batches_above}
 use Rattle.slate_store.specs.Objects.{entry_at}
 use Rattle.slate_store.specs.Content.{AreGapless}
 

@@ -6,8 +6,8 @@ use Rattle.std.proofs.lemmas.List.Elements.{filter-append}
 use Rattle.std.proofs.lemmas.Grind.{flat_map-append}
 use Rattle.std.specs.List.{flat_map}
 use Rattle.std.specs.Option.{MatchOption, IfSome}
-use Rattle.slate_rows.specs.declared.batches.Batch.{Batch}
-use Rattle.slate_rows.specs.Line.{AreNumberedFrom, batches_above}
+use Rattle.slate_types.specs.declared.batches.Batch.{Batch}
+use Rattle.slate_types.specs.Line.{AreNumberedFrom, batches_above}
 use Rattle.slate_store.specs.Objects.{Objects, entry_at, log_at}
 use Rattle.slate_store.specs.Content.{logs_above}
 use Rattle.slate_replay.specs.Replay.{IsReplayable, replayed, EndBy, IsWhole, IsTornAt, ComeNext, AppendsNext, IsFront}

@@ -1,11 +1,11 @@
 use Rattle.std.specs.Prelude.{◌≡◌, ℕ, ◌+◌, ◌-◌, ◌<◌, ◌≤◌, Bool, true, false, All, List, ◌++◌, length, map, take, MatchOption, Result, Ok, Err}
 use Rattle.std.specs.List.{flat_map, Any}
-use Rattle.slate_rows.specs.declared.batches.Batch.{Batch}
-use Rattle.slate_rows.specs.Line.{AreNumberedFrom, batches_above}
+use Rattle.slate_types.specs.declared.batches.Batch.{Batch}
+use Rattle.slate_types.specs.Line.{AreNumberedFrom, batches_above}
 use Rattle.slate_store.specs.Objects.{Objects, log_at}
 use Rattle.slate_store.specs.Content.{AreGapless, logs_above}
-use Rattle.slate_store.specs.declared.errors.StoreError.{StoreError}
-use Rattle.slate_store.specs.declared.errors.StoreError.TheVariants.{NoMemory}
+use Rattle.slate_types.specs.declared.store_errors.StoreError.{StoreError}
+use Rattle.slate_types.specs.declared.store_errors.StoreError.TheVariants.{NoMemory}
 use Rattle.slate_replay.specs.declared.replays.Replayed.{Replayed}
 use Rattle.slate_replay.specs.declared.replays.Replayed.TheVariants.{Whole, Torn}
 

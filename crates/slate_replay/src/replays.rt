@@ -1,11 +1,12 @@
 ghost use Rattle.std.specs.Prelude.{◌≡◌, ◌≢◌, ◌+◌, ◌<◌, ◌≤◌, ◌^◌, ◌++◌, ℕ, List, Err, length, IfSome};
-ghost use Rattle.slate_rows.specs.Counts.{HasRisen};
-ghost use Rattle.slate_rows.specs.Line.{AreNumberedFrom};
-ghost use Rattle.slate_rows.specs.declared.batches.Batch.{Batch};
+ghost use Rattle.slate_types.specs.Counts.{HasRisen};
+ghost use Rattle.slate_types.specs.Line.{AreNumberedFrom};
+ghost use Rattle.slate_types.specs.declared.batches.Batch.{Batch};
 ghost use Rattle.slate_replay.specs.Replay.{Replays, AppendsNext};
 
-use slate_rows::{Batch, IndexedTable};
-use slate_store::{Store, StoreError};
+use slate_reads::IndexedTable;
+use slate_store::Store;
+use slate_types::{Batch, StoreError};
 use std::alloc::Global;
 
 /// How a replay ended.

@@ -5,10 +5,10 @@ use Rattle.std.specs.declared.cmp.Ordering.TheVariants.{Less, Greater}
 use Rattle.std.specs.Ordering.{is_lt}
 use Rattle.std.proofs.lemmas.Bool.{cases_order, eq-eqb, ne_eqb}
 use Rattle.std.proofs.lemmas.List.{length-take-le}
-use Rattle.slate_rows.specs.Range.{key_cmp}
+use Rattle.slate_types.specs.Range.{key_cmp}
 use Rattle.slate_rows.specs.IndexKey.{IsShortestAbove, IsIndexKey}
 use Rattle.slate_rows.specs.Shared.{shared_len}
-use Rattle.slate_rows.proofs.Prefixes.{nat_cmp-same, nat_cmp-less, nat_cmp-greater, not_below_empty}
+use Rattle.slate_types.proofs.Prefixes.{nat_cmp-same, nat_cmp-less, nat_cmp-greater, not_below_empty}
 
 -- counted along both
 shared_len-count : (a b : List ℕ) → length (take_while (λ (p : ℕ × ℕ). p.0 == p.1) (zip a b)) ≡ shared_len a b

@@ -6,15 +6,15 @@ use Rattle.std.proofs.lemmas.List.{take_more, take_all, map-append, append_assoc
 use Rattle.std.proofs.lemmas.List.Concat.{flat_map-append}
 use Rattle.std.proofs.lemmas.List.Elements.{filter-append}
 use Rattle.std.proofs.lemmas.Slice.Eq.{bytes_eq-Decides}
-use Rattle.slate_rows.specs.declared.batches.Batch.{Batch}
-use Rattle.slate_rows.specs.declared.batches.KeyOp.{KeyOp}
-use Rattle.slate_rows.specs.declared.ranges.ByteRange.{ByteRange}
-use Rattle.slate_rows.specs.declared.reads.Version.{Version as Held}
+use Rattle.slate_types.specs.declared.batches.Batch.{Batch}
+use Rattle.slate_types.specs.declared.batches.KeyOp.{KeyOp}
+use Rattle.slate_types.specs.declared.ranges.ByteRange.{ByteRange}
+use Rattle.slate_reads.specs.declared.reads.Version.{Version as Held}
 use Rattle.slate_rows.specs.Gathered.{AreGathered, of_key}
-use Rattle.slate_rows.specs.Range.{contains}
-use Rattle.slate_rows.specs.Read.{Version, is_within, history, versions_in}
-use Rattle.slate_rows.specs.Tails.{seen}
-use Rattle.slate_rows.proofs.Tails.{versions_in-more}
+use Rattle.slate_types.specs.Range.{contains}
+use Rattle.slate_reads.specs.Read.{Version, is_within, history, versions_in}
+use Rattle.slate_reads.specs.Tails.{seen}
+use Rattle.slate_reads.proofs.Tails.{one_more}
 
 AreGathered-same : (f g : List ℕ → List Version) (range : ByteRange) (held : List Held) → ((key : List ℕ) → f key ≡ g key) → AreGathered f range held → AreGathered g range held
 AreGathered-same f g range held same all = record { within = all.within; whole = λ key in_range. all.whole key in_range ∙ same key }
@@ -51,10 +51,6 @@ AreGathered-skip f range held batch o all out = record {
     go : (b : Bool) → bytes_eq o.key key ≡ b → b ≡ false
     go false is = refl
     go true is = absurd (false≢true (sym out ∙ ap (contains range) ((bytes_eq-Decides o.key key).0 is) ∙ in_range))
-
-pub one_more : (f : List ℕ → List Version) (batch : Batch) (items : List KeyOp) (i : ℕ) (o : KeyOp) → items ≡ batch.ops → i < length items → o ≡ get_or items i o → (key : List ℕ) →
-    (f key ++ versions_in key (record batch { ops = take i batch.ops })) ++ versions_in key (record batch { ops = o ∷ [] }) ≡ f key ++ versions_in key (record batch { ops = take (i + 1) batch.ops })
-one_more f batch items i o same lt at key = append_assoc (f key) _ _ ∙ ap (λ x. f key ++ x) (sym (versions_in-more key batch items i o same lt at))
 
 -- ---- the steps of the loop over a batch
 pub gather-in : (f : List ℕ → List Version) (range : ByteRange) (held new : List Held) (h : Held) (items : List KeyOp) (i : ℕ) →

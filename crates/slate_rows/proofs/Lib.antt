@@ -1,15 +1,8 @@
-pub mod Copies
-pub mod Lines
-pub mod Tails
-pub mod Prefixes
 pub mod Leb128
 pub mod Fronts
-pub mod Telling
 pub mod Passing
 pub mod Grouping
 pub mod Gathering
-pub mod Index
-pub mod Ends
 pub mod Scanning
 pub mod Steps
 pub mod Scanned

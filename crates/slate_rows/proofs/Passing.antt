@@ -9,10 +9,10 @@ use Rattle.std.specs.Cmp.{IsTotalOrder}
 use Rattle.std.proofs.lemmas.Cmp.{nat_list_cmp_total, back_total}
 use Rattle.std.proofs.lemmas.Map.Keys.{sorted_head, sorted_tail}
 use Rattle.std.proofs.lemmas.List.Kept.{IsStrictlySortedBy-filter}
-use Rattle.slate_rows.specs.declared.batches.KeyValue.{KeyValue}
+use Rattle.slate_types.specs.declared.batches.KeyValue.{KeyValue}
 use Rattle.slate_rows.specs.declared.iterators.Kept.{Kept}
-use Rattle.slate_rows.specs.declared.options.IterationOrder.{IterationOrder}
-use Rattle.slate_rows.specs.declared.options.IterationOrder.TheVariants.{Ascending, Descending}
+use Rattle.slate_rows.specs.declared.scan_options.IterationOrder.{IterationOrder}
+use Rattle.slate_rows.specs.declared.scan_options.IterationOrder.TheVariants.{Ascending, Descending}
 use Rattle.slate_rows.specs.Order.{order_cmp, is_before, AreInOrder, row_keys}
 use Rattle.slate_rows.specs.Kept.{kept_rows, kept_keys, AreCopies, AreKept}
 

@@ -4,9 +4,9 @@ use Rattle.std.specs.Ordering.{is_lt}
 use Rattle.std.proofs.lemmas.Cmp.{on_total, then_total, back_total, nat_cmp_total}
 use Rattle.std.proofs.lemmas.List.{take_more, map-append, append_assoc, append-nil}
 use Rattle.std.proofs.lemmas.List.Sorted.{ranks_by}
-use Rattle.slate_rows.specs.declared.batches.Batch.{Batch}
+use Rattle.slate_types.specs.declared.batches.Batch.{Batch}
 use Rattle.slate_rows.specs.declared.entries.RowEntry.{RowEntry}
-use Rattle.slate_rows.specs.declared.options.IterationOrder.{IterationOrder}
+use Rattle.slate_rows.specs.declared.scan_options.IterationOrder.{IterationOrder}
 use Rattle.slate_rows.specs.Recency.{recency_cmp, AreNewestFirst, IsRecency}
 use Rattle.slate_rows.proofs.Passing.{order_cmp-total}
 

@@ -7,19 +7,19 @@ use Rattle.std.proofs.lemmas.List.Elements.{All-from_recursion, recursion_from_A
 use Rattle.std.proofs.lemmas.List.Kept.{Contains-dedup, Contains-from_dedup}
 use Rattle.std.proofs.lemmas.List.Sorted.{All-permutation}
 use Rattle.std.proofs.lemmas.Slice.Eq.{bytes_eq-Decides}
-use Rattle.slate_rows.specs.declared.batches.Batch.{Batch}
-use Rattle.slate_rows.specs.declared.batches.KeyValue.{KeyValue}
-use Rattle.slate_rows.specs.declared.options.IterationOrder.{IterationOrder}
-use Rattle.slate_rows.specs.declared.ranges.ByteRange.{ByteRange}
-use Rattle.slate_rows.specs.declared.reads.ReadFault.{ReadFault}
-use Rattle.slate_rows.specs.declared.reads.Version.{Version as Held}
+use Rattle.slate_types.specs.declared.batches.Batch.{Batch}
+use Rattle.slate_types.specs.declared.batches.KeyValue.{KeyValue}
+use Rattle.slate_rows.specs.declared.scan_options.IterationOrder.{IterationOrder}
+use Rattle.slate_types.specs.declared.ranges.ByteRange.{ByteRange}
+use Rattle.slate_types.specs.declared.read_faults.ReadFault.{ReadFault}
+use Rattle.slate_reads.specs.declared.reads.Version.{Version as Held}
 use Rattle.slate_rows.specs.Gathered.{AreGathered, AreSorted, held_keys, of_key, read_held, held_rows}
 use Rattle.slate_rows.specs.Iteration.{Iteration, begun}
-use Rattle.slate_rows.specs.Operator.{Merge}
-use Rattle.slate_rows.specs.Range.{contains}
-use Rattle.slate_rows.specs.Read.{history, read_at, fold_versions, since_base}
+use Rattle.slate_types.specs.Operator.{Merge}
+use Rattle.slate_types.specs.Range.{contains}
+use Rattle.slate_reads.specs.Read.{history, read_at, fold_versions, since_base}
 use Rattle.slate_rows.specs.Scan.{IsScan}
-use Rattle.slate_rows.specs.Tails.{seen}
+use Rattle.slate_reads.specs.Tails.{seen}
 use Rattle.slate_rows.proofs.Scanning.{all-dedup, rows_of-same}
 use Rattle.slate_rows.proofs.Steps.{order-begin}
 

@@ -9,14 +9,14 @@ use Rattle.std.proofs.lemmas.Bool.{false≢true}
 use Rattle.std.proofs.lemmas.Cmp.{nat_list_eq_equiv}
 use Rattle.std.proofs.lemmas.Map.Views.{list_any-from_Contains}
 use Rattle.std.proofs.lemmas.Slice.Eq.{bytes_eq-Decides}
-use Rattle.slate_rows.specs.declared.batches.Batch.{Batch}
-use Rattle.slate_rows.specs.declared.batches.KeyValue.{KeyValue}
-use Rattle.slate_rows.specs.declared.options.IterationOrder.{IterationOrder}
-use Rattle.slate_rows.specs.declared.ranges.ByteRange.{ByteRange}
-use Rattle.slate_rows.specs.declared.reads.ReadFault.{ReadFault}
-use Rattle.slate_rows.specs.Operator.{Merge}
+use Rattle.slate_types.specs.declared.batches.Batch.{Batch}
+use Rattle.slate_types.specs.declared.batches.KeyValue.{KeyValue}
+use Rattle.slate_rows.specs.declared.scan_options.IterationOrder.{IterationOrder}
+use Rattle.slate_types.specs.declared.ranges.ByteRange.{ByteRange}
+use Rattle.slate_types.specs.declared.read_faults.ReadFault.{ReadFault}
+use Rattle.slate_types.specs.Operator.{Merge}
 use Rattle.slate_rows.specs.Order.{order_cmp, AreInOrder}
-use Rattle.slate_rows.specs.Read.{read_at}
+use Rattle.slate_reads.specs.Read.{read_at}
 use Rattle.slate_rows.specs.Scan.{Rows, rows_of, IsScan}
 use Rattle.slate_rows.proofs.Passing.{order_cmp-total}
 use Rattle.slate_rows.proofs.Scanning.{bytes_eq-same, apart}

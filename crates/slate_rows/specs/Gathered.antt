@@ -1,18 +1,18 @@
 use Rattle.std.specs.Prelude.{◌≡◌, ℕ, true, false, List, [], ◌∷◌, ◌++◌, map, filter, Option, Some, None, Result, Ok, Err}
 use Rattle.std.specs.List.{AllByRecursion, dedup}
 use Rattle.std.specs.Str.{bytes_eq}
-use Rattle.slate_rows.specs.declared.batches.KeyValue.{KeyValue}
-use Rattle.slate_rows.specs.declared.options.IterationOrder.{IterationOrder}
-use Rattle.slate_rows.specs.declared.ranges.ByteRange.{ByteRange}
-use Rattle.slate_rows.specs.declared.reads.ReadFault.{ReadFault}
-use Rattle.slate_rows.specs.declared.reads.ReadFault.TheVariants.{NoMemory}
-use Rattle.slate_rows.specs.declared.reads.Version.{Version as Held}
-use Rattle.slate_rows.specs.Operator.{Merge}
+use Rattle.slate_types.specs.declared.batches.KeyValue.{KeyValue}
+use Rattle.slate_rows.specs.declared.scan_options.IterationOrder.{IterationOrder}
+use Rattle.slate_types.specs.declared.ranges.ByteRange.{ByteRange}
+use Rattle.slate_types.specs.declared.read_faults.ReadFault.{ReadFault}
+use Rattle.slate_types.specs.declared.read_faults.ReadFault.TheVariants.{NoMemory}
+use Rattle.slate_reads.specs.declared.reads.Version.{Version as Held}
+use Rattle.slate_types.specs.Operator.{Merge}
 use Rattle.slate_rows.specs.Order.{is_before}
-use Rattle.slate_rows.specs.Range.{contains}
-use Rattle.slate_rows.specs.Read.{Version, since_base, fold_versions}
+use Rattle.slate_types.specs.Range.{contains}
+use Rattle.slate_reads.specs.Read.{Version, since_base, fold_versions}
 use Rattle.slate_rows.specs.Scan.{Rows, rows_of}
-use Rattle.slate_rows.specs.Tails.{seen}
+use Rattle.slate_reads.specs.Tails.{seen}
 
 -- the keys of the versions that the code holds
 abbrev pub held_keys : List Held → List (List ℕ)

@@ -1,7 +1,7 @@
 use Rattle.std.specs.Prelude.{◌≡◌, ℕ, ◌<◌, false, List, [], Option, Some, None, length, take}
 use Rattle.std.specs.declared.cmp.Ordering.TheVariants.{Less}
 use Rattle.std.specs.Ordering.{is_lt}
-use Rattle.slate_rows.specs.Range.{key_cmp}
+use Rattle.slate_types.specs.Range.{key_cmp}
 
 -- the shortest front of a key that is greater than another key
 pub record IsShortestAbove (previous key front : List ℕ) : Type 0 where

@@ -1,8 +1,8 @@
 use Rattle.std.specs.Prelude.{◌≡◌, ℕ, List, map}
 use Rattle.std.specs.List.{AllByRecursion}
-use Rattle.slate_rows.specs.declared.batches.KeyValue.{KeyValue}
+use Rattle.slate_types.specs.declared.batches.KeyValue.{KeyValue}
 use Rattle.slate_rows.specs.declared.iterators.Kept.{Kept}
-use Rattle.slate_rows.specs.declared.options.IterationOrder.{IterationOrder}
+use Rattle.slate_rows.specs.declared.scan_options.IterationOrder.{IterationOrder}
 use Rattle.slate_rows.specs.Order.{AreInOrder}
 
 -- the rows of an iterator

@@ -2,10 +2,10 @@ use Rattle.std.specs.Prelude.{ℕ, Bool, List, map}
 use Rattle.std.specs.declared.cmp.Ordering.{Ordering}
 use Rattle.std.specs.Ordering.{is_lt}
 use Rattle.std.specs.List.Sorted.{IsStrictlySortedBy}
-use Rattle.slate_rows.specs.declared.batches.KeyValue.{KeyValue}
-use Rattle.slate_rows.specs.declared.options.IterationOrder.{IterationOrder}
-use Rattle.slate_rows.specs.declared.options.IterationOrder.TheVariants.{Ascending, Descending}
-use Rattle.slate_rows.specs.Range.{key_cmp}
+use Rattle.slate_types.specs.declared.batches.KeyValue.{KeyValue}
+use Rattle.slate_rows.specs.declared.scan_options.IterationOrder.{IterationOrder}
+use Rattle.slate_rows.specs.declared.scan_options.IterationOrder.TheVariants.{Ascending, Descending}
+use Rattle.slate_types.specs.Range.{key_cmp}
 
 -- how two keys stand in an order
 abbrev pub order_cmp : IterationOrder → List ℕ → List ℕ → Ordering

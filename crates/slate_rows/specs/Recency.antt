@@ -3,16 +3,16 @@ use Rattle.std.specs.List.{flat_map, starts_with}
 use Rattle.std.specs.List.Sorted.{IsPermutation, IsSorted, IsStable}
 use Rattle.std.specs.declared.cmp.Ordering.{Ordering}
 use Rattle.std.specs.Ordering.{nat_cmp, ordering_then}
-use Rattle.slate_rows.specs.declared.batches.Batch.{Batch}
-use Rattle.slate_rows.specs.declared.batches.KeyOp.{KeyOp}
-use Rattle.slate_rows.specs.declared.batches.Op.{Op}
-use Rattle.slate_rows.specs.declared.batches.Op.TheVariants.{Put, Delete, Merge as MergeOperand}
+use Rattle.slate_types.specs.declared.batches.Batch.{Batch}
+use Rattle.slate_types.specs.declared.batches.KeyOp.{KeyOp}
+use Rattle.slate_types.specs.declared.batches.Op.{Op}
+use Rattle.slate_types.specs.declared.batches.Op.TheVariants.{Put, Delete, Merge as MergeOperand}
 use Rattle.slate_rows.specs.declared.entries.RowEntry.{RowEntry}
 use Rattle.slate_rows.specs.declared.entries.ValueDeletable.{ValueDeletable}
 use Rattle.slate_rows.specs.declared.entries.ValueDeletable.TheVariants.{Value, Merge, Tombstone}
-use Rattle.slate_rows.specs.declared.options.IterationOrder.{IterationOrder}
+use Rattle.slate_rows.specs.declared.scan_options.IterationOrder.{IterationOrder}
 use Rattle.slate_rows.specs.Order.{order_cmp}
-use Rattle.slate_rows.specs.Read.{is_within}
+use Rattle.slate_reads.specs.Read.{is_within}
 
 -- what an operation leaves at its key
 abbrev pub value_of : Op → ValueDeletable

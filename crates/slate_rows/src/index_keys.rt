@@ -2,11 +2,11 @@ ghost use Rattle.std.specs.Prelude.{◌≡◌, ◌≢◌, [], length, IfOk, fals
 ghost use Rattle.std.specs.List.{zip};
 ghost use Rattle.std.specs.Option.{option_copied, ForSome};
 ghost use Rattle.std.specs.Ordering.{is_gt};
-ghost use Rattle.slate_rows.specs.Range.{key_cmp};
+ghost use Rattle.slate_types.specs.Range.{key_cmp};
 ghost use Rattle.slate_rows.specs.IndexKey.{IsIndexKey};
 
-use crate::NoMemory;
 use bytes::Bytes;
+use slate_types::NoMemory;
 use std::alloc::Global;
 
 /// The key that the index of a table keeps for a block whose first key is `this`, where `prev` is the key before it.

@@ -4,10 +4,11 @@ ghost use Rattle.slate_rows.specs.declared.iterators.Kept.{Kept};
 ghost use Rattle.slate_rows.specs.Iteration.{begun, next_of, after_next, is_returned, seek_refusal, sought};
 ghost use Rattle.slate_rows.specs.Kept.{kept_rows, kept_keys, AreCopies};
 ghost use Rattle.slate_rows.specs.Order.{is_before, AreInOrder, row_keys};
-ghost use Rattle.slate_rows.specs.Range.{contains};
+ghost use Rattle.slate_types.specs.Range.{contains};
 
-use crate::{ByteRange, IterationOrder, KeyValue, NoMemory, ReadFault, SeekFault, Seq};
+use crate::{IterationOrder, SeekFault};
 use bytes::Bytes;
+use slate_types::{ByteRange, KeyValue, NoMemory, ReadFault, Seq};
 use std::alloc::Global;
 use std::collections::VecDeque;
 use std::marker::Model;

@@ -2,8 +2,9 @@ ghost use Rattle.std.specs.Prelude.{◌≡◌, [], ◌∷◌, ◌++◌, map, IfO
 ghost use Rattle.std.specs.List.Sorted.{IsPermutation, IsSorted, IsStable};
 ghost use Rattle.slate_rows.specs.Recency.{AreNewestFirst, IsRecency, entry_of, batch_entries, source_entries, recency_cmp};
 
-use crate::reads::is_within;
-use crate::{Batch, IterationOrder, KeyOp, NoMemory, Op, RowEntry, Seq, ValueDeletable};
+use crate::{IterationOrder, RowEntry, ValueDeletable};
+use slate_reads::is_within;
+use slate_types::{Batch, KeyOp, NoMemory, Op, Seq};
 use std::alloc::Global;
 use std::cmp::Ordering;
 use std::collections::VecDeque;

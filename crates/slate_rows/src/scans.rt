@@ -3,20 +3,19 @@ ghost use Rattle.std.specs.List.{AllByRecursion};
 ghost use Rattle.std.specs.List.Sorted.{IsPermutation};
 ghost use Rattle.std.specs.Option.{option_copied};
 ghost use Rattle.std.specs.Str.{bytes_eq};
-ghost use Rattle.slate_rows.specs.declared.options.IterationOrder.{IterationOrder};
+ghost use Rattle.slate_rows.specs.declared.scan_options.IterationOrder.{IterationOrder};
 ghost use Rattle.slate_rows.specs.Gathered.{AreGathered, Adds, AreSorted, of_key, held_rows};
 ghost use Rattle.slate_rows.specs.Iteration.{begun};
-ghost use Rattle.slate_rows.specs.Operator.{Merge};
+ghost use Rattle.slate_types.specs.Operator.{Merge};
 ghost use Rattle.slate_rows.specs.Order.{AreInOrder, row_keys};
-ghost use Rattle.slate_rows.specs.Range.{contains};
-ghost use Rattle.slate_rows.specs.Read.{Version as SeenVersion, IsOperator, Reads, history, versions_in, fold_versions, since_base};
+ghost use Rattle.slate_types.specs.Range.{contains};
+ghost use Rattle.slate_reads.specs.Read.{Version as SeenVersion, IsOperator, Reads, history, versions_in, fold_versions, since_base};
 ghost use Rattle.slate_rows.specs.Scan.{IsScan};
-ghost use Rattle.slate_rows.specs.Tails.{seen};
+ghost use Rattle.slate_reads.specs.Tails.{seen};
 
-use crate::reads::{Version, fold, is_base, is_within};
-use crate::{
-    Batch, ByteRange, DbIterator, IterationOrder, KeyValue, MergeOperator, NoMemory, ReadFault, Seq,
-};
+use crate::{DbIterator, IterationOrder};
+use slate_reads::{Version, fold, is_base, is_within};
+use slate_types::{Batch, ByteRange, KeyValue, MergeOperator, NoMemory, ReadFault, Seq};
 use std::alloc::Global;
 
 /// Reads the keys of a range in batches up to a bound, which is a number; without one, in all of them. The rows that

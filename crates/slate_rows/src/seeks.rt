@@ -1,4 +1,4 @@
-use crate::ReadFault;
+use slate_types::ReadFault;
 
 /// Why a seek was refused. A refusal changes nothing.
 #[derive(Clone, Copy, Debug, PartialEq, Eq)]

@@ -1,7 +1,7 @@
 ghost use Rattle.std.specs.Prelude.{◌≡◌, ℕ, ◌^◌, ◌*◌, ◌<◌, ◌≤◌, List, ◌++◌, length, Ok, Err, OnOk, OnErr, IfOk, MatchResult};
 ghost use Rattle.slate_rows.specs.Varint.{IsLeb128, number_at_front, varint};
 
-use crate::NoMemory;
+use slate_types::NoMemory;
 use std::alloc::Global;
 
 /// Why bytes don't begin with a number.

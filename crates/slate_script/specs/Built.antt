@@ -1,8 +1,8 @@
 -- What can be run until tables are built: nothing is stored in one, and readers follow the latest manifest.
 use Rattle.std.specs.Prelude.{◌≡◌, Bool, true, false, not, Option, Some, None}
-use Rattle.slate_rows.specs.declared.options.CloseOptions.{CloseOptions}
-use Rattle.slate_rows.specs.declared.options.FlushType.{FlushType}
-use Rattle.slate_rows.specs.declared.options.FlushType.TheVariants.{Wal, MemTable}
+use Rattle.slate_types.specs.declared.options.CloseOptions.{CloseOptions}
+use Rattle.slate_types.specs.declared.options.FlushType.{FlushType}
+use Rattle.slate_types.specs.declared.options.FlushType.TheVariants.{Wal, MemTable}
 use Rattle.slate_store.specs.declared.reader_modes.DbReaderMode.{DbReaderMode}
 use Rattle.slate_store.specs.declared.reader_modes.DbReaderMode.TheVariants.{FollowLatest}
 use Rattle.slate_script.specs.declared.commands.Action.{Action}

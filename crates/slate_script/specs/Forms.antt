@@ -1,9 +1,9 @@
 -- The forms of a script's commands.
 use Rattle.std.specs.Prelude.{ℕ, ◌==◌, false, List, [], ◌∷◌, Option, Some, None, codes, option_and_then, if◌then◌else◌}
 use Rattle.std.specs.Str.{bytes_eq}
-use Rattle.slate_rows.specs.declared.options.CloseOptions.{CloseOptions}
-use Rattle.slate_rows.specs.declared.options.FlushType.{FlushType}
-use Rattle.slate_rows.specs.declared.options.FlushType.TheVariants.{Wal}
+use Rattle.slate_types.specs.declared.options.CloseOptions.{CloseOptions}
+use Rattle.slate_types.specs.declared.options.FlushType.{FlushType}
+use Rattle.slate_types.specs.declared.options.FlushType.TheVariants.{Wal}
 use Rattle.slate_store.specs.declared.reader_modes.DbReaderMode.TheVariants.{FollowLatest}
 use Rattle.slate_text.specs.Numbers.{number_of, moment_of}
 use Rattle.slate_text.specs.Words.{word_of}

@@ -2,12 +2,12 @@
 use Rattle.std.specs.Prelude.{ℕ, ℤ, Bool, if◌then◌else◌, List, [], ◌∷◌, ◌++◌, Option, Some, None, codes, decimal}
 use Rattle.std.specs.Fmt.{signed_decimal}
 use Rattle.std.specs.List.{flat_map}
-use Rattle.slate_rows.specs.declared.batches.KeyValue.{KeyValue}
+use Rattle.slate_types.specs.declared.batches.KeyValue.{KeyValue}
 use Rattle.slate_text.specs.Words.{word_text}
 use Rattle.slate_status.specs.Texts.{error_text}
-use Rattle.slate_status.specs.declared.endings.TaskName.{TaskName}
-use Rattle.slate_status.specs.declared.endings.TaskName.TheVariants as tasks
-use Rattle.slate_status.specs.declared.errors.SlateError.{SlateError}
+use Rattle.slate_errors.specs.declared.endings.TaskName.{TaskName}
+use Rattle.slate_errors.specs.declared.endings.TaskName.TheVariants as tasks
+use Rattle.slate_errors.specs.declared.errors.SlateError.{SlateError}
 use Rattle.slate_script.specs.declared.replies.Reply.{Reply}
 use Rattle.slate_script.specs.declared.replies.Reply.TheVariants as replies
 

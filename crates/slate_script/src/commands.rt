@@ -2,8 +2,8 @@ ghost use Rattle.std.specs.Prelude.{◌≡◌};
 ghost use Rattle.slate_script.specs.declared.commands.ScriptFault.TheVariants.{NoMemory as OutOfMemory};
 
 use bytes::Bytes;
-use slate_rows::{CloseOptions, FlushType, NoMemory};
 use slate_store::DbReaderMode;
+use slate_types::{CloseOptions, FlushType, NoMemory};
 use std::alloc::{AllocError, AllocFailed};
 
 /// What a command does. Handles, snapshots and followers are the objects of a run.

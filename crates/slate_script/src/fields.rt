@@ -4,8 +4,8 @@ ghost use Rattle.std.specs.List.{position_or_len};
 ghost use Rattle.std.specs.Str.Lines.{strip_carriage_return};
 
 use bytes::Bytes;
-use slate_rows::NoMemory;
 use slate_text::find_byte;
+use slate_types::NoMemory;
 use std::alloc::Global;
 
 /// The fields of a line: what stands between single spaces. They share the line's storage.

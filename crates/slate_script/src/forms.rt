@@ -6,9 +6,9 @@ ghost use Rattle.slate_script.specs.Forms.{open_form, put_form, flush_type_of, f
 use crate::fields::cut_fields;
 use crate::{Action, Command, LineAnswer};
 use bytes::Bytes;
-use slate_rows::{CloseOptions, FlushType, NoMemory};
 use slate_store::DbReaderMode;
 use slate_text::{read_moment, read_number, read_shared_word};
+use slate_types::{CloseOptions, FlushType, NoMemory};
 use std::alloc::Global;
 
 fn read_open(fields: &[Bytes]) -> Option<Action>

@@ -2,9 +2,10 @@ ghost use Rattle.std.specs.Prelude.{◌≡◌, ◌++◌, ◌∷◌, length, take
 ghost use Rattle.slate_script.specs.Replies.{expiry_text, fault_text, poll_text, stamp_text, task_text, tasks_text, reply_words, reply_text, replies_text};
 
 use crate::Reply;
-use slate_rows::{KeyValue, NoMemory};
-use slate_status::{Ending, SlateError, TaskName, write_error};
+use slate_errors::{Ending, SlateError, TaskName};
+use slate_status::write_error;
 use slate_text::{cut_back, write_byte_word, write_number, write_signed, write_text};
+use slate_types::{KeyValue, NoMemory};
 
 fn write_expiry(out: &mut Vec<u8>, time: Option<i64>) -> Result<(), NoMemory>
     ensures ok { OnOk result (out.new.items ≡ out.old.items ++ expiry_text time) }

@@ -1,5 +1,5 @@
-use slate_rows::KeyValue;
-use slate_status::{Ending, SlateError};
+use slate_errors::{Ending, SlateError};
+use slate_types::KeyValue;
 
 /// The reply to a command.
 #[derive(Debug, Drop)]

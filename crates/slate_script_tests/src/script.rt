@@ -1,10 +1,10 @@
 use bytes::Bytes;
-use slate_rows::{KeyValue, NoMemory};
+use slate_errors::{Ending, SlateError, TaskName};
 use slate_script::{
     Action, Command, LineAnswer, Options, Reply, ScriptFault, print_replies, read_line,
     read_script, read_words, script_fields,
 };
-use slate_status::{Ending, SlateError, TaskName};
+use slate_types::{KeyValue, NoMemory};
 use std::alloc::Global;
 use std::test::Fail;
 

@@ -2,7 +2,7 @@ ghost use Rattle.std.specs.Prelude.{◌≡◌, ℕ, ◌+◌, ◌*◌, ◌/◌, �
 ghost use Rattle.std.specs.Vec.{vec_len, vec_capacity};
 ghost use Rattle.slate_seqtrack.specs.Bits.{low_bits, signed, bits_of, IsPadded};
 
-use slate_rows::NoMemory;
+use slate_types::NoMemory;
 use std::alloc::Global;
 use std::marker::Model;
 

@@ -6,7 +6,7 @@ ghost use Rattle.slate_seqtrack.specs.Reading.{IsReadFault};
 ghost use Rattle.slate_seqtrack.specs.Bytes.{as_signed, as_unsigned, AreTrackerBytes, rises, counted_block, in_order, blocks_at, lists_behind, lists_at};
 
 use crate::{TrackerFault, decode_gorilla_i64_with_length, encode_gorilla_i64};
-use slate_rows::NoMemory;
+use slate_types::NoMemory;
 use std::alloc::Global;
 
 /// The version of the format, its first byte.

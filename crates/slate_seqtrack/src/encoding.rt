@@ -5,7 +5,7 @@ ghost use Rattle.slate_seqtrack.specs.Block.{IsFirstCode, AreLater, AreValues, f
 ghost use Rattle.slate_seqtrack.specs.Writing.{IsWrittenBlock, IsWriteFault};
 
 use crate::{BitWriter, TrackerFault};
-use slate_rows::NoMemory;
+use slate_types::NoMemory;
 use std::alloc::Global;
 
 /// Writes a block of fewer than 2^32 values: their count, the first one, and the differences of differences of the

@@ -1,6 +1,6 @@
 ghost use Rattle.std.specs.Prelude.{◌≡◌};
 
-use slate_rows::NoMemory;
+use slate_types::NoMemory;
 use std::alloc::{AllocError, AllocFailed};
 use thiserror::Error;
 

@@ -13,7 +13,7 @@ use crate::bytes::{read_lists, write_lists};
 use crate::lookups::partner_of;
 use crate::thinning::push_thinned;
 use crate::{FindOption, TrackedSeq, TrackerFault};
-use slate_rows::NoMemory;
+use slate_types::NoMemory;
 use std::alloc::Global;
 use std::marker::Model;
 

@@ -1,5 +1,3 @@
-pub mod Errors
-pub mod Kinds
 pub mod PublicErrors
 pub mod Records
 pub mod Segments

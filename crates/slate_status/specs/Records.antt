@@ -1,16 +1,16 @@
 -- The record of a database's status, and what a report makes of it.
 use Rattle.std.specs.Prelude.{◌≡◌, ◌≢◌, ℕ, max, Bool, true, false, nat_lt, nat_le, if◌then◌else◌, List, Option, Some, None, Result, Ok, Err, unwrap_or}
 use Rattle.std.specs.Option.{option_map}
-use Rattle.slate_rows.specs.Counts.{one_more}
+use Rattle.slate_types.specs.Counts.{one_more}
 use Rattle.slate_store.specs.declared.objects.VersionedManifest.{VersionedManifest}
-use Rattle.slate_status.specs.declared.closing.CloseFault.{CloseFault}
-use Rattle.slate_status.specs.declared.closing.CloseReason.{CloseReason}
-use Rattle.slate_status.specs.declared.closing.CloseReason.TheVariants.{Clean}
+use Rattle.slate_errors.specs.declared.closing.CloseFault.{CloseFault}
+use Rattle.slate_errors.specs.declared.closing.CloseReason.{CloseReason}
+use Rattle.slate_errors.specs.declared.closing.CloseReason.TheVariants.{Clean}
 use Rattle.slate_status.specs.declared.statuses.DbStatus.{DbStatus}
 use Rattle.slate_status.specs.declared.statuses.DurableAnswer.{DurableAnswer}
 use Rattle.slate_status.specs.declared.statuses.DurableAnswer.TheVariants.{Durable, Pending, Failed}
-use Rattle.slate_status.specs.Errors.{closed_error, error_of_fault}
-use Rattle.slate_status.specs.Kinds.{kind_of, reason_of}
+use Rattle.slate_errors.specs.Errors.{closed_error, error_of_fault}
+use Rattle.slate_errors.specs.Kinds.{kind_of, reason_of}
 
 pub record Record : Type 0 where
   pub version : ℕ  -- how often the status changed

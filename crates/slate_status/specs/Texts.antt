@@ -2,15 +2,15 @@
 use Rattle.std.specs.Prelude.{ℕ, ℤ, List, [], ◌++◌, Option, Some, None, codes, decimal}
 use Rattle.std.specs.Fmt.{signed_decimal}
 use Rattle.uuid.specs.Text.{hyphenated_text, lower}
-use Rattle.slate_rows.specs.declared.ranges.ByteRange.{ByteRange}
-use Rattle.slate_rows.specs.declared.ranges.KeyBound.{KeyBound}
-use Rattle.slate_rows.specs.declared.ranges.KeyBound.TheVariants.{Unbounded, Included, Excluded}
-use Rattle.slate_store.specs.declared.errors.StoreFault.{StoreFault}
-use Rattle.slate_store.specs.declared.errors.StoreFault.TheVariants.{NotFound, Unavailable}
+use Rattle.slate_types.specs.declared.ranges.ByteRange.{ByteRange}
+use Rattle.slate_types.specs.declared.ranges.KeyBound.{KeyBound}
+use Rattle.slate_types.specs.declared.ranges.KeyBound.TheVariants.{Unbounded, Included, Excluded}
+use Rattle.slate_types.specs.declared.store_errors.StoreFault.{StoreFault}
+use Rattle.slate_types.specs.declared.store_errors.StoreFault.TheVariants.{NotFound, Unavailable}
 use Rattle.slate_text.specs.Words.{word_text}
-use Rattle.slate_status.specs.declared.errors.SlateError.{SlateError}
-use Rattle.slate_status.specs.declared.errors.SlateError.TheVariants as errors
-use Rattle.slate_status.specs.Kinds.{kind_of, kind_words}
+use Rattle.slate_errors.specs.declared.errors.SlateError.{SlateError}
+use Rattle.slate_errors.specs.declared.errors.SlateError.TheVariants as errors
+use Rattle.slate_errors.specs.Kinds.{kind_of, kind_words}
 
 -- a number that may be missing
 abbrev pub optional_text : Option ℤ → List ℕ

@@ -1,10 +1,7 @@
-//! Errors, and the result with which something closed.
+//! The status of a database, and the texts of errors. The errors themselves stand in a crate of their own below, and are
+//! passed on.
 #![tactic(auto)]
 
-mod closing;
-mod endings;
-mod errors;
-mod kinds;
 mod public_errors;
 mod records;
 mod segments;
@@ -12,12 +9,11 @@ mod shown;
 mod statuses;
 mod texts;
 
-pub use closing::{CloseCell, CloseFault, CloseReason};
-pub use endings::{Ended, Ending, TaskName};
-pub use errors::{RetryReason, SlateError};
-pub use kinds::ErrorKind;
 pub use public_errors::Error;
 pub use records::StatusRecord;
 pub use segments::SegmentPrefix;
+pub use slate_errors::{
+    CloseCell, CloseFault, CloseReason, Ended, Ending, ErrorKind, RetryReason, SlateError, TaskName,
+};
 pub use statuses::{DbStatus, DurableAnswer};
 pub use texts::write_error;

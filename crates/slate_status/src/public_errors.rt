@@ -1,12 +1,11 @@
 ghost use Rattle.std.specs.Prelude.{◌≡◌, ◌++◌, length, take, Some, OnOk, OnErr};
 ghost use Rattle.std.specs.Option.{option_copied};
-ghost use Rattle.slate_status.specs.Kinds.{kind_of};
+ghost use Rattle.slate_errors.specs.Kinds.{kind_of};
 
-use crate::kinds::words_of;
 use crate::texts::{source_of, write_message, write_source};
-use crate::{CloseReason, ErrorKind, SlateError};
-use slate_rows::{Name, NoMemory};
+use slate_errors::{CloseReason, ErrorKind, SlateError};
 use slate_text::{cut_back, write_text};
+use slate_types::{Name, NoMemory};
 use std::marker::Model;
 
 /// What an error comes from.
@@ -144,7 +143,7 @@ impl Error {
         ensures ok { OnOk result (out.new.items ≡ out.old.items ++ public_text self.now) }
         ensures err { OnErr result (take (length out.old.items) out.new.items ≡ out.old.items) }
     {
-        write_text(out, words_of(self.kind()))?;
+        write_text(out, self.kind().as_str())?;
         write_text(out, ": ")?;
         self.write_message(out)?;
         write_source(out, self.source())

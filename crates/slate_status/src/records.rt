@@ -2,10 +2,11 @@ ghost use Rattle.std.specs.Prelude.{◌≡◌, ◌↔◌, ℕ, List, true, None,
 ghost use Rattle.slate_status.specs.Records.{reason_for};
 
 use crate::segments::{copies, union};
-use crate::{CloseCell, CloseFault, CloseReason, DbStatus, DurableAnswer, SlateError};
+use crate::{DbStatus, DurableAnswer};
 use bytes::Bytes;
-use slate_rows::{NoMemory, Seq};
+use slate_errors::{CloseCell, CloseFault, CloseReason, SlateError};
 use slate_store::VersionedManifest;
+use slate_types::{NoMemory, Seq};
 use std::alloc::Global;
 use std::marker::Model;
 

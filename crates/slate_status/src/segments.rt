@@ -5,7 +5,7 @@ ghost use Rattle.std.specs.BTreeSet.{IsFromIterResult};
 ghost use Rattle.slate_status.specs.Segments.{IsUnion};
 
 use bytes::Bytes;
-use slate_rows::NoMemory;
+use slate_types::NoMemory;
 use std::alloc::Global;
 use std::collections::BTreeSet;
 

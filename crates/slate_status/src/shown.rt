@@ -5,8 +5,8 @@ ghost use Rattle.slate_text.specs.Words.{word_text};
 ghost use Rattle.slate_status.specs.Texts.{optional_text, name_text, bound_text, range_text};
 
 use bytes::Bytes;
-use slate_rows::{ByteRange, KeyBound, Name, NoMemory};
 use slate_text::{write_byte_word, write_number, write_signed, write_text};
+use slate_types::{ByteRange, KeyBound, Name, NoMemory};
 use uuid::Uuid;
 
 /// A value that the message of an error shows.

@@ -1,11 +1,12 @@
 ghost use Rattle.std.specs.Prelude.{◌≡◌, IfOk, map};
 ghost use Rattle.slate_status.specs.Segments.{IsUnion};
 
+use crate::SegmentPrefix;
 use crate::segments::{segments_of, union};
-use crate::{CloseReason, SegmentPrefix, SlateError};
 use bytes::Bytes;
-use slate_rows::{NoMemory, Seq};
+use slate_errors::{CloseReason, SlateError};
 use slate_store::VersionedManifest;
+use slate_types::{NoMemory, Seq};
 use std::alloc::{AllocError, Global};
 
 /// The status of a database, or of a reader. SlateDB's type of this name.

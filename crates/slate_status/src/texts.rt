@@ -2,13 +2,11 @@ ghost use Rattle.std.specs.Prelude.{◌≡◌, ◌++◌, length, take, Some, OnO
 ghost use Rattle.std.specs.Option.{option_copied};
 ghost use Rattle.slate_status.specs.Texts.{fixed_message, shown_message, message_of, fault_words, source_of, source_text, error_text};
 
-use crate::SlateError;
-use crate::kinds::words_of;
 use crate::shown::{Shown, write_around, write_around_both, write_before, write_both};
 use bytes::Bytes;
-use slate_rows::{ByteRange, Name, NoMemory};
-use slate_store::StoreFault;
+use slate_errors::SlateError;
 use slate_text::{cut_back, write_text};
+use slate_types::{ByteRange, Name, NoMemory, StoreFault};
 
 const TIMEOUT: &str = "transactional object (e.g. manifest) op timeout after ";
 
@@ -225,7 +223,7 @@ fn write_parts(out: &mut Vec<u8>, error: &SlateError) -> Result<(), NoMemory>
     ensures ok { OnOk result (out.new.items ≡ out.old.items ++ error_text error.now) }
     ensures err { OnErr result (take (length out.old.items) out.new.items ≡ out.old.items) }
 {
-    write_text(out, words_of(error.kind()))?;
+    write_text(out, error.kind().as_str())?;
     write_text(out, ": ")?;
     write_message(out, error)?;
     write_source(out, source_of(error))

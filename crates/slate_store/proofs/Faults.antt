@@ -1,6 +1,6 @@
 use Rattle.std.proofs.Common.{◌≡◌, refl, inl, Option, Err}
-use Rattle.slate_rows.proofs.Telling.{told_kept}
-use Rattle.slate_store.specs.declared.errors.StoreError.TheVariants.{Failed}
+use Rattle.slate_types.proofs.Telling.{told_kept}
+use Rattle.slate_types.specs.declared.store_errors.StoreError.TheVariants.{Failed}
 use Rattle.slate_store.specs.Objects.{Objects, Change}
 use Rattle.slate_store.specs.Calls.{Puts, Told}
 

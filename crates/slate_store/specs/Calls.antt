@@ -1,8 +1,8 @@
 use Rattle.std.specs.Prelude.{◌≡◌, ℕ, ◌≤◌, ◌⊎◌, true, false, Option, Some, None, Result, Ok, Err, IsErrOf}
-pub use Rattle.slate_rows.specs.Counts.{count_end, one_more, HasRisen}
-pub use Rattle.slate_rows.specs.Telling.{Told}
-use Rattle.slate_store.specs.declared.errors.StoreError.{StoreError}
-use Rattle.slate_store.specs.declared.errors.StoreError.TheVariants.{NotFound, Exists, Failed, NoMemory}
+pub use Rattle.slate_types.specs.Counts.{count_end, one_more, HasRisen}
+pub use Rattle.slate_types.specs.Telling.{Told}
+use Rattle.slate_types.specs.declared.store_errors.StoreError.{StoreError}
+use Rattle.slate_types.specs.declared.store_errors.StoreError.TheVariants.{NotFound, Exists, Failed, NoMemory}
 use Rattle.slate_store.specs.Objects.{Objects, Change, is_taken, changed}
 
 -- what every call says of the two counts: a failure is told only where the count of faults has risen

@@ -1,7 +1,7 @@
 use Rattle.std.specs.Prelude.{◌≡◌, ℕ, ◌+◌, ◌==◌, nat_lt, if◌then◌else◌, List, find, Option, Some, None, Result, Err}
-use Rattle.slate_rows.specs.Counts.{count_end, one_more}
-use Rattle.slate_store.specs.declared.errors.StoreError.{StoreError}
-use Rattle.slate_store.specs.declared.errors.StoreError.TheVariants.{Failed}
+use Rattle.slate_types.specs.Counts.{count_end, one_more}
+use Rattle.slate_types.specs.declared.store_errors.StoreError.{StoreError}
+use Rattle.slate_types.specs.declared.store_errors.StoreError.TheVariants.{Failed}
 use Rattle.slate_store.specs.declared.faulty_store.FailingCall.{FailingCall}
 use Rattle.slate_store.specs.declared.faulty_store.Fate.{Fate}
 use Rattle.slate_store.specs.declared.faulty_store.Fate.TheVariants.{Answered, Landed, Lost}

@@ -1,7 +1,7 @@
 ghost use Rattle.std.specs.Prelude.{◌≡◌, ◌≤◌, ◌==◌, find};
 
-use crate::{Manifest, Store, StoreError, VersionedManifest};
-use slate_rows::{Batch, Seq};
+use crate::{Manifest, Store, VersionedManifest};
+use slate_types::{Batch, Seq, StoreError};
 use std::alloc::Global;
 use std::marker::Model;
 

@@ -1,16 +1,15 @@
 //! The objects of a store, and the store itself: manifests and log files under rising ids.
 #![tactic(auto)]
 
-mod errors;
 mod faulty_store;
 mod memory_store;
 mod objects;
 mod reader_modes;
 mod stores;
 
-pub use errors::{StoreError, StoreFault};
 pub use faulty_store::{FailingCall, FaultyStore};
 pub use memory_store::MemoryStore;
 pub use objects::{Checkpoint, Manifest, TableId, VersionedManifest};
 pub use reader_modes::DbReaderMode;
+pub use slate_types::{StoreError, StoreFault};
 pub use stores::Store;

@@ -1,9 +1,9 @@
 ghost use Rattle.std.specs.Prelude.{◌≡◌, Some, []};
-ghost use Rattle.slate_rows.specs.Counts.{one_more};
+ghost use Rattle.slate_types.specs.Counts.{one_more};
 ghost use Rattle.slate_store.specs.Objects.{empty};
 
-use crate::{Manifest, Store, StoreError, VersionedManifest};
-use slate_rows::{Batch, NoMemory, Seq};
+use crate::{Manifest, Store, VersionedManifest};
+use slate_types::{Batch, NoMemory, Seq, StoreError};
 use std::alloc::Global;
 use std::collections::BTreeMap;
 

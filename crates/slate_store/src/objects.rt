@@ -1,7 +1,7 @@
 ghost use Rattle.std.specs.Prelude.{◌≡◌};
 
 use bytes::Bytes;
-use slate_rows::{Name, Seq};
+use slate_types::{Name, Seq};
 use std::alloc::AllocError;
 use uuid::Uuid;
 

@@ -2,8 +2,8 @@ ghost use Rattle.std.specs.Prelude.{◌≡◌, ℕ, Option, IfSome, IfOk, IfErr}
 ghost use Rattle.slate_store.specs.Objects.{Objects, PutManifest, PutLog, latest_manifest, last_log, log_at};
 ghost use Rattle.slate_store.specs.Calls.{IsCall, Told, Finds, Puts, IsOfList, IsOfRead, IsOfPut};
 
-use crate::{Manifest, StoreError, VersionedManifest};
-use slate_rows::{Batch, Seq};
+use crate::{Manifest, VersionedManifest};
+use slate_types::{Batch, Seq, StoreError};
 use std::alloc::Global;
 
 /// An object store: manifests and log files, each under an id. An object is put once, and never changed.

@@ -1,6 +1,6 @@
 use Rattle.std.specs.Prelude.{◌≡◌, ℕ, ◌+◌, ◌==◌, min, Bool, true, false, ◌&&◌, nat_lt, List, length}
 use Rattle.std.specs.List.{list_any}
-use Rattle.slate_rows.specs.Counts.{count_end, one_more}
+use Rattle.slate_types.specs.Counts.{count_end, one_more}
 use Rattle.slate_streams.specs.declared.sources.ReadAnswer.{ReadAnswer}
 use Rattle.slate_streams.specs.declared.sources.ReadAnswer.TheVariants.{Got, End, Failed}
 use Rattle.slate_streams.specs.declared.sinks.WriteAnswer.{WriteAnswer}

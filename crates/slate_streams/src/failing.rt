@@ -1,8 +1,8 @@
 ghost use Rattle.std.specs.Prelude.{◌≡◌, ◌≤◌};
-ghost use Rattle.slate_rows.specs.Counts.{one_more};
+ghost use Rattle.slate_types.specs.Counts.{one_more};
 ghost use Rattle.slate_streams.specs.InMemory.{called, fails_next};
 
-use slate_rows::Seq;
+use slate_types::Seq;
 use std::marker::Model;
 
 /// Counts the calls of a source or a sink in memory, and knows which of them fail.

@@ -2,7 +2,7 @@ ghost use Rattle.std.specs.Prelude.{◌≡◌, ◌≤◌};
 
 use crate::failing::CallCount;
 use crate::{ReadAnswer, Source};
-use slate_rows::Seq;
+use slate_types::Seq;
 use std::marker::Model;
 
 /// A source in memory. It hands over at most so many bytes per call, and some of its calls fail, as it was told.
@@ -44,8 +44,8 @@ impl SliceSource {
 
 impl Source for SliceSource {
     ghost use Rattle.std.specs.Prelude.{◌≡◌, ◌≤◌, length, Some};
-    ghost use Rattle.slate_rows.specs.Counts.{HasRisen};
-    ghost use Rattle.slate_rows.specs.Telling.{Told};
+    ghost use Rattle.slate_types.specs.Counts.{HasRisen};
+    ghost use Rattle.slate_types.specs.Telling.{Told};
     ghost use Rattle.slate_streams.specs.Streams.{Fits, Reads};
     ghost use Rattle.slate_streams.specs.InMemory.{AnswersRead};
 

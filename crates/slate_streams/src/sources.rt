@@ -1,6 +1,6 @@
 ghost use Rattle.std.specs.Prelude.{◌≡◌, ℕ, ◌≤◌, List, length, Option};
-ghost use Rattle.slate_rows.specs.Counts.{HasRisen};
-ghost use Rattle.slate_rows.specs.Telling.{Told};
+ghost use Rattle.slate_types.specs.Counts.{HasRisen};
+ghost use Rattle.slate_types.specs.Telling.{Told};
 ghost use Rattle.slate_streams.specs.Streams.{Fits, Reads};
 
 /// What a read of a source answered.

@@ -2,7 +2,7 @@ ghost use Rattle.std.specs.Prelude.{◌≡◌, ◌≤◌, []};
 
 use crate::failing::CallCount;
 use crate::{Sink, WriteAnswer};
-use slate_rows::Seq;
+use slate_types::Seq;
 use std::alloc::Global;
 use std::marker::Model;
 
@@ -50,8 +50,8 @@ impl VecSink {
 
 impl Sink for VecSink {
     ghost use Rattle.std.specs.Prelude.{◌≡◌, ◌≤◌, length, Some};
-    ghost use Rattle.slate_rows.specs.Counts.{HasRisen};
-    ghost use Rattle.slate_rows.specs.Telling.{Told};
+    ghost use Rattle.slate_types.specs.Counts.{HasRisen};
+    ghost use Rattle.slate_types.specs.Telling.{Told};
     ghost use Rattle.slate_streams.specs.Streams.{Takes, Writes};
     ghost use Rattle.slate_streams.specs.InMemory.{AnswersWrite};
 

@@ -1,6 +1,6 @@
 ghost use Rattle.std.specs.Prelude.{◌≡◌, ◌<◌, ◌≤◌, false, IsErrOf, IfOk, vec_len};
-ghost use Rattle.slate_rows.specs.Counts.{HasRisen};
-ghost use Rattle.slate_rows.specs.Telling.{Told};
+ghost use Rattle.slate_types.specs.Counts.{HasRisen};
+ghost use Rattle.slate_types.specs.Telling.{Told};
 ghost use Rattle.slate_streams.specs.declared.whole.InputFault.TheVariants.{NoMemory as OutOfMemory};
 ghost use Rattle.slate_streams.specs.Whole.{ReadsWhole, WritesWhole};
 

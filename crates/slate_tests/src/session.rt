@@ -8,8 +8,8 @@ use slate_live::{
     Action, Command, Finished, LiveState, Options, ScriptFault, print_replies, read_script, run,
     session,
 };
-use slate_rows::{ConcatOperator, FixedPrefix, FlushType, NoMemory, Seq};
 use slate_store::{FailingCall, FaultyStore, MemoryStore, Store};
+use slate_types::{ConcatOperator, FixedPrefix, FlushType, NoMemory, Seq};
 use std::alloc::{AllocError, Global};
 use std::test::Fail;
 

@@ -1,6 +1,6 @@
-use slate_rows::{FixedPrefix, FlushType, Seq, WriteBatch};
-use slate_status::SlateError;
-use slate_store::{FailingCall, FaultyStore, MemoryStore, Store, StoreError, StoreFault};
+use slate_errors::SlateError;
+use slate_store::{FailingCall, FaultyStore, MemoryStore, Store};
+use slate_types::{FixedPrefix, FlushType, Seq, StoreError, StoreFault, WriteBatch};
 use slate_writer::{WriterOptions, WriterState};
 use std::alloc::Global;
 use std::test::Fail;

@@ -1,9 +1,9 @@
 ghost use Rattle.std.specs.Prelude.{◌≤◌};
 
-use slate_rows::Seq;
 use slate_streams::{
     InputFault, MAX_SCRIPT, ReadAnswer, SliceSource, Source, VecSink, read_whole, write_whole,
 };
+use slate_types::Seq;
 use std::alloc::{AllocError, Global};
 use std::test::Fail;
 

@@ -1,6 +1,6 @@
 ghost use Rattle.std.specs.Prelude.{◌≡◌, ◌++◌, take, OnOk, OnErr};
 
-use slate_rows::NoMemory;
+use slate_types::NoMemory;
 
 /// Hands on the result of writing at the end of a text. Where memory ran out, it first cuts the text back to `length`
 /// bytes, so that a text which was so long before is as it was. It takes no memory.

@@ -4,7 +4,7 @@ ghost use Rattle.slate_text.specs.Numbers.{number_of, time_of, moment_of};
 
 use crate::search::find_byte;
 use itoa::Buffer;
-use slate_rows::NoMemory;
+use slate_types::NoMemory;
 
 /// The number that a field spells: one or more decimal digits, below 2^64. It takes no memory.
 pub fn read_number(field: &[u8]) -> Option<u64>

@@ -5,7 +5,7 @@ ghost use Rattle.slate_text.specs.Words.{hex_digit, hex_value, hex_pair, byte_te
 
 use crate::appends::cut_back;
 use bytes::Bytes;
-use slate_rows::NoMemory;
+use slate_types::NoMemory;
 use std::alloc::Global;
 
 // The value of a hexadecimal digit.

@@ -1,14 +1,14 @@
 use Rattle.std.proofs.Common.{◌≡◌, ℕ, ◌+◌, ◌≤◌, ◌==◌, Bool, true, false, MatchBool, List, [], ◌∷◌, length, Some, Result, Ok, Err, refl, sym, subst, ap, ◌∙◌, inl, inr, arith}
-use Rattle.slate_rows.specs.declared.batches.Batch.{Batch}
+use Rattle.slate_types.specs.declared.batches.Batch.{Batch}
 use Rattle.slate_store.specs.declared.objects.VersionedManifest.{VersionedManifest}
-use Rattle.slate_store.specs.declared.errors.StoreFault.TheVariants.{Unavailable}
-use Rattle.slate_store.specs.declared.errors.StoreError.{StoreError}
-use Rattle.slate_store.specs.declared.errors.StoreError.TheVariants as refusals
+use Rattle.slate_types.specs.declared.store_errors.StoreFault.TheVariants.{Unavailable}
+use Rattle.slate_types.specs.declared.store_errors.StoreError.{StoreError}
+use Rattle.slate_types.specs.declared.store_errors.StoreError.TheVariants as refusals
 use Rattle.slate_store.specs.Calls.{Puts}
-use Rattle.slate_status.specs.Errors.{error_of_store}
+use Rattle.slate_errors.specs.Errors.{error_of_store}
 use Rattle.slate_store.specs.Objects.{Objects, Change, PutLog, is_taken, latest_manifest, last_log}
-use Rattle.slate_status.specs.declared.errors.SlateError.{SlateError}
-use Rattle.slate_status.specs.declared.errors.SlateError.TheVariants as errors
+use Rattle.slate_errors.specs.declared.errors.SlateError.{SlateError}
+use Rattle.slate_errors.specs.declared.errors.SlateError.TheVariants as errors
 use Rattle.slate_model.specs.Changes.{PartMade, after_part, breaks_off}
 use Rattle.slate_model.specs.Flush.{FindsCurrent, FlushAnswer, FlushCause, StoresBatches, StoresOnly, flush_changes, flush_changes_by}
 use Rattle.slate_model.proofs.Entries.{absent}

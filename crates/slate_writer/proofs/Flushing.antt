@@ -1,10 +1,10 @@
 use Rattle.std.proofs.Common.{◌≡◌, ◌-◌, length, take, drop, Result, sym, subst, arith, ap, ◌∙◌, List}
 use Rattle.std.proofs.lemmas.List.{take_rest}
-use Rattle.slate_rows.specs.declared.batches.Batch.{Batch}
-use Rattle.slate_rows.proofs.Lines.{above-drop}
+use Rattle.slate_types.specs.declared.batches.Batch.{Batch}
+use Rattle.slate_types.proofs.Lines.{above-drop}
 use Rattle.slate_store.specs.Objects.{Objects}
 use Rattle.slate_store.specs.declared.objects.VersionedManifest.{VersionedManifest}
-use Rattle.slate_status.specs.declared.errors.SlateError.{SlateError}
+use Rattle.slate_errors.specs.declared.errors.SlateError.{SlateError}
 use Rattle.slate_model.specs.Handle.{Handle, unstored}
 use Rattle.slate_writer.proofs.Appending.{Stores}
 use Rattle.slate_writer.specs.declared.states.WriterState.TheInside.{Inside}

@@ -1,5 +1,5 @@
 use Rattle.std.specs.Prelude.{◌+◌, ◌<◌, ◌≤◌, ◌^◌, length}
-use Rattle.slate_rows.specs.Line.{AreNumberedFrom}
+use Rattle.slate_types.specs.Line.{AreNumberedFrom}
 use Rattle.slate_model.specs.Handle.{Handle}
 use Rattle.slate_writer.specs.declared.states.WriterState.TheInside.{Inside}
 

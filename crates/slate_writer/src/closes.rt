@@ -5,9 +5,9 @@ ghost use Rattle.slate_model.specs.Flush.{CanFlush, StoresBatches, TellsFaults, 
 ghost use Rattle.slate_model.specs.Handle.{unstored};
 
 use crate::WriterState;
-use slate_rows::{CloseOptions, FlushType};
-use slate_status::{Ended, Ending, SlateError};
+use slate_errors::{Ended, Ending, SlateError};
 use slate_store::Store;
+use slate_types::{CloseOptions, FlushType};
 use std::alloc::Global;
 
 impl WriterState {

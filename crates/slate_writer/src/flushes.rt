@@ -1,14 +1,14 @@
 ghost use Rattle.std.specs.Prelude.{◌≡◌, ℕ, false, None, Err, IfSome};
 ghost use Rattle.slate_store.specs.Calls.{Told};
 ghost use Rattle.slate_model.specs.Handle.{unstored};
-ghost use Rattle.slate_status.specs.Errors.{closed_error};
+ghost use Rattle.slate_errors.specs.Errors.{closed_error};
 ghost use Rattle.slate_model.specs.Flush.{CanFlush, FindsCurrent, StoresBatches, TellsFaults, flushed, recorded};
 ghost use Rattle.slate_writer.specs.Appends.{AppendsLog};
 
 use crate::WriterState;
-use slate_rows::{Batch, FlushType};
-use slate_status::{CloseFault, SlateError};
+use slate_errors::{CloseFault, SlateError};
 use slate_store::{Store, VersionedManifest};
+use slate_types::{Batch, FlushType};
 use std::alloc::Global;
 
 impl WriterState {

@@ -1,5 +1,5 @@
 ghost use Rattle.std.specs.Prelude.{◌≡◌, ℕ, ◌+◌, ◌<◌, ◌^◌, true, None, Some, length, IfOk, IfSome};
-ghost use Rattle.slate_rows.specs.Line.{AreNumberedFrom};
+ghost use Rattle.slate_types.specs.Line.{AreNumberedFrom};
 ghost use Rattle.slate_store.specs.Calls.{Told};
 ghost use Rattle.slate_store.specs.Content.{IsSound, content};
 ghost use Rattle.slate_store.specs.Objects.{Objects};
@@ -9,10 +9,11 @@ ghost use Rattle.slate_model.specs.Write.{last_number};
 ghost use Rattle.slate_writer.specs.Opening.{FindsNext, PutsOpening, Recovers};
 
 use crate::WriterState;
+use slate_errors::{CloseCell, SlateError};
+use slate_reads::IndexedTable;
 use slate_replay::{Replayed, replay};
-use slate_rows::{Batch, IndexedTable, PrefixExtractor, Seq};
-use slate_status::{CloseCell, SlateError};
 use slate_store::{Manifest, Store, VersionedManifest};
+use slate_types::{Batch, PrefixExtractor, Seq};
 use std::alloc::Global;
 
 /// How a handle writes. SlateDB's `Settings`, as far as it is used here.

@@ -1,16 +1,17 @@
 ghost use Rattle.std.specs.Prelude.{◌≡◌, None, Some, Err, Option, IfSome};
 ghost use Rattle.std.specs.Option.{option_copied};
-ghost use Rattle.slate_rows.specs.Operator.{Merge};
-ghost use Rattle.slate_rows.specs.Bound.{read_bound};
-ghost use Rattle.slate_rows.specs.Read.{IsOperator, read_at};
+ghost use Rattle.slate_types.specs.Operator.{Merge};
+ghost use Rattle.slate_reads.specs.Bound.{read_bound};
+ghost use Rattle.slate_reads.specs.Read.{IsOperator, read_at};
 ghost use Rattle.slate_model.specs.Handle.{accepted};
-ghost use Rattle.slate_status.specs.Errors.{closed_error};
+ghost use Rattle.slate_errors.specs.Errors.{closed_error};
 ghost use Rattle.slate_model.specs.Read.{AnswersRead};
 
 use crate::WriterState;
-use slate_rows::{KeyValue, MergeOperator, ReadOptions, prepare_max_seq, read_indexed};
-use slate_status::SlateError;
+use slate_errors::SlateError;
+use slate_reads::{prepare_max_seq, read_indexed};
 use slate_store::Store;
+use slate_types::{KeyValue, MergeOperator, ReadOptions};
 use std::alloc::Global;
 
 impl WriterState {

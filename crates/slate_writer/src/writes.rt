@@ -1,11 +1,11 @@
 ghost use Rattle.std.specs.Prelude.{◌≡◌, ◌⊎◌, ◌+◌, Option, Some, None, Err, IfOk, IfErr};
 ghost use Rattle.slate_model.specs.Handle.{accepted};
-ghost use Rattle.slate_status.specs.Errors.{closed_error};
+ghost use Rattle.slate_errors.specs.Errors.{closed_error};
 ghost use Rattle.slate_model.specs.Write.{write_refusal, written, accepted_moment, batch_refusal, has_empty_key};
 
 use crate::WriterState;
-use slate_rows::{Batch, KeyOp, NoMemory, PrefixExtractor, WriteBatch};
-use slate_status::SlateError;
+use slate_errors::SlateError;
+use slate_types::{Batch, KeyOp, NoMemory, PrefixExtractor, WriteBatch};
 use std::alloc::Global;
 
 /// An accepted write: the number of its batch, and its creation time in milliseconds.

@@ -1,7 +1,7 @@
 use Rattle.std.proofs.Common.{◌≡◌, ◌≤◌, List, Option, Some, length, take, vec_len, vec_capacity}
 use Rattle.std.specs.Option.{option_copied}
-use Rattle.slate_rows.specs.Operator.{Merge}
-use Rattle.slate_rows.specs.Read.{IsOperator}
+use Rattle.slate_types.specs.Operator.{Merge}
+use Rattle.slate_reads.specs.Read.{IsOperator}
 use Rattle.slate_store.specs.Objects.{Objects}
 use Rattle.slate_store.specs.Content.{IsSound}
 use Rattle.slate_live.specs.Steps.{Step, last_world}

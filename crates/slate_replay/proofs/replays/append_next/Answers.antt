@@ -3,7 +3,7 @@ use Rattle.std.proofs.lemmas.List.{map-id}
 use Rattle.std.proofs.lemmas.List.Elements.{All-from_recursion}
 use Rattle.std.proofs.lemmas.Iterator.Adapters.{YieldsList-from_vec}
 use Rattle.std.proofs.lemmas.Iterator.Consumers.{YieldsList-turn, YieldsList-so_far}
-use Rattle.slate_rows.proofs.Lines.{numbered-below, numbered-push}
+use Rattle.slate_types.proofs.Lines.{numbered-below, numbered-push}
 use Rattle.slate_replay.proofs.Appending.{passed, pushed, gap, unfinished}
 use Rattle.slate_replay.proofs.replays.append_next.Goals as goal
 

@@ -1,6 +1,6 @@
 use Rattle.std.proofs.Common.{◌≡◌, ◌+◌, ◌<◌, ◌^◌, ◌++◌, List, Ok, true, length}
-use Rattle.slate_rows.specs.Line.{AreNumberedFrom}
-use Rattle.slate_rows.specs.declared.batches.Batch.{Batch}
+use Rattle.slate_types.specs.Line.{AreNumberedFrom}
+use Rattle.slate_types.specs.declared.batches.Batch.{Batch}
 use Rattle.slate_replay.specs.Replay.{AppendsNext}
 use Rattle.slate_replay.proofs.replays.append_next.Given as goal
 

@@ -1,7 +1,7 @@
 use Rattle.std.proofs.Common.{◌≡◌, ◌+◌, ◌<◌, ◌≤◌, ◌^◌, ◌++◌, List, length, max}
 use Rattle.std.specs.Option.{IfSome}
-use Rattle.slate_rows.specs.Line.{AreNumberedFrom}
-use Rattle.slate_rows.specs.declared.batches.Batch.{Batch}
+use Rattle.slate_types.specs.Line.{AreNumberedFrom}
+use Rattle.slate_types.specs.declared.batches.Batch.{Batch}
 use Rattle.slate_replay.specs.Replay.{IsWhole}
 use Rattle.slate_replay.proofs.replays.replay.Given as goal
 

@@ -1,5 +1,5 @@
 use Rattle.std.proofs.Common.{◌≡◌, true, false}
-use Rattle.slate_rows.specs.Range.{contains}
+use Rattle.slate_types.specs.Range.{contains}
 use Rattle.slate_rows.proofs.Gathering.{gather-in, gather-out, gather-end}
 use Rattle.slate_rows.proofs.scans.gather_batch.Goals as goal
 use Rattle.slate_rows.proofs.scans.gather_batch.Goals.{then-contains+in_ok-push, else-contains}

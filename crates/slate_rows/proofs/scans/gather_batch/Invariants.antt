@@ -1,6 +1,6 @@
 use Rattle.std.proofs.Common.{ℕ, List, ◌++◌, take}
 use Rattle.slate_rows.specs.Gathered.{AreGathered}
-use Rattle.slate_rows.specs.Read.{Version, versions_in}
+use Rattle.slate_reads.specs.Read.{Version, versions_in}
 use Rattle.slate_rows.proofs.scans.gather_batch.Given as goal
 
 abbrev pub invariant-loop-key_op : goal.invariant-loop-key_op

@@ -1,6 +1,6 @@
 use Rattle.std.proofs.Common.{◌≡◌, ◌≤◌, take, drop, map}
-use Rattle.slate_rows.specs.Read.{since_base}
-use Rattle.slate_rows.specs.Tails.{seen}
+use Rattle.slate_reads.specs.Read.{since_base}
+use Rattle.slate_reads.specs.Tails.{seen}
 use Rattle.slate_rows.proofs.scans.tail_start.Given as goal
 
 abbrev pub invariant-loop-i : goal.invariant-loop-i

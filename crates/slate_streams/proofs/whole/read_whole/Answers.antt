@@ -1,5 +1,5 @@
 use Rattle.std.proofs.Common.{Err, take, ◌++◌, length-append, length-take, arith}
-use Rattle.slate_rows.proofs.Telling.{told_then}
+use Rattle.slate_types.proofs.Telling.{told_then}
 use Rattle.slate_streams.specs.declared.whole.InputFault.TheVariants.{TooLong}
 use Rattle.slate_streams.specs.Whole.{ReadsWhole}
 use Rattle.slate_streams.proofs.Fronts.{more_taken}

@@ -1,5 +1,5 @@
 use Rattle.std.proofs.Common.{◌≡◌, ◌-◌, ◌<◌, ◌≤◌, ◌++◌, length, vec_len}
-use Rattle.slate_rows.specs.Telling.{Told}
+use Rattle.slate_types.specs.Telling.{Told}
 use Rattle.slate_streams.specs.declared.whole.TheConstants.{MAX_SCRIPT}
 use Rattle.slate_streams.proofs.whole.read_whole.Given as goal
 

@@ -1,5 +1,5 @@
 use Rattle.std.proofs.Common.{◌≡◌, ◌+◌, ◌++◌, take, arith}
-use Rattle.slate_rows.proofs.Telling.{told_then}
+use Rattle.slate_types.proofs.Telling.{told_then}
 use Rattle.slate_streams.proofs.Fronts.{more_written}
 use Rattle.slate_streams.proofs.whole.write_whole.Goals as goal
 

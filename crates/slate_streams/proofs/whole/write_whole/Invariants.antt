@@ -1,5 +1,5 @@
 use Rattle.std.proofs.Common.{◌≡◌, ◌-◌, ◌≤◌, ◌++◌, length, take}
-use Rattle.slate_rows.specs.Telling.{Told}
+use Rattle.slate_types.specs.Telling.{Told}
 use Rattle.slate_streams.proofs.whole.write_whole.Given as goal
 
 abbrev pub invariant-loop-count : goal.invariant-loop-count

@@ -1,5 +1,5 @@
 use Rattle.std.proofs.lemmas.Result.{err_from_is_err_and}
-use Rattle.slate_rows.proofs.Telling.{told_then}
+use Rattle.slate_types.proofs.Telling.{told_then}
 use Rattle.slate_writer.proofs.Openings.{puts_fence}
 use Rattle.slate_writer.proofs.opens.put_opening.Goals as goal
 

@@ -1,6 +1,6 @@
 use Rattle.std.proofs.Common.{◌≡◌, None, true, false}
 use Rattle.slate_rows.specs.Iteration.{is_returned}
-use Rattle.slate_rows.specs.Range.{contains}
+use Rattle.slate_types.specs.Range.{contains}
 use Rattle.slate_rows.proofs.Passing.{AreKept-passed, kept_rows-filter}
 use Rattle.slate_rows.proofs.iterators.DbIterator.seek.Goals as goal
 

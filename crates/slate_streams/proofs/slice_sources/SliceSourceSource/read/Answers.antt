@@ -1,6 +1,6 @@
 use Rattle.std.proofs.Common.{◌≡◌, length, take, drop, length-take, arith}
 use Rattle.std.proofs.lemmas.List.{take_rest}
-use Rattle.slate_rows.proofs.Telling.{told_some}
+use Rattle.slate_types.proofs.Telling.{told_some}
 use Rattle.slate_streams.proofs.Fronts.{front_copied}
 use Rattle.slate_streams.proofs.slice_sources.SliceSourceSource.read.Goals as goal
 

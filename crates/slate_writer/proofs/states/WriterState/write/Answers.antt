@@ -1,7 +1,7 @@
 use Rattle.std.proofs.Common.{◌≡◌, ◌+◌, ◌<◌, ◌^◌, length, length-append, arith, ap, sym, ◌∙◌}
 use Rattle.std.proofs.lemmas.List.Elements.{All-from_recursion}
 use Rattle.slate_model.specs.Handle.{accepted}
-use Rattle.slate_rows.proofs.Lines.{numbered-below, numbered-push}
+use Rattle.slate_types.proofs.Lines.{numbered-below, numbered-push}
 use Rattle.slate_writer.proofs.states.WriterState.write.Goals as goal
 
 pub push-requires : goal.push-requires

@@ -1,7 +1,0 @@
-use Rattle.std.proofs.Common.{take}
-use Rattle.slate_rows.specs.Tails.{IsTail}
-use Rattle.slate_rows.specs.Read.{history}
-use Rattle.slate_rows.proofs.indexed_reads.tail_before.Given as goal
-
-abbrev pub invariant-loop-batch : goal.invariant-loop-batch
-invariant-loop-batch l = IsTail l.key (history (take l.batch-index l.older) l.bound l.key) l.versions.items

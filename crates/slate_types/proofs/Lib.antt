@@ -1,0 +1,4 @@
+pub mod Copies
+pub mod Lines
+pub mod Prefixes
+pub mod Telling

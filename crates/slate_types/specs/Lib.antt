@@ -1,0 +1,7 @@
+pub mod Counts
+pub mod Line
+pub mod Operator
+pub mod Prefix
+pub mod Range
+pub mod Telling
+pub mod Written

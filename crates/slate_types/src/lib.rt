@@ -1,0 +1,24 @@
+//! What several crates speak of: batches and their operations, ranges of keys, options, operators, and the faults of
+//! reads and of stores.
+#![tactic(auto)]
+
+mod batches;
+mod memory;
+mod operators;
+mod options;
+mod ranges;
+mod read_faults;
+mod sequences;
+mod store_errors;
+
+pub use batches::{Batch, KeyOp, KeyValue, Op, WriteBatch};
+pub use memory::NoMemory;
+pub use operators::{ConcatOperator, FixedPrefix, MergeFault, MergeOperator, PrefixExtractor};
+pub use options::{
+    CloseOptions, DurabilityLevel, FlushOptions, FlushType, MergeOptions, PutOptions, ReadOptions,
+    WriteOptions,
+};
+pub use ranges::{ByteRange, KeyBound};
+pub use read_faults::ReadFault;
+pub use sequences::{Name, Seq};
+pub use store_errors::{StoreError, StoreFault};

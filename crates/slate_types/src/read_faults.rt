@@ -1,0 +1,25 @@
+use crate::NoMemory;
+
+/// Why a read gave no answer.
+#[derive(Clone, Copy, Debug, PartialEq, Eq)]
+pub enum ReadFault {
+    /// The key has operands to merge, and there is no operator.
+    MergeOperatorMissing,
+    /// The operator refused an operand.
+    MergeOperatorError,
+    /// A stored row is damaged. No read here answers it: it comes only from an iterator that was made with it.
+    ChecksumMismatch,
+    /// Memory ran out.
+    NoMemory,
+}
+
+impl From<NoMemory> for ReadFault {
+    ghost use Rattle.std.specs.Prelude.{◌≡◌};
+    ghost use Rattle.slate_types.specs.declared.read_faults.ReadFault.TheVariants.{NoMemory as OutOfMemory};
+
+    ghost from_gives = { λ _ fault. fault ≡ OutOfMemory };
+
+    fn from(_error: NoMemory) -> ReadFault {
+        ReadFault::NoMemory
+    }
+}

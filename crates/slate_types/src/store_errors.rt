@@ -1,0 +1,34 @@
+ghost use Rattle.std.specs.Prelude.{◌≡◌};
+ghost use Rattle.slate_types.specs.declared.store_errors.StoreError.TheVariants.{NoMemory as OutOfMemory};
+
+use crate::NoMemory;
+
+/// Why a call of a store did not do what it was asked.
+#[derive(Clone, Copy, Debug, PartialEq, Eq)]
+pub enum StoreError {
+    /// The object that was to be read isn't stored.
+    NotFound,
+    /// An object with the id that was to be put is stored already. It is as it was.
+    Exists,
+    /// The store failed. A put may have taken place.
+    Failed,
+    /// Memory ran out. Nothing took place.
+    NoMemory,
+}
+
+impl From<NoMemory> for StoreError {
+    ghost from_gives = { λ _ error. error ≡ OutOfMemory };
+
+    fn from(_error: NoMemory) -> StoreError {
+        StoreError::NoMemory
+    }
+}
+
+/// What an object store answered in place of an object.
+#[derive(Clone, Copy, Debug, PartialEq, Eq)]
+pub enum StoreFault {
+    /// The object isn't stored.
+    NotFound,
+    /// The store can't be reached, or failed.
+    Unavailable,
+}

@@ -1,2 +1,4 @@
 pub mod Errors
 pub mod Kinds
+pub mod PublicErrors
+pub mod Texts

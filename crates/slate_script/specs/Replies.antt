@@ -4,7 +4,7 @@ use Rattle.std.specs.Fmt.{signed_decimal}
 use Rattle.std.specs.List.{flat_map}
 use Rattle.slate_types.specs.declared.batches.KeyValue.{KeyValue}
 use Rattle.slate_text.specs.Words.{word_text}
-use Rattle.slate_status.specs.Texts.{error_text}
+use Rattle.slate_errors.specs.Texts.{error_text}
 use Rattle.slate_errors.specs.declared.endings.TaskName.{TaskName}
 use Rattle.slate_errors.specs.declared.endings.TaskName.TheVariants as tasks
 use Rattle.slate_errors.specs.declared.errors.SlateError.{SlateError}

@@ -2,8 +2,7 @@ ghost use Rattle.std.specs.Prelude.{◌≡◌, ◌++◌, ◌∷◌, length, take
 ghost use Rattle.slate_script.specs.Replies.{expiry_text, fault_text, poll_text, stamp_text, task_text, tasks_text, reply_words, reply_text, replies_text};
 
 use crate::Reply;
-use slate_errors::{Ending, SlateError, TaskName};
-use slate_status::write_error;
+use slate_errors::{Ending, SlateError, TaskName, write_error};
 use slate_text::{cut_back, write_byte_word, write_number, write_signed, write_text};
 use slate_types::{KeyValue, NoMemory};
 

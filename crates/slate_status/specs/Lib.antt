@@ -1,4 +1,2 @@
-pub mod PublicErrors
 pub mod Records
 pub mod Segments
-pub mod Texts

@@ -3,7 +3,7 @@ ghost use Rattle.std.specs.Option.{option_copied};
 ghost use Rattle.slate_errors.specs.Kinds.{kind_of};
 
 use crate::texts::{source_of, write_message, write_source};
-use slate_errors::{CloseReason, ErrorKind, SlateError};
+use crate::{CloseReason, ErrorKind, SlateError};
 use slate_text::{cut_back, write_text};
 use slate_types::{Name, NoMemory};
 use std::marker::Model;
@@ -27,7 +27,7 @@ pub struct Error {
 }
 
 impl Model for Error {
-    ghost use Rattle.slate_status.specs.PublicErrors.{PublicError, from_origin, with_source};
+    ghost use Rattle.slate_errors.specs.PublicErrors.{PublicError, from_origin, with_source};
 
     ghost Value = { PublicError };
 
@@ -35,7 +35,7 @@ impl Model for Error {
 }
 
 impl Error {
-    ghost use Rattle.slate_status.specs.PublicErrors.{told, public_text};
+    ghost use Rattle.slate_errors.specs.PublicErrors.{told, public_text};
 
     /// An error of a transaction, with this message. It takes no memory.
     pub fn transaction(msg: Name) -> Error
@@ -163,7 +163,7 @@ impl Error {
 
 /// The error that a call answered, as its cause. It takes no memory.
 impl From<SlateError> for Error {
-    ghost use Rattle.slate_status.specs.PublicErrors.{caused_by};
+    ghost use Rattle.slate_errors.specs.PublicErrors.{caused_by};
 
     ghost from_gives = { λ cause error. error ≡ caused_by cause };
 

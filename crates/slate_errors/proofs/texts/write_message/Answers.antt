@@ -1,5 +1,5 @@
-use Rattle.slate_status.proofs.TextLemmas.{kept_on_err}
-use Rattle.slate_status.proofs.texts.write_message.Goals as goal
+use Rattle.slate_errors.proofs.TextLemmas.{kept_on_err}
+use Rattle.slate_errors.proofs.texts.write_message.Goals as goal
 
 pub returns-clause-err : goal.returns-clause-err
 returns-clause-err c =

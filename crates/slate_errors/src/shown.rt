@@ -2,7 +2,7 @@ ghost use Rattle.std.specs.Prelude.{◌≡◌, ℕ, List, ◌++◌, length, take
 ghost use Rattle.std.specs.Fmt.{signed_decimal};
 ghost use Rattle.uuid.specs.Text.{hyphenated_text, lower};
 ghost use Rattle.slate_text.specs.Words.{word_text};
-ghost use Rattle.slate_status.specs.Texts.{optional_text, name_text, bound_text, range_text};
+ghost use Rattle.slate_errors.specs.Texts.{optional_text, name_text, bound_text, range_text};
 
 use bytes::Bytes;
 use slate_text::{write_byte_word, write_number, write_signed, write_text};

@@ -1,5 +1,5 @@
-use Rattle.slate_status.proofs.TextLemmas.{kept_behind_three}
-use Rattle.slate_status.proofs.texts.write_parts.Goals as goal
+use Rattle.slate_errors.proofs.TextLemmas.{kept_behind_three}
+use Rattle.slate_errors.proofs.texts.write_parts.Goals as goal
 
 pub returns-clause-err : goal.returns-clause-err
 returns-clause-err c =

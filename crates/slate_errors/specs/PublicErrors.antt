@@ -3,10 +3,10 @@ use Rattle.std.specs.Prelude.{ℕ, List, ◌++◌, Option, Some, None, codes}
 use Rattle.std.specs.Option.{option_or}
 use Rattle.slate_errors.specs.declared.kinds.ErrorKind.{ErrorKind}
 use Rattle.slate_errors.specs.declared.errors.SlateError.{SlateError}
-use Rattle.slate_status.specs.declared.public_errors.Origin.{Origin}
-use Rattle.slate_status.specs.declared.public_errors.Origin.TheVariants.{Cause, Told}
+use Rattle.slate_errors.specs.declared.public_errors.Origin.{Origin}
+use Rattle.slate_errors.specs.declared.public_errors.Origin.TheVariants.{Cause, Told}
 use Rattle.slate_errors.specs.Kinds.{kind_of, kind_words}
-use Rattle.slate_status.specs.Texts.{message_of, source_of, source_text}
+use Rattle.slate_errors.specs.Texts.{message_of, source_of, source_text}
 
 pub record PublicError : Type 0 where
   pub kind : ErrorKind

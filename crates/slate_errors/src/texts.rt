@@ -1,10 +1,10 @@
 ghost use Rattle.std.specs.Prelude.{◌≡◌, ◌++◌, length, take, Some, OnOk, OnErr};
 ghost use Rattle.std.specs.Option.{option_copied};
-ghost use Rattle.slate_status.specs.Texts.{fixed_message, shown_message, message_of, fault_words, source_of, source_text, error_text};
+ghost use Rattle.slate_errors.specs.Texts.{fixed_message, shown_message, message_of, fault_words, source_of, source_text, error_text};
 
+use crate::SlateError;
 use crate::shown::{Shown, write_around, write_around_both, write_before, write_both};
 use bytes::Bytes;
-use slate_errors::SlateError;
 use slate_text::{cut_back, write_text};
 use slate_types::{ByteRange, Name, NoMemory, StoreFault};
 

@@ -5,7 +5,7 @@ use Rattle.slate_types.specs.Line.{Line, end}
 use Rattle.slate_store.specs.declared.objects.VersionedManifest.{VersionedManifest}
 use Rattle.slate_store.specs.Content.{IsSound, content, content_by}
 use Rattle.slate_store.specs.Objects.{Objects, last_log}
-use Rattle.slate_replay.specs.Replay.{IsReplayable, replayed}
+use Rattle.slate_store.specs.Logs.{IsReplayable, replayed}
 use Rattle.slate_replay.specs.declared.replays.Replayed.{Replayed}
 use Rattle.slate_replay.specs.declared.replays.Replayed.TheVariants as replays
 use Rattle.slate_model.specs.Follower.{Follower, taken}

@@ -10,7 +10,7 @@ use Rattle.slate_store.specs.declared.objects.Manifest.{Manifest}
 use Rattle.slate_store.specs.declared.objects.VersionedManifest.{VersionedManifest}
 use Rattle.slate_store.specs.Objects.{Objects, PutManifest, PutLog, changed, empty, greatest, is_taken, last, last_log, latest_manifest, versioned}
 use Rattle.slate_store.specs.Content.{AreGapless, AreRising, HasItsLogs, HasItsTables, IsSound, content, content_by, logged, logs_above, number_before, table_batches}
-use Rattle.slate_replay.specs.Replay.{IsReplayable, replayed}
+use Rattle.slate_store.specs.Logs.{IsReplayable, replayed}
 use Rattle.slate_errors.specs.declared.errors.SlateError.{SlateError}
 use Rattle.slate_errors.specs.declared.errors.SlateError.TheVariants as errors
 use Rattle.slate_model.specs.Changes.{after_part}

@@ -5,7 +5,7 @@ use Rattle.slate_store.specs.declared.objects.Manifest.{Manifest}
 use Rattle.slate_store.specs.declared.objects.VersionedManifest.{VersionedManifest}
 use Rattle.slate_types.specs.declared.store_errors.StoreFault.TheVariants.{Unavailable}
 use Rattle.slate_store.specs.Objects.{Objects, ObjectsOf, ChangeOf, PutManifest, PutLog, is_taken, latest_manifest, last_log}
-use Rattle.slate_replay.specs.Replay.{IsReplayable}
+use Rattle.slate_store.specs.Logs.{IsReplayable}
 use Rattle.slate_errors.specs.declared.errors.SlateError.{SlateError}
 use Rattle.slate_errors.specs.declared.errors.SlateError.TheVariants as errors
 use Rattle.slate_model.specs.Changes.{PartMade, after_part}

@@ -43,7 +43,7 @@ fn least(bound: Option<u64>, other: Option<u64>) -> Option<u64>
     }
 }
 
-/// An operation, in its batch.
+/// A version of a key: an operation on it, in its batch.
 #[derive(Clone, Copy)]
 pub struct Version<'a> {
     pub batch: &'a Batch,
@@ -100,7 +100,8 @@ fn take_version<'a>(versions: &mut Vec<Version<'a>>, version: Version<'a>) -> Re
     Ok(versions.push(version)?)
 }
 
-/// The row that versions of a key make, oldest first.
+/// The row that versions of a key make, oldest first, where they leave one: a put sets it, a delete removes it, and a
+/// merge hands it to the operator. The first fault ends it. One pass over the versions; it copies no bytes of its own.
 pub fn fold<M: MergeOperator>(
     alloc: Global,
     key: &[u8],
@@ -154,7 +155,7 @@ fn apply<M: MergeOperator>(
     }))
 }
 
-/// Whether nothing before an operation counts.
+/// Whether nothing before an operation counts for its key: a put or a delete. It takes no memory.
 pub fn is_base(op: &Op) -> bool
     ensures { result ≡ is_base op.now }
 {
@@ -165,7 +166,7 @@ pub fn is_base(op: &Op) -> bool
     }
 }
 
-/// Whether a batch of this number is seen at a bound.
+/// Whether a batch of this number is seen at a bound, which is a number; without one each is. It takes no memory.
 pub fn is_within(bound: Option<u64>, number: u64) -> bool
     ensures { result ≡ is_within bound number }
 {

@@ -10,7 +10,8 @@ use Rattle.slate_types.specs.declared.batches.Batch.{Batch}
 use Rattle.slate_types.specs.Line.{AreNumberedFrom, batches_above}
 use Rattle.slate_store.specs.Objects.{Objects, entry_at, log_at}
 use Rattle.slate_store.specs.Content.{logs_above}
-use Rattle.slate_replay.specs.Replay.{IsReplayable, replayed, EndBy, IsWhole, IsTornAt, ComeNext, AppendsNext, IsFront}
+use Rattle.slate_store.specs.Logs.{IsReplayable, replayed}
+use Rattle.slate_replay.specs.Replay.{EndBy, IsWhole, IsTornAt, ComeNext, AppendsNext, IsFront}
 use Rattle.slate_replay.proofs.Logs.{numbered-parts, above-same, entry-above, gapless-stored, gapless-next}
 
 -- the batches of the log files above a mark, up to an id

@@ -1,4 +1,5 @@
 pub mod Calls
 pub mod Content
 pub mod Faulty
+pub mod Logs
 pub mod Objects

@@ -10,8 +10,8 @@ use Rattle.slate_replay.specs.declared.replays.Replayed.{Replayed}
 use Rattle.slate_replay.specs.declared.replays.Replayed.TheVariants as replays
 use Rattle.slate_model.specs.Follower.{Follower, taken}
 use Rattle.slate_model.proofs.Reopened.{and_right, content-logged, line_from, no-tables, replayable-by}
-use Rattle.slate_follow.specs.declared.modes.PollAnswer.{PollAnswer}
-use Rattle.slate_follow.specs.declared.modes.PollAnswer.TheVariants.{Whole, Truncated}
+use Rattle.slate_follow.specs.declared.answers.PollAnswer.{PollAnswer}
+use Rattle.slate_follow.specs.declared.answers.PollAnswer.TheVariants.{Whole, Truncated}
 use Rattle.slate_follow.specs.Taking.{FindsView, Follows, GiveBatches, Takes, TellsLogs}
 
 -- how a poll tells its replay

@@ -12,8 +12,8 @@ use Rattle.slate_replay.specs.declared.replays.Replayed.TheVariants as replays
 use Rattle.slate_errors.specs.declared.errors.SlateError.{SlateError}
 use Rattle.slate_errors.specs.declared.errors.SlateError.TheVariants as errors
 use Rattle.slate_model.specs.Follower.{Follower, FollowCause, can_follow, taken}
-use Rattle.slate_follow.specs.declared.modes.PollAnswer.{PollAnswer}
-use Rattle.slate_follow.specs.declared.modes.PollAnswer.TheVariants.{Whole, Truncated}
+use Rattle.slate_follow.specs.declared.answers.PollAnswer.{PollAnswer}
+use Rattle.slate_follow.specs.declared.answers.PollAnswer.TheVariants.{Whole, Truncated}
 
 -- an answer of a poll tells this number
 abbrev pub AnswersAt : ℕ → PollAnswer → Type 0

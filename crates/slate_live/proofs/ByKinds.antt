@@ -4,7 +4,7 @@ use Rattle.slate_store.specs.Objects.{Objects}
 use Rattle.slate_errors.specs.declared.errors.SlateError.{SlateError}
 use Rattle.slate_model.specs.Handle.{CloseResult, Handle}
 use Rattle.slate_errors.specs.Errors.{closed_error}
-use Rattle.slate_follow.specs.declared.modes.PollAnswer.{PollAnswer}
+use Rattle.slate_follow.specs.declared.answers.PollAnswer.{PollAnswer}
 use Rattle.slate_live.specs.declared.states.Object.{Object}
 use Rattle.slate_live.specs.declared.states.Object.TheVariants as objects
 use Rattle.slate_live.specs.Live.{ByKind, FlushesObject, FlushesSome, PollsSome}

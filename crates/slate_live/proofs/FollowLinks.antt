@@ -14,8 +14,8 @@ use Rattle.slate_model.specs.Open.{first_manifest}
 use Rattle.slate_model.specs.Handle.{CloseResult, Handle}
 use Rattle.slate_errors.specs.Errors.{closed_error}
 use Rattle.slate_follow.specs.Taking.{Follows}
-use Rattle.slate_follow.specs.declared.modes.PollAnswer.{PollAnswer}
-use Rattle.slate_follow.specs.declared.modes.PollAnswer.TheVariants.{Whole}
+use Rattle.slate_follow.specs.declared.answers.PollAnswer.{PollAnswer}
+use Rattle.slate_follow.specs.declared.answers.PollAnswer.TheVariants.{Whole}
 use Rattle.slate_script.specs.declared.replies.Reply.{Reply}
 use Rattle.slate_script.specs.declared.replies.Reply.TheVariants as replies
 use Rattle.slate_live.specs.declared.states.Object.{Object}

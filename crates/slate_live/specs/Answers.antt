@@ -2,8 +2,8 @@
 use Rattle.std.specs.Prelude.{ℕ, true, false, Option, Some, None, Result, Ok, Err}
 use Rattle.slate_errors.specs.declared.errors.SlateError.{SlateError}
 use Rattle.slate_writer.specs.declared.writes.Written.{Written}
-use Rattle.slate_follow.specs.declared.modes.PollAnswer.{PollAnswer}
-use Rattle.slate_follow.specs.declared.modes.PollAnswer.TheVariants.{Whole, Truncated}
+use Rattle.slate_follow.specs.declared.answers.PollAnswer.{PollAnswer}
+use Rattle.slate_follow.specs.declared.answers.PollAnswer.TheVariants.{Whole, Truncated}
 use Rattle.slate_script.specs.declared.replies.Reply.{Reply}
 use Rattle.slate_script.specs.declared.replies.Reply.TheVariants as replies
 use Rattle.slate_live.specs.Next.{done_or_refused, refusal}

@@ -22,7 +22,7 @@ use Rattle.slate_model.specs.Read.{AnswersRead}
 use Rattle.slate_model.specs.Write.{accepted_moment, write_refusal, written}
 use Rattle.slate_writer.specs.declared.writes.Written.{Written}
 use Rattle.slate_follow.specs.Taking.{Follows}
-use Rattle.slate_follow.specs.declared.modes.PollAnswer.{PollAnswer}
+use Rattle.slate_follow.specs.declared.answers.PollAnswer.{PollAnswer}
 use Rattle.slate_script.specs.declared.options.Options.{Options}
 use Rattle.slate_live.specs.declared.states.Object.{Object}
 use Rattle.slate_live.specs.declared.states.Object.TheVariants as objects

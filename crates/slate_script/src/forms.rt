@@ -1,4 +1,5 @@
 ghost use Rattle.std.specs.Prelude.{◌≡◌, true, IfOk, IfSome};
+ghost use Rattle.slate_text.specs.Words.{word_of};
 ghost use Rattle.slate_script.specs.Built.{IsBuilt, puts_no_table};
 ghost use Rattle.slate_script.specs.declared.commands.Command.{Command};
 ghost use Rattle.slate_script.specs.Forms.{open_form, put_form, flush_type_of, flush_form, get_form, close_options_of, close_form, follow_form, poll_form, await_form, action_of, command_of, line_of};
@@ -21,6 +22,13 @@ fn read_open(fields: &[Bytes]) -> Option<Action>
     }
 }
 
+/// A key or a value, which shares the field's storage.
+fn read_word(alloc: Global, field: &Bytes) -> Result<Option<Bytes>, NoMemory>
+    ensures { IfOk result (λ word. word ≡ word_of field.now) }
+{
+    read_shared_word(alloc, field.clone()?)
+}
+
 fn read_put(alloc: Global, fields: &[Bytes]) -> Result<Option<Action>, NoMemory>
     ensures form { IfOk result (λ action. action ≡ put_form fields.now) }
     ensures built { IfOk result (λ action. IfSome action IsBuilt) }
@@ -31,10 +39,10 @@ fn read_put(alloc: Global, fields: &[Bytes]) -> Result<Option<Action>, NoMemory>
     let Some(handle) = read_number(handle.as_slice()) else {
         return Ok(None);
     };
-    let Some(key) = read_shared_word(alloc, key.clone()?)? else {
+    let Some(key) = read_word(alloc, key)? else {
         return Ok(None);
     };
-    let Some(value) = read_shared_word(alloc, value.clone()?)? else {
+    let Some(value) = read_word(alloc, value)? else {
         return Ok(None);
     };
     Ok(Some(Action::Put {
@@ -120,7 +128,7 @@ fn read_get(alloc: Global, fields: &[Bytes]) -> Result<Option<Action>, NoMemory>
     let Some(object) = read_number(object.as_slice()) else {
         return Ok(None);
     };
-    let Some(key) = read_shared_word(alloc, key.clone()?)? else {
+    let Some(key) = read_word(alloc, key)? else {
         return Ok(None);
     };
     Ok(Some(Action::Get {

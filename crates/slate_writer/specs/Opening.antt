@@ -9,10 +9,15 @@ use Rattle.slate_errors.specs.declared.errors.SlateError.TheVariants as errors
 use Rattle.slate_model.specs.Changes.{after_part}
 use Rattle.slate_model.specs.Open.{OpenCause, can_open, found_log, opened_manifest}
 
+-- the last log file of a store that can be opened; or why it can't be
+abbrev pub FindsLog : Objects → Result ℕ SlateError → Type 0
+FindsLog objects (Ok last) = (can_open objects ≡ true) × (last ≡ found_log objects)
+FindsLog objects (Err error) = OpenCause (λ _. ⊥) objects error
+
 -- the manifest that an opening commits, and the last log file; or why it can't
 abbrev pub FindsNext : Objects → Result (VersionedManifest × ℕ) SlateError → Type 0
 FindsNext objects (Ok found) = (can_open objects ≡ true) × (found.0 ≡ opened_manifest objects) × (found.1 ≡ found_log objects)
-FindsNext objects (Err error) = OpenCause (λ _. ⊥) objects error
+FindsNext objects (Err error) = FindsLog objects (Err error)
 
 -- a manifest, and then an empty log file
 abbrev pub opening_puts : VersionedManifest → ℕ → List Change

@@ -1,18 +1,20 @@
-ghost use Rattle.std.specs.Prelude.{◌≡◌, ℕ, ◌+◌, ◌<◌, ◌^◌, true, None, Some, length, IfOk, IfSome};
+ghost use Rattle.std.specs.Prelude.{◌≡◌, ℕ, ◌+◌, ◌<◌, ◌^◌, true, None, Some, Ok, length, IfErr, IfOk, IfSome};
+ghost use Rattle.std.specs.Option.{option_copied};
 ghost use Rattle.slate_types.specs.Line.{AreNumberedFrom};
-ghost use Rattle.slate_store.specs.Calls.{Told};
+ghost use Rattle.slate_store.specs.Calls.{IsCall, IsOfList, Told};
+ghost use Rattle.slate_store.specs.declared.objects.VersionedManifest.{VersionedManifest};
 ghost use Rattle.slate_store.specs.Content.{IsSound, content};
-ghost use Rattle.slate_store.specs.Objects.{Objects};
+ghost use Rattle.slate_store.specs.Objects.{Objects, latest_manifest};
 ghost use Rattle.slate_model.specs.Flush.{TellsFaults};
 ghost use Rattle.slate_model.specs.Open.{OpenFault, Opens, can_open_by, can_reopen, first_manifest, latest_tick, mark_of, next_manifest, opened_handle, opened_manifest};
 ghost use Rattle.slate_model.specs.Write.{last_number};
-ghost use Rattle.slate_writer.specs.Opening.{FindsNext, PutsOpening, Recovers};
+ghost use Rattle.slate_writer.specs.Opening.{FindsLog, FindsNext, PutsOpening, Recovers};
 
 use crate::WriterState;
 use slate_errors::{CloseCell, SlateError};
 use slate_reads::IndexedTable;
 use slate_replay::{Replayed, replay};
-use slate_store::{Manifest, Store, VersionedManifest};
+use slate_store::{Manifest, Store, StoreError, VersionedManifest};
 use slate_types::{Batch, PrefixExtractor, Seq};
 use std::alloc::Global;
 
@@ -138,15 +140,19 @@ fn next_manifest(alloc: Global, latest: Option<VersionedManifest>, last: u64) ->
     }
 }
 
-/// The manifest that an opening commits, and the id of the last log file. There is one more id after it.
-fn find_next<S: Store>(alloc: Global, store: &mut S) -> Result<(VersionedManifest, u64), SlateError>
+/// The id of the last log file of a database that can be opened by its latest manifest. There is one more id after it.
+fn find_log<S: Store>(
+    alloc: Global,
+    store: &mut S,
+    latest: Option<&VersionedManifest>,
+) -> Result<u64, SlateError>
     ensures faults { TellsFaults (S.faults store.old) (S.faults store.new) result }
     ensures kept { S.objects store.new ≡ S.objects store.old }
-    ensures told { IfSome (S.objects store.old) (λ o. FindsNext o result) }
-    ensures below { IfOk result (λ found. found.1 < last_number) }
+    ensures can { IfOk result (λ last. can_open_by (option_copied latest.entry) last ≡ true) }
+    ensures below { IfOk result (λ last. last < last_number) }
+    ensures told { IfSome (S.objects store.old) (λ o. option_copied latest.entry ≡ latest_manifest o → FindsLog o result) }
 {
-    let latest = store.latest_manifest(alloc)?;
-    let mark = match &latest {
+    let mark = match latest {
         Some(latest) if !can_reopen(latest) => return Err(SlateError::InvalidDBState),
         Some(latest) => latest.manifest.replay_after_wal_id,
         None => 0,
@@ -155,6 +161,18 @@ fn find_next<S: Store>(alloc: Global, store: &mut S) -> Result<(VersionedManifes
     if last == u64::MAX {
         return Err(SlateError::InvalidDBState);
     }
+    Ok(last)
+}
+
+/// The manifest that an opening commits, and the id of the last log file. There is one more id after it.
+fn find_next<S: Store>(alloc: Global, store: &mut S) -> Result<(VersionedManifest, u64), SlateError>
+    ensures faults { TellsFaults (S.faults store.old) (S.faults store.new) result }
+    ensures kept { S.objects store.new ≡ S.objects store.old }
+    ensures told { IfSome (S.objects store.old) (λ o. FindsNext o result) }
+    ensures below { IfOk result (λ found. found.1 < last_number) }
+{
+    let latest = store.latest_manifest(alloc)?;
+    let last = find_log(alloc, store, latest.as_ref())?;
     Ok((next_manifest(alloc, latest, last), last))
 }
 
@@ -170,6 +188,20 @@ fn put_opening<S: Store>(
 {
     store.put_manifest(alloc, view.id, &view.manifest)?;
     Ok(store.put_log(alloc, fence, &[])?)
+}
+
+/// Whether another handle was opened after one of this epoch.
+fn is_fenced<S: Store>(alloc: Global, store: &mut S, epoch: u64) -> Result<bool, StoreError>
+    ensures counts { IsCall (S.faults store.old) (S.faults store.new) (S.calls store.old) (S.calls store.new) result }
+    ensures kept { S.objects store.new ≡ S.objects store.old }
+    ensures refusals { IfErr result IsOfList }
+    ensures told { IfSome (S.objects store.old) (λ o. result ≡ Ok true →
+        (latest : VersionedManifest) × (latest_manifest o ≡ Some latest) × (epoch < latest.manifest.writer_epoch)) }
+{
+    match store.latest_manifest(alloc)? {
+        Some(latest) => Ok(latest.manifest.writer_epoch > epoch),
+        None => Ok(false),
+    }
 }
 
 /// The batches of the log files above the replay mark of a manifest, up to `last`.
@@ -198,12 +230,10 @@ fn recover<S: Store>(
     let Replayed::Torn(id) = replayed else {
         return Ok(memory);
     };
-    match store.latest_manifest(alloc)? {
-        Some(latest) if latest.manifest.writer_epoch > manifest.writer_epoch => {
-            Err(SlateError::Fenced)
-        }
-        _ => Err(SlateError::WalTruncated(id)),
+    if is_fenced(alloc, store, manifest.writer_epoch)? {
+        return Err(SlateError::Fenced);
     }
+    Err(SlateError::WalTruncated(id))
 }
 
 /// The latest of a tick and the creation times of batches.

@@ -49,12 +49,11 @@ fn put_batch(
 ) -> Result<WriteBatch, NoMemory>
     ensures { IfOk result (λ batch. batch.ops ≡ put_op key.now value.now expire ∷ []) }
 {
-    let op = KeyOp {
+    let mut ops = Vec::with_capacity(alloc, 1)?;
+    ops.push_reserved(KeyOp {
         key: key.clone()?,
         op: Op::Put(value.clone()?, expire),
-    };
-    let mut ops = Vec::with_capacity(alloc, 1)?;
-    ops.push(op)?;
+    });
     Ok(WriteBatch { ops: Seq::of(ops) })
 }
 
@@ -141,12 +140,12 @@ pub(crate) fn flush<S: Store>(
 fn ended_reply(ended: Ended) -> Reply
     ensures { result ≡ ended_reply ended.fault ended.tasks }
 {
-    match ended.fault {
-        Some(SlateError::Closed) => Reply::Refused(SlateError::Closed),
-        fault => Reply::Ended {
-            fault,
-            tasks: ended.tasks,
-        },
+    if let Some(SlateError::Closed) = ended.fault {
+        return Reply::Refused(SlateError::Closed);
+    }
+    Reply::Ended {
+        fault: ended.fault,
+        tasks: ended.tasks,
     }
 }
 

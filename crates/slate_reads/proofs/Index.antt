@@ -11,7 +11,7 @@ use Rattle.slate_types.specs.declared.batches.Op.TheVariants.{Delete}
 use Rattle.slate_reads.specs.declared.tables.Entry.{Entry}
 use Rattle.slate_reads.specs.Read.{Version, versions_in}
 use Rattle.slate_reads.specs.Index.{IsAt, Leads, AreLed, IsIndex}
-use Rattle.slate_reads.proofs.Tails.{one_more}
+use Rattle.slate_reads.proofs.Tails.{versions_in-one_more}
 
 -- what is at an index of a list is there in another
 abbrev Keeps : {A : Type 0} → List A → List A → Type 0
@@ -121,7 +121,7 @@ pub so_far-more : (batches : List Batch) (b : Batch) (entries longer : List Entr
     ((other : List ℕ) → new other ≡ cond (bytes_eq key other) (Some (length entries)) (latest other)) →
     AreLed (batches ++ b ∷ []) entries latest (so_far batches b i) → AreLed (batches ++ b ∷ []) longer new (so_far batches b (i + 1))
 so_far-more batches b entries longer latest new keys n i key n-is keys-are lt at longer-is new-is led =
-    AreLed-same (batches ++ b ∷ []) longer new _ (so_far batches b (i + 1)) (one_more (λ k. flat_map (versions_in k) batches) b b.ops i o refl within (sym (op_at.is o)))
+    AreLed-same (batches ++ b ∷ []) longer new _ (so_far batches b (i + 1)) (versions_in-one_more (λ k. flat_map (versions_in k) batches) b b.ops i o refl within (sym (op_at.is o)))
     (AreLed-push (batches ++ b ∷ []) entries longer latest new (so_far batches b i) n i b o (subst (λ m. IsAt (batches ++ b ∷ []) m b) n-is (IsAt-push batches b)) op_at
     (rw key_is longer-is) (rw key_is new-is) led) where
       nothing : KeyOp

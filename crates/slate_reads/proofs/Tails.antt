@@ -90,6 +90,7 @@ pub keyed-more : (key : List ℕ) (held : List Held) (i : ℕ) (h : Held) (found
 keyed-more key held i h None lt at same keyed = keyed
 keyed-more key held i h (Some row) lt at same keyed = keyed ∙ rw at (All-from_recursion (λ (v : Held). v.key_op.now.key ≡ key) held same i h lt)
 
-pub one_more : (f : List ℕ → List Version) (batch : Batch) (items : List KeyOp) (i : ℕ) (o : KeyOp) → items ≡ batch.ops → i < length items → o ≡ get_or items i o → (key : List ℕ) →
+-- after what came before, the versions in a batch up to an operation and that of the operation are those up to the next
+pub versions_in-one_more : (f : List ℕ → List Version) (batch : Batch) (items : List KeyOp) (i : ℕ) (o : KeyOp) → items ≡ batch.ops → i < length items → o ≡ get_or items i o → (key : List ℕ) →
     (f key ++ versions_in key (record batch { ops = take i batch.ops })) ++ versions_in key (record batch { ops = o ∷ [] }) ≡ f key ++ versions_in key (record batch { ops = take (i + 1) batch.ops })
-one_more f batch items i o same lt at key = append_assoc (f key) _ _ ∙ ap (λ x. f key ++ x) (sym (versions_in-more key batch items i o same lt at))
+versions_in-one_more f batch items i o same lt at key = append_assoc (f key) _ _ ∙ ap (λ x. f key ++ x) (sym (versions_in-more key batch items i o same lt at))

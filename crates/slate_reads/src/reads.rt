@@ -115,7 +115,7 @@ pub fn fold<M: MergeOperator>(
 {
     let mut row = None;
     for version in versions {
-        row = apply(alloc, row, version, operator)?;
+        row = apply(alloc, row.as_ref(), version, operator)?;
     }
     Ok(row)
 }
@@ -123,12 +123,12 @@ pub fn fold<M: MergeOperator>(
 /// The row after one more version came to it.
 fn apply<M: MergeOperator>(
     alloc: Global,
-    before: Option<KeyValue>,
+    before: Option<&KeyValue>,
     version: &Version<'_>,
     operator: Option<&M>,
 ) -> Result<Option<KeyValue>, ReadFault>
     ensures plain { (merge : Option Merge) → IsOperator M.may_answer (option_copied operator.entry) merge →
-        Reads (row_after merge version.now.key_op.now.key before (seen version.now) version.now.key_op.now.op) result }
+        Reads (row_after merge version.now.key_op.now.key (option_copied before.entry) (seen version.now) version.now.key_op.now.op) result }
     ensures keyed { IfOk result (λ found. IfSome found (λ row. row.key ≡ version.now.key_op.now.key)) }
 {
     let (value, expire_ts) = match &version.key_op.op {
@@ -138,7 +138,7 @@ fn apply<M: MergeOperator>(
             let Some(operator) = operator else {
                 return Err(ReadFault::MergeOperatorMissing);
             };
-            let existing = before.as_ref().map(|row| &row.value);
+            let existing = before.map(|row| &row.value);
             match operator.merge(alloc, version.key_op.key.as_slice(), existing, operand) {
                 Ok(value) => (value, *expire_ts),
                 Err(MergeFault::Refused) => return Err(ReadFault::MergeOperatorError),

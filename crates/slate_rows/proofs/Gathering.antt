@@ -14,7 +14,7 @@ use Rattle.slate_rows.specs.Gathered.{AreGathered, of_key}
 use Rattle.slate_types.specs.Range.{contains}
 use Rattle.slate_reads.specs.Read.{Version, is_within, history, versions_in}
 use Rattle.slate_reads.specs.Tails.{seen}
-use Rattle.slate_reads.proofs.Tails.{one_more}
+use Rattle.slate_reads.proofs.Tails.{versions_in-one_more}
 
 AreGathered-same : (f g : List ℕ → List Version) (range : ByteRange) (held : List Held) → ((key : List ℕ) → f key ≡ g key) → AreGathered f range held → AreGathered g range held
 AreGathered-same f g range held same all = record { within = all.within; whole = λ key in_range. all.whole key in_range ∙ same key }
@@ -59,14 +59,14 @@ pub gather-in : (f : List ℕ → List Version) (range : ByteRange) (held new : 
     AreGathered (λ key. f key ++ versions_in key (record h.batch.now { ops = take (i + 1) h.batch.now.ops })) range new
 gather-in f range held new h items i same lt at one new-is all =
     rw new-is
-    (AreGathered-same _ _ range (held ++ h ∷ []) (one_more f h.batch.now items i h.key_op.now same lt at) (AreGathered-push _ range held h all one))
+    (AreGathered-same _ _ range (held ++ h ∷ []) (versions_in-one_more f h.batch.now items i h.key_op.now same lt at) (AreGathered-push _ range held h all one))
 
 pub gather-out : (f : List ℕ → List Version) (range : ByteRange) (held : List Held) (batch : Batch) (o : KeyOp) (items : List KeyOp) (i : ℕ) →
     items ≡ batch.ops → i < length items → o ≡ get_or items i o → contains range o.key ≡ false →
     AreGathered (λ key. f key ++ versions_in key (record batch { ops = take i batch.ops })) range held →
     AreGathered (λ key. f key ++ versions_in key (record batch { ops = take (i + 1) batch.ops })) range held
 gather-out f range held batch o items i same lt at out all =
-    AreGathered-same _ _ range held (one_more f batch items i o same lt at) (AreGathered-skip _ range held batch o all out)
+    AreGathered-same _ _ range held (versions_in-one_more f batch items i o same lt at) (AreGathered-skip _ range held batch o all out)
 
 pub gather-start : (f : List ℕ → List Version) (range : ByteRange) (held : List Held) (batch : Batch) → AreGathered f range held →
     AreGathered (λ key. f key ++ versions_in key (record batch { ops = [] })) range held

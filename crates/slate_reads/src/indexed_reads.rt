@@ -6,7 +6,7 @@ ghost use Rattle.slate_reads.specs.Tails.{IsTail, IsEnd};
 ghost use Rattle.slate_reads.specs.Read.{Version as SeenVersion, IsOperator, Reads, read_at, history};
 
 use crate::IndexedTable;
-use crate::reads::{Version, fold, is_base, is_within, take_versions};
+use crate::reads::{Version, fold, is_base, is_within, tail_of};
 use bytes::Bytes;
 use slate_types::{Batch, KeyValue, MergeOperator, NoMemory, ReadFault};
 use std::alloc::Global;
@@ -59,16 +59,10 @@ fn tail_before<'a>(
 ) -> Result<Vec<Version<'a>>, NoMemory>
     ensures { IfOk result (λ versions. IsTail key.now (if ended then [] else history older.now bound key.now) versions.items) }
 {
-    let mut versions = Vec::new(alloc);
     if ended {
-        return Ok(versions);
+        return Ok(Vec::new(alloc));
     }
-    for batch in older {
-        if is_within(bound, batch.number) {
-            take_versions(&mut versions, batch, key)?;
-        }
-    }
-    Ok(versions)
+    tail_of(alloc, older, bound, key)
 }
 
 /// Takes the versions of a key in tables, newest first, up to a put or a delete, and says whether there is one.

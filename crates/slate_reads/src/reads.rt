@@ -4,7 +4,7 @@ ghost use Rattle.std.specs.Option.{option_copied};
 ghost use Rattle.slate_reads.specs.Bound.{least, read_bound};
 ghost use Rattle.slate_types.specs.Operator.{Merge};
 ghost use Rattle.slate_reads.specs.Tails.{seen, IsTail};
-ghost use Rattle.slate_reads.specs.Read.{Version as SeenVersion, IsOperator, Reads, read_at, row_after, fold_versions, versions_in, since_base, is_base, is_within, tail};
+ghost use Rattle.slate_reads.specs.Read.{Version as SeenVersion, IsOperator, Reads, history, read_at, row_after, fold_versions, versions_in, since_base, is_base, is_within, tail};
 
 use bytes::Bytes;
 use slate_types::{
@@ -63,17 +63,30 @@ pub fn read<M: MergeOperator>(
     ensures plain { (merge : Option Merge) → IsOperator M.may_answer (option_copied operator.entry) merge →
         Reads (read_at merge batches.now bound key.now) result }
 {
+    let versions = tail_of(alloc, batches, bound, key)?;
+    fold(alloc, key, versions.as_slice(), operator)
+}
+
+/// The tail of a key in batches up to a bound: its versions since the last put or delete.
+pub(crate) fn tail_of<'a>(
+    alloc: Global,
+    batches: &'a [Batch],
+    bound: Option<u64>,
+    key: &[u8],
+) -> Result<Vec<Version<'a>>, NoMemory>
+    ensures { IfOk result (λ versions. IsTail key.now (history batches.now bound key.now) versions.items) }
+{
     let mut versions = Vec::new(alloc);
     for batch in batches {
         if is_within(bound, batch.number) {
             take_versions(&mut versions, batch, key)?;
         }
     }
-    fold(alloc, key, versions.as_slice(), operator)
+    Ok(versions)
 }
 
 /// Adds a batch's versions of a key to a tail. A put or a delete begins it anew.
-pub(crate) fn take_versions<'a>(
+fn take_versions<'a>(
     versions: &mut Vec<Version<'a>>,
     batch: &'a Batch,
     key: &[u8],

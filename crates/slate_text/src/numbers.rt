@@ -1,6 +1,6 @@
 ghost use Rattle.std.specs.Prelude.{◌≡◌, ◌++◌, OnOk, OnErr, decimal};
 ghost use Rattle.std.specs.Fmt.{signed_decimal};
-ghost use Rattle.slate_text.specs.Numbers.{number_of, time_of, moment_of};
+ghost use Rattle.slate_text.specs.Numbers.{number_of, time_of, two_times, moment_of};
 
 use crate::search::find_byte;
 use itoa::Buffer;
@@ -32,6 +32,15 @@ fn read_time(field: &[u8]) -> Option<i64>
     i64::try_from(read_number(field)?).ok()
 }
 
+// A time in milliseconds, and a second one.
+fn read_two_times(first: &[u8], second: &[u8]) -> Option<(i64, Option<i64>)>
+    ensures { result ≡ two_times (time_of first.now) (time_of second.now) }
+{
+    let first = read_time(first)?;
+    let second = read_time(second)?;
+    Some((first, Some(second)))
+}
+
 /// The moment that a field spells, in milliseconds, and the second moment where the field has one: a number from 0
 /// to 9223372036854775807, or two with `/` between. It takes no memory.
 pub fn read_moment(field: &[u8]) -> Option<(i64, Option<i64>)>
@@ -39,10 +48,7 @@ pub fn read_moment(field: &[u8]) -> Option<(i64, Option<i64>)>
 {
     match find_byte(field, b'/') {
         None => Some((read_time(field)?, None)),
-        Some(slash) => {
-            let first = read_time(&field[..slash])?;
-            Some((first, Some(read_time(&field[slash + 1..])?)))
-        }
+        Some(slash) => read_two_times(&field[..slash], &field[slash + 1..]),
     }
 }
 

@@ -1,4 +1,4 @@
-ghost use Rattle.std.specs.Prelude.{◌≡◌, ◌++◌, ◌∷◌, length, take, OnOk, OnErr};
+ghost use Rattle.std.specs.Prelude.{◌≡◌, ◌++◌, ◌∷◌, length, take, decimal, OnOk, OnErr};
 ghost use Rattle.slate_script.specs.Replies.{expiry_text, fault_text, poll_text, stamp_text, task_text, tasks_text, reply_words, reply_text, replies_text};
 
 use crate::Reply;
@@ -17,16 +17,23 @@ fn write_expiry(out: &mut Vec<u8>, time: Option<i64>) -> Result<(), NoMemory>
     Ok(())
 }
 
+// A number behind a text.
+fn write_labelled(out: &mut Vec<u8>, label: &str, number: u64) -> Result<(), NoMemory>
+    ensures ok { OnOk result (out.new.items ≡ out.old.items ++ (label.now ++ decimal number)) }
+    ensures err { OnErr result (take (length out.old.items) out.new.items ≡ out.old.items) }
+{
+    write_text(out, label)?;
+    write_number(out, number)
+}
+
 fn write_stamp(out: &mut Vec<u8>, row: &KeyValue) -> Result<(), NoMemory>
     ensures ok { OnOk result (out.new.items ≡ out.old.items ++ stamp_text row.now) }
     ensures err { OnErr result (take (length out.old.items) out.new.items ≡ out.old.items) }
 {
-    write_text(out, " number ")?;
-    write_number(out, row.seq)?;
+    write_labelled(out, " number ", row.seq)?;
     write_text(out, " created ")?;
     write_signed(out, row.create_ts)?;
-    write_expiry(out, row.expire_ts)?;
-    Ok(())
+    write_expiry(out, row.expire_ts)
 }
 
 fn write_found(out: &mut Vec<u8>, row: &KeyValue) -> Result<(), NoMemory>
@@ -35,28 +42,22 @@ fn write_found(out: &mut Vec<u8>, row: &KeyValue) -> Result<(), NoMemory>
 {
     write_text(out, "value ")?;
     write_byte_word(out, row.value.as_slice())?;
-    write_stamp(out, row)?;
-    Ok(())
+    write_stamp(out, row)
 }
 
 fn write_written(out: &mut Vec<u8>, write: u64, number: u64) -> Result<(), NoMemory>
     ensures ok { OnOk result (out.new.items ≡ out.old.items ++ reply_words (Reply.Written write number)) }
     ensures err { OnErr result (take (length out.old.items) out.new.items ≡ out.old.items) }
 {
-    write_text(out, "write ")?;
-    write_number(out, write)?;
-    write_text(out, " number ")?;
-    write_number(out, number)?;
-    Ok(())
+    write_labelled(out, "write ", write)?;
+    write_labelled(out, " number ", number)
 }
 
 fn write_handle(out: &mut Vec<u8>, object: u64) -> Result<(), NoMemory>
     ensures ok { OnOk result (out.new.items ≡ out.old.items ++ reply_words (Reply.Handle object)) }
     ensures err { OnErr result (take (length out.old.items) out.new.items ≡ out.old.items) }
 {
-    write_text(out, "handle ")?;
-    write_number(out, object)?;
-    Ok(())
+    write_labelled(out, "handle ", object)
 }
 
 fn task_name(name: TaskName) -> &'static str
@@ -77,8 +78,7 @@ fn write_task(out: &mut Vec<u8>, name: TaskName) -> Result<(), NoMemory>
     ensures err { OnErr result (take (length out.old.items) out.new.items ≡ out.old.items) }
 {
     write_text(out, " ")?;
-    write_text(out, task_name(name))?;
-    Ok(())
+    write_text(out, task_name(name))
 }
 
 fn write_tasks(out: &mut Vec<u8>, names: &[TaskName]) -> Result<(), NoMemory>
@@ -91,13 +91,20 @@ fn write_tasks(out: &mut Vec<u8>, names: &[TaskName]) -> Result<(), NoMemory>
     Ok(())
 }
 
+fn write_refused(out: &mut Vec<u8>, error: &SlateError) -> Result<(), NoMemory>
+    ensures ok { OnOk result (out.new.items ≡ out.old.items ++ reply_words (Reply.Refused error.now)) }
+    ensures err { OnErr result (take (length out.old.items) out.new.items ≡ out.old.items) }
+{
+    write_text(out, "error ")?;
+    write_error(out, error)
+}
+
 fn write_fault(out: &mut Vec<u8>, fault: &Option<SlateError>) -> Result<(), NoMemory>
     ensures ok { OnOk result (out.new.items ≡ out.old.items ++ fault_text fault.now) }
     ensures err { OnErr result (take (length out.old.items) out.new.items ≡ out.old.items) }
 {
     if let Some(error) = fault {
-        write_text(out, "error ")?;
-        write_error(out, error)?;
+        write_refused(out, error)?;
         write_text(out, "; ")?;
     }
     Ok(())
@@ -121,20 +128,16 @@ fn write_poll(out: &mut Vec<u8>, whole: bool, at: u64) -> Result<(), NoMemory>
     ensures ok { OnOk result (out.new.items ≡ out.old.items ++ poll_text whole at) }
     ensures err { OnErr result (take (length out.old.items) out.new.items ≡ out.old.items) }
 {
-    write_text(out, if whole { "whole at " } else { "truncated at " })?;
-    write_number(out, at)?;
-    Ok(())
+    write_labelled(out, if whole { "whole at " } else { "truncated at " }, at)
 }
 
 fn write_follower(out: &mut Vec<u8>, object: u64, whole: bool, at: u64) -> Result<(), NoMemory>
     ensures ok { OnOk result (out.new.items ≡ out.old.items ++ reply_words (Reply.Follower object whole at)) }
     ensures err { OnErr result (take (length out.old.items) out.new.items ≡ out.old.items) }
 {
-    write_text(out, "follower ")?;
-    write_number(out, object)?;
+    write_labelled(out, "follower ", object)?;
     write_text(out, " ")?;
-    write_poll(out, whole, at)?;
-    Ok(())
+    write_poll(out, whole, at)
 }
 
 fn write_words(out: &mut Vec<u8>, reply: &Reply) -> Result<(), NoMemory>
@@ -152,11 +155,7 @@ fn write_words(out: &mut Vec<u8>, reply: &Reply) -> Result<(), NoMemory>
         Reply::Pending => write_text(out, "pending"),
         Reply::Polled { whole, at } => write_poll(out, *whole, *at),
         Reply::Ended { fault, tasks } => write_ended(out, fault, tasks),
-        Reply::Refused(error) => {
-            write_text(out, "error ")?;
-            write_error(out, error)?;
-            Ok(())
-        }
+        Reply::Refused(error) => write_refused(out, error),
         Reply::Unknown => write_text(out, "error unknown object"),
         Reply::NoMemory => write_text(out, "error no memory"),
     }

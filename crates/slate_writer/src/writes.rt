@@ -1,4 +1,4 @@
-ghost use Rattle.std.specs.Prelude.{◌≡◌, ◌⊎◌, ◌+◌, Option, Some, None, Err, IfOk, IfErr};
+ghost use Rattle.std.specs.Prelude.{◌≡◌, ◌⊎◌, ◌+◌, ◌<◌, ◌^◌, Option, Some, None, Err, IfOk, IfErr};
 ghost use Rattle.slate_model.specs.Handle.{accepted};
 ghost use Rattle.slate_errors.specs.Errors.{closed_error};
 ghost use Rattle.slate_model.specs.Write.{write_refusal, written, accepted_moment, batch_refusal, has_empty_key};
@@ -45,31 +45,49 @@ impl WriterState {
         ensures refused { IfErr result (λ r. (r.batch ≡ batch) × (self.new ≡ self.old)
             × ((r.error ≡ SlateError.NoMemory) ⊎ (write_refusal self.old batch.ops moment second ≡ Some r.error))) }
     {
-        if let Some(result) = self.closed.read() {
-            return refuse(SlateError::of_closed(result), batch);
-        }
-        if let Some(error) = batch_refusal(&batch) {
-            return refuse(error, batch);
-        }
-        let Some(number) = self.accepted().checked_add(1) else {
-            return refuse(SlateError::InvalidDBState, batch);
-        };
-        let Some(create_ts) = accepted_moment(self.tick, moment, second) else {
-            let error = SlateError::InvalidClockTick {
-                last_tick: self.tick,
-                next_tick: second.unwrap_or(moment),
-            };
-            return refuse(error, batch);
+        let written = match self.admit(&batch, moment, second) {
+            Ok(written) => written,
+            Err(error) => return refuse(error, batch),
         };
         let accepted = Batch {
-            number,
-            create_ts,
+            number: written.number,
+            create_ts: written.create_ts,
             ops: batch.ops,
         };
         if let Err(batch) = self.memory.push(accepted) {
             return refuse(SlateError::NoMemory, WriteBatch { ops: batch.ops });
         }
-        self.tick = create_ts;
+        self.tick = written.create_ts;
+        Ok(written)
+    }
+
+    /// The number and the creation time that a write of a batch gets, or why it is refused.
+    fn admit(
+        &self,
+        batch: &WriteBatch,
+        moment: i64,
+        second: Option<i64>,
+    ) -> Result<Written, SlateError>
+        ensures admitted { IfOk result (λ w. (write_refusal self.now batch.now.ops moment second ≡ None)
+            × (accepted_moment self.now.tick moment second ≡ Some w.create_ts) × (w.number ≡ accepted self.now + 1)) }
+        ensures fits { IfOk result (λ w. accepted self.now + 1 < 2 ^ 64) }
+        ensures refused { IfErr result (λ e. write_refusal self.now batch.now.ops moment second ≡ Some e) }
+    {
+        if let Some(result) = self.closed.read() {
+            return Err(SlateError::of_closed(result));
+        }
+        if let Some(error) = batch_refusal(batch) {
+            return Err(error);
+        }
+        let Some(number) = self.accepted().checked_add(1) else {
+            return Err(SlateError::InvalidDBState);
+        };
+        let Some(create_ts) = accepted_moment(self.tick, moment, second) else {
+            return Err(SlateError::InvalidClockTick {
+                last_tick: self.tick,
+                next_tick: second.unwrap_or(moment),
+            });
+        };
         Ok(Written { number, create_ts })
     }
 }

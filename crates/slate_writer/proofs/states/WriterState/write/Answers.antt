@@ -7,18 +7,19 @@ use Rattle.slate_writer.proofs.states.WriterState.write.Goals as goal
 pub push-requires : goal.push-requires
 push-requires g c =
     let memory = c.self.inside.memory in
-    let number = c.in-Some-checked_add.number in
-    let is : c.accepted.result ≡ c.self.inside.floor + length memory = c.accepted.ensures ∙ sym (ap accepted c.self.view_is) in
-    let next : number ≡ c.accepted.result + 1 = c.in-Some-checked_add.ensures.1 in
+    let number = c.in-Ok.written.number in
+    let admitted = rw c.in-Ok.is at c.admit.ensures.admitted in
+    let next : number ≡ c.self.inside.floor + length memory + 1 = admitted.2 ∙ ap (λ h. accepted h + 1) (sym c.self.view_is) in
     All-from_recursion (λ b. b.number < number) memory (numbered-below c.self.inside.floor number memory c.self.invariant.numbered (omega arith))
 
 pub invariant_of-self-2 : goal.invariant_of-self-2
 invariant_of-self-2 g c =
     let memory = c.self.inside.memory in
-    let is : c.accepted.result ≡ c.self.inside.floor + length memory = c.accepted.ensures ∙ sym (ap accepted c.self.view_is) in
-    let fits : c.accepted.result + 1 < 2 ^ 64 = c.in-Some-checked_add.ensures.0 in
-    let next : c.in-Some-checked_add.number ≡ c.accepted.result + 1 = c.in-Some-checked_add.ensures.1 in
-    rw c.in_default-push.ensures.ok (record {
+    let admitted = rw c.in-Ok.is at c.admit.ensures.admitted in
+    let below = rw c.in-Ok.is at c.admit.ensures.fits in
+    let next : c.in-Ok.written.number ≡ c.self.inside.floor + length memory + 1 = admitted.2 ∙ ap (λ h. accepted h + 1) (sym c.self.view_is) in
+    let fits : c.in-Ok.written.number < 2 ^ 64 = rw admitted.2 below in
+    rw c.in_default.ensures.ok (record {
       numbered = numbered-push c.self.inside.floor memory _ c.self.invariant.numbered (omega arith);
       fits = simp length-append (omega arith);
       durable = simp length-append (omega (arith, c.self.invariant.durable));

@@ -1,5 +1,5 @@
 // What each command does to the live objects, over lists.
-ghost use Rattle.std.specs.Prelude.{◌≡◌, ◌≢◌, ◌⊎◌, ◌+◌, ℕ, ◌∷◌, [], ◌++◌, length, Ok, Err, Some, None, Option, List, IfOk, IfErr, IfSome, ◌≤◌, true, false};
+ghost use Rattle.std.specs.Prelude.{◌≡◌, ◌≢◌, ◌⊎◌, ◌+◌, ℕ, ◌∷◌, [], ◌++◌, length, Ok, Err, Some, None, Option, List, IfOk, IfErr, IfSome, ◌≤◌, ◌↔◌, IsTrue, true, false};
 ghost use Rattle.std.specs.Option.{option_copied};
 ghost use Rattle.slate_types.specs.Operator.{Merge};
 ghost use Rattle.slate_reads.specs.Read.{IsOperator, read_at};
@@ -136,16 +136,23 @@ pub(crate) fn flush<S: Store>(
     flush_answer(object.flush(alloc, store))
 }
 
+/// Whether it says that the object was closed by a call.
+fn is_closed(error: &SlateError) -> bool
+    ensures { IsTrue result ↔ (error.now ≡ SlateError.Closed) }
+{
+    matches!(error, SlateError::Closed)
+}
+
 /// The reply to a close: one of a handle that closed cleanly is refused.
 fn ended_reply(ended: Ended) -> Reply
     ensures { result ≡ ended_reply ended.fault ended.tasks }
 {
-    if let Some(SlateError::Closed) = ended.fault {
-        return Reply::Refused(SlateError::Closed);
-    }
-    Reply::Ended {
-        fault: ended.fault,
-        tasks: ended.tasks,
+    match ended.fault {
+        Some(error) if is_closed(&error) => Reply::Refused(error),
+        fault => Reply::Ended {
+            fault,
+            tasks: ended.tasks,
+        },
     }
 }
 

@@ -14,6 +14,9 @@ fn ticks_at_and_above_the_last_one(rt: HostRuntime) -> Result<(), Fail> {
     assert_eq!(rt; board.tick(&mut lead, 10), Ok(10));
     assert_eq!(rt; board.tick(&mut lead, 5), Err(fault));
     assert_eq!(rt; board.tick(&mut lead, 10), Ok(10));
+    let words = fault.to_string(rt.alloc())?;
+    let expected = "invalid clock tick, must be monotonic. last_tick=`10`, next_tick=`5`";
+    assert_eq!(rt; words.as_str(), expected);
     Ok(())
 }
 

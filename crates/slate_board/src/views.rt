@@ -1,3 +1,5 @@
+use thiserror::Error;
+
 /// The three numbers of a board.
 #[derive(Clone, Copy, Debug, PartialEq, Eq)]
 pub struct BoardView {
@@ -10,7 +12,8 @@ pub struct BoardView {
 }
 
 /// A clock went back: a moment is below the last tick. These are the two moments of SlateDB's `InvalidClockTick`.
-#[derive(Clone, Copy, Debug, PartialEq, Eq)]
+#[derive(Clone, Copy, Debug, PartialEq, Eq, Error)]
+#[error("invalid clock tick, must be monotonic. last_tick=`{last_tick}`, next_tick=`{next_tick}`")]
 pub struct ClockFault {
     /// The last tick, in milliseconds.
     pub last_tick: i64,

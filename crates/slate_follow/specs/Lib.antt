@@ -1,3 +1,2 @@
-pub mod Closing
 pub mod Kept
-pub mod Taking
+pub mod Rebuilding

@@ -1,6 +1,5 @@
-ghost use Rattle.std.specs.Prelude.{◌≡◌, Some, Ok, unwrap_or};
-ghost use Rattle.slate_model.specs.Close.{ended};
-ghost use Rattle.slate_follow.specs.Closing.{recorded_fault};
+ghost use Rattle.std.specs.Prelude.{◌≡◌};
+ghost use Rattle.slate_model.specs.Close.{closed_follower, ended, recorded_fault};
 
 use crate::FollowerState;
 use slate_errors::{Ended, Ending, SlateError};
@@ -13,7 +12,7 @@ impl FollowerState {
     /// recorded first stays. Until readers run a task, it ends none. SlateDB's `DbReader::close`.
     pub fn close<S: Store>(&mut self, store: &mut S) -> Ended
         ensures answer { result ≡ ended (recorded_fault self.old.result) }
-        ensures closed { self.new ≡ record self.old { result = Some (unwrap_or self.old.result (Ok tt)) } }
+        ensures closed { self.new ≡ closed_follower self.old }
         ensures store { store.new ≡ store.old }
     {
         let fault = match self.closed.read() {

@@ -1,12 +1,9 @@
-ghost use Rattle.std.specs.Prelude.{◌≡◌, ◌≤◌, true, false, None, Some, Err, IfOk, IfErr, IfSome};
-ghost use Rattle.slate_store.specs.Content.{IsSound};
-ghost use Rattle.slate_store.specs.Objects.{Objects};
-ghost use Rattle.slate_model.specs.Flush.{TellsFaults};
-ghost use Rattle.slate_model.specs.Follower.{FollowCause, number};
-ghost use Rattle.slate_errors.specs.Errors.{closed_error};
-ghost use Rattle.slate_follow.specs.Taking.{AnswersAt, Follows, Takes};
+ghost use Rattle.std.specs.Prelude.{◌≡◌, ◌≢◌, ◌≤◌, true, false, None, IfOk, IfSome};
+ghost use Rattle.slate_model.specs.Follower.{Polls, Rebuilds};
+ghost use Rattle.slate_model.specs.Known.{IsContent, known};
+ghost use Rattle.slate_follow.specs.Rebuilding.{ReplaysLatest};
 
-use crate::takes::take;
+use crate::rebuilds::rebuild;
 use crate::{DbReaderMode, DbReaderOptions, FollowerState, PollAnswer};
 use slate_errors::SlateError;
 use slate_store::Store;
@@ -34,14 +31,10 @@ impl FollowerState {
         requires mode { mode ≡ DbReaderMode.FollowLatest }
         requires replays { options.now.skip_wal_replay ≡ false }
         requires extractor { extractor ≡ None }
-        ensures kept { S.objects store.new ≡ S.objects store.old }
-        ensures answer { IfOk result (λ p. (p.0.result ≡ None) × AnswersAt (number p.0) p.1) }
-        ensures takes { IfOk result (λ p. IfSome (S.objects store.old) (λ o. Takes true o p.0 p.1)) }
-        ensures follows { IfOk result (λ p. (o : Objects) → S.objects store.old ≡ Some o → IsSound o → Follows o p.0 p.1) }
-        ensures faults { TellsFaults (S.faults store.old) (S.faults store.new) result }
-        ensures cause { IfErr result (λ e. IfSome (S.objects store.old) (λ o. FollowCause true o e)) }
+        ensures rebuilds { Rebuilds (IsContent (S.objects store.old)) true (known S.objects S.faults store.old) result (known S.objects S.faults store.new) }
+        ensures replays { IfOk result (λ p. IfSome (S.objects store.old) (λ o. ReplaysLatest true o p.0 p.1)) }
     {
-        take(alloc, store, true)
+        rebuild(alloc, store, true)
     }
 
     /// Takes all that is stored by now: from then on the reader sees the batches of the log files above the latest
@@ -62,21 +55,16 @@ impl FollowerState {
         moment: i64,
     ) -> Result<PollAnswer, SlateError>
         requires { extractor ≡ None }
-        ensures closed { IfSome self.old.result (λ r. (result ≡ Err (closed_error r)) × (self.new ≡ self.old) × (store.new ≡ store.old)) }
-        ensures failed { IfErr result (λ e. self.new ≡ self.old) }
-        ensures kept { S.objects store.new ≡ S.objects store.old }
+        ensures polls { Polls (IsContent (S.objects store.old)) self.old (known S.objects S.faults store.old) result self.new (known S.objects S.faults store.new) }
+        ensures replays { IfOk result (λ a. IfSome (S.objects store.old) (λ o. ReplaysLatest false o self.new a)) }
         ensures count { S.faults store.old ≤ S.faults store.new }
-        ensures answer { IfOk result (λ a. (self.new.result ≡ None) × AnswersAt (number self.new) a) }
-        ensures takes { IfOk result (λ a. IfSome (S.objects store.old) (λ o. Takes false o self.new a)) }
-        ensures follows { IfOk result (λ a. (o : Objects) → S.objects store.old ≡ Some o → IsSound o → Follows o self.new a) }
-        ensures faults { self.old.result ≡ None → TellsFaults (S.faults store.old) (S.faults store.new) result }
-        ensures cause { self.old.result ≡ None → IfErr result (λ e. IfSome (S.objects store.old) (λ o. FollowCause false o e)) }
+        ensures untouched { self.old.result ≢ None → (self.new ≡ self.old) × (store.new ≡ store.old) }
     {
         if let Some(result) = self.closed.read() {
             return Err(SlateError::of_closed(result));
         }
-        let (taken, answer) = take(alloc, store, false)?;
-        *self = taken;
+        let (rebuilt, answer) = rebuild(alloc, store, false)?;
+        *self = rebuilt;
         Ok(answer)
     }
 }

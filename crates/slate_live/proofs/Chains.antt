@@ -1,25 +1,27 @@
 use Rattle.std.proofs.Common.{◌≡◌, ◌≤◌, ◌<◌, ◌+◌, ℕ, length, take, map, get_or, List, [], ◌∷◌, ◌++◌, Option, Some, refl, sym, subst, ap, ◌∙◌}
 use Rattle.std.proofs.lemmas.List.{map-append, take_all, take_more}
+use Rattle.slate_types.specs.declared.batches.Batch.{Batch}
 use Rattle.slate_types.specs.Line.{IsPrefix}
 use Rattle.slate_types.specs.Operator.{Merge}
 use Rattle.slate_store.specs.Objects.{Objects}
 use Rattle.slate_store.specs.Content.{IsSound}
+use Rattle.slate_model.specs.Known.{Known}
 use Rattle.slate_script.specs.declared.commands.Command.{Command}
 use Rattle.slate_script.specs.declared.options.Options.{Options}
 use Rattle.slate_script.specs.declared.replies.Reply.{Reply}
-use Rattle.slate_live.specs.Live.{Live}
+use Rattle.slate_live.specs.State.{Live}
 use Rattle.slate_live.specs.Run.{LeadsTo}
 use Rattle.slate_live.specs.Settings.{Settings}
-use Rattle.slate_live.specs.Stands.{StandsFor}
+use Rattle.slate_live.specs.Represents.{Represents}
 use Rattle.slate_live.specs.Steps.{Chain, Step, last_world}
 use Rattle.slate_live.specs.Valid.{Link}
 use Rattle.slate_live.specs.World.{World, start}
-use Rattle.slate_live.proofs.Growing.{prefix-same, prefix-then}
+use Rattle.slate_live.proofs.Prefixes.{prefix-same, prefix-then}
 use Rattle.slate_live.proofs.Staying.{stay_confirmed}
 
 -- no object yet, over sound objects, stands for the world of their start
-pub stands_start : (o : Objects) (told : Option Objects) (faults : ℕ) (live : Live) → live.objects ≡ [] → live.writes ≡ [] → told ≡ Some o → IsSound o → StandsFor live told faults (start o faults)
-stands_start o told faults live no_object no_write is sound =
+pub stands_start : (o : Objects) (store : Known (List Batch)) (live : Live) → live.objects ≡ [] → live.writes ≡ [] → store.objects ≡ Some o → IsSound o → Represents live store (start o store.faults)
+stands_start o store live no_object no_write is sound =
     record {
       held = (o, is, sound, record { stored = refl; catalogue = refl });
       faults = refl;
@@ -69,9 +71,9 @@ done-next merge options options' first last steps commands i command replies rep
     (subst (λ o. Link (record { merge = merge; options = o }) (last_world first steps) command reply last) same link)
 
 -- the world after the command that was done last
-pub stands-push : (first last : World) (steps : List Step) (command : Command) (reply : Reply) (live : Live) (told : Option Objects) (faults : ℕ) → StandsFor live told faults last → StandsFor live told faults (last_world first (steps ++ record { command = command; reply = reply; world = last } ∷ []))
-stands-push first last steps command reply live told faults stands =
-    subst (StandsFor live told faults) (sym (last-push first steps (record { command = command; reply = reply; world = last }))) stands
+pub stands-push : (first last : World) (steps : List Step) (command : Command) (reply : Reply) (live : Live) (store : Known (List Batch)) → Represents live store last → Represents live store (last_world first (steps ++ record { command = command; reply = reply; world = last } ∷ []))
+stands-push first last steps command reply live store stands =
+    subst (Represents live store) (sym (last-push first steps (record { command = command; reply = reply; world = last }))) stands
 
 -- what is stored in the first world is stored in the last
 chain-grows : (settings : Settings) (first : World) (steps : List Step) → Chain settings first steps → IsPrefix first.stored (last_world first steps).stored
@@ -80,8 +82,8 @@ chain-grows settings first (s ∷ steps) chain =
     prefix-then first.stored (s.world).stored (last_world s.world steps).stored (chain.0).grows (chain-grows settings s.world steps chain.1)
 
 -- where all of the commands are done
-pub leads_all : (settings : Settings) (commands : List Command) (i : ℕ) (replies : List Reply) (o : Objects) (faults : ℕ) (live : Live) (told : Option Objects) (faults' : ℕ) (steps : List Step) → length commands ≤ i → Done settings (start o faults) (take i commands) replies steps → StandsFor live told faults' (last_world (start o faults) steps) → LeadsTo settings commands replies o faults told faults'
-leads_all settings commands i replies o faults live told faults' steps all done stands =
+pub leads_all : (settings : Settings) (commands : List Command) (i : ℕ) (replies : List Reply) (o : Objects) (faults : ℕ) (live : Live) (store : Known (List Batch)) (steps : List Step) → length commands ≤ i → Done settings (start o faults) (take i commands) replies steps → Represents live store (last_world (start o faults) steps) → LeadsTo settings commands replies o faults store
+leads_all settings commands i replies o faults live store steps all done stands =
     let held = stands.held in
     record {
       steps = steps;
@@ -93,7 +95,7 @@ leads_all settings commands i replies o faults live told faults' steps all done 
       grows = chain-grows settings (start o faults) steps done.chain;
       confirmed = stay_confirmed settings (start o faults) steps refl done.chain;
       after = held.0;
-      told_after = held.1;
+      modelled = held.1;
       sound = held.2;
       holds = held.3;
       fault_count = stands.faults;

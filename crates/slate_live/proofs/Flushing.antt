@@ -12,8 +12,8 @@ use Rattle.slate_model.specs.Changes.{PartMade}
 use Rattle.slate_model.specs.Handle.{Handle, accepted, unstored}
 use Rattle.slate_model.specs.Flush.{CanFlush, FlushAnswer, FlushCause, StoresBatches, StoresOnly, flush_changes, flush_changes_by, flushed, recorded}
 use Rattle.slate_model.proofs.Reopened.{numbered_rest}
-use Rattle.slate_live.specs.Stands.{IsValidHandle, up_to}
-use Rattle.slate_live.proofs.Growing.{prefix-extend, prefix-same, up_to-all}
+use Rattle.slate_live.specs.Represents.{IsValidHandle, up_to}
+use Rattle.slate_live.proofs.Prefixes.{prefix-extend, prefix-same, up_to-all}
 
 -- what isn't stored yet follows what is stored
 pub unstored_next : (stored : Line) (h : Handle) → IsLine h.line → extended stored (unstored h) ≡ h.line → AreNumberedFrom (end stored) (unstored h)

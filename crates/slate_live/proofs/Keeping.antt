@@ -1,87 +1,57 @@
--- What commands keep: the handles with their lines, and the writes with their batches.
+-- What commands keep: the writes with their batches, which stand in the lines of their handles.
 use Rattle.std.proofs.Common.{◌≡◌, ◌⊎◌, inl, inr, ℕ, ℤ, zero, suc, ◌+◌, Bool, true, false, List, [], ◌∷◌, ◌++◌, set, length, Option, Some, None, Result, Ok, Err, refl, sym, subst, ap, ◌∙◌, leb, if◌then◌else◌}
 use Rattle.std.specs.List.{slice_get}
-use Rattle.std.proofs.lemmas.Bool.{cases_eq}
+use Rattle.std.proofs.lemmas.List.{append-nil}
 use Rattle.slate_types.specs.declared.batches.Batch.{Batch}
 use Rattle.slate_types.specs.declared.batches.KeyOp.{KeyOp}
 use Rattle.slate_types.specs.declared.batches.KeyValue.{KeyValue}
-use Rattle.slate_types.specs.declared.options.FlushType.{FlushType}
-use Rattle.slate_types.specs.declared.read_faults.ReadFault.{ReadFault}
-use Rattle.slate_types.specs.Line.{IsPrefix, Line, end}
+use Rattle.slate_types.specs.Line.{IsPrefix, Line}
 use Rattle.slate_types.specs.Operator.{Merge}
-use Rattle.slate_store.specs.declared.objects.VersionedManifest.{VersionedManifest}
 use Rattle.slate_errors.specs.declared.endings.TaskName.{TaskName}
 use Rattle.slate_errors.specs.declared.errors.SlateError.{SlateError}
 use Rattle.slate_errors.specs.declared.errors.SlateError.TheVariants as errors
+use Rattle.slate_model.specs.Catalogue.{Span, span}
+use Rattle.slate_model.specs.declared.answers.PollAnswer.{PollAnswer}
+use Rattle.slate_model.specs.declared.answers.PollAnswer.TheVariants.{Whole, Truncated}
+use Rattle.slate_model.specs.declared.answers.Written.{Written}
 use Rattle.slate_model.specs.Follower.{Follower}
 use Rattle.slate_model.specs.Handle.{CloseResult, Handle, accepted}
-use Rattle.slate_model.specs.Flush.{flushed}
-use Rattle.slate_model.specs.Write.{next_batch, written}
+use Rattle.slate_model.specs.Known.{Known}
+use Rattle.slate_model.specs.Object.{Object, Handle as AHandle, Follower as AFollower}
+use Rattle.slate_model.specs.Write.{Writes, next_batch, written}
 use Rattle.slate_script.specs.declared.commands.Action.{Action}
 use Rattle.slate_script.specs.declared.commands.Action.TheVariants as actions
 use Rattle.slate_script.specs.declared.commands.Command.{Command}
-use Rattle.slate_script.specs.declared.options.Options.{Options}
 use Rattle.slate_script.specs.declared.replies.Reply.{Reply}
 use Rattle.slate_script.specs.declared.replies.Reply.TheVariants as replies
-use Rattle.slate_live.specs.declared.states.Object.{Object}
-use Rattle.slate_live.specs.declared.states.Object.TheVariants as objects
 use Rattle.slate_live.specs.declared.states.Write.{Write}
+use Rattle.slate_live.specs.Commands.{Acts, ActsOn, DoesBy, asked_reply, write_reply}
 use Rattle.slate_live.specs.Confirmed.{StandsIn}
-use Rattle.slate_live.specs.Next.{AwaitsWrite, ClosesOpen, ClosesUnless, FlushesUnless, FollowerReads, IsReadReply, Next, NextBy, PollsUnless, ReadsUnless, WritesIn, WritesUnless, closed_follower, done_or_refused, ended_reply, flush_of_close, follower_ended, follower_reply, objects_after_follow, objects_after_open, pending_reply, polled, polled_reply, put_op, refusal}
+use Rattle.slate_live.specs.Followers.{FollowerActs}
+use Rattle.slate_live.specs.Handles.{HandleActs, noted, pending_reply}
+use Rattle.slate_live.specs.Replies.{closed_reply, followed_reply, follower_closed_reply, found_reply, polled_reply, refusal, reply_to}
+use Rattle.slate_live.specs.Represents.{IsHandleAt}
+use Rattle.slate_live.specs.Rising.{Rise, Rises}
 use Rattle.slate_live.specs.Settings.{Settings}
-use Rattle.slate_live.specs.Stands.{IsHandleAt}
-use Rattle.slate_live.specs.World.{World}
-use Rattle.slate_live.proofs.Growing.{prefix-same}
-use Rattle.slate_live.proofs.Handles.{get-set_other, get-set_same}
-use Rattle.slate_live.proofs.Rising.{by-kind, get-before}
+use Rattle.slate_live.specs.State.{State}
+use Rattle.slate_live.specs.World.{Next, World, by_catalogue, state_of}
+use Rattle.slate_live.proofs.Places.{get-before, get-seam, get-set_same}
+use Rattle.slate_live.proofs.Rising.{rises}
 
 -- handles stay handles, and their lines only grow
 abbrev pub KeepsHandles : List Object → List Object → Type 0
-KeepsHandles live live' = (n : ℕ) (h : Handle) → IsHandleAt live n h → (h' : Handle) × IsHandleAt live' n h' × IsPrefix h.line h'.line
+KeepsHandles objects objects' = (n : ℕ) (h : Handle) → IsHandleAt objects n h → (h' : Handle) × IsHandleAt objects' n h' × IsPrefix h.line h'.line
 
-keeps-same : (xs ys : List Object) → ys ≡ xs → KeepsHandles xs ys
-keeps-same xs ys same n h at = (h, subst (λ os. IsHandleAt os n h) (sym same) at, prefix-same h.line)
+handle-of : (ys : List Object) (n : ℕ) (h : Handle) (new : Object) → slice_get ys n ≡ Some new → Rises (AHandle h) new → (h' : Handle) × IsHandleAt ys n h' × IsPrefix h.line h'.line
+handle-of ys n h (AHandle h') at rises = (h', at, rises.line)
+handle-of ys n h (AFollower f) at rises = absurd rises
 
-keeps-push : (xs ys zs : List Object) → ys ≡ xs ++ zs → KeepsHandles xs ys
-keeps-push xs ys zs is n h at = (h, subst (λ os. IsHandleAt os n h) (sym is) (get-before xs zs n (objects.Handle h) at), prefix-same h.line)
-
-keeps-handle : (xs ys : List Object) (m : ℕ) (h h' : Handle) → IsHandleAt xs m h → IsPrefix h.line h'.line → ys ≡ set xs m (objects.Handle h') → KeepsHandles xs ys
-keeps-handle xs ys m h h' at longer is n old at_old =
-    elim (cases_eq n m) [
-      | inl same ↦
-          (let here : IsHandleAt xs m old = subst (λ k. IsHandleAt xs k old) same at_old in
-          let is_old : h ≡ old = cc in
-          let there : IsHandleAt (set xs m (objects.Handle h')) m h' = get-set_same xs m (objects.Handle h') (objects.Handle h) at in (
-            h',
-            subst (λ os. IsHandleAt os n h') (sym is) (subst (λ k. IsHandleAt (set xs m (objects.Handle h')) k h') (sym same) there),
-            subst (λ (x : Handle). IsPrefix x.line h'.line) is_old longer,
-          ))
-      | inr other ↦ (
-        old,
-        subst (λ os. IsHandleAt os n old) (sym is) (get-set_other xs m n (objects.Handle h') other ∙ at_old),
-        prefix-same old.line,
-      )
-    ]
-
-keeps-follower : (xs ys : List Object) (m : ℕ) (f g : Follower) → slice_get xs m ≡ Some (objects.Follower f) → ys ≡ set xs m (objects.Follower g) → KeepsHandles xs ys
-keeps-follower xs ys m f g at is n old at_old =
-    elim (cases_eq n m) [
-      | inl same ↦ absurd (let here : IsHandleAt xs m old = subst (λ k. IsHandleAt xs k old) same at_old in cc)
-      | inr other ↦ (
-        old,
-        subst (λ os. IsHandleAt os n old) (sym is) (get-set_other xs m n (objects.Follower g) other ∙ at_old),
-        prefix-same old.line,
-      )
-    ]
+keeps-handles : (xs ys : List Object) → Rise xs ys → KeepsHandles xs ys
+keeps-handles xs ys rise n h at = let r = rise n (AHandle h) at in handle-of ys n h r.0 r.1 r.2
 
 -- the batch of each write stands in the line of its handle
-abbrev pub AreWritten : World → Type 0
-AreWritten w = (n : ℕ) (write : Write) → slice_get w.writes n ≡ Some write → (h : Handle) × (batch : Batch) × IsHandleAt w.objects write.handle h × StandsIn batch h.line × (batch.number ≡ write.number)
-
-pub record Keeps (w w' : World) : Type 0 where
-  pub handles : KeepsHandles w.objects w'.objects
-  pub writes : (n : ℕ) (write : Write) → slice_get w.writes n ≡ Some write → slice_get w'.writes n ≡ Some write
-  pub written : AreWritten w → AreWritten w'
+abbrev pub AreWritten : List Object → List Write → Type 0
+AreWritten objects writes = (n : ℕ) (write : Write) → slice_get writes n ≡ Some write → (h : Handle) × (batch : Batch) × IsHandleAt objects write.handle h × StandsIn batch h.line × (batch.number ≡ write.number)
 
 -- what stands in a line stands in each that goes on from it
 pub stands-prefix : (batch : Batch) (a b : Line) → IsPrefix a b → StandsIn batch a → StandsIn batch b
@@ -91,24 +61,6 @@ stands-prefix batch a b p s = (
   s.2 ∙ ap (λ (l : Line). l.floor + s.0 + 1) (sym p.1),
 )
 
-keeps-by : (w w' : World) → KeepsHandles w.objects w'.objects → w'.writes ≡ w.writes → Keeps w w'
-keeps-by w w' handles same =
-    record {
-      handles = handles;
-      writes = λ n write is. subst (λ ws. slice_get ws n ≡ Some write) (sym same) is;
-      written = λ written n write is.
-          let old = written n write (subst (λ ws. slice_get ws n ≡ Some write) same is) in
-          let new = handles write.handle old.0 old.2 in
-          (new.0, old.1, new.1, stands-prefix old.1 (old.0).line (new.0).line new.2 old.3, old.4);
-    }
-
-keeps-world : (w w' : World) → w' ≡ w → Keeps w w'
-keeps-world w w' same = keeps-by w w' (keeps-same w.objects w'.objects (ap (λ (x : World). x.objects) same)) (ap (λ (x : World). x.writes) same)
-
-pub get-seam : {X : Type 0} (xs : List X) (x : X) → slice_get (xs ++ x ∷ []) (length xs) ≡ Some x
-get-seam [] x = refl
-get-seam (z ∷ xs) x = get-seam xs x
-
 -- an element of a list that is one longer is the last one, or stood there before
 get-cases : {X : Type 0} (xs : List X) (x y : X) (n : ℕ) → slice_get (xs ++ x ∷ []) n ≡ Some y → (slice_get xs n ≡ Some y) ⊎ (y ≡ x)
 get-cases [] x y zero is = inr (cc)
@@ -116,195 +68,156 @@ get-cases [] x y (suc n) is = absurd (cc)
 get-cases (z ∷ xs) x y zero is = inl is
 get-cases (z ∷ xs) x y (suc n) is = get-cases xs x y n is
 
--- the batch of a write stands in the line after it
-stands-written : (h : Handle) (ops : List KeyOp) (at : ℤ) → StandsIn (next_batch h ops at) (written h ops at).line
-stands-written h ops at = (length h.line.batches, get-seam h.line.batches (next_batch h ops at), refl)
+-- the number that a reply gives a write is that of the write
+abbrev pub Numbers : List Write → Reply → Type 0
+Numbers writes (replies.Written n k) = (write : Write) × (slice_get writes n ≡ Some write) × (write.number ≡ k)
+Numbers writes reply = Unit {0}
 
-keeps-write : (w w' : World) (n : ℕ) (h : Handle) (ops : List KeyOp) (at : ℤ) (write : Write) → IsHandleAt w.objects n h → write.handle ≡ n → write.number ≡ accepted h + 1 → w'.objects ≡ set w.objects n (objects.Handle (written h ops at)) → w'.writes ≡ w.writes ++ write ∷ [] → Keeps w w'
-keeps-write w w' n h ops at write is of number objects_are writes_are =
-    let handles : KeepsHandles w.objects w'.objects = keeps-handle w.objects w'.objects n h (written h ops at) is (next_batch h ops at ∷ [], refl) objects_are in
-    record {
-      handles = handles;
-      writes = λ m other there. subst (λ ws. slice_get ws m ≡ Some other) (sym writes_are) (get-before w.writes (write ∷ []) m other there);
-      written = λ before m other there.
-          elim (get-cases w.writes write other m (subst (λ ws. slice_get ws m ≡ Some other) writes_are there)) [
-            | inl old ↦
-                (let known = before m other old in
-                let new = handles other.handle known.0 known.2 in
-                (new.0, known.1, new.1, stands-prefix known.1 (known.0).line (new.0).line new.2 known.3, known.4))
-            | inr last ↦ (
-              written h ops at,
-              next_batch h ops at,
-              subst (λ k. IsHandleAt w'.objects k (written h ops at)) (sym (ap (λ (x : Write). x.handle) last ∙ of))
-                  (subst (λ os. IsHandleAt os n (written h ops at)) (sym objects_are) (get-set_same w.objects n (objects.Handle (written h ops at)) (objects.Handle h) is)),
-              stands-written h ops at,
-              sym (ap (λ (x : Write). x.number) last ∙ number),
-            )
-          ];
-    }
+-- what a command keeps, and that it numbers its write
+pub record Keeps (objects : List Object) (writes : List Write) (reply : Reply) (objects' : List Object) (writes' : List Write) : Type 0 where
+  pub stays : (n : ℕ) (write : Write) → slice_get writes n ≡ Some write → slice_get writes' n ≡ Some write
+  pub written : AreWritten objects writes → AreWritten objects' writes'
+  pub numbers : Numbers writes' reply
 
--- the number that a reply tells of a write is that of the write
-abbrev pub Tells : World → Reply → Type 0
-Tells w (replies.Written n k) = (write : Write) × (slice_get w.writes n ≡ Some write) × (write.number ≡ k)
-Tells w reply = Unit {0}
+module _ (xs ys : List Object) (rise : Rise xs ys) (ws vs : List Write) (reply : Reply) where
+  later : (n : ℕ) (write : Write) → ((h : Handle) × (batch : Batch) × IsHandleAt xs write.handle h × StandsIn batch h.line × (batch.number ≡ write.number)) → (h : Handle) × (batch : Batch) × IsHandleAt ys write.handle h × StandsIn batch h.line × (batch.number ≡ write.number)
+  later n write old =
+      let new = keeps-handles xs ys rise write.handle old.0 old.2 in
+      (new.0, old.1, new.1, stands-prefix old.1 (old.0).line (new.0).line new.2 old.3, old.4)
 
-tells-by : (w : World) {reply reply' : Reply} → reply ≡ reply' → Tells w reply' → Tells w reply
-tells-by w is tells = subst (Tells w) (sym is) tells
+  pub keeps-by : vs ≡ ws → Numbers vs reply → Keeps xs ws reply ys vs
+  keeps-by same numbers =
+      record {
+        stays = λ n write is. subst (λ us. slice_get us n ≡ Some write) (sym same) is;
+        written = λ written n write is. later n write (written n write (subst (λ us. slice_get us n ≡ Some write) same is));
+        numbers = numbers;
+      }
 
-tells-refusal : (w : World) (e : SlateError) → Tells w (refusal e)
-tells-refusal w errors.NoMemory = tt
-tells-refusal w e = tt
+  -- one that accepts a write
+  pub keeps-write : (n : ℕ) (h h' : Handle) (ops : List KeyOp) (at : ℤ) (write : Write) → IsHandleAt xs n h → write.handle ≡ n → write.number ≡ accepted h + 1 → h' ≡ written h ops at → ys ≡ set xs n (AHandle h') → vs ≡ ws ++ write ∷ [] → Numbers vs reply → Keeps xs ws reply ys vs
+  keeps-write n h h' ops at write is of number new objects_are writes_are numbers =
+      let mine : IsHandleAt ys n (written h ops at) =
+      subst (λ os. IsHandleAt os n (written h ops at)) (sym (objects_are ∙ ap (λ x. set xs n (AHandle x)) new)) (get-set_same xs n (AHandle (written h ops at)) (AHandle h) is) in
+      let stands : StandsIn (next_batch h ops at) (written h ops at).line = (length h.line.batches, get-seam h.line.batches (next_batch h ops at), refl) in
+      record {
+        stays = λ m other there. subst (λ us. slice_get us m ≡ Some other) (sym writes_are) (get-before ws (write ∷ []) m other there);
+        written = λ before m other there.
+            elim (get-cases ws write other m (subst (λ us. slice_get us m ≡ Some other) writes_are there)) [
+              | inl old ↦ later m other (before m other old)
+              | inr last ↦ (
+                written h ops at,
+                next_batch h ops at,
+                subst (λ k. IsHandleAt ys k (written h ops at)) (sym (ap (λ (x : Write). x.handle) last ∙ of)) mine,
+                stands,
+                sym (ap (λ (x : Write). x.number) last ∙ number),
+              )
+            ];
+        numbers = numbers;
+      }
 
-tells-done : (w : World) (done : Reply) (r : Result (Unit {0}) SlateError) → Tells w done → Tells w (done_or_refused done r)
-tells-done w done (Ok x) tells = tells
-tells-done w done (Err e) tells = tells-refusal w e
+numbers-by : (vs : List Write) {reply reply' : Reply} → reply ≡ reply' → Numbers vs reply' → Numbers vs reply
+numbers-by vs is numbers = subst (Numbers vs) (sym is) numbers
 
-tells-ended : (w : World) (fault : Option SlateError) (tasks : List TaskName) → Tells w (ended_reply fault tasks)
-tells-ended w (Some errors.Closed) tasks = tt
-tells-ended w None tasks = tt
-tells-ended w (Some e) tasks = tt
+numbers-refusal : (vs : List Write) (e : SlateError) → Numbers vs (refusal e)
+numbers-refusal vs errors.NoMemory = tt
+numbers-refusal vs e = tt
 
-tells-read : (w : World) (answer : Result (Option KeyValue) ReadFault) (reply : Reply) → IsReadReply answer reply → Tells w reply
-tells-read w answer (replies.Written n k) is = absurd is
-tells-read w answer reply is = tt
+numbers-to : {A : Type 0} (vs : List Write) (done : A → Reply) (r : Result A SlateError) → ((x : A) → Numbers vs (done x)) → Numbers vs (reply_to done r)
+numbers-to vs done (Ok x) f = f x
+numbers-to vs done (Err e) f = numbers-refusal vs e
 
-tells-pending : (w : World) (r : CloseResult) → Tells w (pending_reply r)
-tells-pending w None = tt
-tells-pending w (Some r) = tt
+numbers-found : (vs : List Write) (found : Option KeyValue) → Numbers vs (found_reply found)
+numbers-found vs None = tt
+numbers-found vs (Some row) = tt
 
-tells-durable : (w : World) (b : Bool) (r : CloseResult) → Tells w (if b then replies.Durable else pending_reply r)
-tells-durable w true r = tt
-tells-durable w false r = tells-pending w r
+numbers-followed : (vs : List Write) (n : ℕ) (answer : PollAnswer) → Numbers vs (followed_reply n answer)
+numbers-followed vs n (Whole at) = tt
+numbers-followed vs n (Truncated at) = tt
 
--- what a command keeps, and that it tells its write
-pub record KeepsAndTells (w : World) (reply : Reply) (w' : World) : Type 0 where
-  pub keeps : Keeps w w'
-  pub tells : Tells w' reply
+numbers-polled : (vs : List Write) (answer : PollAnswer) → Numbers vs (polled_reply answer)
+numbers-polled vs (Whole at) = tt
+numbers-polled vs (Truncated at) = tt
 
-only : (w : World) (answer reply : Reply) (w' : World) → Tells w' answer → reply ≡ answer → w' ≡ w → KeepsAndTells w reply w'
-only w answer reply w' tells is same = record { keeps = keeps-world w w' same; tells = tells-by w' is tells }
+numbers-closed : (vs : List Write) (fault : Option SlateError) (tasks : List TaskName) → Numbers vs (closed_reply fault tasks)
+numbers-closed vs (Some errors.Closed) tasks = tt
+numbers-closed vs None tasks = tt
+numbers-closed vs (Some e) tasks = tt
 
-write-steps : (w w' : World) (refused : Option SlateError) (n : ℕ) (h : Handle) (ops : List KeyOp) (moment : Option ℤ) (reply : Reply) → IsHandleAt w.objects n h → WritesUnless refused w n h ops moment reply w' → KeepsAndTells w reply w'
-write-steps w w' (Some error) n h ops moment reply at next = only w (replies.Refused error) reply w' tt next.0 next.1
-write-steps w w' None n h ops moment reply at next =
-    let write : Write = record { handle = n; number = accepted h + 1 } in
-    let writes_are : w'.writes ≡ w.writes ++ write ∷ [] = ap (λ (x : World). x.writes) next.3 in
-    record {
-      keeps = keeps-write w w' n h ops next.0 write at refl refl (ap (λ (x : World). x.objects) next.3) writes_are;
-      tells = tells-by w' next.2 (write, subst (λ ws. slice_get ws (length w.writes) ≡ Some write) (sym writes_are) (get-seam w.writes write), refl);
-    }
+numbers-follower-closed : (vs : List Write) (fault : Option SlateError) (tasks : List TaskName) → Numbers vs (follower_closed_reply fault tasks)
+numbers-follower-closed vs None tasks = tt
+numbers-follower-closed vs (Some e) tasks = tt
 
-writes-step : (w w' : World) (n : ℕ) (h : Handle) (ops : List KeyOp) (moment : ℤ) (second : Option ℤ) (reply : Reply) → IsHandleAt w.objects n h → WritesIn w n h ops moment second reply w' → KeepsAndTells w reply w'
-writes-step w w' n h ops moment second reply at (inl same) = only w replies.NoMemory reply w' tt same.0 same.1
-writes-step w w' n h ops moment second reply at (inr next) = write-steps w w' _ n h ops _ reply at next
+numbers-pending : (vs : List Write) (b : Bool) (r : CloseResult) → Numbers vs (if b then replies.Durable else pending_reply r)
+numbers-pending vs true r = tt
+numbers-pending vs false None = tt
+numbers-pending vs false (Some q) = tt
 
--- a handle that was changed, its line kept
-handle-steps : (w w' : World) (n : ℕ) (h h' : Handle) (reply : Reply) → IsHandleAt w.objects n h → h'.line ≡ h.line → w'.objects ≡ set w.objects n (objects.Handle h') → w'.writes ≡ w.writes → Tells w' reply → KeepsAndTells w reply w'
-handle-steps w w' n h h' reply at line objects_are writes_are tells =
-    record {
-      keeps = keeps-by w w' (keeps-handle w.objects w'.objects n h h' at (subst (IsPrefix h.line) (sym line) (prefix-same h.line)) objects_are) writes_are;
-      tells = tells;
-    }
+numbers-asked : (vs : List Write) (found : Option Object) (k : ℕ) → Numbers vs (asked_reply found k)
+numbers-asked vs None k = tt
+numbers-asked vs (Some (AHandle h)) k = numbers-pending vs (leb k h.durable) h.result
+numbers-asked vs (Some (AFollower f)) k = tt
 
-flushed-line : (h : Handle) (view : VersionedManifest) (r : Result (Unit {0}) SlateError) → (flushed h view r).line ≡ h.line
-flushed-line h view (Ok x) = refl
-flushed-line h view (Err e) = refl
+numbers-write : (vs : List Write) (xs : List Object) (write : Option Write) → Numbers vs (write_reply xs write)
+numbers-write vs xs None = tt
+numbers-write vs xs (Some write) = numbers-asked vs (slice_get xs write.handle) write.number
 
-flush-steps : (w w' : World) (result : CloseResult) (keeps : Bool) (n : ℕ) (h : Handle) (reply : Reply) → IsHandleAt w.objects n h → FlushesUnless result keeps w n h reply w' → KeepsAndTells w reply w'
-flush-steps w w' (Some r) keeps n h reply at next = only w _ reply w' tt next.0 next.1
-flush-steps w w' None false n h reply at next = only w _ reply w' tt next.0 next.1
-flush-steps w w' None true n h reply at next =
-    handle-steps w w' n h (flushed h next.view next.result) reply at (flushed-line h next.view next.result) next.objects_after next.writes
-    (tells-by w' next.answered (tells-done w' replies.Flushed next.result tt))
+module _ (xs ys : List Object) (rise : Rise xs ys) (ws vs : List Write) where
+  write-keeps : (n : ℕ) (h h' : Handle) (ops : List KeyOp) (moment : ℤ) (second : Option ℤ) (r : Result Written SlateError) (reply : Reply) → IsHandleAt xs n h → Writes h ops moment second r h' → reply ≡ reply_to (λ (w : Written). replies.Written (length ws) w.number) r → vs ≡ ws ++ noted n r → ys ≡ set xs n (AHandle h') → Keeps xs ws reply ys vs
+  write-keeps n h h' ops moment second (Err e) reply at s is more set_is = keeps-by xs ys rise ws vs reply (more ∙ append-nil ws) (numbers-by vs is (numbers-refusal vs e))
+  write-keeps n h h' ops moment second (Ok w) reply at s is more set_is =
+      let write : Write = record { handle = n; number = w.number } in
+      keeps-write xs ys rise ws vs reply n h h' ops w.create_ts write at refl s.accepted.2 s.accepted.3 set_is more
+      (numbers-by vs is (write, subst (λ us. slice_get us (length ws) ≡ Some write) (sym more) (get-seam ws write), refl))
 
-close-steps : (w w' : World) (flush_type : Option FlushType) (keeps : Bool) (n : ℕ) (h : Handle) (reply : Reply) → IsHandleAt w.objects n h → ClosesOpen flush_type keeps w n h reply w' → KeepsAndTells w reply w'
-close-steps w w' None keeps n h reply at next =
-    handle-steps w w' n h _ reply at refl (ap (λ (x : World). x.objects) next.1) (ap (λ (x : World). x.writes) next.1) (tells-by w' next.0 (tells-ended w' None []))
-close-steps w w' (Some flush_type) false n h reply at next =
-    handle-steps w w' n h _ reply at refl (ap (λ (x : World). x.objects) next.1) (ap (λ (x : World). x.writes) next.1) (tells-by w' next.0 (tells-ended w' (Some errors.WalDisabled) []))
-close-steps w w' (Some flush_type) true n h reply at next =
-    handle-steps w w' n h _ reply at (flushed-line h next.view next.result) next.objects_after next.writes (tells-by w' next.answered (tells-ended w' _ []))
+  handle-keeps : (merge : Option Merge) (n : ℕ) (moment : ℤ) (second : Option ℤ) (action : Action) (made : ℕ) (h h' : Handle) (before after : Known Span) (reply : Reply) → IsHandleAt xs n h → ys ≡ set xs n (AHandle h') → HandleActs span merge n moment second action made h before ws reply h' after vs → Keeps xs ws reply ys vs
+  handle-keeps merge n moment second (actions.Put object key value expire) made h h' before after reply at set_is a = write-keeps n h h' _ moment second (a.0).result reply at (a.0).does (a.0).replied (a.0).noted set_is
+  handle-keeps merge n moment second (actions.Flush object t) made h h' before after reply at set_is a =
+      keeps-by xs ys rise ws vs reply a.1 (numbers-by vs (a.0).replied (numbers-to vs _ (a.0).result (λ x. tt)))
+  handle-keeps merge n moment second (actions.Close object options) made h h' before after reply at set_is a =
+      keeps-by xs ys rise ws vs reply a.1 (numbers-by vs (a.0).replied (numbers-closed vs _ _))
+  handle-keeps merge n moment second (actions.Get object key remote) made h h' before after reply at set_is a =
+      keeps-by xs ys rise ws vs reply a.3 (numbers-by vs (a.0).replied (numbers-to vs _ (a.0).result (numbers-found vs)))
+  handle-keeps merge n moment second actions.Open made h h' before after reply at set_is a = keeps-by xs ys rise ws vs reply a.3 (numbers-by vs a.0 tt)
+  handle-keeps merge n moment second (actions.Follow mode managed skip) made h h' before after reply at set_is a = keeps-by xs ys rise ws vs reply a.3 (numbers-by vs a.0 tt)
+  handle-keeps merge n moment second (actions.Poll object) made h h' before after reply at set_is a = keeps-by xs ys rise ws vs reply a.3 (numbers-by vs a.0 tt)
+  handle-keeps merge n moment second (actions.Await write) made h h' before after reply at set_is a = keeps-by xs ys rise ws vs reply a.3 (numbers-by vs a.0 tt)
 
-closes-step : (w w' : World) (result : CloseResult) (flush_type : Option FlushType) (n : ℕ) (h : Handle) (reply : Reply) → IsHandleAt w.objects n h → ClosesUnless result flush_type h.keeps_log w n h reply w' → KeepsAndTells w reply w'
-closes-step w w' (Some r) flush_type n h reply at next = only w _ reply w' (tells-ended w' _ []) next.0 next.1
-closes-step w w' None flush_type n h reply at next = close-steps w w' flush_type h.keeps_log n h reply at next
+  follower-keeps : (stored : Line) (rows : Follower → List Batch) (merge : Option Merge) (action : Action) (made : ℕ) (f f' : Follower) (before after : Known Span) (reply : Reply) → FollowerActs (λ line. line ≡ stored) rows merge action made f before ws reply f' after vs → Keeps xs ws reply ys vs
+  follower-keeps stored rows merge (actions.Poll object) made f f' before after reply a =
+      keeps-by xs ys rise ws vs reply a.2 (numbers-by vs (a.0).replied (numbers-to vs _ (a.0).result (numbers-polled vs)))
+  follower-keeps stored rows merge (actions.Get object key remote) made f f' before after reply a =
+      keeps-by xs ys rise ws vs reply a.3 (numbers-by vs (a.0).replied (numbers-to vs _ (a.0).result (numbers-found vs)))
+  follower-keeps stored rows merge (actions.Close object options) made f f' before after reply a = keeps-by xs ys rise ws vs reply a.3 (numbers-by vs a.0 (numbers-follower-closed vs _ _))
+  follower-keeps stored rows merge actions.Open made f f' before after reply a = keeps-by xs ys rise ws vs reply a.3 (numbers-by vs a.0 tt)
+  follower-keeps stored rows merge (actions.Put object key value expire) made f f' before after reply a = keeps-by xs ys rise ws vs reply a.3 (numbers-by vs a.0 tt)
+  follower-keeps stored rows merge (actions.Flush object t) made f f' before after reply a = keeps-by xs ys rise ws vs reply a.3 (numbers-by vs a.0 tt)
+  follower-keeps stored rows merge (actions.Follow mode managed skip) made f f' before after reply a = keeps-by xs ys rise ws vs reply a.3 (numbers-by vs a.0 tt)
+  follower-keeps stored rows merge (actions.Await write) made f f' before after reply a = keeps-by xs ys rise ws vs reply a.3 (numbers-by vs a.0 tt)
 
-tells-follower : (w : World) (fault : Option SlateError) → Tells w (follower_ended fault)
-tells-follower w None = tt
-tells-follower w (Some e) = tt
+module _ (settings : Settings) (w w' : World) (command : Command) (made : ℕ) (reply : Reply) (rise : Rise w.objects w'.objects) where
+  acts-keep : (n : ℕ) (old new : Object) → slice_get w.objects n ≡ Some old → w'.objects ≡ set w.objects n new → Acts (by_catalogue w.stored) settings.merge n command made old (state_of w).store w.writes reply new (state_of w').store w'.writes → Keeps w.objects w.writes reply w'.objects w'.writes
+  acts-keep n (AHandle h) (AHandle h') at set_is a = handle-keeps w.objects w'.objects rise w.writes w'.writes settings.merge n command.moment command.second command.action made h h' _ _ reply at set_is a
+  acts-keep n (AFollower f) (AFollower f') at set_is a = follower-keeps w.objects w'.objects rise w.writes w'.writes w.stored _ settings.merge command.action made f f' _ _ reply a
+  acts-keep n (AHandle h) (AFollower f') at set_is a = absurd a
+  acts-keep n (AFollower f) (AHandle h') at set_is a = absurd a
 
-open-steps : (options : Options) (w w' : World) (r : Result (Unit {0}) SlateError) → w'.objects ≡ objects_after_open options w r → KeepsHandles w.objects w'.objects
-open-steps options w w' (Ok x) is = keeps-push w.objects w'.objects _ is
-open-steps options w w' (Err e) is = keeps-same w.objects w'.objects is
+  on-keeps : (n : ℕ) (found : Option Object) → slice_get w.objects n ≡ found → ActsOn (by_catalogue w.stored) settings.merge n command made found (state_of w) reply (state_of w') → Keeps w.objects w.writes reply w'.objects w'.writes
+  on-keeps n None at d = keeps-by w.objects w'.objects rise w.writes w'.writes reply (ap (λ (s : State Span). s.writes) d.2) (numbers-by w'.writes d.1 tt)
+  on-keeps n (Some old) at d = acts-keep n old d.new at d.objects d.acts
 
-follow-steps : (w w' : World) (view : VersionedManifest) (r : Result (Unit {0}) SlateError) → w'.objects ≡ objects_after_follow w view r → KeepsHandles w.objects w'.objects
-follow-steps w w' view (Ok x) is = keeps-push w.objects w'.objects _ is
-follow-steps w w' view (Err e) is = keeps-same w.objects w'.objects is
+  keeps-action : (action : Action) → DoesBy (by_catalogue w.stored) settings command action made (state_of w) reply (state_of w') → Keeps w.objects w.writes reply w'.objects w'.writes
+  keeps-action actions.Open d =
+      keeps-by w.objects w'.objects rise w.writes w'.writes reply d.writes (numbers-by w'.writes d.replied (numbers-to w'.writes _ d.result (λ x. tt)))
+  keeps-action (actions.Follow mode managed skip) d =
+      keeps-by w.objects w'.objects rise w.writes w'.writes reply (d.0).writes (numbers-by w'.writes (d.0).replied (numbers-to w'.writes _ (d.0).result (λ (b : Follower × PollAnswer). numbers-followed w'.writes (length w.objects) b.1)))
+  keeps-action (actions.Await n) d =
+      keeps-by w.objects w'.objects rise w.writes w'.writes reply (ap (λ (s : State Span). s.writes) d.2) (numbers-by w'.writes d.1 (numbers-write w'.writes w.objects (slice_get w.writes n)))
+  keeps-action (actions.Put n key value expire) d = on-keeps n (slice_get w.objects n) refl d
+  keeps-action (actions.Flush n t) d = on-keeps n (slice_get w.objects n) refl d
+  keeps-action (actions.Get n key remote) d = on-keeps n (slice_get w.objects n) refl d
+  keeps-action (actions.Close n options) d = on-keeps n (slice_get w.objects n) refl d
+  keeps-action (actions.Poll n) d = on-keeps n (slice_get w.objects n) refl d
 
-tells-follow : (w : World) (n at : ℕ) (r : Result (Unit {0}) SlateError) → Tells w (follower_reply n at r)
-tells-follow w n at (Ok x) = tt
-tells-follow w n at (Err e) = tells-refusal w e
-
-tells-poll : (w : World) (at : ℕ) (r : Result (Unit {0}) SlateError) → Tells w (polled_reply at r)
-tells-poll w at (Ok x) = tt
-tells-poll w at (Err e) = tells-refusal w e
-
-poll-steps : (w w' : World) (result : CloseResult) (n : ℕ) (f : Follower) (reply : Reply) → slice_get w.objects n ≡ Some (objects.Follower f) → PollsUnless result w n f reply w' → KeepsAndTells w reply w'
-poll-steps w w' (Some r) n f reply at next = only w _ reply w' tt next.0 next.1
-poll-steps w w' None n f reply at next =
-    record {
-      keeps = keeps-by w w' (keeps-follower w.objects w'.objects n f (polled w f next.view next.result) at (ap (λ (x : World). x.objects) next.after)) (ap (λ (x : World). x.writes) next.after);
-      tells = tells-by w' next.answered (tells-poll w' (end w.stored) next.result);
-    }
-
-read-steps : (merge : Option Merge) (w w' : World) (result : CloseResult) (h : Handle) (key : List ℕ) (remote : Bool) (reply : Reply) → ReadsUnless result merge w h key remote reply w' → KeepsAndTells w reply w'
-read-steps merge w w' (Some r) h key remote reply next = only w _ reply w' tt next.0 next.1
-read-steps merge w w' None h key remote reply next = only w reply reply w' (tells-read w' _ reply next.0) refl next.1
-
-follower-read-steps : (merge : Option Merge) (w w' : World) (result : CloseResult) (f : Follower) (key : List ℕ) (reply : Reply) → FollowerReads result merge w f key reply w' → KeepsAndTells w reply w'
-follower-read-steps merge w w' (Some r) f key reply next = only w _ reply w' tt next.0 next.1
-follower-read-steps merge w w' None f key reply next = only w reply reply w' (tells-read w' _ reply next.0) refl next.1
-
-await-steps : (w w' : World) (write : Option Write) (reply : Reply) → AwaitsWrite write w reply w' → KeepsAndTells w reply w'
-await-steps w w' None reply next = only w _ reply w' tt next.0 next.1
-await-steps w w' (Some write) reply next =
-    by-kind (slice_get w.objects write.handle) _ _ _ (KeepsAndTells w reply w') next
-    (λ h at told. only w _ reply w' (tells-durable w' (leb write.number h.durable) h.result) told.0 told.1)
-    (λ f at told. only w _ reply w' tt told.0 told.1) (λ told. only w _ reply w' tt told.0 told.1)
-
-steps-by : (settings : Settings) (w : World) (moment : ℤ) (second : Option ℤ) (action : Action) (reply : Reply) (w' : World) → NextBy settings w moment second action reply w' → KeepsAndTells w reply w'
-steps-by settings w moment second actions.Open reply w' next =
-    record {
-      keeps = keeps-by w w' (open-steps settings.options w w' next.result next.objects_after) next.writes;
-      tells = tells-by w' next.answered (tells-done w' _ next.result tt);
-    }
-steps-by settings w moment second (actions.Put n key value expire) reply w' next =
-    by-kind (slice_get w.objects n) _ _ _ (KeepsAndTells w reply w') next
-    (λ h at writes. writes-step w w' n h (put_op key value expire ∷ []) moment second reply at writes) (λ f at told. only w _ reply w' tt told.0 told.1) (λ told. only w _ reply w' tt told.0 told.1)
-steps-by settings w moment second (actions.Flush n flush_type) reply w' next =
-    by-kind (slice_get w.objects n) _ _ _ (KeepsAndTells w reply w') next
-    (λ h at flushes. flush-steps w w' h.result h.keeps_log n h reply at flushes) (λ f at told. only w _ reply w' tt told.0 told.1) (λ told. only w _ reply w' tt told.0 told.1)
-steps-by settings w moment second (actions.Get n key remote) reply w' next =
-    by-kind (slice_get w.objects n) _ _ _ (KeepsAndTells w reply w') next
-    (λ h at reads. read-steps settings.merge w w' h.result h key remote reply reads)
-    (λ f at reads. follower-read-steps settings.merge w w' f.result f key reply reads) (λ told. only w _ reply w' tt told.0 told.1)
-steps-by settings w moment second (actions.Close n options) reply w' next =
-    by-kind (slice_get w.objects n) _ _ _ (KeepsAndTells w reply w') next
-    (λ h at closes. closes-step w w' h.result (flush_of_close options) n h reply at closes)
-    (λ f at closes. record {
-      keeps = keeps-by w w' (keeps-follower w.objects w'.objects n f (closed_follower f) at (ap (λ (x : World). x.objects) closes.1)) (ap (λ (x : World). x.writes) closes.1);
-      tells = tells-by w' closes.0 (tells-follower w' _);
-    }) (λ told. only w _ reply w' tt told.0 told.1)
-steps-by settings w moment second (actions.Follow mode managed skip) reply w' next =
-    record {
-      keeps = keeps-by w w' (follow-steps w w' next.view next.result (ap (λ (x : World). x.objects) next.after)) (ap (λ (x : World). x.writes) next.after);
-      tells = tells-by w' next.answered (tells-follow w' (length w.objects) (end w.stored) next.result);
-    }
-steps-by settings w moment second (actions.Poll n) reply w' next =
-    by-kind (slice_get w.objects n) _ _ _ (KeepsAndTells w reply w') next
-    (λ h at told. only w _ reply w' tt told.0 told.1) (λ f at polls. poll-steps w w' f.result n f reply at polls) (λ told. only w _ reply w' tt told.0 told.1)
-steps-by settings w moment second (actions.Await n) reply w' next = await-steps w w' (slice_get w.writes n) reply next
-
--- what every command keeps
-pub steps : (settings : Settings) (w : World) (command : Command) (reply : Reply) (w' : World) → Next settings w command reply w' → KeepsAndTells w reply w'
-steps settings w command reply w' next = steps-by settings w command.moment command.second command.action reply w' next
+-- what every command keeps, where no object goes back
+pub keeps : (settings : Settings) (w : World) (command : Command) (reply : Reply) (w' : World) → Rise w.objects w'.objects → Next settings w command reply w' → Keeps w.objects w.writes reply w'.objects w'.writes
+keeps settings w command reply w' rise next = keeps-action settings w w' command next.made reply rise command.action next.does

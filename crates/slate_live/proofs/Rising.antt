@@ -1,162 +1,187 @@
-use Rattle.std.proofs.Common.{◌≡◌, inl, inr, ℕ, ℤ, zero, suc, ◌≤◌, Bool, true, false, List, [], ◌∷◌, ◌++◌, set, Option, Some, None, Result, Ok, Err, refl, sym, subst, ap, ◌∙◌, arith, length-append}
+-- What no command takes back of an object.
+use Rattle.std.proofs.Common.{◌≡◌, ◌≤◌, inl, inr, ℕ, ℤ, Bool, true, false, List, ◌++◌, set, Option, Some, None, Result, Ok, Err, refl, sym, subst, ap, ◌∙◌, arith, if◌then◌else◌}
 use Rattle.std.specs.List.{slice_get}
-use Rattle.std.proofs.lemmas.Bool.{cases_eq}
+use Rattle.std.specs.Option.{unwrap_or}
+use Rattle.std.specs.Result.{IfErr}
+use Rattle.std.specs.Prelude.{int_lt, pos, negsuc}
+use Rattle.std.proofs.lemmas.Bool.{cases_eq, le-ltb}
+use Rattle.slate_types.specs.declared.batches.Batch.{Batch}
 use Rattle.slate_types.specs.declared.batches.KeyOp.{KeyOp}
-use Rattle.slate_types.specs.declared.options.FlushType.{FlushType}
-use Rattle.slate_types.specs.Line.{IsPrefix, Line, end}
+use Rattle.slate_types.specs.Line.{IsPrefix, Line}
 use Rattle.slate_types.specs.Operator.{Merge}
 use Rattle.slate_store.specs.declared.objects.VersionedManifest.{VersionedManifest}
+use Rattle.slate_store.specs.Objects.{ObjectsOf}
 use Rattle.slate_errors.specs.declared.errors.SlateError.{SlateError}
-use Rattle.slate_model.specs.Follower.{Follower, number}
-use Rattle.slate_model.specs.Handle.{CloseResult, Handle}
+use Rattle.slate_errors.specs.Errors.{closed_error}
+use Rattle.slate_model.specs.Catalogue.{Span}
+use Rattle.slate_model.specs.Close.{closed, closed_follower}
+use Rattle.slate_model.specs.declared.answers.PollAnswer.{PollAnswer}
+use Rattle.slate_model.specs.declared.answers.Written.{Written}
+use Rattle.slate_model.specs.Flush.{flushed}
+use Rattle.slate_model.specs.Follower.{Follower, Polls, number}
+use Rattle.slate_model.specs.Handle.{CloseResult, Handle, accepted}
+use Rattle.slate_model.specs.Known.{Known}
+use Rattle.slate_model.specs.Object.{Object, Handle as AHandle, Follower as AFollower}
+use Rattle.slate_model.specs.Write.{Writes, accepted_moment}
 use Rattle.slate_script.specs.declared.commands.Action.{Action}
 use Rattle.slate_script.specs.declared.commands.Action.TheVariants as actions
 use Rattle.slate_script.specs.declared.commands.Command.{Command}
-use Rattle.slate_script.specs.declared.options.Options.{Options}
 use Rattle.slate_script.specs.declared.replies.Reply.{Reply}
-use Rattle.slate_live.specs.declared.states.Object.{Object}
-use Rattle.slate_live.specs.declared.states.Object.TheVariants as objects
 use Rattle.slate_live.specs.declared.states.Write.{Write}
-use Rattle.slate_live.specs.Next.{AtObject, AwaitsWrite, ClosesOpen, ClosesUnless, FlushesUnless, FollowerReads, Next, NextBy, PollsUnless, ReadsUnless, WritesIn, WritesUnless, closed_follower, flush_of_close, objects_after_follow, objects_after_open, polled, put_op}
-use Rattle.slate_live.specs.Rising.{Rise}
+use Rattle.slate_live.specs.Commands.{Acts, ActsOn, DoesBy}
+use Rattle.slate_live.specs.Followers.{FollowerActs}
+use Rattle.slate_live.specs.Handles.{HandleActs}
+use Rattle.slate_live.specs.Represents.{IsValid}
+use Rattle.slate_live.specs.Rising.{FollowerRises, HandleRises, Rise, Rises, StaysClosed}
 use Rattle.slate_live.specs.Settings.{Settings}
-use Rattle.slate_live.specs.Stands.{IsValid}
-use Rattle.slate_live.specs.World.{World}
-use Rattle.slate_live.proofs.Handles.{get-set_other, get-set_same}
+use Rattle.slate_live.specs.State.{Knowledge, State}
+use Rattle.slate_live.specs.World.{World, Next, by_catalogue, state_of}
+use Rattle.slate_live.proofs.Cases.{close-by, flush-by, by-option, is-none, some-of}
+use Rattle.slate_live.proofs.Places.{get-before, get-set_other, get-set_same}
+use Rattle.slate_live.proofs.Prefixes.{prefix-end, prefix-same}
 
-pub prefix-end : (a b : Line) → IsPrefix a b → end a ≤ end b
-prefix-end a b p =
-    let longer = ap (λ (l : Line). end l) p.1 in
-    let count = length-append a.batches p.0 in
-    omega (arith, longer, count)
+not-below : (t : ℤ) → int_lt t t ≡ false
+not-below (pos n) = le-ltb n n (omega arith)
+not-below (negsuc n) = le-ltb n n (omega arith)
+
+stays : (r : CloseResult) → StaysClosed r r
+stays None = tt
+stays (Some q) = refl
+
+rises-same : (h h' : Handle) → h' ≡ h → HandleRises h h'
+rises-same h h' same = subst (HandleRises h) (sym same) (record { line = prefix-same h.line; durable = omega arith; tick = not-below h.tick; epoch = refl; result = stays h.result })
+
+-- the moment of an accepted write isn't below the tick
+chosen : (b : Bool) (m at : ℤ) → (if b then None else Some m) ≡ Some at → (b ≡ false) × (m ≡ at)
+chosen true m at is = absurd (cc)
+chosen false m at is = (refl, let e : m ≡ at = cc in e)
+
+accepted-second : (b : Bool) (tick moment second at : ℤ) → int_lt moment tick ≡ b → (if b then (if int_lt second tick then None else Some second) else Some moment) ≡ Some at → int_lt at tick ≡ false
+accepted-second true tick moment second at is h = let c = chosen (int_lt second tick) second at h in subst (λ x. int_lt x tick ≡ false) c.1 c.0
+accepted-second false tick moment second at is h = let e : moment ≡ at = cc in subst (λ x. int_lt x tick ≡ false) e is
+
+accepted-late : (tick moment : ℤ) (second : Option ℤ) (at : ℤ) → accepted_moment tick moment second ≡ Some at → int_lt at tick ≡ false
+accepted-late tick moment None at h = let c = chosen (int_lt moment tick) moment at h in subst (λ x. int_lt x tick ≡ false) c.1 c.0
+accepted-late tick moment (Some second) at h = accepted-second (int_lt moment tick) tick moment second at refl h
+
+write-rises : (h h' : Handle) (ops : List KeyOp) (moment : ℤ) (second : Option ℤ) (r : Result Written SlateError) → Writes h ops moment second r h' → HandleRises h h'
+write-rises h h' ops moment second (Ok w) s =
+    subst (HandleRises h) (sym s.accepted.3) (record {
+      line = (_, refl);
+      durable = omega arith;
+      tick = accepted-late h.tick moment second w.create_ts s.accepted.1;
+      epoch = refl;
+      result = stays h.result;
+    })
+write-rises h h' ops moment second (Err e) s = rises-same h h' s.refused.1
+
+flushed-rises : (h : Handle) (view : VersionedManifest) (r : Result (Unit {0}) SlateError) → h.result ≡ None → h.durable ≤ accepted h → HandleRises h (flushed h view r)
+flushed-rises h view (Ok x) live low = record { line = prefix-same h.line; durable = low; tick = not-below h.tick; epoch = refl; result = stays h.result }
+flushed-rises h view (Err e) live low = record { line = prefix-same h.line; durable = omega arith; tick = not-below h.tick; epoch = refl; result = is-none (λ q. (flushed h view (Err e)).result ≡ Some q) h.result live }
+
+closed-rises : (h g : Handle) → h.result ≡ None → HandleRises h g → HandleRises h (closed g)
+closed-rises h g live r = record { line = r.line; durable = r.durable; tick = r.tick; epoch = r.epoch; result = is-none (λ q. Some (Ok tt) ≡ Some q) h.result live }
+
+pub handle-rises : {L : Type 0} (summary : List Batch → L) (merge : Option Merge) (n : ℕ) (moment : ℤ) (second : Option ℤ) (action : Action) (made : ℕ) (h : Handle) (before : Known L) (writes : List Write) (reply : Reply) (h' : Handle) (after : Known L) (writes' : List Write) → h.durable ≤ accepted h → HandleActs summary merge n moment second action made h before writes reply h' after writes' → HandleRises h h'
+handle-rises summary merge n moment second (actions.Put object key value expire) made h before writes reply h' after writes' low a = write-rises h h' _ moment second (a.0).result (a.0).does
+handle-rises summary merge n moment second (actions.Flush object flush_type) made h before writes reply h' after writes' low a =
+    flush-by summary made h before h' after (HandleRises h h') (a.0).result (a.0).does
+    (λ q is error same store. rises-same h h' same)
+    (λ live without error same store. rises-same h h' same)
+    (λ can is stores. subst (HandleRises h) (sym is) (flushed-rises h h'.view (a.0).result can.0 low))
+handle-rises summary merge n moment second (actions.Close object options) made h before writes reply h' after writes' low a =
+    close-by summary made h before h' after (HandleRises h h') _ (a.0).ended (a.0).does
+    (λ q is error same store. rises-same h h' same)
+    (λ live none error is store. subst (HandleRises h) (sym is) (closed-rises h h live (rises-same h h refl)))
+    (λ live some without error is store. subst (HandleRises h) (sym is) (closed-rises h h live (rises-same h h refl)))
+    (λ can some tasks is stores. subst (HandleRises h) (sym is) (closed-rises h _ can.0 (flushed-rises h h'.view _ can.0 low)))
+handle-rises summary merge n moment second (actions.Get object key remote) made h before writes reply h' after writes' low a = rises-same h h' a.1
+handle-rises summary merge n moment second actions.Open made h before writes reply h' after writes' low a = rises-same h h' a.1
+handle-rises summary merge n moment second (actions.Follow mode managed skip) made h before writes reply h' after writes' low a = rises-same h h' a.1
+handle-rises summary merge n moment second (actions.Poll object) made h before writes reply h' after writes' low a = rises-same h h' a.1
+handle-rises summary merge n moment second (actions.Await write) made h before writes reply h' after writes' low a = rises-same h h' a.1
+
+follower-same : (f f' : Follower) → f' ≡ f → FollowerRises f f'
+follower-same f f' same = subst (FollowerRises f) (sym same) (record { number = omega arith; result = stays f.result })
+
+-- what a poll leaves: the follower as it was, or one that sees what is stored
+polled-rises : {L : Type 0} (stored : Line) (f f' : Follower) (o : ObjectsOf L) (before after : Known L) (r : Result PollAnswer SlateError) → before.objects ≡ Some o → IsPrefix f.line stored → f.result ≡ None → Polls (λ line. line ≡ stored) f before r f' after → FollowerRises f f'
+polled-rises stored f f' o before after (Err e) at front live p = follower-same f f' p.failed
+polled-rises stored f f' o before after (Ok answer) at front live p =
+    let all = (p.rebuilds live).sees o stored at refl in
+    record {
+      number = subst (λ (g : Follower). number f ≤ number g) (sym all.2) (prefix-end f.line stored front);
+      result = is-none (λ q. f'.result ≡ Some q) f.result live;
+    }
+
+poll-same : {A : Type 0} (r : Result A SlateError) (e : SlateError) (P : SlateError → Type 0) → r ≡ Err e → IfErr r P → P e
+poll-same {A} r e P is h = subst (λ x. IfErr x P) is h
+
+poll-rises : {L : Type 0} (stored : Line) (f f' : Follower) (o : ObjectsOf L) (before after : Known L) (r : Result PollAnswer SlateError) → before.objects ≡ Some o → IsPrefix f.line stored → Polls (λ line. line ≡ stored) f before r f' after → FollowerRises f f'
+poll-rises stored f f' o before after r at front p =
+    by-option f.result
+    (λ live. polled-rises stored f f' o before after r at front live p)
+    (λ q is. let c = some-of (λ q. (r ≡ Err (closed_error q)) × (after ≡ before)) f.result q is p.closed in follower-same f f' (poll-same r _ (λ e. f' ≡ f) c.0 p.failed))
+
+closed-follower-rises : (f : Follower) (r : CloseResult) → f.result ≡ r → FollowerRises f (closed_follower f)
+closed-follower-rises f None is = record { number = omega arith; result = is-none (λ q. (closed_follower f).result ≡ Some q) f.result is }
+closed-follower-rises f (Some q) is = record { number = omega arith; result = subst (λ x. StaysClosed x (Some (unwrap_or x (Ok tt)))) (sym is) refl }
+
+pub follower-rises : {L : Type 0} (stored : Line) (rows : Follower → List Batch) (merge : Option Merge) (action : Action) (made : ℕ) (f : Follower) (o : ObjectsOf L) (before : Known L) (writes : List Write) (reply : Reply) (f' : Follower) (after : Known L) (writes' : List Write) → before.objects ≡ Some o → IsPrefix f.line stored → FollowerActs (λ line. line ≡ stored) rows merge action made f before writes reply f' after writes' → FollowerRises f f'
+follower-rises stored rows merge (actions.Poll object) made f o before writes reply f' after writes' at front a = poll-rises stored f f' o before after (a.0).result at front (a.0).does
+follower-rises stored rows merge (actions.Close object options) made f o before writes reply f' after writes' at front a = subst (FollowerRises f) (sym a.1) (closed-follower-rises f f.result refl)
+follower-rises stored rows merge (actions.Get object key remote) made f o before writes reply f' after writes' at front a = follower-same f f' a.1
+follower-rises stored rows merge actions.Open made f o before writes reply f' after writes' at front a = follower-same f f' a.1
+follower-rises stored rows merge (actions.Put object key value expire) made f o before writes reply f' after writes' at front a = follower-same f f' a.1
+follower-rises stored rows merge (actions.Flush object flush_type) made f o before writes reply f' after writes' at front a = follower-same f f' a.1
+follower-rises stored rows merge (actions.Follow mode managed skip) made f o before writes reply f' after writes' at front a = follower-same f f' a.1
+follower-rises stored rows merge (actions.Await write) made f o before writes reply f' after writes' at front a = follower-same f f' a.1
+
+rises-refl : (x : Object) → Rises x x
+rises-refl (AHandle h) = rises-same h h refl
+rises-refl (AFollower f) = follower-same f f refl
 
 rise-same : (xs ys : List Object) → ys ≡ xs → Rise xs ys
-rise-same xs ys same n old new at_old at_new =
-    let there : slice_get xs n ≡ Some (objects.Follower new) = subst (λ os. slice_get os n ≡ Some (objects.Follower new)) same at_new in
-    let is : old ≡ new = cc in
-    subst (λ (f : Follower). number old ≤ number f) is (omega arith)
-
-rise-world : (w w' : World) → w' ≡ w → Rise w.objects w'.objects
-rise-world w w' same = rise-same w.objects w'.objects (ap (λ (x : World). x.objects) same)
-
-pub get-before : {X : Type 0} (xs ys : List X) (n : ℕ) (x : X) → slice_get xs n ≡ Some x → slice_get (xs ++ ys) n ≡ Some x
-get-before [] ys n x h = absurd (cc)
-get-before (z ∷ xs) ys zero x h = h
-get-before (z ∷ xs) ys (suc n) x h = get-before xs ys n x h
+rise-same xs ys same n old at = (old, subst (λ os. slice_get os n ≡ Some old) (sym same) at, rises-refl old)
 
 rise-push : (xs ys zs : List Object) → ys ≡ xs ++ zs → Rise xs ys
-rise-push xs ys zs is n old new at_old at_new =
-    let before = get-before xs zs n (objects.Follower old) at_old in
-    let there : slice_get (xs ++ zs) n ≡ Some (objects.Follower new) = subst (λ os. slice_get os n ≡ Some (objects.Follower new)) is at_new in
-    let same : old ≡ new = cc in
-    subst (λ (f : Follower). number old ≤ number f) same (omega arith)
+rise-push xs ys zs is n old at = (old, subst (λ os. slice_get os n ≡ Some old) (sym is) (get-before xs zs n old at), rises-refl old)
 
--- a handle at a place stays one
-rise-handle : (xs ys : List Object) (m : ℕ) (h h' : Handle) → slice_get xs m ≡ Some (objects.Handle h) → ys ≡ set xs m (objects.Handle h') → Rise xs ys
-rise-handle xs ys m h h' at is n old new at_old at_new =
-    let there : slice_get (set xs m (objects.Handle h')) n ≡ Some (objects.Follower new) = subst (λ os. slice_get os n ≡ Some (objects.Follower new)) is at_new in
-    elim (cases_eq n m) [
-      | inl same ↦ absurd (let here = subst (λ k. slice_get xs k ≡ Some (objects.Follower old)) same at_old in cc)
-      | inr other ↦ rise-same xs xs refl n old new at_old (sym (get-set_other xs m n (objects.Handle h') other) ∙ there)
-    ]
-
--- a follower at a place changed into one whose number isn't lower
-rise-follower : (xs ys : List Object) (m : ℕ) (f g : Follower) → slice_get xs m ≡ Some (objects.Follower f) → number f ≤ number g → ys ≡ set xs m (objects.Follower g) → Rise xs ys
-rise-follower xs ys m f g at low is n old new at_old at_new =
-    let there : slice_get (set xs m (objects.Follower g)) n ≡ Some (objects.Follower new) = subst (λ os. slice_get os n ≡ Some (objects.Follower new)) is at_new in
+rise-set : (xs ys : List Object) (m : ℕ) (x y : Object) → slice_get xs m ≡ Some x → Rises x y → ys ≡ set xs m y → Rise xs ys
+rise-set xs ys m x y at rises is n old at_old =
     elim (cases_eq n m) [
       | inl same ↦
-          (let here : slice_get xs m ≡ Some (objects.Follower old) = subst (λ k. slice_get xs k ≡ Some (objects.Follower old)) same at_old in
-          let set_there : slice_get (set xs m (objects.Follower g)) m ≡ Some (objects.Follower g) = get-set_same xs m (objects.Follower g) (objects.Follower f) at in
-          let now : slice_get (set xs m (objects.Follower g)) m ≡ Some (objects.Follower new) = subst (λ k. slice_get (set xs m (objects.Follower g)) k ≡ Some (objects.Follower new)) same there in
-          let is_old : f ≡ old = cc in
-          let is_new : g ≡ new = cc in
-          subst (λ (x : Follower). number x ≤ number new) is_old (subst (λ (x : Follower). number f ≤ number x) is_new low))
-      | inr other ↦ rise-same xs xs refl n old new at_old (sym (get-set_other xs m n (objects.Follower g) other) ∙ there)
+          (let here : slice_get xs m ≡ Some old = subst (λ k. slice_get xs k ≡ Some old) same at_old in
+          let is_old : x ≡ old = cc in
+          let there : slice_get (set xs m y) n ≡ Some y = subst (λ k. slice_get (set xs m y) k ≡ Some y) (sym same) (get-set_same xs m y x at) in
+          (y, subst (λ os. slice_get os n ≡ Some y) (sym is) there, subst (λ z. Rises z y) is_old rises))
+      | inr other ↦ (old, subst (λ os. slice_get os n ≡ Some old) (sym is) (get-set_other xs m n y other ∙ at_old), rises-refl old)
     ]
 
-pub by-kind : (object : Option Object) (said : Handle → Type 0) (told : Follower → Type 0) (unknown goal : Type 0) → AtObject object said told unknown → ((h : Handle) → object ≡ Some (objects.Handle h) → said h → goal) → ((f : Follower) → object ≡ Some (objects.Follower f) → told f → goal) → (unknown → goal) → goal
-by-kind None said told unknown goal next f g u = u next
-by-kind (Some (objects.Handle h)) said told unknown goal next f g u = f h refl next
-by-kind (Some (objects.Follower x)) said told unknown goal next f g u = g x refl next
+module _ (settings : Settings) (w : World) (valid : IsValid w) (command : Command) (made : ℕ) (reply : Reply) (s' : State Span) where
+  abbrev k : Knowledge Span
+  k = by_catalogue w.stored
 
-record-objects : (w : World) {w' x : World} → w' ≡ x → w'.objects ≡ x.objects
-record-objects w is = ap (λ (y : World). y.objects) is
+  acts-rise : (n : ℕ) (old new : Object) → slice_get w.objects n ≡ Some old → Acts k settings.merge n command made old (state_of w).store w.writes reply new s'.store s'.writes → Rises old new
+  acts-rise n (AHandle h) (AHandle h') at a = handle-rises _ settings.merge n command.moment command.second command.action made h _ w.writes reply h' _ _ (valid.handles n h at).durable a
+  acts-rise n (AFollower f) (AFollower f') at a = follower-rises w.stored _ settings.merge command.action made f w.catalogue _ w.writes reply f' _ _ refl (valid.followers n f at) a
+  acts-rise n (AHandle h) (AFollower f') at a = absurd a
+  acts-rise n (AFollower f) (AHandle h') at a = absurd a
 
-unless-rises : (w w' : World) (refused : Option SlateError) (n : ℕ) (h : Handle) (ops : List KeyOp) (moment : Option ℤ) (reply : Reply) → slice_get w.objects n ≡ Some (objects.Handle h) → WritesUnless refused w n h ops moment reply w' → Rise w.objects w'.objects
-unless-rises w w' (Some error) n h ops moment reply at next = rise-world w w' next.1
-unless-rises w w' None n h ops moment reply at next = rise-handle w.objects w'.objects n h _ at (record-objects w next.3)
+  on-rises : (n : ℕ) (found : Option Object) → slice_get w.objects n ≡ found → ActsOn k settings.merge n command made found (state_of w) reply s' → Rise w.objects s'.objects
+  on-rises n None at a = rise-same w.objects s'.objects (ap (λ (s : State Span). s.objects) a.2)
+  on-rises n (Some old) at a = rise-set w.objects s'.objects n old a.new at (acts-rise n old a.new at a.acts) a.objects
 
-write-rises : (w w' : World) (n : ℕ) (h : Handle) (ops : List KeyOp) (moment : ℤ) (second : Option ℤ) (reply : Reply) → slice_get w.objects n ≡ Some (objects.Handle h) → WritesIn w n h ops moment second reply w' → Rise w.objects w'.objects
-write-rises w w' n h ops moment second reply at (inl only) = rise-world w w' only.1
-write-rises w w' n h ops moment second reply at (inr next) = unless-rises w w' _ n h ops _ reply at next
+  does-rises : (action : Action) → DoesBy k settings command action made (state_of w) reply s' → Rise w.objects s'.objects
+  does-rises actions.Open d = rise-push w.objects s'.objects _ d.objects
+  does-rises (actions.Follow mode managed skip) d = rise-push w.objects s'.objects _ (d.0).objects
+  does-rises (actions.Await n) d = rise-same w.objects s'.objects (ap (λ (s : State Span). s.objects) d.2)
+  does-rises (actions.Put n key value expire) d = on-rises n (slice_get w.objects n) refl d
+  does-rises (actions.Flush n flush_type) d = on-rises n (slice_get w.objects n) refl d
+  does-rises (actions.Get n key remote) d = on-rises n (slice_get w.objects n) refl d
+  does-rises (actions.Close n options) d = on-rises n (slice_get w.objects n) refl d
+  does-rises (actions.Poll n) d = on-rises n (slice_get w.objects n) refl d
 
-flush-rises : (w w' : World) (result : CloseResult) (keeps : Bool) (n : ℕ) (h : Handle) (reply : Reply) → slice_get w.objects n ≡ Some (objects.Handle h) → FlushesUnless result keeps w n h reply w' → Rise w.objects w'.objects
-flush-rises w w' (Some r) keeps n h reply at next = rise-world w w' next.1
-flush-rises w w' None false n h reply at next = rise-world w w' next.1
-flush-rises w w' None true n h reply at next = rise-handle w.objects w'.objects n h _ at next.objects_after
-
-close-rises : (w w' : World) (flush_type : Option FlushType) (keeps : Bool) (n : ℕ) (h : Handle) (reply : Reply) → slice_get w.objects n ≡ Some (objects.Handle h) → ClosesOpen flush_type keeps w n h reply w' → Rise w.objects w'.objects
-close-rises w w' None keeps n h reply at next = rise-handle w.objects w'.objects n h _ at (record-objects w next.1)
-close-rises w w' (Some flush_type) false n h reply at next = rise-handle w.objects w'.objects n h _ at (record-objects w next.1)
-close-rises w w' (Some flush_type) true n h reply at next = rise-handle w.objects w'.objects n h _ at next.objects_after
-
-closes-rise : (w w' : World) (result : CloseResult) (flush_type : Option FlushType) (n : ℕ) (h : Handle) (reply : Reply) → slice_get w.objects n ≡ Some (objects.Handle h) → ClosesUnless result flush_type h.keeps_log w n h reply w' → Rise w.objects w'.objects
-closes-rise w w' (Some r) flush_type n h reply at next = rise-world w w' next.1
-closes-rise w w' None flush_type n h reply at next = close-rises w w' flush_type h.keeps_log n h reply at next
-
-open-rises : (options : Options) (w : World) (ys : List Object) (r : Result (Unit {0}) SlateError) → ys ≡ objects_after_open options w r → Rise w.objects ys
-open-rises options w ys (Ok x) is = rise-push w.objects ys _ is
-open-rises options w ys (Err e) is = rise-same w.objects ys is
-
-follow-rises : (w : World) (ys : List Object) (view : VersionedManifest) (r : Result (Unit {0}) SlateError) → ys ≡ objects_after_follow w view r → Rise w.objects ys
-follow-rises w ys view (Ok x) is = rise-push w.objects ys _ is
-follow-rises w ys view (Err e) is = rise-same w.objects ys is
-
-polled-rises : (w : World) (f : Follower) (view : VersionedManifest) (r : Result (Unit {0}) SlateError) → IsPrefix f.line w.stored → number f ≤ number (polled w f view r)
-polled-rises w f view (Ok x) front = prefix-end f.line w.stored front
-polled-rises w f view (Err e) front = omega arith
-
-poll-rises : (w w' : World) (result : CloseResult) (n : ℕ) (f : Follower) (reply : Reply) → IsPrefix f.line w.stored → slice_get w.objects n ≡ Some (objects.Follower f) → PollsUnless result w n f reply w' → Rise w.objects w'.objects
-poll-rises w w' (Some r) n f reply front at next = rise-world w w' next.1
-poll-rises w w' None n f reply front at next =
-    rise-follower w.objects w'.objects n f (polled w f next.view next.result) at (polled-rises w f next.view next.result front) (record-objects w next.after)
-
-pub read-same : (merge : Option Merge) (w w' : World) (result : CloseResult) (h : Handle) (key : List ℕ) (remote : Bool) (reply : Reply) → ReadsUnless result merge w h key remote reply w' → w' ≡ w
-read-same merge w w' (Some r) h key remote reply next = next.1
-read-same merge w w' None h key remote reply next = next.1
-
-pub follower-read-same : (merge : Option Merge) (w w' : World) (result : CloseResult) (f : Follower) (key : List ℕ) (reply : Reply) → FollowerReads result merge w f key reply w' → w' ≡ w
-follower-read-same merge w w' (Some r) f key reply next = next.1
-follower-read-same merge w w' None f key reply next = next.1
-
-pub await-same : (w w' : World) (write : Option Write) (reply : Reply) → AwaitsWrite write w reply w' → w' ≡ w
-await-same w w' None reply next = next.1
-await-same w w' (Some write) reply next = by-kind (slice_get w.objects write.handle) _ _ _ (w' ≡ w) next (λ h at only. only.1) (λ f at only. only.1) (λ only. only.1)
-
-rises-by : (settings : Settings) (w : World) (moment : ℤ) (second : Option ℤ) (action : Action) (reply : Reply) (w' : World) → IsValid w → NextBy settings w moment second action reply w' → Rise w.objects w'.objects
-rises-by settings w moment second actions.Open reply w' valid next = open-rises settings.options w w'.objects next.result next.objects_after
-rises-by settings w moment second (actions.Put n key value expire) reply w' valid next =
-    by-kind (slice_get w.objects n) _ _ _ (Rise w.objects w'.objects) next
-    (λ h at writes. write-rises w w' n h (put_op key value expire ∷ []) moment second reply at writes) (λ f at only. rise-world w w' only.1) (λ only. rise-world w w' only.1)
-rises-by settings w moment second (actions.Flush n flush_type) reply w' valid next =
-    by-kind (slice_get w.objects n) _ _ _ (Rise w.objects w'.objects) next
-    (λ h at flushes. flush-rises w w' h.result h.keeps_log n h reply at flushes) (λ f at only. rise-world w w' only.1) (λ only. rise-world w w' only.1)
-rises-by settings w moment second (actions.Get n key remote) reply w' valid next =
-    by-kind (slice_get w.objects n) _ _ _ (Rise w.objects w'.objects) next
-    (λ h at reads. rise-world w w' (read-same settings.merge w w' h.result h key remote reply reads))
-    (λ f at reads. rise-world w w' (follower-read-same settings.merge w w' f.result f key reply reads)) (λ only. rise-world w w' only.1)
-rises-by settings w moment second (actions.Close n options) reply w' valid next =
-    by-kind (slice_get w.objects n) _ _ _ (Rise w.objects w'.objects) next
-    (λ h at closes. closes-rise w w' h.result (flush_of_close options) n h reply at closes)
-    (λ f at closes. rise-follower w.objects w'.objects n f (closed_follower f) at (omega arith) (record-objects w closes.1)) (λ only. rise-world w w' only.1)
-rises-by settings w moment second (actions.Follow mode managed skip) reply w' valid next =
-    follow-rises w w'.objects next.view next.result (record-objects w next.after)
-rises-by settings w moment second (actions.Poll n) reply w' valid next =
-    by-kind (slice_get w.objects n) _ _ _ (Rise w.objects w'.objects) next
-    (λ h at only. rise-world w w' only.1) (λ f at polls. poll-rises w w' f.result n f reply (valid.followers n f at) at polls) (λ only. rise-world w w' only.1)
-rises-by settings w moment second (actions.Await n) reply w' valid next = rise-world w w' (await-same w w' (slice_get w.writes n) reply next)
-
--- no follower's number falls, whatever a command answers
+-- whatever a command answers, no object goes back
 pub rises : (settings : Settings) (w : World) (command : Command) (reply : Reply) (w' : World) → IsValid w → Next settings w command reply w' → Rise w.objects w'.objects
-rises settings w command reply w' valid next = rises-by settings w command.moment command.second command.action reply w' valid next
+rises settings w command reply w' valid next = does-rises settings w valid command next.made reply (state_of w') command.action next.does

@@ -1,27 +1,31 @@
 -- What is stored is seen by each opening and each poll.
-use Rattle.std.proofs.Common.{◌≡◌, ℕ, ℤ, true, ◌≤◌, length, Option, Some, None, Result, Ok, Err, sym, subst, arith}
+use Rattle.std.proofs.Common.{◌≡◌, ℕ, ◌≤◌, Bool, true, false, ◌++◌, length, Option, Some, None, Result, Ok, Err, refl, sym, subst, arith}
 use Rattle.std.specs.List.{slice_get}
 use Rattle.std.proofs.lemmas.Option.{slice_get_within}
 use Rattle.slate_types.specs.declared.batches.Batch.{Batch}
 use Rattle.slate_types.specs.Line.{Line, end}
 use Rattle.slate_errors.specs.declared.errors.SlateError.{SlateError}
 use Rattle.slate_errors.specs.declared.errors.SlateError.TheVariants as errors
-use Rattle.slate_model.specs.Handle.{CloseResult}
-use Rattle.slate_model.specs.Follower.{Follower}
+use Rattle.slate_errors.specs.Errors.{closed_error}
+use Rattle.slate_model.specs.Catalogue.{span}
+use Rattle.slate_model.specs.declared.answers.PollAnswer.{PollAnswer}
+use Rattle.slate_model.specs.Follower.{Follower, Polls, Rebuilds, built}
+use Rattle.slate_model.specs.Handle.{Handle}
+use Rattle.slate_model.specs.Object.{Object, Handle as AHandle, Follower as AFollower}
+use Rattle.slate_model.specs.Open.{OpensHandle}
 use Rattle.slate_script.specs.declared.commands.Action.{Action}
 use Rattle.slate_script.specs.declared.commands.Action.TheVariants as actions
 use Rattle.slate_script.specs.declared.commands.Command.{Command}
-use Rattle.slate_script.specs.declared.options.Options.{Options}
 use Rattle.slate_script.specs.declared.replies.Reply.{Reply}
 use Rattle.slate_script.specs.declared.replies.Reply.TheVariants as replies
-use Rattle.slate_live.specs.declared.states.Object.{Object}
-use Rattle.slate_live.specs.declared.states.Object.TheVariants as objects
+use Rattle.slate_live.specs.Commands.{ActsOn, DoesBy, added}
 use Rattle.slate_live.specs.Confirmed.{Sees, StandsIn}
-use Rattle.slate_live.specs.Next.{Next, NextBy, PollsUnless, done_or_refused, follower_reply, new_handle, objects_after_open, polled_reply, refusal}
+use Rattle.slate_live.specs.Replies.{followed_reply, polled_reply, refusal, reply_to}
 use Rattle.slate_live.specs.Settings.{Settings}
-use Rattle.slate_live.specs.World.{World}
-use Rattle.slate_live.proofs.Keeping.{get-seam}
-use Rattle.slate_live.proofs.Rising.{by-kind}
+use Rattle.slate_live.specs.World.{Next, World, by_catalogue, state_of}
+use Rattle.slate_live.proofs.Cases.{by-option, some-of}
+use Rattle.slate_live.proofs.Naming.{follower-did, handle-did}
+use Rattle.slate_live.proofs.Places.{get-seam}
 
 -- the number of what stands in a line is at most that of its end
 pub stands-end : (batch : Batch) (line : Line) → StandsIn batch line → batch.number ≤ end line
@@ -49,41 +53,59 @@ sees-refusal : (batch : Batch) (action : Action) (e : SlateError) (w : World) �
 sees-refusal batch action errors.NoMemory w = sees-no-memory batch action w
 sees-refusal batch action e w = sees-error batch action e w
 
-open-sees : (options : Options) (batch : Batch) (w w' : World) (r : Result (Unit {0}) SlateError) → w'.objects ≡ objects_after_open options w r → StandsIn batch w.stored → Sees batch actions.Open (done_or_refused (replies.Handle (length w.objects)) r) w'
-open-sees options batch w w' (Ok x) is stands =
-    let object : Object = objects.Handle (new_handle options w) in
-    (new_handle options w, subst (λ os. slice_get os (length w.objects) ≡ Some object) (sym is) (get-seam w.objects object), stands)
-open-sees options batch w w' (Err e) is stands = sees-refusal batch actions.Open e w'
+-- the handle of an opening has it in its line
+open-sees : (batch : Batch) (w w' : World) (made limit : ℕ) (r : Result Handle SlateError) → OpensHandle span (λ _ _. ⊥) (λ line. line ≡ w.stored) made true limit (state_of w).store r (state_of w').store → w'.objects ≡ w.objects ++ added AHandle r → StandsIn batch w.stored → Sees batch actions.Open (reply_to (λ _. replies.Handle (length w.objects)) r) w'
+open-sees batch w w' made limit (Ok h) opens is stands =
+    let sees = opens.handle w.catalogue w.stored refl refl in (
+      h,
+      subst (λ os. slice_get os (length w.objects) ≡ Some (AHandle h)) (sym is) (get-seam w.objects (AHandle h)),
+      subst (λ (x : Handle). StandsIn batch x.line) (sym sees) stands,
+    )
+open-sees batch w w' made limit (Err e) opens is stands = sees-refusal batch actions.Open e w'
 
-follow-sees : (batch : Batch) (action : Action) (w : World) (n at : ℕ) (r : Result (Unit {0}) SlateError) → Sees batch action (replies.Follower n true at) w → Sees batch action (follower_reply n at r) w
-follow-sees batch action w n at (Ok x) sees = sees
-follow-sees batch action w n at (Err e) sees = sees-refusal batch action e w
+-- a follower that is opened or polled tells a number at or above its own
+follow-sees : (batch : Batch) (action : Action) (w w' : World) (n : ℕ) (opening : Bool) (r : Result (Follower × PollAnswer) SlateError) → Rebuilds (λ line. line ≡ w.stored) opening (state_of w).store r (state_of w').store → Sees batch action (replies.Follower n true (end w.stored)) w' → Sees batch action (reply_to (λ (b : Follower × PollAnswer). followed_reply n b.1) r) w'
+follow-sees batch action w w' n opening (Ok b) built sees =
+    let all = built.sees w.catalogue w.stored refl refl in
+    subst (λ a. Sees batch action (followed_reply n a) w') (sym all.3) sees
+follow-sees batch action w w' n opening (Err e) built sees = sees-refusal batch action e w'
 
-polled-sees : (batch : Batch) (action : Action) (w : World) (at : ℕ) (r : Result (Unit {0}) SlateError) → Sees batch action (replies.Polled true at) w → Sees batch action (polled_reply at r) w
-polled-sees batch action w at (Ok x) sees = sees
-polled-sees batch action w at (Err e) sees = sees-refusal batch action e w
+polled-sees : (batch : Batch) (action : Action) (w w' : World) (f : Follower) (r : Result PollAnswer SlateError) → Rebuilds (λ line. line ≡ w.stored) false (state_of w).store (built f r) (state_of w').store → Sees batch action (replies.Polled true (end w.stored)) w' → Sees batch action (reply_to polled_reply r) w'
+polled-sees batch action w w' f (Ok answer) built sees =
+    let all = built.sees w.catalogue w.stored refl refl in
+    subst (λ a. Sees batch action (polled_reply a) w') (sym all.3) sees
+polled-sees batch action w w' f (Err e) built sees = sees-refusal batch action e w'
 
-poll-sees : (n : ℕ) (batch : Batch) (w w' : World) (result : CloseResult) (f : Follower) (reply : Reply) → StandsIn batch w.stored → PollsUnless result w n f reply w' → Sees batch (actions.Poll n) reply w'
-poll-sees n batch w w' (Some r) f reply stands next = sees-by batch (actions.Poll n) w' next.0 tt
-poll-sees n batch w w' None f reply stands next =
-    sees-by batch (actions.Poll n) w' next.answered (polled-sees batch (actions.Poll n) w' (end w.stored) next.result (stands-end batch w.stored stands))
+poll-sees : (n : ℕ) (batch : Batch) (w w' : World) (f f' : Follower) (r : Result PollAnswer SlateError) → StandsIn batch w.stored → Polls (λ line. line ≡ w.stored) f (state_of w).store r f' (state_of w').store → Sees batch (actions.Poll n) (reply_to polled_reply r) w'
+poll-sees n batch w w' f f' r stands p =
+    by-option f.result
+    (λ live. polled-sees batch (actions.Poll n) w w' f' r (p.rebuilds live) (stands-end batch w.stored stands))
+    (λ q is.
+    let c = some-of (λ q. (r ≡ Err (closed_error q)) × _) f.result q is p.closed in
+    subst (λ x. Sees batch (actions.Poll n) (reply_to polled_reply x) w') (sym c.0) (sees-refusal batch (actions.Poll n) (closed_error q) w'))
 
-sees-action : (settings : Settings) (batch : Batch) (w : World) (moment : ℤ) (second : Option ℤ) (action : Action) (reply : Reply) (w' : World) → StandsIn batch w.stored → NextBy settings w moment second action reply w' → Sees batch action reply w'
-sees-action settings batch w moment second actions.Open reply w' stands next =
-    sees-by batch actions.Open w' next.answered (open-sees settings.options batch w w' next.result next.objects_after stands)
-sees-action settings batch w moment second (actions.Poll n) reply w' stands next =
-    by-kind (slice_get w.objects n) _ _ _ (Sees batch (actions.Poll n) reply w') next
-    (λ h at told. sees-by batch (actions.Poll n) w' told.0 tt) (λ f at polls. poll-sees n batch w w' f.result f reply stands polls)
-    (λ told. sees-by batch (actions.Poll n) w' told.0 tt)
-sees-action settings batch w moment second (actions.Follow mode managed skip) reply w' stands next =
-    sees-by batch (actions.Follow mode managed skip) w' next.answered
-    (follow-sees batch (actions.Follow mode managed skip) w' (length w.objects) (end w.stored) next.result (stands-end batch w.stored stands))
-sees-action settings batch w moment second (actions.Put n key value expire) reply w' stands next = tt
-sees-action settings batch w moment second (actions.Flush n flush_type) reply w' stands next = tt
-sees-action settings batch w moment second (actions.Get n key remote) reply w' stands next = tt
-sees-action settings batch w moment second (actions.Close n options) reply w' stands next = tt
-sees-action settings batch w moment second (actions.Await n) reply w' stands next = tt
+sees-on : (settings : Settings) (batch : Batch) (w w' : World) (command : Command) (made n : ℕ) (reply : Reply) (found : Option Object) → command.action ≡ actions.Poll n → StandsIn batch w.stored → slice_get w.objects n ≡ found → ActsOn (by_catalogue w.stored) settings.merge n command made found (state_of w) reply (state_of w') → Sees batch (actions.Poll n) reply w'
+sees-on settings batch w w' command made n reply None is stands at d = sees-by batch (actions.Poll n) w' d.1 tt
+sees-on settings batch w w' command made n reply (Some (AHandle h)) is stands at d =
+    let a = handle-did (by_catalogue w.stored) settings.merge n command (actions.Poll n) made (state_of w) reply (state_of w') (Some (AHandle h)) h is refl d in
+    sees-by batch (actions.Poll n) w' (a.acts).0 tt
+sees-on settings batch w w' command made n reply (Some (AFollower f)) is stands at d =
+    let a = follower-did (by_catalogue w.stored) settings.merge n command (actions.Poll n) made (state_of w) reply (state_of w') (Some (AFollower f)) f is refl d in
+    sees-by batch (actions.Poll n) w' (a.acts).0.replied (poll-sees n batch w w' f a.new (a.acts).0.result stands (a.acts).0.does)
+
+sees-action : (settings : Settings) (batch : Batch) (w w' : World) (command : Command) (made : ℕ) (action : Action) (reply : Reply) → command.action ≡ action → StandsIn batch w.stored → DoesBy (by_catalogue w.stored) settings command action made (state_of w) reply (state_of w') → Sees batch action reply w'
+sees-action settings batch w w' command made actions.Open reply is stands d =
+    sees-by batch actions.Open w' d.replied (open-sees batch w w' made settings.options.max_unflushed_bytes d.result d.does d.objects stands)
+sees-action settings batch w w' command made (actions.Follow mode managed skip) reply is stands d =
+    sees-by batch (actions.Follow mode managed skip) w' (d.0).replied
+    (follow-sees batch (actions.Follow mode managed skip) w w' (length w.objects) true (d.0).result (d.0).does (stands-end batch w.stored stands))
+sees-action settings batch w w' command made (actions.Poll n) reply is stands d = sees-on settings batch w w' command made n reply (slice_get w.objects n) is stands refl d
+sees-action settings batch w w' command made (actions.Put n key value expire) reply is stands d = tt
+sees-action settings batch w w' command made (actions.Flush n flush_type) reply is stands d = tt
+sees-action settings batch w w' command made (actions.Get n key remote) reply is stands d = tt
+sees-action settings batch w w' command made (actions.Close n options) reply is stands d = tt
+sees-action settings batch w w' command made (actions.Await n) reply is stands d = tt
 
 -- what is stored is seen by each opening and each poll
 pub sees : (settings : Settings) (w : World) (command : Command) (reply : Reply) (w' : World) → Next settings w command reply w' → (batch : Batch) → StandsIn batch w.stored → Sees batch command.action reply w'
-sees settings w command reply w' next batch stands = sees-action settings batch w command.moment command.second command.action reply w' stands next
+sees settings w command reply w' next batch stands = sees-action settings batch w w' command next.made command.action reply refl stands next.does

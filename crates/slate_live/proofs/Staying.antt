@@ -1,5 +1,5 @@
 -- A write that is told to be durable is confirmed for good.
-use Rattle.std.proofs.Common.{◌≡◌, ◌≤◌, ◌<◌, ◌-◌, ℕ, zero, suc, take, List, [], ◌∷◌, Option, Some, None, leb, refl, sym, subst, ap, ◌∙◌, arith}
+use Rattle.std.proofs.Common.{◌≡◌, ◌≤◌, ◌<◌, ◌-◌, ℕ, zero, suc, take, List, [], ◌∷◌, Some, sym, subst, ap, ◌∙◌, arith}
 use Rattle.std.specs.List.{slice_get}
 use Rattle.slate_types.specs.declared.batches.Batch.{Batch}
 use Rattle.slate_types.specs.Line.{Line}
@@ -8,15 +8,13 @@ use Rattle.slate_script.specs.declared.commands.Action.TheVariants as actions
 use Rattle.slate_script.specs.declared.replies.Reply.TheVariants as replies
 use Rattle.slate_live.specs.declared.states.Write.{Write}
 use Rattle.slate_live.specs.Confirmed.{IsBatchOf, Sees, StandsIn}
-use Rattle.slate_live.specs.Next.{AwaitsWrite, NextBy}
 use Rattle.slate_live.specs.Settings.{Settings}
-use Rattle.slate_live.specs.Stands.{IsHandleAt, up_to}
+use Rattle.slate_live.specs.Represents.{IsHandleAt, up_to}
 use Rattle.slate_live.specs.Steps.{Chain, StayConfirmed, Step}
 use Rattle.slate_live.specs.Valid.{Link}
 use Rattle.slate_live.specs.World.{World}
-use Rattle.slate_live.proofs.Confirming.{durable-by}
-use Rattle.slate_live.proofs.Keeping.{AreWritten, KeepsAndTells, Tells, stands-prefix, steps}
-use Rattle.slate_live.proofs.Rising.{by-kind}
+use Rattle.slate_live.proofs.Confirming.{asked-same, reported}
+use Rattle.slate_live.proofs.Keeping.{AreWritten, Keeps, Numbers, keeps, stands-prefix}
 
 get-take : {X : Type 0} (xs : List X) (m k : ℕ) (x : X) → k < m → slice_get xs k ≡ Some x → slice_get (take m xs) k ≡ Some x
 get-take [] m k x low is = absurd (cc)
@@ -36,40 +34,32 @@ pub record Confirms (w : World) (n : ℕ) : Type 0 where
   pub of_write : IsBatchOf w n batch
   pub stored : StandsIn batch w.stored
 
-confirms-write : (settings : Settings) (w : World) (n : ℕ) (step : Step) (write : Option Write) → AreWritten w → Link settings w step.command step.reply step.world → slice_get w.writes n ≡ write → AwaitsWrite write w step.reply step.world → step.reply ≡ replies.Durable → Confirms step.world n
-confirms-write settings w n step None written link is next durable = absurd (let told = next.0 in cc)
-confirms-write settings w n step (Some write) written link is next durable =
-    by-kind (slice_get w.objects write.handle) _ _ _ (Confirms step.world n) next
-    (λ h at told.
-    let known = written n write is in
-    let same : known.0 ≡ h = let there = known.2 in cc in
-    let low = durable-by (leb write.number h.durable) write.number h.durable h.result refl (sym durable ∙ told.0) in
-    let stands : StandsIn known.1 h.line = subst (λ (x : Handle). StandsIn known.1 x.line) same known.3 in
+confirms-step : (settings : Settings) (w : World) (n : ℕ) (step : Step) → AreWritten w.objects w.writes → Link settings w step.command step.reply step.world → step.command.action ≡ actions.Await n → step.reply ≡ replies.Durable → Confirms step.world n
+confirms-step settings w n step written link is durable =
+    let s = reported settings w step.command step.reply step.world link.next n is durable in
+    let same = asked-same settings w step.command step.reply step.world link.next n is in
+    let known = written n s.write s.is_write in
+    let is_handle : known.0 ≡ s.handle = let there = known.2 in let here = s.is_handle in cc in
+    let low = s.durable in
     let number = known.4 in
-    let at_after : IsHandleAt (step.world).objects write.handle h = subst (λ (x : World). IsHandleAt x.objects write.handle h) (sym told.1) at in
+    let stands : StandsIn known.1 s.handle.line = subst (λ (x : Handle). StandsIn known.1 x.line) is_handle known.3 in
+    let at_after : IsHandleAt (step.world).objects s.write.handle s.handle = subst (λ os. IsHandleAt os s.write.handle s.handle) (sym same.0) s.is_handle in
     record {
       batch = known.1;
       of_write = record {
-        write = write;
-        is_write = subst (λ (x : World). slice_get x.writes n ≡ Some write) (sym told.1) is;
-        handle = h;
+        write = s.write;
+        is_write = subst (λ ws. slice_get ws n ≡ Some s.write) (sym same.1) s.is_write;
+        handle = s.handle;
         is_handle = at_after;
         accepted = stands;
         number = known.4;
       };
-      stored = stands-prefix known.1 (up_to h.durable h.line) (step.world).stored (link.durable write.handle h at_after)
-          (stands-front known.1 h.line h.durable (omega (arith, low, number)) stands);
-    })
-    (λ f at told. absurd (let answer = told.0 in cc))
-    (λ told. absurd (let answer = told.0 in cc))
+      stored = stands-prefix known.1 (up_to s.handle.durable s.handle.line) (step.world).stored (link.durable s.write.handle s.handle at_after)
+          (stands-front known.1 s.handle.line s.handle.durable (omega (arith, low, number)) stands);
+    }
 
-confirms-step : (settings : Settings) (w : World) (n : ℕ) (step : Step) → AreWritten w → Link settings w step.command step.reply step.world → step.command.action ≡ actions.Await n → step.reply ≡ replies.Durable → Confirms step.world n
-confirms-step settings w n step written link is durable =
-    let awaits : NextBy settings w (step.command).moment (step.command).second (actions.Await n) step.reply step.world = subst (λ a. NextBy settings w (step.command).moment (step.command).second a step.reply step.world) is link.next in
-    confirms-write settings w n step (slice_get w.writes n) written link refl awaits durable
-
-kept : (settings : Settings) (w : World) (step : Step) → Link settings w step.command step.reply step.world → KeepsAndTells w step.reply step.world
-kept settings w step link = steps settings w step.command step.reply step.world link.next
+kept : (settings : Settings) (w : World) (step : Step) → Link settings w step.command step.reply step.world → Keeps w.objects w.writes step.reply (step.world).objects (step.world).writes
+kept settings w step link = keeps settings w step.command step.reply step.world link.rises link.next
 
 -- what is stored stays stored over steps
 stored-later : (settings : Settings) (batch : Batch) (w : World) (steps : List Step) → Chain settings w steps → StandsIn batch w.stored → (j : ℕ) (step : Step) → slice_get steps j ≡ Some step → StandsIn batch (step.world).stored
@@ -94,14 +84,14 @@ write-later : (settings : Settings) (w : World) (steps : List Step) → Chain se
 write-later settings w [] chain n write there j step at = absurd (cc)
 write-later settings w (s ∷ steps) chain n write there zero step at =
     let is : s ≡ step = cc in
-    subst (λ (x : Step). slice_get (x.world).writes n ≡ Some write) is ((kept settings w s chain.0).keeps.writes n write there)
+    subst (λ (x : Step). slice_get (x.world).writes n ≡ Some write) is ((kept settings w s chain.0).stays n write there)
 write-later settings w (s ∷ steps) chain n write there (suc j) step at =
-    write-later settings s.world steps chain.1 n write ((kept settings w s chain.0).keeps.writes n write there) j step at
+    write-later settings s.world steps chain.1 n write ((kept settings w s chain.0).stays n write there) j step at
 
 -- the number that a write was answered is that of its batch
 number-told : (settings : Settings) (w : World) (s : Step) (steps : List Step) (i n k : ℕ) (told : Step) (batch : Batch) → Link settings w s.command s.reply s.world → Chain settings s.world steps → slice_get steps i ≡ Some told → IsBatchOf told.world n batch → s.reply ≡ replies.Written n k → batch.number ≡ k
 number-told settings w s steps i n k told batch link chain at of_write reply =
-    let answered : Tells s.world (replies.Written n k) = subst (Tells s.world) reply (kept settings w s link).tells in
+    let answered : Numbers (s.world).writes (replies.Written n k) = subst (Numbers (s.world).writes) reply (kept settings w s link).numbers in
     let there = write-later settings s.world steps chain n answered.0 answered.1 i told at in
     let here = of_write.is_write in
     let same : of_write.write ≡ answered.0 = cc in
@@ -127,14 +117,14 @@ stored-after settings batch (s ∷ steps) zero told w chain at stands (suc j) st
 stored-after settings batch (s ∷ steps) (suc i) told w chain at stands (suc j) step low at_j =
     stored-after settings batch steps i told s.world chain.1 at stands j step (omega (arith, low)) at_j
 
-confirms-at : (settings : Settings) (w : World) (steps : List Step) → Chain settings w steps → AreWritten w → (i n : ℕ) (told : Step) → slice_get steps i ≡ Some told → told.command.action ≡ actions.Await n → told.reply ≡ replies.Durable → Confirms told.world n
+confirms-at : (settings : Settings) (w : World) (steps : List Step) → Chain settings w steps → AreWritten w.objects w.writes → (i n : ℕ) (told : Step) → slice_get steps i ≡ Some told → told.command.action ≡ actions.Await n → told.reply ≡ replies.Durable → Confirms told.world n
 confirms-at settings w [] chain written i n told at is durable = absurd (cc)
 confirms-at settings w (s ∷ steps) chain written zero n told at is durable =
     let same : s ≡ told = cc in
     subst (λ (x : Step). Confirms x.world n) same
     (confirms-step settings w n s written chain.0 (ap (λ (x : Step). (x.command).action) same ∙ is) (ap (λ (x : Step). x.reply) same ∙ durable))
 confirms-at settings w (s ∷ steps) chain written (suc i) n told at is durable =
-    confirms-at settings s.world steps chain.1 ((kept settings w s chain.0).keeps.written written) i n told at is durable
+    confirms-at settings s.world steps chain.1 ((kept settings w s chain.0).written written) i n told at is durable
 
 -- from a world without a write on, each write that is told to be durable is confirmed for good
 pub stay_confirmed : (settings : Settings) (w : World) (steps : List Step) → w.writes ≡ [] → Chain settings w steps → StayConfirmed steps

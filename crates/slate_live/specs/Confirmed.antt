@@ -8,7 +8,7 @@ use Rattle.slate_script.specs.declared.commands.Action.TheVariants as actions
 use Rattle.slate_script.specs.declared.replies.Reply.{Reply}
 use Rattle.slate_script.specs.declared.replies.Reply.TheVariants as replies
 use Rattle.slate_live.specs.declared.states.Write.{Write}
-use Rattle.slate_live.specs.Stands.{IsHandleAt}
+use Rattle.slate_live.specs.Represents.{IsHandleAt}
 use Rattle.slate_live.specs.World.{World}
 
 -- the batch stands in the line, at the place of its number

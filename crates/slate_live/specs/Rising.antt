@@ -1,9 +1,32 @@
-use Rattle.std.specs.Prelude.{◌≡◌, ℕ, ◌≤◌, List, slice_get, Some}
-use Rattle.slate_model.specs.Follower.{Follower, number}
-use Rattle.slate_live.specs.declared.states.Object.{Object}
-use Rattle.slate_live.specs.declared.states.Object.TheVariants as objects
+-- What no command takes back of an object.
+use Rattle.std.specs.Prelude.{◌≡◌, ℕ, ◌≤◌, int_lt, false, List, slice_get, Some, IfSome}
+use Rattle.slate_types.specs.Line.{IsPrefix}
+use Rattle.slate_model.specs.Follower.{Follower as AFollower, number}
+use Rattle.slate_model.specs.Handle.{Handle as AHandle, CloseResult}
+use Rattle.slate_model.specs.Object.{Object, Handle, Follower}
 
--- the number of no follower falls
+-- the first result stays
+abbrev pub StaysClosed : CloseResult → CloseResult → Type 0
+StaysClosed old new = IfSome old (λ r. new ≡ Some r)
+
+-- a handle's line is only appended to, and neither its durable number nor its tick falls
+pub record HandleRises (old new : AHandle) : Type 0 where
+  pub line : IsPrefix old.line new.line
+  pub durable : old.durable ≤ new.durable
+  pub tick : int_lt new.tick old.tick ≡ false
+  pub epoch : new.epoch ≡ old.epoch
+  pub result : StaysClosed old.result new.result
+
+-- a follower's number doesn't fall
+pub record FollowerRises (old new : AFollower) : Type 0 where
+  pub number : number old ≤ number new
+  pub result : StaysClosed old.result new.result
+
+abbrev pub Rises : Object → Object → Type 0
+Rises (Handle old) (Handle new) = HandleRises old new
+Rises (Follower old) (Follower new) = FollowerRises old new
+Rises old new = ⊥
+
+-- each object stays, and what is said of it above
 abbrev pub Rise : List Object → List Object → Type 0
-Rise live live' =
-    (n : ℕ) (old new : Follower) → slice_get live n ≡ Some (objects.Follower old) → slice_get live' n ≡ Some (objects.Follower new) → number old ≤ number new
+Rise objects objects' = (n : ℕ) (old : Object) → slice_get objects n ≡ Some old → (new : Object) × (slice_get objects' n ≡ Some new) × Rises old new

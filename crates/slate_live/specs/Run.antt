@@ -1,17 +1,19 @@
-use Rattle.std.specs.Prelude.{◌≡◌, ℕ, List, map, Option, Some}
+use Rattle.std.specs.Prelude.{◌≡◌, ℕ, List, map, Some}
 use Rattle.slate_store.specs.Objects.{Objects}
+use Rattle.slate_types.specs.declared.batches.Batch.{Batch}
 use Rattle.slate_types.specs.Line.{IsPrefix}
 use Rattle.slate_store.specs.Content.{IsSound, content}
+use Rattle.slate_model.specs.Known.{Known}
 use Rattle.slate_script.specs.declared.commands.Command.{Command}
 use Rattle.slate_script.specs.declared.replies.Reply.{Reply}
 use Rattle.slate_live.specs.Steps.{Chain, StayConfirmed, Step, last_world}
-use Rattle.slate_live.specs.Stands.{Holds}
+use Rattle.slate_live.specs.Represents.{Holds}
 use Rattle.slate_live.specs.Settings.{Settings}
 use Rattle.slate_live.specs.World.{World, start}
 
 -- The commands lead from the world of these objects, by one step each with its reply, to a world that the store holds
--- afterwards. What was stored before is stored afterwards, and a write that is told to be durable is confirmed for good.
-pub record LeadsTo (settings : Settings) (commands : List Command) (replies : List Reply) (before : Objects) (faults : ℕ) (told : Option Objects) (faults' : ℕ) : Type 0 where
+-- afterwards. What was stored before is stored afterwards, and a write that is reported durable is confirmed for good.
+pub record LeadsTo (settings : Settings) (commands : List Command) (replies : List Reply) (before : Objects) (faults : ℕ) (store : Known (List Batch)) : Type 0 where
   pub steps : List Step
   pub commands_are : map (λ step. step.command) steps ≡ commands
   pub replies_are : map (λ step. step.reply) steps ≡ replies
@@ -21,12 +23,12 @@ pub record LeadsTo (settings : Settings) (commands : List Command) (replies : Li
   pub grows : IsPrefix (content before) last.stored
   pub confirmed : StayConfirmed steps
   pub after : Objects
-  pub told_after : told ≡ Some after
+  pub modelled : store.objects ≡ Some after
   pub sound : IsSound after
   pub holds : Holds after last
-  pub fault_count : faults' ≡ last.faults
+  pub fault_count : store.faults ≡ last.faults
 
 -- what a run of commands with these replies did to a store: over an honest one, the commands lead to what it holds
-abbrev pub IsRun : Settings → List Command → List Reply → Option Objects → ℕ → Option Objects → ℕ → Type 0
-IsRun settings commands replies told faults told' faults' =
-    (before : Objects) → told ≡ Some before → IsSound before → LeadsTo settings commands replies before faults told' faults'
+abbrev pub IsRun : Settings → List Command → List Reply → Known (List Batch) → Known (List Batch) → Type 0
+IsRun settings commands replies store store' =
+    (before : Objects) → store.objects ≡ Some before → IsSound before → LeadsTo settings commands replies before store.faults store'

@@ -3,6 +3,8 @@ use Rattle.std.specs.Prelude.{◌≡◌, ℕ, ◌<◌, ◌≤◌, ◌⊎◌, Lis
 use Rattle.std.specs.Global.{Vec}
 use Rattle.slate_types.specs.Counts.{HasRisen}
 use Rattle.slate_types.specs.Telling.{Told}
+use Rattle.slate_types.specs.declared.batches.Batch.{Batch}
+use Rattle.slate_model.specs.Known.{Known, known}
 use Rattle.slate_store.specs.Objects.{Objects}
 use Rattle.slate_streams.specs.declared.whole.TheConstants.{MAX_SCRIPT}
 use Rattle.slate_streams.specs.declared.whole.InputFault.{InputFault}
@@ -47,14 +49,19 @@ abbrev pub script_ending : ScriptFault → Outcome
 script_ending (scripts.Line number) = LineRefused number
 script_ending scripts.NoMemory = NoMemory
 
--- what a source, a sink and a store tell, and how often each has failed
+-- what is known of a source, a sink and a store: the bytes that are left, and those that were written, and how often
+-- each has failed
 pub record Sides : Type 0 where
   pub left : Option (List ℕ)
   pub source_faults : ℕ
   pub written : Option (List ℕ)
   pub sink_faults : ℕ
-  pub objects : Option Objects
-  pub store_faults : ℕ
+  pub store : Known (List Batch)
+
+-- the sides of a session, by the models of its source, its sink and its store
+abbrev pub sides : {I O S : Type 0} → (I → Option (List ℕ)) → (I → ℕ) → (O → Option (List ℕ)) → (O → ℕ) → (S → Option Objects) → (S → ℕ) → I → O → S → Sides
+sides left source_faults written sink_faults objects faults source sink store =
+    record { left = left source; source_faults = source_faults source; written = written sink; sink_faults = sink_faults sink; store = known objects faults store }
 
 -- the source was read to its end: it had these bytes left, within the limit
 pub record WasRead (bytes : List ℕ) (left left' : Option (List ℕ)) : Type 0 where
@@ -91,8 +98,7 @@ EndsWriting WordsRefused text written written' faults faults' = ⊥
 pub record KeepsOutput (s s' : Sides) : Type 0 where
   pub written : s'.written ≡ s.written
   pub sink_faults : s'.sink_faults ≡ s.sink_faults
-  pub objects : s'.objects ≡ s.objects
-  pub store_faults : s'.store_faults ≡ s.store_faults
+  pub store : s'.store ≡ s.store
 
 -- The words were refused: nothing was read, run or written.
 pub record RefusesWords (words : Option Options) (replies : List Reply) (ending : Outcome) (s s' : Sides) : Type 0 where
@@ -117,7 +123,7 @@ pub record RunsScript (words : Option Options) (replies : List Reply) (ending : 
   pub read : WasRead bytes s.left s'.left
   pub commands : List Command
   pub script : script_of bytes ≡ Ok commands
-  pub run : IsRun (record { merge = None; options = options }) commands replies s.objects s.store_faults s'.objects s'.store_faults
+  pub run : IsRun (record { merge = None; options = options }) commands replies s.store s'.store
   pub writing : EndsWriting ending (replies_text replies) s.written s'.written s.sink_faults s'.sink_faults
 
 abbrev pub Ends : Option Options → List Reply → Outcome → Sides → Sides → Type 0

@@ -12,27 +12,32 @@ use Rattle.slate_types.specs.declared.options.FlushType.{FlushType}
 use Rattle.slate_errors.specs.declared.errors.SlateError.TheVariants as errors
 use Rattle.slate_model.specs.Handle.{CloseResult, Handle, accepted}
 use Rattle.slate_model.specs.Follower.{Follower, can_follow, number}
-use Rattle.slate_follow.specs.Closing.{recorded_fault}
+use Rattle.slate_model.specs.Close.{recorded_fault}
 use Rattle.slate_live.specs.declared.states.Write.{Write}
 use Rattle.slate_model.specs.Open.{can_open}
-use Rattle.slate_model.specs.Read.{cut}
 use Rattle.slate_model.specs.Write.{accepted_moment, last_number}
 use Rattle.slate_script.specs.declared.commands.Action.{Action}
 use Rattle.slate_script.specs.declared.commands.Action.TheVariants as actions
 use Rattle.slate_script.specs.declared.commands.Command.{Command}
 use Rattle.slate_script.specs.declared.replies.Reply.{Reply}
 use Rattle.slate_script.specs.declared.replies.Reply.TheVariants as replies
-use Rattle.slate_live.specs.declared.states.Object.TheVariants as objects
 use Rattle.slate_live.specs.Confirmed.{Sees, StandsIn}
-use Rattle.slate_live.specs.Next.{AtFollower, AtHandle, AtObject, Next, flush_of_close, level_of}
+use Rattle.slate_model.specs.Object.{Object, Handle as AHandle, Follower as AFollower}
+use Rattle.slate_live.specs.Handles.{cut, flush_of_close}
 use Rattle.slate_live.specs.Rising.{Rise}
 use Rattle.slate_live.specs.Settings.{Settings}
-use Rattle.slate_live.specs.Stands.{up_to}
-use Rattle.slate_live.specs.World.{World}
+use Rattle.slate_live.specs.Represents.{up_to}
+use Rattle.slate_live.specs.World.{Next, World}
+
+-- what holds of the object with a number, by its kind; nothing of a number without one
+abbrev pub AtObject : Option Object → (Handle → Type 0) → (Follower → Type 0) → Type 0
+AtObject None of_handle of_follower = ⊥
+AtObject (Some (AHandle handle)) of_handle of_follower = of_handle handle
+AtObject (Some (AFollower follower)) of_handle of_follower = of_follower follower
 
 -- the object with this number is an open handle, of which this holds
 abbrev pub IsOpen : World → ℕ → (Handle → Type 0) → Type 0
-IsOpen w n said = (handle : Handle) × (slice_get w.objects n ≡ Some (objects.Handle handle)) × (handle.result ≡ None) × said handle
+IsOpen w n said = (handle : Handle) × (slice_get w.objects n ≡ Some (AHandle handle)) × (handle.result ≡ None) × said handle
 
 -- an opening: an existing manifest is initialised, and the ids and the epoch that it uses are left; until tables are
 -- built, the manifest names none
@@ -65,7 +70,7 @@ CanFollow w = (latest : VersionedManifest) × (latest_manifest w.catalogue ≡ S
 -- a get from a handle: the plain read of its line at its cut finds a row, or none
 abbrev pub CanRead : Option Merge → List ℕ → Bool → Handle → Type 0
 CanRead merge key remote handle =
-    (found : Option KeyValue) × (read_at merge handle.line.batches (Some (cut handle (level_of remote))) key ≡ Ok found)
+    (found : Option KeyValue) × (read_at merge handle.line.batches (cut handle remote) key ≡ Ok found)
 
 -- a get from a follower, likewise
 abbrev pub CanReadFollower : Option Merge → World → List ℕ → Follower → Type 0
@@ -77,16 +82,16 @@ IsValidAction merge w moment second actions.Open = CanOpen w
 IsValidAction merge w moment second (actions.Put n key value expire) = IsOpen w n (CanPut key moment second)
 IsValidAction merge w moment second (actions.Flush n flush_type) = IsOpen w n (CanStore w)
 IsValidAction merge w moment second (actions.Get n key remote) =
-    AtObject (slice_get w.objects n) (λ handle. (handle.result ≡ None) × CanRead merge key remote handle) (CanReadFollower merge w key) ⊥
+    AtObject (slice_get w.objects n) (λ handle. (handle.result ≡ None) × CanRead merge key remote handle) (CanReadFollower merge w key)
 IsValidAction merge w moment second (actions.Close n options) =
     AtObject (slice_get w.objects n) (λ handle. CanClose handle.result (flush_of_close options) w handle)
-    (λ follower. (recorded_fault follower.result ≡ None)) ⊥
+    (λ follower. (recorded_fault follower.result ≡ None))
 IsValidAction merge w moment second (actions.Follow mode managed skip) = CanFollow w
 IsValidAction merge w moment second (actions.Poll n) =
-    AtFollower (slice_get w.objects n) (λ follower. (follower.result ≡ None) × CanFollow w) ⊥
+    AtObject (slice_get w.objects n) (λ handle. ⊥) (λ follower. (follower.result ≡ None) × CanFollow w)
 IsValidAction merge w moment second (actions.Await n) =
     (write : Write) × (slice_get w.writes n ≡ Some write)
-    × AtHandle (slice_get w.objects write.handle) (λ handle. write.number ≤ handle.durable) ⊥
+    × AtObject (slice_get w.objects write.handle) (λ handle. write.number ≤ handle.durable) (λ follower. ⊥)
 
 -- nothing in this world stands against the command
 abbrev pub IsValidCommand : Option Merge → World → Command → Type 0
@@ -115,7 +120,7 @@ pub record Link (settings : Settings) (w : World) (command : Command) (reply : R
   pub next : Next settings w command reply w'
   pub completes : IsValidCommand settings.merge w command → (HasRisen w.faults w'.faults → ⊥) → IsOkOrNoMemory reply
   pub grows : IsPrefix w.stored w'.stored
-  pub durable : (n : ℕ) (handle : Handle) → slice_get w'.objects n ≡ Some (objects.Handle handle) → IsPrefix (up_to handle.durable handle.line) w'.stored
+  pub durable : (n : ℕ) (handle : Handle) → slice_get w'.objects n ≡ Some (AHandle handle) → IsPrefix (up_to handle.durable handle.line) w'.stored
   pub rises : Rise w.objects w'.objects
   pub confirms : (n : ℕ) → command.action ≡ actions.Await n → reply ≡ replies.Durable → IsConfirmed w n
   pub sees : (batch : Batch) → StandsIn batch w.stored → Sees batch command.action reply w'

@@ -2,9 +2,9 @@
 //! of the command line and the bytes of a script to the bytes of the replies.
 #![tactic(auto)]
 
-mod commands;
-mod kinds;
-mod readers;
+mod followers;
+mod handles;
+mod objects;
 mod runs;
 mod sessions;
 mod states;

@@ -2,6 +2,7 @@ ghost use Rattle.std.specs.Prelude.{All, ◌≡◌, ◌≤◌, None, Option, IfO
 ghost use Rattle.std.specs.Option.{option_copied};
 ghost use Rattle.slate_types.specs.Operator.{Merge};
 ghost use Rattle.slate_reads.specs.Read.{IsOperator};
+ghost use Rattle.slate_model.specs.Known.{known};
 ghost use Rattle.slate_script.specs.Built.{IsBuilt};
 ghost use Rattle.slate_live.specs.Run.{IsRun};
 
@@ -29,7 +30,7 @@ pub fn run<S: Store, M: MergeOperator, E: PrefixExtractor>(
     ensures faults { S.faults store.old ≤ S.faults store.new }
     ensures nothing { OnErr result (store.new ≡ store.old) }
     ensures leads { IfOk result (λ replies. (merge : Option Merge) → IsOperator M.may_answer (option_copied operator.entry) merge →
-        IsRun (record { merge = merge; options = options.now }) commands.now replies.items (S.objects store.old) (S.faults store.old) (S.objects store.new) (S.faults store.new)) }
+        IsRun (record { merge = merge; options = options.now }) commands.now replies.items (known S.objects S.faults store.old) (known S.objects S.faults store.new)) }
 {
     let mut replies = Vec::with_capacity(alloc, commands.len())?;
     let mut live = LiveState::new(alloc, options);

@@ -2,7 +2,7 @@ ghost use Rattle.std.specs.Prelude.{All, IfOk, ◌≡◌, ◌≤◌, ◌⊎◌, 
 ghost use Rattle.slate_script.specs.Built.{IsBuilt};
 ghost use Rattle.slate_script.specs.Options.{options_of};
 ghost use Rattle.slate_script.specs.Replies.{replies_text};
-ghost use Rattle.slate_live.specs.Session.{Ends, EndsWriting, IsGiven, ReadsScript, input_ending, refused_line, script_ending, status_of};
+ghost use Rattle.slate_live.specs.Session.{Ends, EndsWriting, IsGiven, ReadsScript, input_ending, refused_line, script_ending, sides, status_of};
 
 use crate::run;
 use slate_script::{Command, Reply, ScriptFault, print_replies, read_script, read_words};
@@ -150,11 +150,11 @@ pub fn session<I: Source, O: Sink, S: Store>(
     ensures store_faults { S.faults store.old ≤ S.faults store.new }
     ensures ends { (ending : Outcome) × (result.status ≡ status_of ending) × (result.line ≡ refused_line ending)
         × Ends (options_of (map string_bytes words.now)) result.replies ending
-        (record { left = I.left source.old; source_faults = I.faults source.old; written = O.written sink.old; sink_faults = O.faults sink.old; objects = S.objects store.old; store_faults = S.faults store.old })
-        (record { left = I.left source.new; source_faults = I.faults source.new; written = O.written sink.new; sink_faults = O.faults sink.new; objects = S.objects store.new; store_faults = S.faults store.new }) }
+        (sides I.left I.faults O.written O.faults S.objects S.faults source.old sink.old store.old)
+        (sides I.left I.faults O.written O.faults S.objects S.faults source.new sink.new store.new) }
     ensures completes { IsGiven (options_of (map string_bytes words.now))
-        (record { left = I.left source.old; source_faults = I.faults source.old; written = O.written sink.old; sink_faults = O.faults sink.old; objects = S.objects store.old; store_faults = S.faults store.old })
-        (record { left = I.left source.new; source_faults = I.faults source.new; written = O.written sink.new; sink_faults = O.faults sink.new; objects = S.objects store.new; store_faults = S.faults store.new })
+        (sides I.left I.faults O.written O.faults S.objects S.faults source.old sink.old store.old)
+        (sides I.left I.faults O.written O.faults S.objects S.faults source.new sink.new store.new)
         → (result.status ≡ 0) ⊎ (result.status ≡ 5) }
 {
     let Some(options) = read_words(words) else {

@@ -1,29 +1,24 @@
-ghost use Rattle.std.specs.Prelude.{◌≡◌, ℕ, ◌≤◌, [], None, Option, true};
+ghost use Rattle.std.specs.Prelude.{◌≡◌, ◌≤◌, ℕ, [], true, None, Option, slice_get};
 ghost use Rattle.std.specs.Option.{option_copied};
 ghost use Rattle.slate_types.specs.Operator.{Merge};
 ghost use Rattle.slate_reads.specs.Read.{IsOperator};
-ghost use Rattle.slate_script.specs.Built.{IsBuilt};
-ghost use Rattle.slate_live.specs.Links.{Links};
-ghost use Rattle.slate_live.specs.Next.{Next};
+ghost use Rattle.slate_model.specs.Known.{known};
+ghost use Rattle.slate_script.specs.Built.{IsBuilt, follows_latest};
+ghost use Rattle.slate_live.specs.Commands.{ActsOn, Does, OpensFollowerIn, OpensHandleIn, write_reply};
+ghost use Rattle.slate_live.specs.Replies.{followed_reply};
+ghost use Rattle.slate_live.specs.Represents.{Links};
+ghost use Rattle.slate_live.specs.State.{by_objects, running};
 ghost use Rattle.slate_live.specs.Valid.{Link};
 
-use crate::{commands, readers};
-use slate_follow::FollowerState;
+use crate::handles::refusal;
+use crate::objects::Object;
+use slate_follow::{DbReaderMode, DbReaderOptions, FollowerState, PollAnswer};
 use slate_script::{Action, Command, Options, Reply};
 use slate_store::Store;
 use slate_types::{MergeOperator, PrefixExtractor};
-use slate_writer::WriterState;
+use slate_writer::{WriterOptions, WriterState};
 use std::alloc::Global;
 use std::marker::Model;
-
-/// Something that commands name by its number.
-#[derive(Drop)]
-pub enum Object {
-    /// A handle that writes.
-    Handle(WriterState),
-    /// A reader that follows a database.
-    Follower(FollowerState),
-}
 
 /// An accepted write: the number of its handle, and that of its batch.
 #[derive(Clone, Copy, Debug, PartialEq, Eq)]
@@ -41,11 +36,14 @@ pub struct LiveState {
 }
 
 impl Model for LiveState {
-    ghost use Rattle.slate_live.specs.Live.{Live};
+    ghost use Rattle.std.specs.Prelude.{map};
+    ghost use Rattle.slate_live.specs.State.{Live};
 
     ghost Value = { Live };
 
-    ghost view = { λ s. record { options = s.options; objects = s.objects.items; writes = s.writes.items } };
+    ghost use Rattle.slate_live.specs.Objects.{object_of};
+
+    ghost view = { λ s. record { options = s.options; objects = map object_of s.objects.items; writes = s.writes.items } };
 }
 
 impl LiveState {
@@ -60,11 +58,13 @@ impl LiveState {
         }
     }
 
-    /// Does one command on the store.
+    /// Does one command on the store. It takes the time of the call that the command makes, beside a look at the place
+    /// of its object.
     ///
-    /// Over an honest store the reply is one that the command may have, and the state and the store stand afterwards
-    /// for the world that the command then leads to. A valid command that meets no fault of the
-    /// store is refused nothing.
+    /// Over any store the command does what is said of it: the object that it names answers and changes by its own
+    /// call, and all others are as before. Over an honest store the reply is one that the command may have, and the
+    /// state and the store represent afterwards the world that the command then leads to. A valid command that meets no
+    /// fault of the store is refused nothing.
     pub fn apply<S: Store, M: MergeOperator, E: PrefixExtractor>(
         &mut self,
         alloc: Global,
@@ -75,96 +75,175 @@ impl LiveState {
     ) -> Reply
         requires extractor { extractor ≡ None }
         requires built { IsBuilt command.now.action }
-        ensures faults { S.faults store.old ≤ S.faults store.new }
         ensures options { self.new.options ≡ self.old.options }
+        ensures faults { S.faults store.old ≤ S.faults store.new }
+        ensures does { (merge : Option Merge) → IsOperator M.may_answer (option_copied operator.entry) merge →
+            (made : ℕ) × Does (by_objects (S.objects store.old)) (record { merge = merge; options = self.old.options }) made
+            (running self.old (known S.objects S.faults store.old)) command.now result (running self.new (known S.objects S.faults store.new)) }
         ensures link { (merge : Option Merge) → IsOperator M.may_answer (option_copied operator.entry) merge →
             Links (λ w reply w'. Link (record { merge = merge; options = self.old.options }) w command.now reply w')
-            self.old (S.objects store.old) (S.faults store.old) result self.new (S.objects store.new) (S.faults store.new) }
+            self.old (known S.objects S.faults store.old) result self.new (known S.objects S.faults store.new) }
     {
-        self.answer(alloc, store, operator, extractor, command)
+        match &command.action {
+            Action::Open => self.open(alloc, store, extractor),
+            Action::Follow { mode, skip, .. } => self.follow(
+                alloc,
+                store,
+                *mode,
+                *skip,
+                command.moment,
+                extractor,
+            ),
+            Action::Await { write } => self.write_reply(*write),
+            Action::Put { handle: number, .. }
+            | Action::Flush { handle: number, .. }
+            | Action::Get { object: number, .. }
+            | Action::Close { object: number, .. }
+            | Action::Poll { follower: number } => {
+                self.act(alloc, store, *number, operator, extractor, command)
+            }
+        }
     }
 
-    /// Does one command on the store: the reply is one that the command may have.
-    fn answer<S: Store, M: MergeOperator, E: PrefixExtractor>(
+    /// Opens a handle.
+    fn open<S: Store, E: PrefixExtractor>(
         &mut self,
         alloc: Global,
         store: &mut S,
+        extractor: Option<&E>,
+    ) -> Reply
+        requires { extractor ≡ None }
+        ensures options { self.new.options ≡ self.old.options }
+        ensures faults { S.faults store.old ≤ S.faults store.new }
+        ensures does { (merge : Option Merge) → (made : ℕ) × OpensHandleIn (by_objects (S.objects store.old)) (record { merge = merge; options = self.old.options }) made
+            (running self.old (known S.objects S.faults store.old)) result (running self.new (known S.objects S.faults store.new)) }
+    {
+        if self.objects.reserve(1).is_err() {
+            return Reply::NoMemory;
+        }
+        let object = self.objects.len() as u64;
+        match WriterState::open(alloc, store, &self.writer_options(), extractor) {
+            Ok(handle) => {
+                self.objects.push_reserved(Object::Handle(handle));
+                Reply::Handle { object }
+            }
+            Err(error) => refusal(error),
+        }
+    }
+
+    /// How the handles of the run write.
+    fn writer_options(&self) -> WriterOptions
+        ensures log { result.wal_enabled ≡ true }
+        ensures limit { result.max_unflushed_bytes ≡ self.now.options.max_unflushed_bytes }
+    {
+        WriterOptions {
+            wal_enabled: true,
+            max_unflushed_bytes: self.options.max_unflushed_bytes,
+            compactor: self.options.compactor,
+            compaction_worker: self.options.compaction_worker,
+            collector: self.options.collector,
+        }
+    }
+
+    /// Opens a reader of the latest manifest and its log files.
+    fn follow<S: Store, E: PrefixExtractor>(
+        &mut self,
+        alloc: Global,
+        store: &mut S,
+        mode: DbReaderMode,
+        skip: bool,
+        moment: i64,
+        extractor: Option<&E>,
+    ) -> Reply
+        requires extractor { extractor ≡ None }
+        requires built { follows_latest mode skip ≡ true }
+        ensures options { self.new.options ≡ self.old.options }
+        ensures faults { S.faults store.old ≤ S.faults store.new }
+        ensures does { (merge : Option Merge) → OpensFollowerIn (by_objects (S.objects store.old)) (record { merge = merge; options = self.old.options }) 0
+            (running self.old (known S.objects S.faults store.old)) result (running self.new (known S.objects S.faults store.new)) }
+    {
+        if self.objects.reserve(1).is_err() {
+            return Reply::NoMemory;
+        }
+        let object = self.objects.len() as u64;
+        let options = DbReaderOptions {
+            skip_wal_replay: skip,
+            ..DbReaderOptions::default()
+        };
+        match FollowerState::open(alloc, store, mode, &options, extractor, moment) {
+            Ok((follower, answer)) => {
+                self.objects.push_reserved(Object::Follower(follower));
+                followed_reply(object, answer)
+            }
+            Err(error) => refusal(error),
+        }
+    }
+
+    /// Does a command that names the object with this number.
+    fn act<S: Store, M: MergeOperator, E: PrefixExtractor>(
+        &mut self,
+        alloc: Global,
+        store: &mut S,
+        number: u64,
         operator: Option<&M>,
         extractor: Option<&E>,
         command: &Command,
     ) -> Reply
         requires extractor { extractor ≡ None }
         requires built { IsBuilt command.now.action }
-        ensures faults { S.faults store.old ≤ S.faults store.new }
         ensures options { self.new.options ≡ self.old.options }
-        ensures link { (merge : Option Merge) → IsOperator M.may_answer (option_copied operator.entry) merge →
-            Links (λ w reply w'. Next (record { merge = merge; options = self.old.options }) w command.now reply w')
-            self.old (S.objects store.old) (S.faults store.old) result self.new (S.objects store.new) (S.faults store.new) }
+        ensures faults { S.faults store.old ≤ S.faults store.new }
+        ensures does { (merge : Option Merge) → IsOperator M.may_answer (option_copied operator.entry) merge →
+            (made : ℕ) × ActsOn (by_objects (S.objects store.old)) merge number command.now made (slice_get self.old.objects number)
+            (running self.old (known S.objects S.faults store.old)) result (running self.new (known S.objects S.faults store.new)) }
     {
-        match &command.action {
-            Action::Open => commands::open(
-                alloc,
-                store,
-                &mut self.objects,
-                &self.options,
-                extractor,
-            ),
-            Action::Put {
-                handle,
-                key,
-                value,
-                expire,
-            } => commands::put(
-                alloc,
-                &mut self.objects,
-                &mut self.writes,
-                *handle,
-                (key, value, *expire),
-                command,
-                extractor,
-            ),
-            Action::Flush { handle, .. } => commands::flush(
-                alloc,
-                store,
-                &mut self.objects,
-                *handle,
-            ),
-            Action::Get {
-                object,
-                key,
-                remote,
-            } => commands::get(
-                alloc,
-                store,
-                self.objects.as_slice(),
-                *object,
-                key,
-                *remote,
-                operator,
-            ),
-            Action::Close { object, options } => {
-                commands::close(alloc, store, &mut self.objects, *object, *options)
-            }
-            Action::Follow { mode, skip, .. } => readers::follow(
-                alloc,
-                store,
-                &mut self.objects,
-                *mode,
-                *skip,
-                command.moment,
-                extractor,
-            ),
-            Action::Poll { follower } => readers::poll(
-                alloc,
-                store,
-                &mut self.objects,
-                *follower,
-                command.moment,
-                extractor,
-            ),
-            Action::Await { write } => {
-                commands::await_write(self.objects.as_slice(), self.writes.as_slice(), *write)
-            }
+        let place = number as usize;
+        if place >= self.objects.len() {
+            return Reply::Unknown;
         }
+        let object = &mut self.objects[place];
+        object.act(
+            alloc,
+            store,
+            &mut self.writes,
+            number,
+            operator,
+            extractor,
+            command,
+        )
+    }
+
+    /// Whether the write with a number is durable.
+    fn write_reply(&self, write: u64) -> Reply
+        ensures { result ≡ write_reply self.now.objects (slice_get self.now.writes write) }
+    {
+        let place = write as usize;
+        if place >= self.writes.len() {
+            return Reply::Unknown;
+        }
+        let write = self.writes[place];
+        let place = write.handle as usize;
+        if place >= self.objects.len() {
+            return Reply::Unknown;
+        }
+        self.objects[place].asked_reply(write.number)
+    }
+}
+
+/// The reply to an opening of a reader.
+fn followed_reply(object: u64, answer: PollAnswer) -> Reply
+    ensures { result ≡ followed_reply object answer }
+{
+    match answer {
+        PollAnswer::Whole { at } => Reply::Follower {
+            object,
+            whole: true,
+            at,
+        },
+        PollAnswer::Truncated { at } => Reply::Follower {
+            object,
+            whole: false,
+            at,
+        },
     }
 }

@@ -4,3 +4,4 @@ pub mod Flushed
 pub mod Newest
 pub mod Reopened
 pub mod Sound
+pub mod Reduced

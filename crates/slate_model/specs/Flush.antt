@@ -1,23 +1,25 @@
-use Rattle.std.specs.Prelude.{◌≡◌, ◌≢◌, ℕ, ◌+◌, ◌<◌, ◌≤◌, ◌⊎◌, true, List, [], ◌∷◌, length, Option, Some, None, Result, Ok, Err}
+use Rattle.std.specs.Prelude.{◌≡◌, ℕ, ◌+◌, ◌<◌, ◌≤◌, ◌⊎◌, true, false, List, [], ◌∷◌, length, Option, Some, None, Result, Ok, Err, IfSome}
 use Rattle.slate_types.specs.declared.batches.Batch.{Batch}
 use Rattle.slate_store.specs.declared.objects.VersionedManifest.{VersionedManifest}
-use Rattle.slate_types.specs.declared.store_errors.StoreFault.TheVariants.{NotFound, Unavailable}
+use Rattle.slate_types.specs.declared.store_errors.StoreFault.TheVariants.{Unavailable}
 use Rattle.slate_store.specs.Objects.{ObjectsOf, ChangeOf, PutLog, latest_manifest, last_log}
-use Rattle.slate_store.specs.Calls.{HasRisen}
+use Rattle.slate_store.specs.Calls.{Told}
 use Rattle.slate_errors.specs.declared.closing.CloseFault.TheVariants as faults
 use Rattle.slate_errors.specs.declared.errors.SlateError.{SlateError}
 use Rattle.slate_errors.specs.declared.errors.SlateError.TheVariants as errors
+use Rattle.slate_errors.specs.Errors.{closed_error}
 use Rattle.slate_model.specs.Changes.{PartMade, after_part}
-use Rattle.slate_model.specs.Handle.{Handle, CloseResult, accepted}
+use Rattle.slate_model.specs.Handle.{Handle, CloseResult, accepted, unstored}
+use Rattle.slate_model.specs.Known.{CountsFaults, Known, Untouched}
 use Rattle.slate_model.specs.Write.{last_number}
 
--- What a command does to a store is said of the objects themselves, where a log file is told by its batches, and of
--- what a world knows of them. `told` gives what is told of batches.
-module _ {L : Type 0} (told : List Batch → L) where
+-- What an operation does to a store is said of the objects themselves, where a log file is its batches, and of what a
+-- world knows of them. `summary` gives what is known of the batches of a log file.
+module _ {L : Type 0} (summary : List Batch → L) where
   -- the changes of a flush of the log, where this log file is the last: one with these batches, where there are any
   abbrev pub log_changes : List Batch → ℕ → List (ChangeOf L)
   log_changes [] last = []
-  log_changes (batch ∷ batches) last = PutLog (last + 1) (told (batch ∷ batches)) ∷ []
+  log_changes (batch ∷ batches) last = PutLog (last + 1) (summary (batch ∷ batches)) ∷ []
 
   abbrev pub flush_changes_by : List Batch → ObjectsOf L → Option VersionedManifest → List (ChangeOf L)
   flush_changes_by batches objects None = []
@@ -44,7 +46,7 @@ flushed handle view (Err error) = record handle { view = view; result = recorded
 abbrev pub CanFlush : Handle → Type 0
 CanFlush handle = (handle.result ≡ None) × (handle.keeps_log ≡ true)
 
--- Why a flush by a handle of this epoch answers an error, over a store that tells its objects. Fenced: another handle
+-- Why a flush by a handle of this epoch answers an error, over a store that is modelled. Fenced: another handle
 -- opened since. Only want of memory, and a fault, which the count of faults shows, have no cause here.
 abbrev pub FlushCause : {L : Type 0} → ℕ → ObjectsOf L → SlateError → Type 0
 FlushCause epoch objects errors.LatestTransactionalObjectVersionMissing = latest_manifest objects ≡ None
@@ -73,15 +75,22 @@ StoresOnly (Err errors.InvalidDBState) made = made ≡ 0
 StoresOnly result made = Unit {0}
 
 -- A flush of these batches by a handle of this epoch: its answer has its cause, and so many of its changes were made.
-pub record StoresBatches {L : Type 0} (told : List Batch → L) (epoch : ℕ) (batches : List Batch) (objects : ObjectsOf L) (result : Result (Unit {0}) SlateError) (view view' : VersionedManifest) (made : ℕ) (objects' : ObjectsOf L) : Type 0 where
+pub record StoresBatches {L : Type 0} (summary : List Batch → L) (epoch : ℕ) (batches : List Batch) (objects : ObjectsOf L) (result : Result (Unit {0}) SlateError) (view view' : VersionedManifest) (made : ℕ) (objects' : ObjectsOf L) : Type 0 where
   pub answer : FlushAnswer epoch objects result view view'
-  pub part : PartMade result (length (flush_changes told batches objects)) made
+  pub part : PartMade result (length (flush_changes summary batches objects)) made
   pub only : StoresOnly result made
   pub current : 0 < made → (latest : VersionedManifest) × (latest_manifest objects ≡ Some latest) × (latest.manifest.writer_epoch ≤ epoch)
-  pub after : objects' ≡ after_part made (flush_changes told batches objects) objects
+  pub after : objects' ≡ after_part made (flush_changes summary batches objects) objects
 
--- over any store: a fault is told only where the count of faults has risen, and no object is missing
-pub record TellsFaults {A : Type 0} (faults faults' : ℕ) (result : Result A SlateError) : Type 0 where
-  pub count : faults ≤ faults'
-  pub unavailable : result ≡ Err (errors.ObjectStoreError Unavailable) → HasRisen faults faults'
-  pub none_missing : result ≢ Err (errors.ObjectStoreError NotFound)
+-- The batches of a handle that aren't stored go to the store, and the handle goes by this view from then on.
+pub record Stores {L : Type 0} (summary : List Batch → L) (made : ℕ) (handle : Handle) (view : VersionedManifest) (before : Known L) (result : Result (Unit {0}) SlateError) (after : Known L) : Type 0 where
+  pub faults : CountsFaults before.faults after.faults result
+  pub objects : Told (λ o o'. StoresBatches summary handle.epoch (unstored handle) o result handle.view view made o') before.objects after.objects
+
+-- A flush of the log by a handle. A closed handle answers what closed it, and one that keeps no log WalDisabled, and
+-- nothing changes; else the batches that aren't stored go to the store, and what the flush answers leaves the handle.
+-- So many of its changes were made.
+pub record Flushes {L : Type 0} (summary : List Batch → L) (made : ℕ) (old : Handle) (before : Known L) (result : Result (Unit {0}) SlateError) (new : Handle) (after : Known L) : Type 0 where
+  pub closed : IfSome old.result (λ r. (result ≡ Err (closed_error r)) × (new ≡ old) × Untouched made before after)
+  pub disabled : old.result ≡ None → old.keeps_log ≡ false → (result ≡ Err errors.WalDisabled) × (new ≡ old) × Untouched made before after
+  pub stored : CanFlush old → (new ≡ flushed old new.view result) × Stores summary made old new.view before result after

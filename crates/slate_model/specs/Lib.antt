@@ -4,6 +4,8 @@ pub mod Close
 pub mod Flush
 pub mod Follower
 pub mod Handle
+pub mod Known
+pub mod Object
 pub mod Open
 pub mod Read
 pub mod Write

@@ -1,15 +1,17 @@
-use Rattle.std.specs.Prelude.{◌≡◌, ℕ, ℤ, ◌+◌, ◌==◌, ◌&&◌, ◌<◌, negsuc, nat_lt, int_lt, if◌then◌else◌, Bool, true, false, List, [], ◌∷◌, length, Option, Some, None, Result, Ok, Err}
+use Rattle.std.specs.Prelude.{◌≡◌, ℕ, ℤ, ◌+◌, ◌==◌, ◌&&◌, ◌<◌, negsuc, nat_lt, int_lt, if◌then◌else◌, Bool, true, false, List, [], ◌∷◌, length, Option, Some, None, Result, Ok, Err, IfOk}
 use Rattle.slate_types.specs.declared.batches.Batch.{Batch}
 use Rattle.slate_types.specs.Line.{Line, end, batches_above}
 use Rattle.slate_store.specs.declared.objects.Manifest.{Manifest}
 use Rattle.slate_store.specs.declared.objects.VersionedManifest.{VersionedManifest}
 use Rattle.slate_types.specs.declared.store_errors.StoreFault.TheVariants.{Unavailable}
 use Rattle.slate_store.specs.Objects.{Objects, ObjectsOf, ChangeOf, PutManifest, PutLog, is_taken, latest_manifest, last_log}
+use Rattle.slate_store.specs.Calls.{Told}
 use Rattle.slate_store.specs.Logs.{IsReplayable}
 use Rattle.slate_errors.specs.declared.errors.SlateError.{SlateError}
 use Rattle.slate_errors.specs.declared.errors.SlateError.TheVariants as errors
 use Rattle.slate_model.specs.Changes.{PartMade, after_part}
 use Rattle.slate_model.specs.Handle.{Handle}
+use Rattle.slate_model.specs.Known.{CountsFaults, Known}
 use Rattle.slate_model.specs.Write.{last_number}
 
 -- the least moment
@@ -54,11 +56,11 @@ next_manifest (Some latest) last =
 abbrev pub opened_manifest : {L : Type 0} → ObjectsOf L → VersionedManifest
 opened_manifest objects = next_manifest (latest_manifest objects) (found_log objects)
 
--- The changes of an opening: its manifest, and an empty log file, the fence, after the last one. `told` gives what is
--- told of the batches of a log file.
+-- The changes of an opening: its manifest, and an empty log file, the fence, after the last one. `summary` gives
+-- what is known of the batches of a log file.
 abbrev pub open_changes : {L : Type 0} → (List Batch → L) → ObjectsOf L → List (ChangeOf L)
-open_changes told objects =
-    PutManifest (opened_manifest objects).id (opened_manifest objects).manifest ∷ PutLog (found_log objects + 1) (told []) ∷ []
+open_changes summary objects =
+    PutManifest (opened_manifest objects).id (opened_manifest objects).manifest ∷ PutLog (found_log objects + 1) (summary []) ∷ []
 
 -- Whether a database can be opened by its latest manifest: it is initialised, and its id and its epoch aren't the last.
 -- Until tables are built, it names none.
@@ -108,7 +110,7 @@ OpenFault objects errors.TransactionalObjectVersionExists =
     is_taken (PutManifest (opened_manifest objects).id (opened_manifest objects).manifest) objects ≡ true
 OpenFault objects error = ⊥
 
--- Why an opening answers an error, over a store that tells its objects. `unsound` says it of the errors that only
+-- Why an opening answers an error, over a store that is modelled. `unsound` says it of the errors that only
 -- objects bring about that aren't sound.
 abbrev pub OpenCause : {L : Type 0} → (SlateError → Type 0) → ObjectsOf L → SlateError → Type 0
 OpenCause unsound objects errors.InvalidDBState = can_open objects ≡ false
@@ -128,9 +130,18 @@ OpensOnly (Err (errors.WalTruncated id)) made = made ≡ 2
 OpensOnly result made = Unit {0}
 
 -- An opening: its answer has its cause, and so many of its changes were made, none where the store can't be opened.
-pub record Opens {A L : Type 0} (told : List Batch → L) (unsound : SlateError → Type 0) (objects : ObjectsOf L) (result : Result A SlateError) (made : ℕ) (objects' : ObjectsOf L) : Type 0 where
+pub record Opens {A L : Type 0} (summary : List Batch → L) (unsound : SlateError → Type 0) (objects : ObjectsOf L) (result : Result A SlateError) (made : ℕ) (objects' : ObjectsOf L) : Type 0 where
   pub answer : OpenAnswer unsound objects result
   pub part : PartMade result 2 made
   pub only : OpensOnly result made
   pub can : 0 < made → can_open objects ≡ true
-  pub after : objects' ≡ after_part made (open_changes told objects) objects
+  pub after : objects' ≡ after_part made (open_changes summary objects) objects
+
+-- An opening of a database by a handle. `unsound` says which objects bring about an error that sound ones don't, and
+-- `is_stored` which line is stored, where that is known: the handle of an opening that answers Ok sees it.
+pub record OpensHandle {L : Type 0} (summary : List Batch → L) (unsound : ObjectsOf L → SlateError → Type 0) (is_stored : Line → Type 0) (made : ℕ) (keeps_log : Bool) (limit : ℕ) (before : Known L) (result : Result Handle SlateError) (after : Known L) : Type 0 where
+  pub opens : Told (λ o o'. Opens summary (unsound o) o result made o') before.objects after.objects
+  pub faults : CountsFaults before.faults after.faults result
+  pub fresh : IfOk result (λ handle. (handle.keeps_log ≡ keeps_log) × (handle.limit ≡ limit) × (handle.result ≡ None))
+  pub handle : IfOk result (λ handle. (o : ObjectsOf L) (line : Line) → before.objects ≡ Some o → is_stored line →
+      handle ≡ opened_handle keeps_log limit (opened_manifest o) line)

@@ -1,16 +1,10 @@
-use Rattle.std.specs.Prelude.{◌≡◌, ℕ, Result, Ok, Err}
-use Rattle.slate_types.specs.declared.options.DurabilityLevel.{DurabilityLevel}
-use Rattle.slate_types.specs.declared.options.DurabilityLevel.TheVariants.{Memory, Remote}
+use Rattle.std.specs.Prelude.{◌≡◌, None, Result, Ok, Err, IfSome}
+use Rattle.slate_errors.specs.Errors.{closed_error}
 use Rattle.slate_types.specs.declared.read_faults.ReadFault.{ReadFault}
 use Rattle.slate_types.specs.declared.read_faults.ReadFault.TheVariants as reads
 use Rattle.slate_errors.specs.declared.errors.SlateError.{SlateError}
 use Rattle.slate_errors.specs.declared.errors.SlateError.TheVariants as errors
-use Rattle.slate_model.specs.Handle.{Handle, accepted}
-
--- up to which number a read of a handle sees its line
-abbrev pub cut : Handle → DurabilityLevel → ℕ
-cut handle Memory = accepted handle
-cut handle Remote = handle.durable
+use Rattle.slate_model.specs.Handle.{CloseResult}
 
 -- a read answers this, as an error where it is a fault, unless memory ran out
 abbrev pub AnswersRead : {A : Type 0} → Result A ReadFault → Result A SlateError → Type 0
@@ -20,3 +14,9 @@ AnswersRead answer (Err errors.MergeOperatorError) = answer ≡ Err reads.MergeO
 AnswersRead answer (Err errors.ChecksumMismatch) = answer ≡ Err reads.ChecksumMismatch
 AnswersRead answer (Err errors.NoMemory) = Unit {0}
 AnswersRead answer (Err error) = ⊥
+
+-- A read of something that closed with this result, or is open, where the plain read gives this: what closed it is
+-- answered, else the plain read.
+pub record Reads {A : Type 0} (result : CloseResult) (plain : Result A ReadFault) (answer : Result A SlateError) : Type 0 where
+  pub closed : IfSome result (λ r. answer ≡ Err (closed_error r))
+  pub read : result ≡ None → AnswersRead plain answer

@@ -1,11 +1,12 @@
-use Rattle.std.specs.Prelude.{ℕ, ℤ, ◌+◌, ◌==◌, Bool, if◌then◌else◌, nat_lt, int_lt, List, [], ◌∷◌, length, Option, Some, None, unwrap_or}
+use Rattle.std.specs.Prelude.{◌≡◌, ℕ, ℤ, ◌+◌, ◌⊎◌, ◌==◌, Bool, if◌then◌else◌, nat_lt, int_lt, List, [], ◌∷◌, length, Option, Some, None, unwrap_or, Result, IfOk, IfErr}
 use Rattle.std.specs.List.{list_any}
 use Rattle.std.specs.Option.{option_or}
 use Rattle.slate_types.specs.declared.batches.Batch.{Batch}
 use Rattle.slate_types.specs.declared.batches.KeyOp.{KeyOp}
 use Rattle.slate_types.specs.Line.{extended}
 use Rattle.slate_errors.specs.declared.errors.SlateError.{SlateError}
-use Rattle.slate_errors.specs.declared.errors.SlateError.TheVariants.{EmptyBatch, EmptyKey, InvalidDBState, InvalidClockTick}
+use Rattle.slate_errors.specs.declared.errors.SlateError.TheVariants.{EmptyBatch, EmptyKey, InvalidDBState, InvalidClockTick, NoMemory}
+use Rattle.slate_model.specs.declared.answers.Written.{Written}
 use Rattle.slate_model.specs.Handle.{Handle, CloseResult, accepted}
 use Rattle.slate_errors.specs.Errors.{closed_error}
 
@@ -56,3 +57,9 @@ next_batch handle ops at = record { number = accepted handle + 1; create_ts = at
 -- the handle after a write
 abbrev pub written : Handle → List KeyOp → ℤ → Handle
 written handle ops at = record handle { line = extended handle.line (next_batch handle ops at ∷ []); tick = at }
+
+-- a write of operations to a handle: it is accepted, or refused for what refuses it, or for want of memory
+pub record Writes (old : Handle) (ops : List KeyOp) (moment : ℤ) (second : Option ℤ) (result : Result Written SlateError) (new : Handle) : Type 0 where
+  pub accepted : IfOk result (λ w. (write_refusal old ops moment second ≡ None) × (accepted_moment old.tick moment second ≡ Some w.create_ts)
+      × (w.number ≡ accepted old + 1) × (new ≡ written old ops w.create_ts))
+  pub refused : IfErr result (λ error. ((error ≡ NoMemory) ⊎ (write_refusal old ops moment second ≡ Some error)) × (new ≡ old))

@@ -1,6 +1,7 @@
-use Rattle.std.proofs.Common.{◌≡◌, ℕ, ℤ, ◌+◌, Bool, List, [], length, Option, Some, Result, Ok, Err, true, false, refl, subst, ap, inl, inr, ◌∙◌, arith}
+use Rattle.std.proofs.Common.{◌≡◌, ℕ, ℤ, ◌+◌, Bool, List, [], length, Option, Some, Result, Ok, Err, true, false, None, refl, sym, subst, ap, inl, inr, ◌∙◌, arith}
 use Rattle.std.specs.Option.{IfSome}
 use Rattle.slate_types.specs.declared.batches.Batch.{Batch}
+use Rattle.slate_types.specs.Line.{Line}
 use Rattle.slate_store.specs.declared.objects.VersionedManifest.{VersionedManifest}
 use Rattle.slate_types.specs.declared.store_errors.StoreError.{StoreError}
 use Rattle.slate_types.specs.declared.store_errors.StoreError.TheVariants as refusals
@@ -12,12 +13,15 @@ use Rattle.slate_errors.specs.Errors.{error_of_store}
 use Rattle.slate_errors.specs.declared.errors.SlateError.{SlateError}
 use Rattle.slate_errors.specs.declared.errors.SlateError.TheVariants as errors
 use Rattle.slate_model.specs.Changes.{after_part}
-use Rattle.slate_model.specs.Open.{OpenFault, Opens, found_log, mark_of, latest_tick, open_changes, opened_handle, opened_manifest}
+use Rattle.slate_model.specs.Open.{OpenFault, Opens, OpensHandle, found_log, mark_of, latest_tick, open_changes, opened_handle, opened_manifest}
 use Rattle.slate_store.specs.Objects.{changed, latest_manifest}
 use Rattle.slate_model.proofs.Entries.{absent}
 use Rattle.slate_model.proofs.Newest.{newest}
 use Rattle.slate_model.proofs.Reopened.{opening-replays, recovered, recovered-is, replayable}
-use Rattle.slate_writer.proofs.Telling.{told_from}
+use Rattle.slate_model.specs.Handle.{Handle}
+use Rattle.slate_model.specs.Known.{CountsFaults, IsContent, Known}
+use Rattle.slate_model.proofs.Reduced.{some-same}
+use Rattle.slate_writer.proofs.Telling.{made_once, told_from, told_kept}
 use Rattle.slate_writer.specs.Opening.{FindsNext, PutsOpening, Recovers, opening_puts}
 
 -- a put of the fence that was refused, after that of the manifest
@@ -118,3 +122,43 @@ module _ {t t0 t1 : Option Objects} (view : VersionedManifest) (last : ℕ) (fou
 -- the fields of the handle of an opening
 pub recovered_at : (keeps_log : Bool) (limit : ℕ) (view : VersionedManifest) (batches bs : List Batch) (tick : ℤ) → bs ≡ batches → tick ≡ latest_tick view.manifest.last_tick batches → record (recovered keeps_log limit view batches) { durable = view.manifest.last_l0_seq + length bs; tick = tick } ≡ recovered keeps_log limit view batches
 recovered_at keeps_log limit view batches bs tick same is = rw (same, is) refl
+
+-- an opening that can't go on before it puts anything
+opens_none : {A : Type 0} (o : Objects) (e : SlateError) → FindsNext o (Err e) → OpensTold {A = A} o (Err e) o
+opens_none o errors.InvalidDBState cause = (0, record { answer = cause; part = omega arith; only = refl; can = λ some. absurd (omega (arith, some)); after = refl })
+opens_none o (errors.ObjectStoreError Unavailable) cause = (0, record { answer = tt; part = omega arith; only = tt; can = λ some. absurd (omega (arith, some)); after = refl })
+opens_none o errors.NoMemory cause = (0, record { answer = tt; part = omega arith; only = tt; can = λ some. absurd (omega (arith, some)); after = refl })
+opens_none o e cause = absurd cause
+
+pub none_told : {A : Type 0} {t t' : Option Objects} (e : SlateError) → t' ≡ t → IfSome t (λ o. FindsNext o (Err e)) → Told (λ o o'. OpensTold {A = A} o (Err e) o') t t'
+none_told e kept found = told_kept kept (λ o is. opens_none o e (subst (λ x. IfSome x (λ o. FindsNext o (Err e))) is found))
+
+-- an opening that answers an error, and one that answers a handle
+pub opens_err : {is_stored : Line → Type 0} (keeps_log : Bool) (limit : ℕ) (before after : Known (List Batch)) (e : SlateError) → CountsFaults {A = Handle} before.faults after.faults (Err e) → Told (λ o o'. OpensTold {A = Handle} o (Err e) o') before.objects after.objects → (made : ℕ) × OpensHandle (λ xs. xs) OpenFault is_stored made keeps_log limit before (Err e) after
+opens_err keeps_log limit before after e fault told =
+    let m = made_once before.objects after.objects told in
+    (m.0, record { opens = m.1; faults = fault; fresh = tt; handle = tt })
+
+pub opens_ok : (keeps_log : Bool) (limit : ℕ) (before after : Known (List Batch)) (h : Handle) → CountsFaults before.faults after.faults (Ok h) → Told (λ o o'. OpensTold o (Ok h) o') before.objects after.objects → (h.keeps_log ≡ keeps_log) × (h.limit ≡ limit) × (h.result ≡ None) → ((o : Objects) → before.objects ≡ Some o → IsSound o → h ≡ opened_handle keeps_log limit (opened_manifest o) (content o)) → (made : ℕ) × OpensHandle (λ xs. xs) OpenFault (IsContent before.objects) made keeps_log limit before (Ok h) after
+opens_ok keeps_log limit before after h fault told fresh sees =
+    let m = made_once before.objects after.objects told in (
+      m.0,
+      record {
+        opens = m.1;
+        faults = fault;
+        fresh = fresh;
+        handle = λ o line at stored_is.
+            let same : stored_is.0 ≡ o = some-same stored_is.0 o (sym stored_is.1 ∙ at) in
+            sees o at (subst IsSound same stored_is.2) ∙ ap (λ l. opened_handle keeps_log limit (opened_manifest o) l) (sym (stored_is.3 ∙ ap content same));
+      },
+    )
+
+-- the puts of an opening, and the replay after them
+pub opened_told : {t t0 t1 t2 : Option Objects} (view : VersionedManifest) (last : ℕ) (h : Handle) → IfSome t (λ o. FindsNext o (Ok (view, last))) → t0 ≡ t → Told (PutsOpening view (last + 1) (Ok tt)) t0 t1 → t2 ≡ t1 → Told (λ o o'. OpensTold o (Ok h) o') t t2
+opened_told {t} view last h found kept puts kept2 = record {
+  none = λ is. kept2 ∙ puts.none (kept ∙ is);
+  some = λ o is.
+      let p = puts.some o (kept ∙ is) in
+      let f = subst (λ x. IfSome x (λ o. FindsNext o (Ok (view, last)))) is found in
+      (p.0, kept2 ∙ p.1, (2, record { answer = f.0; part = refl; only = tt; can = λ _. f.0; after = p.2 ∙ after-are o view last f 2 }));
+}

@@ -1,3 +1,4 @@
 pub mod Appends
 pub mod Opening
 pub mod Kept
+pub mod Refusal

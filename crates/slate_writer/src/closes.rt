@@ -1,8 +1,7 @@
-ghost use Rattle.std.specs.Prelude.{◌≡◌, ◌≢◌, ◌≤◌, ℕ, [], Some, None, true, false, IfSome};
-ghost use Rattle.slate_store.specs.Calls.{Told};
-ghost use Rattle.slate_model.specs.Close.{closed, closing_flush, ended, fault_again};
-ghost use Rattle.slate_model.specs.Flush.{CanFlush, StoresBatches, TellsFaults, flushed};
-ghost use Rattle.slate_model.specs.Handle.{unstored};
+ghost use Rattle.std.specs.Prelude.{◌≡◌, ◌≢◌, ◌≤◌, ℕ, [], Some, None};
+ghost use Rattle.slate_model.specs.Close.{Closes, ended};
+ghost use Rattle.slate_model.specs.Flush.{CanFlush};
+ghost use Rattle.slate_model.specs.Known.{known};
 
 use crate::WriterState;
 use slate_errors::{Ended, Ending, SlateError};
@@ -21,20 +20,11 @@ impl WriterState {
     /// Until tables are built it flushes the log alone.
     pub fn close<S: Store>(&mut self, alloc: Global, store: &mut S, options: &CloseOptions) -> Ended
         requires { options.now.flush_type ≢ Some FlushType.MemTable }
-        ensures again { IfSome self.old.result (λ r. (result ≡ ended (fault_again r)) × (self.new ≡ self.old) × (store.new ≡ store.old)) }
-        ensures unflushed { self.old.result ≡ None → options.now.flush_type ≡ None →
-            (result ≡ ended None) × (self.new ≡ closed self.old) × (store.new ≡ store.old) }
-        ensures disabled { self.old.result ≡ None → options.now.flush_type ≡ Some FlushType.Wal → self.old.keeps_log ≡ false →
-            (result ≡ ended (Some SlateError.WalDisabled)) × (self.new ≡ closed self.old) × (store.new ≡ store.old) }
+        ensures does { (made : ℕ) × Closes (λ batches. batches) made options.now.flush_type self.old (known S.objects S.faults store.old) result self.new (known S.objects S.faults store.new) }
         ensures tasks { result.tasks ≡ [] }
         ensures count { S.faults store.old ≤ S.faults store.new }
-        ensures handle { CanFlush self.old → options.now.flush_type ≡ Some FlushType.Wal →
-            self.new ≡ closed (flushed self.old self.new.view (closing_flush result.fault)) }
-        ensures faults { CanFlush self.old → options.now.flush_type ≡ Some FlushType.Wal →
-            TellsFaults (S.faults store.old) (S.faults store.new) (closing_flush result.fault) }
-        ensures told { CanFlush self.old → options.now.flush_type ≡ Some FlushType.Wal →
-            Told (λ o o'. (made : ℕ) × StoresBatches (λ batches. batches) self.old.epoch (unstored self.old) o (closing_flush result.fault) self.old.view self.new.view made o')
-            (S.objects store.old) (S.objects store.new) }
+        ensures untouched { (CanFlush self.old → ⊥) → store.new ≡ store.old }
+        ensures unflushed { options.now.flush_type ≡ None → store.new ≡ store.old }
     {
         match self.closed.read() {
             Some(Ok(())) => ended(Some(SlateError::Closed)),

@@ -1,8 +1,7 @@
-ghost use Rattle.std.specs.Prelude.{◌≡◌, ℕ, false, None, Err, IfSome};
+ghost use Rattle.std.specs.Prelude.{◌≡◌, ◌≤◌, ℕ, IfSome};
 ghost use Rattle.slate_store.specs.Calls.{Told};
-ghost use Rattle.slate_model.specs.Handle.{unstored};
-ghost use Rattle.slate_errors.specs.Errors.{closed_error};
-ghost use Rattle.slate_model.specs.Flush.{CanFlush, FindsCurrent, StoresBatches, TellsFaults, flushed, recorded};
+ghost use Rattle.slate_model.specs.Flush.{CanFlush, FindsCurrent, Flushes, Stores, StoresBatches, flushed, recorded};
+ghost use Rattle.slate_model.specs.Known.{CountsFaults, known};
 ghost use Rattle.slate_writer.specs.Appends.{AppendsLog};
 
 use crate::WriterState;
@@ -29,13 +28,9 @@ impl WriterState {
         flush_type: FlushType,
     ) -> Result<(), SlateError>
         requires { flush_type ≡ FlushType.Wal }
-        ensures closed { IfSome self.old.result (λ r. (result ≡ Err (closed_error r)) × (self.new ≡ self.old) × (store.new ≡ store.old)) }
-        ensures disabled { self.old.result ≡ None → self.old.keeps_log ≡ false →
-            (result ≡ Err SlateError.WalDisabled) × (self.new ≡ self.old) × (store.new ≡ store.old) }
-        ensures handle { CanFlush self.old → self.new ≡ flushed self.old self.new.view result }
-        ensures faults { CanFlush self.old → TellsFaults (S.faults store.old) (S.faults store.new) result }
-        ensures told { CanFlush self.old → Told (λ o o'. (made : ℕ) × StoresBatches (λ batches. batches) self.old.epoch (unstored self.old) o result self.old.view self.new.view made o')
-            (S.objects store.old) (S.objects store.new) }
+        ensures does { (made : ℕ) × Flushes (λ batches. batches) made self.old (known S.objects S.faults store.old) result self.new (known S.objects S.faults store.new) }
+        ensures count { S.faults store.old ≤ S.faults store.new }
+        ensures untouched { (CanFlush self.old → ⊥) → store.new ≡ store.old }
     {
         if let Some(result) = self.closed.read() {
             return Err(SlateError::of_closed(result));
@@ -61,9 +56,7 @@ impl WriterState {
         store: &mut S,
     ) -> Result<(), SlateError>
         ensures handle { self.new ≡ record (flushed self.old self.new.view result) { result = self.old.result } }
-        ensures faults { TellsFaults (S.faults store.old) (S.faults store.new) result }
-        ensures told { Told (λ o o'. (made : ℕ) × StoresBatches (λ batches. batches) self.old.epoch (unstored self.old) o result self.old.view self.new.view made o')
-            (S.objects store.old) (S.objects store.new) }
+        ensures stored { (made : ℕ) × Stores (λ batches. batches) made self.old self.new.view (known S.objects S.faults store.old) result (known S.objects S.faults store.new) }
     {
         let unstored = (self.durable - self.floor) as usize;
         let batches = &self.memory.batches()[unstored..];
@@ -81,7 +74,7 @@ fn store_batches<S: Store>(
     batches: &[Batch],
     view: &mut VersionedManifest,
 ) -> Result<(), SlateError>
-    ensures faults { TellsFaults (S.faults store.old) (S.faults store.new) result }
+    ensures faults { CountsFaults (S.faults store.old) (S.faults store.new) result }
     ensures told { Told (λ o o'. (made : ℕ) × StoresBatches (λ batches. batches) epoch batches.now o result view.old view.new made o') (S.objects store.old) (S.objects store.new) }
 {
     *view = current_manifest(alloc, store, epoch)?;
@@ -97,7 +90,7 @@ pub(crate) fn current_manifest<S: Store>(
     store: &mut S,
     epoch: u64,
 ) -> Result<VersionedManifest, SlateError>
-    ensures faults { TellsFaults (S.faults store.old) (S.faults store.new) result }
+    ensures faults { CountsFaults (S.faults store.old) (S.faults store.new) result }
     ensures kept { S.objects store.new ≡ S.objects store.old }
     ensures told { IfSome (S.objects store.old) (λ o. FindsCurrent epoch o result) }
 {
@@ -117,7 +110,7 @@ fn append_log<S: Store>(
     mark: u64,
     batches: &[Batch],
 ) -> Result<(), SlateError>
-    ensures faults { TellsFaults (S.faults store.old) (S.faults store.new) result }
+    ensures faults { CountsFaults (S.faults store.old) (S.faults store.new) result }
     ensures told { Told (AppendsLog mark batches.now result) (S.objects store.old) (S.objects store.new) }
 {
     let last = store.last_log(alloc, mark)?;

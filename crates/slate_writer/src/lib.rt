@@ -9,5 +9,6 @@ mod states;
 mod writes;
 
 pub use opens::WriterOptions;
+pub use slate_model::Written;
 pub use states::WriterState;
-pub use writes::{WriteRefusal, Written};
+pub use writes::WriteRefusal;

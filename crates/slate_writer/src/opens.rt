@@ -3,10 +3,9 @@ ghost use Rattle.std.specs.Option.{option_copied};
 ghost use Rattle.slate_types.specs.Line.{AreNumberedFrom};
 ghost use Rattle.slate_store.specs.Calls.{IsCall, IsOfList, Told};
 ghost use Rattle.slate_store.specs.declared.objects.VersionedManifest.{VersionedManifest};
-ghost use Rattle.slate_store.specs.Content.{IsSound, content};
-ghost use Rattle.slate_store.specs.Objects.{Objects, latest_manifest};
-ghost use Rattle.slate_model.specs.Flush.{TellsFaults};
-ghost use Rattle.slate_model.specs.Open.{OpenFault, Opens, can_open_by, can_reopen, first_manifest, latest_tick, mark_of, next_manifest, opened_handle, opened_manifest};
+ghost use Rattle.slate_store.specs.Objects.{latest_manifest};
+ghost use Rattle.slate_model.specs.Known.{CountsFaults, IsContent, known};
+ghost use Rattle.slate_model.specs.Open.{OpenFault, OpensHandle, can_open_by, can_reopen, first_manifest, latest_tick, mark_of, next_manifest};
 ghost use Rattle.slate_model.specs.Write.{last_number};
 ghost use Rattle.slate_writer.specs.Opening.{FindsLog, FindsNext, PutsOpening, Recovers};
 
@@ -65,11 +64,8 @@ impl WriterState {
         extractor: Option<&E>,
     ) -> Result<WriterState, SlateError>
         requires { extractor ≡ None }
-        ensures fresh { IfOk result (λ w. (w.keeps_log ≡ options.now.wal_enabled) × (w.limit ≡ options.now.max_unflushed_bytes) × (w.result ≡ None)) }
-        ensures handle { IfOk result (λ w. (o : Objects) → S.objects store.old ≡ Some o → IsSound o →
-            w ≡ opened_handle options.now.wal_enabled options.now.max_unflushed_bytes (opened_manifest o) (content o)) }
-        ensures faults { TellsFaults (S.faults store.old) (S.faults store.new) result }
-        ensures told { Told (λ o o'. (made : ℕ) × Opens (λ batches. batches) (OpenFault o) o result made o') (S.objects store.old) (S.objects store.new) }
+        ensures { (made : ℕ) × OpensHandle (λ batches. batches) OpenFault (IsContent (S.objects store.old)) made options.now.wal_enabled options.now.max_unflushed_bytes
+            (known S.objects S.faults store.old) result (known S.objects S.faults store.new) }
     {
         let (view, last) = find_next(alloc, store)?;
         put_opening(alloc, store, &view, last + 1)?;
@@ -146,7 +142,7 @@ fn find_log<S: Store>(
     store: &mut S,
     latest: Option<&VersionedManifest>,
 ) -> Result<u64, SlateError>
-    ensures faults { TellsFaults (S.faults store.old) (S.faults store.new) result }
+    ensures faults { CountsFaults (S.faults store.old) (S.faults store.new) result }
     ensures kept { S.objects store.new ≡ S.objects store.old }
     ensures can { IfOk result (λ last. can_open_by (option_copied latest.entry) last ≡ true) }
     ensures below { IfOk result (λ last. last < last_number) }
@@ -166,7 +162,7 @@ fn find_log<S: Store>(
 
 /// The manifest that an opening commits, and the id of the last log file. There is one more id after it.
 fn find_next<S: Store>(alloc: Global, store: &mut S) -> Result<(VersionedManifest, u64), SlateError>
-    ensures faults { TellsFaults (S.faults store.old) (S.faults store.new) result }
+    ensures faults { CountsFaults (S.faults store.old) (S.faults store.new) result }
     ensures kept { S.objects store.new ≡ S.objects store.old }
     ensures told { IfSome (S.objects store.old) (λ o. FindsNext o result) }
     ensures below { IfOk result (λ found. found.1 < last_number) }
@@ -183,7 +179,7 @@ fn put_opening<S: Store>(
     view: &VersionedManifest,
     fence: u64,
 ) -> Result<(), SlateError>
-    ensures faults { TellsFaults (S.faults store.old) (S.faults store.new) result }
+    ensures faults { CountsFaults (S.faults store.old) (S.faults store.new) result }
     ensures told { Told (PutsOpening view.now fence result) (S.objects store.old) (S.objects store.new) }
 {
     store.put_manifest(alloc, view.id, &view.manifest)?;
@@ -211,7 +207,7 @@ fn recover<S: Store>(
     view: &VersionedManifest,
     last: u64,
 ) -> Result<IndexedTable, SlateError>
-    ensures faults { TellsFaults (S.faults store.old) (S.faults store.new) result }
+    ensures faults { CountsFaults (S.faults store.old) (S.faults store.new) result }
     ensures kept { S.objects store.new ≡ S.objects store.old }
     ensures numbered { IfOk result (λ batches. AreNumberedFrom view.now.manifest.last_l0_seq batches) }
     ensures fits { IfOk result (λ batches. view.now.manifest.last_l0_seq + length batches < 2 ^ 64) }

@@ -1,19 +1,14 @@
-ghost use Rattle.std.specs.Prelude.{◌≡◌, ◌⊎◌, ◌+◌, ◌<◌, ◌^◌, Option, Some, None, Err, IfOk, IfErr};
+ghost use Rattle.std.specs.Prelude.{◌≡◌, ◌+◌, ◌<◌, ◌^◌, Option, Some, None, Err, IfOk, IfErr};
 ghost use Rattle.slate_model.specs.Handle.{accepted};
 ghost use Rattle.slate_errors.specs.Errors.{closed_error};
-ghost use Rattle.slate_model.specs.Write.{write_refusal, written, accepted_moment, batch_refusal, has_empty_key};
+ghost use Rattle.slate_model.specs.Write.{Writes, accepted_moment, batch_refusal, has_empty_key, write_refusal};
+ghost use Rattle.slate_writer.specs.Refusal.{answer_of};
 
 use crate::WriterState;
 use slate_errors::SlateError;
+use slate_model::Written;
 use slate_types::{Batch, KeyOp, NoMemory, PrefixExtractor, WriteBatch};
 use std::alloc::Global;
-
-/// An accepted write: the number of its batch, and its creation time in milliseconds.
-#[derive(Clone, Copy, Debug, PartialEq, Eq)]
-pub struct Written {
-    pub number: u64,
-    pub create_ts: i64,
-}
 
 /// A write that was refused: the error, and the batch as it was handed in.
 #[derive(Debug, Drop)]
@@ -39,11 +34,8 @@ impl WriterState {
         extractor: Option<&E>,
     ) -> Result<Written, WriteRefusal>
         requires { extractor ≡ None }
-        ensures accepted { IfOk result (λ w. (write_refusal self.old batch.ops moment second ≡ None)
-            × (accepted_moment self.old.tick moment second ≡ Some w.create_ts) × (w.number ≡ accepted self.old + 1)
-            × (self.new ≡ written self.old batch.ops w.create_ts)) }
-        ensures refused { IfErr result (λ r. (r.batch ≡ batch) × (self.new ≡ self.old)
-            × ((r.error ≡ SlateError.NoMemory) ⊎ (write_refusal self.old batch.ops moment second ≡ Some r.error))) }
+        ensures does { Writes self.old batch.ops moment second (answer_of result) self.new }
+        ensures handed_back { IfErr result (λ r. r.batch ≡ batch) }
     {
         let written = match self.admit(&batch, moment, second) {
             Ok(written) => written,

@@ -1,5 +1,5 @@
 use Rattle.std.proofs.Common.{arith, ap, ◌∙◌, ◌++◌, ◌∷◌, []}
-use Rattle.slate_live.specs.Live.{Live}
+use Rattle.slate_live.specs.State.{Live}
 use Rattle.slate_live.proofs.Chains.{done-next, done_none, leads_all, stands-push, stands_start}
 use Rattle.slate_live.proofs.runs.run.Goals as goal
 
@@ -13,7 +13,7 @@ loop-command-init g c =
       leads = λ merge lawful before is sound. (
         [],
         done_none (record { merge = merge; options = c.args.options.now }) _ _ c.in_ok-replies.ensures.items,
-        stands_start before _ _ c.new-live.result (ap (λ (l : Live). l.objects) c.new-live.ensures) (ap (λ (l : Live). l.writes) c.new-live.ensures) is sound,
+        stands_start before _ c.new-live.result (ap (λ (l : Live). l.objects) c.new-live.ensures) (ap (λ (l : Live). l.writes) c.new-live.ensures) is sound,
       );
     }
 
@@ -29,11 +29,11 @@ loop-command-preserved g c =
           let link = c.apply-reply.ensures.link merge lawful _ prev.2 in (
             prev.0 ++ record { command = c.command-item.result; reply = c.apply-reply.result; world = link.0 } ∷ [],
             done-next merge c.args.options.now _ _ link.0 prev.0 c.args.commands.now c.loop-command.command-index c.command-item.result _ _ c.apply-reply.result c.loop-command.invariant.options c.loop-command-test.true c.command-item.is c.push_reserved.ensures.items prev.1 link.1,
-            stands-push _ link.0 prev.0 c.command-item.result c.apply-reply.result _ _ _ link.2,
+            stands-push _ link.0 prev.0 c.command-item.result c.apply-reply.result _ _ link.2,
           );
     }
 
 pub returns-clause-leads : goal.returns-clause-leads
 returns-clause-leads g c merge lawful before is sound =
     let prev = c.loop-command.invariant.leads merge lawful before is sound in
-    leads_all (record { merge = merge; options = c.args.options.now }) c.args.commands.now c.loop-command.command-index c.loop-command.replies.items before _ c.loop-command.live _ _ prev.0 c.loop-command-test.false prev.1 prev.2
+    leads_all (record { merge = merge; options = c.args.options.now }) c.args.commands.now c.loop-command.command-index c.loop-command.replies.items before _ c.loop-command.live _ prev.0 c.loop-command-test.false prev.1 prev.2

@@ -4,8 +4,9 @@ use Rattle.slate_types.specs.Operator.{Merge}
 use Rattle.slate_reads.specs.Read.{IsOperator}
 use Rattle.slate_store.specs.Objects.{Objects}
 use Rattle.slate_store.specs.Content.{IsSound}
+use Rattle.slate_model.specs.Known.{known}
 use Rattle.slate_live.specs.Steps.{Step, last_world}
-use Rattle.slate_live.specs.Stands.{StandsFor}
+use Rattle.slate_live.specs.Represents.{Represents}
 use Rattle.slate_live.specs.World.{start}
 use Rattle.slate_live.proofs.Chains.{Done}
 use Rattle.slate_live.proofs.runs.run.Given as goal
@@ -21,5 +22,5 @@ invariant-loop-command g l =
       leads : (merge : Option Merge) → IsOperator g.M.MergeOperator.may_answer (option_copied l.operator) merge →
           (before : Objects) → g.S.Store.objects l.fn.store ≡ Some before → IsSound before →
           (steps : List Step) × Done (record { merge = merge; options = l.options }) (start before (g.S.Store.faults l.fn.store)) (take l.command-index l.commands) l.replies.items steps
-          × StandsFor l.live (g.S.Store.objects l.store) (g.S.Store.faults l.store) (last_world (start before (g.S.Store.faults l.fn.store)) steps);
+          × Represents l.live (known g.S.Store.objects g.S.Store.faults l.store) (last_world (start before (g.S.Store.faults l.fn.store)) steps);
     }

@@ -1,5 +1,6 @@
 use Rattle.std.proofs.Common.{ap, refl, sym, ◌∙◌}
 use Rattle.slate_live.specs.declared.sessions.Outcome.TheVariants.{NoMemory, WordsRefused}
+use Rattle.slate_model.specs.Known.{known}
 use Rattle.slate_live.proofs.Endings.{ends-refused, ends-unrun}
 use Rattle.slate_live.proofs.sessions.session.Goals as goal
 
@@ -18,6 +19,6 @@ returns-in_default-run-clause-ends g c =
       c.finished-in_default-run.ensures.status,
       c.finished-in_default-run.ensures.line,
       ends-unrun _ c.in-Some.options _ _ _ (sym c.read_words.ensures ∙ c.in-Some.is)
-          (record { written = refl; sink_faults = refl; objects = ap g.S.Store.objects kept; store_faults = ap g.S.Store.faults kept })
+          (record { written = refl; sink_faults = refl; store = ap (known g.S.Store.objects g.S.Store.faults) kept })
           (c.finished-in_default-run.ensures.replies ∙ c.new-in_default-run.ensures.items),
     )

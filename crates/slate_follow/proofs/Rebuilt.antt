@@ -1,0 +1,84 @@
+use Rattle.std.proofs.Common.{◌≡◌, ℕ, ◌+◌, Bool, List, Option, Some, None, Ok, refl, sym, subst, ap, ◌∙◌, arith}
+use Rattle.std.specs.Option.{IfSome}
+use Rattle.slate_types.specs.declared.batches.Batch.{Batch}
+use Rattle.slate_types.specs.Line.{Line, end}
+use Rattle.slate_store.specs.declared.objects.VersionedManifest.{VersionedManifest}
+use Rattle.slate_store.specs.Content.{IsSound, content, content_by}
+use Rattle.slate_store.specs.Objects.{Objects, last_log}
+use Rattle.slate_store.specs.Logs.{IsReplayable, replayed}
+use Rattle.slate_replay.specs.declared.replays.Replayed.{Replayed}
+use Rattle.slate_replay.specs.declared.replays.Replayed.TheVariants as replays
+use Rattle.slate_model.specs.Follower.{Follower, SeesAll, rebuilt}
+use Rattle.slate_model.specs.Known.{IsContent}
+use Rattle.slate_model.proofs.Reduced.{some-same}
+use Rattle.slate_model.proofs.Reopened.{and_right, content-logged, line_from, no-tables, replayable-by}
+use Rattle.slate_model.specs.declared.answers.PollAnswer.{PollAnswer}
+use Rattle.slate_model.specs.declared.answers.PollAnswer.TheVariants.{Whole, Truncated}
+use Rattle.slate_follow.specs.Rebuilding.{FindsView, GiveBatches, HasLogs, ReplaysLatest}
+
+-- how a poll answers its replay
+abbrev pub answer_of : Replayed → ℕ → PollAnswer
+answer_of replays.Whole at = Whole at
+answer_of (replays.Torn id) at = Truncated at
+
+module _ (opening : Bool) (view : VersionedManifest) (batches : List Batch) where
+  abbrev pub line : Line
+  line = line_from view.manifest.last_l0_seq batches
+
+  abbrev pub follower : Follower
+  follower = rebuilt view line
+
+  has_logs : (found : Replayed) (o : Objects) → GiveBatches o view.manifest batches found → HasLogs o follower (answer_of found (end line))
+  has_logs replays.Whole o given = given
+  has_logs (replays.Torn id) o given = (id, given)
+
+  abbrev Given : Objects → List Batch → Replayed → Type 0
+  Given o all found = (batches ≡ all) × (found ≡ replays.Whole)
+
+  -- log files that can be replayed give all of it
+  whole : (found : Replayed) (o : Objects) → let m = view.manifest in let last = last_log m.replay_after_wal_id o in IsReplayable m.replay_after_wal_id last m.last_l0_seq o → GiveBatches o m batches found → Given o (replayed m.replay_after_wal_id last m.last_l0_seq o) found
+  whole replays.Whole o can given =
+      let m = view.manifest in
+      let last = last_log m.replay_after_wal_id o in
+      let same : m.last_l0_seq ≡ m.last_l0_seq + 0 = omega arith in
+      (given.appended (subst (λ n. IsReplayable m.replay_after_wal_id last n o) same can) ∙ ap (λ n. replayed m.replay_after_wal_id last n o) (sym same), refl)
+  whole (replays.Torn id) o can given =
+      let m = view.manifest in
+      let last = last_log m.replay_after_wal_id o in
+      let same : m.last_l0_seq ≡ m.last_l0_seq + 0 = omega arith in
+      absurd (given.missing (subst (λ n. IsReplayable m.replay_after_wal_id last n o) same can))
+
+  sees : (found : Replayed) (o : Objects) → IsSound o → FindsView opening o (Ok view) → GiveBatches o view.manifest batches found → SeesAll o (content o) follower (answer_of found (end line))
+  sees found o sound can given =
+      let none = no-tables view.manifest.tables (and_right _ _ can.1) in
+      let all = whole found o (replayable-by o view sound can.0) given in
+      let same : content o ≡ line =
+      ap (content_by o) can.0 ∙ (content-logged o view sound can.0 none ∙ ap (line_from view.manifest.last_l0_seq) (sym all.0)) in
+      (view, can.0, ap (rebuilt view) (sym same), ap (λ r. answer_of r (end line)) all.1 ∙ ap (λ l. Whole (end l)) (sym same))
+
+  -- what was found and replayed makes the follower
+  module _ (found : Replayed) {t t1 : Option Objects} (kept : t1 ≡ t) (can : IfSome t (λ o. FindsView opening o (Ok view))) (given : IfSome t1 (λ o. GiveBatches o view.manifest batches found)) (answer : PollAnswer) (is : answer ≡ answer_of found (end line)) where
+    can_at : (o : Objects) → t ≡ Some o → FindsView opening o (Ok view)
+    can_at o at = subst (λ x. IfSome x (λ o. FindsView opening o (Ok view))) at can
+
+    given_at : (o : Objects) → t ≡ Some o → GiveBatches o view.manifest batches found
+    given_at o at = subst (λ x. IfSome x (λ o. GiveBatches o view.manifest batches found)) (kept ∙ at) given
+
+    pub replays_at : (o : Objects) → t ≡ Some o → ReplaysLatest opening o follower answer
+    replays_at o at =
+        let v = can_at o at in
+        subst (ReplaysLatest opening o follower) (sym is) (record { latest = v.0; can = v.1; floor = refl; logs = has_logs found o (given_at o at) })
+
+    pub sees_at : (o : Objects) → t ≡ Some o → IsSound o → SeesAll o (content o) follower answer
+    sees_at o at sound = subst (SeesAll o (content o) follower) (sym is) (sees found o sound (can_at o at) (given_at o at))
+
+  -- and it sees the content of sound objects
+  pub sees_stored : (found : Replayed) {t t1 : Option Objects} → t1 ≡ t → IfSome t (λ o. FindsView opening o (Ok view)) → IfSome t1 (λ o. GiveBatches o view.manifest batches found) → (answer : PollAnswer) → answer ≡ answer_of found (end line) → (o : Objects) (stored : Line) → t ≡ Some o → IsContent t stored → SeesAll o stored follower answer
+  sees_stored found kept can given answer is o stored at content_is =
+      let same : content_is.0 ≡ o = some-same content_is.0 o (sym content_is.1 ∙ at) in
+      subst (λ l. SeesAll o l follower answer) (sym (content_is.3 ∙ ap content same)) (sees_at found kept can given answer is o at (subst IsSound same content_is.2))
+
+-- what holds of each that there is holds where there is one
+pub if_some : {X : Type 0} {P : X → Type 0} (t : Option X) → ((x : X) → t ≡ Some x → P x) → IfSome t P
+if_some None f = tt
+if_some (Some x) f = f x refl

@@ -1,0 +1,86 @@
+ghost use Rattle.std.specs.Prelude.{◌≡◌, ◌+◌, ◌<◌, ◌^◌, length, IfOk, IfErr, IfSome};
+ghost use Rattle.slate_types.specs.Line.{AreNumberedFrom};
+ghost use Rattle.slate_model.specs.Follower.{Rebuilds, can_follow};
+ghost use Rattle.slate_model.specs.Known.{CountsFaults, IsContent, known};
+ghost use Rattle.slate_follow.specs.Rebuilding.{FindsView, GiveBatches, IsOfReplay, ReplaysLatest};
+
+use crate::{FollowerState, PollAnswer};
+use slate_errors::{CloseCell, SlateError};
+use slate_reads::IndexedTable;
+use slate_replay::{Replayed, replay};
+use slate_store::{Store, VersionedManifest};
+use std::alloc::Global;
+
+/// A follower of what is stored, and whether its log files were whole.
+pub(crate) fn rebuild<S: Store>(
+    alloc: Global,
+    store: &mut S,
+    opening: bool,
+) -> Result<(FollowerState, PollAnswer), SlateError>
+    ensures rebuilds { Rebuilds (IsContent (S.objects store.old)) opening (known S.objects S.faults store.old) result (known S.objects S.faults store.new) }
+    ensures replays { IfOk result (λ p. IfSome (S.objects store.old) (λ o. ReplaysLatest opening o p.0 p.1)) }
+{
+    let view = find_view(alloc, store, opening)?;
+    let (memory, replayed) = replay_logs(alloc, store, &view)?;
+    let follower = FollowerState {
+        floor: view.manifest.last_l0_seq,
+        memory,
+        view,
+        closed: CloseCell::new(),
+    };
+    let at = follower.number();
+    let answer = match replayed {
+        Replayed::Whole => PollAnswer::Whole { at },
+        Replayed::Torn(_) => PollAnswer::Truncated { at },
+    };
+    Ok((follower, answer))
+}
+
+/// The latest manifest, where the database can be followed by it.
+fn find_view<S: Store>(
+    alloc: Global,
+    store: &mut S,
+    opening: bool,
+) -> Result<VersionedManifest, SlateError>
+    ensures faults { CountsFaults (S.faults store.old) (S.faults store.new) result }
+    ensures kept { S.objects store.new ≡ S.objects store.old }
+    ensures told { IfSome (S.objects store.old) (λ o. FindsView opening o result) }
+{
+    let Some(latest) = store.latest_manifest(alloc)? else {
+        return Err(SlateError::LatestTransactionalObjectVersionMissing);
+    };
+    if !can_follow(opening, &latest) {
+        return Err(SlateError::InvalidDBState);
+    }
+    Ok(latest)
+}
+
+/// Whether a database can be followed by its latest manifest.
+fn can_follow(opening: bool, latest: &VersionedManifest) -> bool
+    ensures { result ≡ can_follow opening latest.now }
+{
+    let manifest = &latest.manifest;
+    (manifest.initialized || !opening) && manifest.tables.as_slice().is_empty()
+}
+
+/// The batches of all log files above the replay mark of a manifest, and whether they were whole.
+fn replay_logs<S: Store>(
+    alloc: Global,
+    store: &mut S,
+    view: &VersionedManifest,
+) -> Result<(IndexedTable, Replayed), SlateError>
+    ensures faults { CountsFaults (S.faults store.old) (S.faults store.new) result }
+    ensures kept { S.objects store.new ≡ S.objects store.old }
+    ensures numbered { IfOk result (λ p. AreNumberedFrom view.now.manifest.last_l0_seq p.0) }
+    ensures fits { IfOk result (λ p. view.now.manifest.last_l0_seq + length p.0 < 2 ^ 64) }
+    ensures told { IfOk result (λ p. IfSome (S.objects store.old) (λ o. GiveBatches o view.now.manifest p.0 p.1)) }
+    ensures refusals { IfErr result IsOfReplay }
+{
+    let manifest = &view.manifest;
+    let floor = manifest.last_l0_seq;
+    let mark = manifest.replay_after_wal_id;
+    let last = store.last_log(alloc, mark)?;
+    let mut memory = IndexedTable::new(alloc);
+    let replayed = replay(alloc, store, &mut memory, floor, mark, last)?;
+    Ok((memory, replayed))
+}

@@ -1,0 +1,263 @@
+-- A valid command that meets no fault is refused nothing.
+use Rattle.std.proofs.Common.{◌≡◌, ◌⊎◌, inl, inr, ℕ, ℤ, ◌<◌, ◌≤◌, Bool, true, false, if◌then◌else◌, ◌||◌, ◌&&◌, ◌==◌, not, List, [], ◌∷◌, length, Option, Some, None, Result, Ok, Err, refl, sym, subst, ap, ◌∙◌, arith}
+use Rattle.std.specs.List.{slice_get}
+use Rattle.std.proofs.lemmas.Bool.{le-leb, lt-ltb}
+use Rattle.std.proofs.Math.Dec.{eqb-suc-zero}
+use Rattle.slate_types.specs.Counts.{HasRisen}
+use Rattle.slate_types.specs.declared.batches.KeyValue.{KeyValue}
+use Rattle.slate_types.specs.declared.options.FlushType.{FlushType}
+use Rattle.slate_types.specs.declared.read_faults.ReadFault.{ReadFault}
+use Rattle.slate_types.specs.declared.read_faults.ReadFault.TheVariants as reads
+use Rattle.slate_types.specs.declared.store_errors.StoreFault.TheVariants.{Unavailable}
+use Rattle.slate_store.specs.declared.objects.VersionedManifest.{VersionedManifest}
+use Rattle.slate_store.specs.Objects.{latest_manifest, last_log}
+use Rattle.slate_errors.specs.declared.endings.Ended.{Ended}
+use Rattle.slate_errors.specs.declared.errors.SlateError.{SlateError}
+use Rattle.slate_errors.specs.declared.errors.SlateError.TheVariants as errors
+use Rattle.slate_model.specs.Catalogue.{span}
+use Rattle.slate_model.specs.Close.{Closes, closing_flush, ended, fault_again, recorded_fault}
+use Rattle.slate_model.specs.declared.answers.PollAnswer.{PollAnswer}
+use Rattle.slate_model.specs.declared.answers.Written.{Written}
+use Rattle.slate_model.specs.Flush.{FlushCause, Flushes, Stores}
+use Rattle.slate_model.specs.Follower.{FollowCause, Follower, Rebuilds, built, can_follow}
+use Rattle.slate_model.specs.Handle.{CloseResult, Handle, accepted}
+use Rattle.slate_model.specs.Known.{CountsFaults}
+use Rattle.slate_model.specs.Object.{Object, Handle as AHandle, Follower as AFollower}
+use Rattle.slate_model.specs.Open.{OpenAnswer}
+use Rattle.slate_model.specs.Read.{AnswersRead, Reads}
+use Rattle.slate_model.specs.Write.{Writes, accepted_moment, batch_refusal, clock_refusal, last_number, number_refusal, write_refusal}
+use Rattle.slate_model.proofs.Reduced.{modelled}
+use Rattle.slate_script.specs.declared.commands.Action.{Action}
+use Rattle.slate_script.specs.declared.commands.Action.TheVariants as actions
+use Rattle.slate_script.specs.declared.commands.Command.{Command}
+use Rattle.slate_script.specs.declared.replies.Reply.{Reply}
+use Rattle.slate_script.specs.declared.replies.Reply.TheVariants as replies
+use Rattle.slate_live.specs.declared.states.Write.{Write}
+use Rattle.slate_live.specs.Commands.{ActsOn, DoesBy, asked_reply, write_reply}
+use Rattle.slate_live.specs.Handles.{flush_of_close, pending_reply, put_op}
+use Rattle.slate_live.specs.Replies.{closed_reply, ended_reply, follower_ended_reply, followed_reply, found_reply, polled_reply, refusal, reply_to}
+use Rattle.slate_live.specs.Settings.{Settings}
+use Rattle.slate_live.specs.Valid.{AtObject, CanClose, CanFollow, CanOpen, CanPut, CanStore, IsOkOrNoMemory, IsValidAction, IsValidCommand}
+use Rattle.slate_live.specs.World.{Next, World, by_catalogue, state_of}
+use Rattle.slate_live.proofs.Cases.{some-of}
+use Rattle.slate_live.proofs.Naming.{FollowerDid, HandleDid, follower-did, handle-did}
+
+none-some : {A : Type 0} (o : Option A) (x : A) → o ≡ None → o ≡ Some x → ⊥
+none-some o x none some = absurd (cc)
+
+some-same : {A : Type 0} (a b : A) → Some a ≡ Some b → a ≡ b
+some-same a b same = cc
+
+beyond : (a b : ℕ) → a < b → b ≤ a → ⊥
+beyond a b under over = omega (arith, under, over)
+
+-- an answer is Ok, or want of memory
+abbrev pub IsFree : {A : Type 0} → Result A SlateError → Type 0
+IsFree (Ok x) = Unit {0}
+IsFree (Err error) = error ≡ errors.NoMemory
+
+free-reply : {A : Type 0} (done : A → Reply) (r : Result A SlateError) → ((x : A) → r ≡ Ok x → IsOkOrNoMemory (done x)) → IsFree r → IsOkOrNoMemory (reply_to done r)
+free-reply done (Ok x) f free = f x refl
+free-reply done (Err e) f free = subst (λ x. IsOkOrNoMemory (refusal x)) (sym free) tt
+
+no-manifest : (w : World) (handle : Handle) → latest_manifest w.catalogue ≡ None → CanStore w handle → ⊥
+no-manifest w handle none can = none-some (latest_manifest w.catalogue) can.1 none can.2
+
+same-manifest : (found : Option VersionedManifest) (a b : VersionedManifest) → found ≡ Some a → found ≡ Some b → a ≡ b
+same-manifest found a b is_a is_b = some-same a b (sym is_a ∙ is_b)
+
+-- an opening that nothing stands against, and that met no fault
+open-free : (w : World) (faults : ℕ) (r : Result Handle SlateError) → OpenAnswer (λ _. ⊥) w.catalogue r → CountsFaults w.faults faults r → CanOpen w → (HasRisen w.faults faults → ⊥) → IsFree r
+open-free w faults (Ok h) answer fault can calm = tt
+open-free w faults (Err errors.InvalidDBState) answer fault can calm = absurd (cc)
+open-free w faults (Err (errors.ObjectStoreError Unavailable)) answer fault can calm = absurd (calm (fault.unavailable refl))
+open-free w faults (Err errors.NoMemory) answer fault can calm = refl
+open-free w faults (Err error) answer fault can calm = absurd answer
+
+still-current : (w : World) (handle : Handle) → FlushCause handle.epoch w.catalogue errors.Fenced → CanStore w handle → ⊥
+still-current w handle cause can =
+    let same : cause.0 ≡ can.1 = same-manifest (latest_manifest w.catalogue) cause.0 can.1 cause.1 can.2 in
+    beyond handle.epoch can.1.manifest.writer_epoch (subst (λ m. handle.epoch < m.manifest.writer_epoch) same cause.2) can.3
+
+full-log : (w : World) (handle : Handle) → FlushCause handle.epoch w.catalogue errors.InvalidDBState → CanStore w handle → ⊥
+full-log w handle cause can =
+    let same : cause.0 ≡ can.1 = same-manifest (latest_manifest w.catalogue) cause.0 can.1 cause.1 can.2 in
+    beyond (last_log can.1.manifest.replay_after_wal_id w.catalogue) last_number can.4 (subst (λ m. last_number ≤ last_log m.manifest.replay_after_wal_id w.catalogue) same cause.2)
+
+flush-cause : (w : World) (handle : Handle) (faults : ℕ) (error : SlateError) → FlushCause handle.epoch w.catalogue error → CountsFaults {A = Unit {0}} w.faults faults (Err error) → CanStore w handle → (HasRisen w.faults faults → ⊥) → error ≡ errors.NoMemory
+flush-cause w handle faults errors.Fenced cause fault can calm = absurd (still-current w handle cause can)
+flush-cause w handle faults errors.LatestTransactionalObjectVersionMissing cause fault can calm = absurd (no-manifest w handle cause can)
+flush-cause w handle faults errors.InvalidDBState cause fault can calm = absurd (full-log w handle cause can)
+flush-cause w handle faults (errors.ObjectStoreError Unavailable) cause fault can calm = absurd (calm (fault.unavailable refl))
+flush-cause w handle faults errors.NoMemory cause fault can calm = refl
+flush-cause w handle faults error cause fault can calm = absurd cause
+
+stores-free : (w w' : World) (made : ℕ) (h : Handle) (view : VersionedManifest) (r : Result (Unit {0}) SlateError) → Stores span made h view (state_of w).store r (state_of w').store → CanStore w h → (HasRisen w.faults w'.faults → ⊥) → IsFree r
+stores-free w w' made h view (Ok x) s can calm = tt
+stores-free w w' made h view (Err e) s can calm =
+    let b = modelled w.catalogue w'.catalogue s.objects in
+    flush-cause w h w'.faults e b.answer.0 s.faults can calm
+
+flush-completes : (w w' : World) (made : ℕ) (h h' : Handle) (r : Result (Unit {0}) SlateError) (reply : Reply) → h.result ≡ None → CanStore w h → Flushes span made h (state_of w).store r h' (state_of w').store → reply ≡ reply_to (λ _. replies.Flushed) r → (HasRisen w.faults w'.faults → ⊥) → IsOkOrNoMemory reply
+flush-completes w w' made h h' r reply live can f is calm =
+    let s = f.stored (live, can.0) in
+    subst IsOkOrNoMemory (sym is) (free-reply (λ _. replies.Flushed) r (λ x at. tt) (stores-free w w' made h h'.view r s.1 can calm))
+
+-- the reply to a close by the error of its flush
+close-reply : (e : Option SlateError) → IsFree (closing_flush e) → IsOkOrNoMemory (closed_reply e [])
+close-reply None free = tt
+close-reply (Some e) free = subst (λ x. IsOkOrNoMemory (closed_reply (Some x) [])) (sym free) tt
+
+close-open : (w w' : World) (made : ℕ) (h h' : Handle) (flush_type : Option FlushType) (e : Ended) (reply : Reply) → h.result ≡ None → CanClose None flush_type w h → Closes span made flush_type h (state_of w).store e h' (state_of w').store → reply ≡ ended_reply e → (HasRisen w.faults w'.faults → ⊥) → IsOkOrNoMemory reply
+close-open w w' made h h' None e reply live can c is calm =
+    let u = c.unflushed live refl in
+    subst IsOkOrNoMemory (sym (is ∙ ap ended_reply u.0)) tt
+close-open w w' made h h' (Some t) e reply live can c is calm =
+    let s = c.stored (live, can.0) (λ none. absurd (cc)) in
+    subst IsOkOrNoMemory (sym (is ∙ ap ended_reply s.0)) (close-reply e.fault (stores-free w w' made h h'.view (closing_flush e.fault) s.2 can calm))
+
+close-completes : (w w' : World) (made : ℕ) (h h' : Handle) (result : CloseResult) (flush_type : Option FlushType) (e : Ended) (reply : Reply) → h.result ≡ result → CanClose result flush_type w h → Closes span made flush_type h (state_of w).store e h' (state_of w').store → reply ≡ ended_reply e → (HasRisen w.faults w'.faults → ⊥) → IsOkOrNoMemory reply
+close-completes w w' made h h' None flush_type e reply at can c is calm = close-open w w' made h h' flush_type e reply at can c is calm
+close-completes w w' made h h' (Some (Ok x)) flush_type e reply at can c is calm = absurd can
+close-completes w w' made h h' (Some (Err fault)) flush_type e reply at can c is calm =
+    let a = some-of (λ q. (e ≡ ended (fault_again q)) × (h' ≡ h) × _) h.result (Err fault) at c.again in
+    subst IsOkOrNoMemory (sym (is ∙ ap ended_reply a.0)) tt
+
+-- a put that nothing stands against isn't refused
+no-refusal : (handle : Handle) (key value : List ℕ) (expire : Option ℤ) (moment : ℤ) (second : Option ℤ) → handle.result ≡ None → CanPut key moment second handle → write_refusal handle (put_op key value expire ∷ []) moment second ≡ None
+no-refusal handle [] value expire moment second unclosed can = absurd (beyond 0 0 can.0 (omega (arith)))
+no-refusal handle (byte ∷ key) value expire moment second unclosed can =
+    let batch : batch_refusal (put_op (byte ∷ key) value expire ∷ []) ≡ None = ap (λ empty. if (empty || false) then Some errors.EmptyKey else None) (eqb-suc-zero (length key)) in
+    let number : number_refusal (accepted handle) ≡ None = ap (λ below. if below then None else Some errors.InvalidDBState) (lt-ltb (accepted handle) last_number can.1) in
+    let clock : clock_refusal handle.tick moment second (accepted_moment handle.tick moment second) ≡ None = ap (clock_refusal handle.tick moment second) can.3 in
+    rw (unclosed, batch, number, clock) refl
+
+memory-alone : (e : SlateError) (refused : Option SlateError) → refused ≡ None → (e ≡ errors.NoMemory) ⊎ (refused ≡ Some e) → e ≡ errors.NoMemory
+memory-alone e refused none (inl memory) = memory
+memory-alone e refused none (inr because) = absurd (none-some refused e none because)
+
+write-free : (h h' : Handle) (key value : List ℕ) (expire : Option ℤ) (moment : ℤ) (second : Option ℤ) (r : Result Written SlateError) → h.result ≡ None → CanPut key moment second h → Writes h (put_op key value expire ∷ []) moment second r h' → IsFree r
+write-free h h' key value expire moment second (Ok w) live can s = tt
+write-free h h' key value expire moment second (Err e) live can s = memory-alone e _ (no-refusal h key value expire moment second live can) s.refused.0
+
+ok-err : {A : Type 0} (answer : Result A ReadFault) (found : A) (fault : ReadFault) → answer ≡ Ok found → answer ≡ Err fault → ⊥
+ok-err answer found fault ok err = absurd (cc)
+
+-- a read that finds a row, or none, is refused nothing
+answers-free : (plain : Result (Option KeyValue) ReadFault) (found : Option KeyValue) (r : Result (Option KeyValue) SlateError) → plain ≡ Ok found → AnswersRead plain r → IsFree r
+answers-free plain found (Ok row) is a = tt
+answers-free plain found (Err errors.MergeOperatorMissing) is a = absurd (ok-err plain found reads.MergeOperatorMissing is a)
+answers-free plain found (Err errors.MergeOperatorError) is a = absurd (ok-err plain found reads.MergeOperatorError is a)
+answers-free plain found (Err errors.ChecksumMismatch) is a = absurd (ok-err plain found reads.ChecksumMismatch is a)
+answers-free plain found (Err errors.NoMemory) is a = refl
+answers-free plain found (Err e) is a = absurd a
+
+found-free : (found : Option KeyValue) → IsOkOrNoMemory (found_reply found)
+found-free None = tt
+found-free (Some row) = tt
+
+read-completes : (result : CloseResult) (plain : Result (Option KeyValue) ReadFault) (found : Option KeyValue) (r : Result (Option KeyValue) SlateError) (reply : Reply) → result ≡ None → plain ≡ Ok found → Reads result plain r → reply ≡ reply_to found_reply r → IsOkOrNoMemory reply
+read-completes result plain found r reply live is reads is_reply =
+    subst IsOkOrNoMemory (sym is_reply) (free-reply found_reply r (λ x at. found-free x) (answers-free plain found r is (reads.read live)))
+
+or-and : (a b : Bool) → ((a || not true) && b) ≡ true → ((a || not false) && b) ≡ true
+or-and true b h = h
+or-and false b h = absurd (cc)
+
+still-follows : (opening : Bool) (latest : VersionedManifest) → can_follow true latest ≡ true → can_follow opening latest ≡ true
+still-follows true latest can = can
+still-follows false latest can = or-and latest.manifest.initialized (length latest.manifest.tables == 0) can
+
+follow-cause : (w : World) (opening : Bool) (faults : ℕ) (error : SlateError) → FollowCause opening w.catalogue error → CountsFaults {A = Follower × PollAnswer} w.faults faults (Err error) → CanFollow w → (HasRisen w.faults faults → ⊥) → error ≡ errors.NoMemory
+follow-cause w opening faults errors.LatestTransactionalObjectVersionMissing cause fault can calm = absurd (none-some (latest_manifest w.catalogue) can.0 cause can.1)
+follow-cause w opening faults errors.InvalidDBState cause fault can calm =
+    let same : cause.0 ≡ can.0 = same-manifest (latest_manifest w.catalogue) cause.0 can.0 cause.1 can.1 in
+    let no : can_follow opening can.0 ≡ false = subst (λ m. can_follow opening m ≡ false) same cause.2 in
+    let yes = still-follows opening can.0 can.2 in
+    absurd (cc)
+follow-cause w opening faults (errors.ObjectStoreError Unavailable) cause fault can calm = absurd (calm (fault.unavailable refl))
+follow-cause w opening faults errors.NoMemory cause fault can calm = refl
+follow-cause w opening faults error cause fault can calm = absurd cause
+
+rebuild-free : (w w' : World) (opening : Bool) (r : Result (Follower × PollAnswer) SlateError) → Rebuilds (λ line. line ≡ w.stored) opening (state_of w).store r (state_of w').store → CanFollow w → (HasRisen w.faults w'.faults → ⊥) → IsFree r
+rebuild-free w w' opening (Ok b) built can calm = tt
+rebuild-free w w' opening (Err e) built can calm = follow-cause w opening w'.faults e built.cause built.faults can calm
+
+-- over an honest store nothing is missing
+follow-reply : (w w' : World) (n : ℕ) (r : Result (Follower × PollAnswer) SlateError) → Rebuilds (λ line. line ≡ w.stored) true (state_of w).store r (state_of w').store → CanFollow w → (HasRisen w.faults w'.faults → ⊥) → IsOkOrNoMemory (reply_to (λ (b : Follower × PollAnswer). followed_reply n b.1) r)
+follow-reply w w' n (Ok b) r can calm =
+    let all = r.sees w.catalogue w.stored refl refl in
+    subst (λ a. IsOkOrNoMemory (followed_reply n a)) (sym all.3) tt
+follow-reply w w' n (Err e) r can calm = subst (λ x. IsOkOrNoMemory (refusal x)) (sym (rebuild-free w w' true (Err e) r can calm)) tt
+
+poll-reply : (w w' : World) (f : Follower) (r : Result PollAnswer SlateError) → Rebuilds (λ line. line ≡ w.stored) false (state_of w).store (built f r) (state_of w').store → CanFollow w → (HasRisen w.faults w'.faults → ⊥) → IsOkOrNoMemory (reply_to polled_reply r)
+poll-reply w w' f (Ok answer) r can calm =
+    let all = r.sees w.catalogue w.stored refl refl in
+    subst (λ a. IsOkOrNoMemory (polled_reply a)) (sym all.3) tt
+poll-reply w w' f (Err e) r can calm = subst (λ x. IsOkOrNoMemory (refusal x)) (sym (rebuild-free w w' false (Err e) r can calm)) tt
+
+closed-follower-reply : (fault : Option SlateError) (reply : Reply) → fault ≡ None → reply ≡ follower_ended_reply (ended fault) → IsOkOrNoMemory reply
+closed-follower-reply None reply none is = subst IsOkOrNoMemory (sym is) tt
+closed-follower-reply (Some error) reply none is = absurd (cc)
+
+-- the object that a valid command names
+by-object : {G : Type 0} (object : Option Object) (of_handle : Handle → Type 0) (of_follower : Follower → Type 0) → AtObject object of_handle of_follower → ((h : Handle) → object ≡ Some (AHandle h) → of_handle h → G) → ((f : Follower) → object ≡ Some (AFollower f) → of_follower f → G) → G
+by-object None of_handle of_follower at f g = absurd at
+by-object (Some (AHandle h)) of_handle of_follower at f g = f h refl at
+by-object (Some (AFollower x)) of_handle of_follower at f g = g x refl at
+
+module _ (settings : Settings) (w w' : World) (command : Command) (made : ℕ) (reply : Reply) (calm : HasRisen w.faults w'.faults → ⊥) where
+  abbrev On : ℕ → Type 0
+  On n = ActsOn (by_catalogue w.stored) settings.merge n command made (slice_get w.objects n) (state_of w) reply (state_of w')
+
+  handle-at : (n : ℕ) (action : Action) (h : Handle) → command.action ≡ action → slice_get w.objects n ≡ Some (AHandle h) → On n → HandleDid (by_catalogue w.stored) settings.merge n command action made (state_of w) reply (state_of w') h
+  handle-at n action h is at d = handle-did (by_catalogue w.stored) settings.merge n command action made (state_of w) reply (state_of w') (slice_get w.objects n) h is at d
+
+  follower-at : (n : ℕ) (action : Action) (f : Follower) → command.action ≡ action → slice_get w.objects n ≡ Some (AFollower f) → On n → FollowerDid (by_catalogue w.stored) settings.merge n command action made (state_of w) reply (state_of w') f
+  follower-at n action f is at d = follower-did (by_catalogue w.stored) settings.merge n command action made (state_of w) reply (state_of w') (slice_get w.objects n) f is at d
+
+  asked : (write : Write) → AtObject (slice_get w.objects write.handle) (λ handle. write.number ≤ handle.durable) (λ follower. ⊥) → IsOkOrNoMemory (asked_reply (slice_get w.objects write.handle) write.number)
+  asked write at =
+      by-object (slice_get w.objects write.handle) _ _ at
+      (λ h is low. subst (λ x. IsOkOrNoMemory (asked_reply x write.number)) (sym is)
+      (subst IsOkOrNoMemory (sym (ap (λ b. if b then replies.Durable else pending_reply h.result) (le-leb write.number h.durable low))) tt))
+      (λ f is never. absurd never)
+
+  completes-by : (action : Action) → command.action ≡ action → DoesBy (by_catalogue w.stored) settings command action made (state_of w) reply (state_of w') → IsValidAction settings.merge w command.moment command.second action → IsOkOrNoMemory reply
+  completes-by actions.Open is d can =
+      let o = modelled w.catalogue w'.catalogue (d.does).opens in
+      subst IsOkOrNoMemory (sym d.replied) (free-reply _ d.result (λ x at. tt) (open-free w w'.faults d.result o.answer (d.does).faults can calm))
+  completes-by (actions.Follow mode managed skip) is d can = subst IsOkOrNoMemory (sym (d.0).replied) (follow-reply w w' (length w.objects) (d.0).result (d.0).does can calm)
+  completes-by (actions.Await n) is d can =
+      subst IsOkOrNoMemory (sym (d.1 ∙ ap (write_reply w.objects) can.1)) (asked can.0 can.2)
+  completes-by (actions.Put n key value expire) is d can =
+      let h = handle-at n (actions.Put n key value expire) can.0 is can.1 d in
+      subst IsOkOrNoMemory (sym (h.acts).0.replied) (free-reply _ (h.acts).0.result (λ x at. tt) (write-free can.0 h.new key value expire command.moment command.second (h.acts).0.result can.2 can.3 (h.acts).0.does))
+  completes-by (actions.Flush n t) is d can =
+      let h = handle-at n (actions.Flush n t) can.0 is can.1 d in
+      flush-completes w w' made can.0 h.new (h.acts).0.result reply can.2 can.3 (h.acts).0.does (h.acts).0.replied calm
+  completes-by (actions.Get n key remote) is d can =
+      by-object (slice_get w.objects n) _ _ can
+      (λ h at can_read.
+      let a = handle-at n (actions.Get n key remote) h is at d in
+      read-completes h.result _ can_read.1.0 (a.acts).0.result reply can_read.0 can_read.1.1 (a.acts).0.does (a.acts).0.replied)
+      (λ f at can_read.
+      let a = follower-at n (actions.Get n key remote) f is at d in
+      read-completes f.result _ can_read.1 (a.acts).0.result reply can_read.0 can_read.2 (a.acts).0.does (a.acts).0.replied)
+  completes-by (actions.Close n options) is d can =
+      by-object (slice_get w.objects n) _ _ can
+      (λ h at can_close.
+      let a = handle-at n (actions.Close n options) h is at d in
+      close-completes w w' made h a.new h.result (flush_of_close options) (a.acts).0.ended reply refl can_close (a.acts).0.does (a.acts).0.replied calm)
+      (λ f at none.
+      let a = follower-at n (actions.Close n options) f is at d in
+      closed-follower-reply (recorded_fault f.result) reply none (a.acts).0)
+  completes-by (actions.Poll n) is d can =
+      by-object (slice_get w.objects n) _ _ can (λ h at never. absurd never)
+      (λ f at can_poll.
+      let a = follower-at n (actions.Poll n) f is at d in
+      subst IsOkOrNoMemory (sym (a.acts).0.replied) (poll-reply w w' a.new (a.acts).0.result (((a.acts).0.does).rebuilds can_poll.0) can_poll.1 calm))
+
+-- a valid command that meets no fault is refused nothing
+pub completes : (settings : Settings) (w : World) (command : Command) (reply : Reply) (w' : World) → Next settings w command reply w' → IsValidCommand settings.merge w command → (HasRisen w.faults w'.faults → ⊥) → IsOkOrNoMemory reply
+completes settings w command reply w' next can calm = completes-by settings w w' command next.made reply calm command.action refl next.does can

@@ -1,0 +1,18 @@
+use Rattle.std.proofs.Common.{refl, sym, ap, map, true, ◌∙◌}
+use Rattle.std.proofs.lemmas.List.{append-nil}
+use Rattle.slate_live.specs.Objects.{object_of}
+use Rattle.slate_live.proofs.Doing.{opens-nothing}
+use Rattle.slate_live.proofs.states.LiveState.open.Goals as goal
+
+pub returns-then-is_err-clause-does : goal.returns-then-is_err-clause-does
+returns-then-is_err-clause-does g c merge =
+    rw (← c.self.view_is) (
+      0,
+      record {
+        result = _;
+        replied = refl;
+        does = opens-nothing true _ _;
+        objects = ap (map object_of) c.reserve.ensures.items ∙ sym (append-nil _);
+        writes = refl;
+      },
+    )

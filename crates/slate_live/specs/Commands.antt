@@ -1,0 +1,87 @@
+-- What a command does: it opens an object, or it names one, which does what is asked, or it asks for a write.
+use Rattle.std.specs.Prelude.{◌≡◌, ℕ, true, List, [], ◌∷◌, ◌++◌, length, slice_get, slice_set, Option, Some, None, Result, Ok, Err}
+use Rattle.slate_types.specs.Operator.{Merge}
+use Rattle.slate_errors.specs.declared.errors.SlateError.{SlateError}
+use Rattle.slate_model.specs.Follower.{Rebuilds}
+use Rattle.slate_model.specs.Known.{Known}
+use Rattle.slate_model.specs.Object.{Object, Handle, Follower}
+use Rattle.slate_model.specs.Open.{OpensHandle}
+use Rattle.slate_script.specs.declared.commands.Action.{Action}
+use Rattle.slate_script.specs.declared.commands.Action.TheVariants as actions
+use Rattle.slate_script.specs.declared.commands.Command.{Command}
+use Rattle.slate_script.specs.declared.replies.Reply.{Reply}
+use Rattle.slate_script.specs.declared.replies.Reply.TheVariants as replies
+use Rattle.slate_live.specs.declared.states.Write.{Write}
+use Rattle.slate_live.specs.Followers.{FollowerActs}
+use Rattle.slate_live.specs.Handles.{HandleActs, durable_reply}
+use Rattle.slate_live.specs.Replies.{followed_reply, reply_to}
+use Rattle.slate_live.specs.Settings.{Settings}
+use Rattle.slate_live.specs.State.{Knowledge, State}
+
+-- a command is answered so, and changes nothing
+abbrev pub OnlyAnswers : {L : Type 0} → Reply → ℕ → State L → Reply → State L → Type 0
+OnlyAnswers answer made s reply s' = (made ≡ 0) × (reply ≡ answer) × (s' ≡ s)
+
+-- the objects that an opening adds
+abbrev pub added : {A : Type 0} → (A → Object) → Result A SlateError → List Object
+added object (Ok opened) = object opened ∷ []
+added object (Err error) = []
+
+-- An opening did this to the store, and adds the object that it answered. All others are as before.
+pub record Adds {L A : Type 0} (did : Known L → Result A SlateError → Known L → Type 0) (object : A → Object) (done : ℕ → A → Reply) (s : State L) (reply : Reply) (s' : State L) : Type 0 where
+  pub result : Result A SlateError
+  pub replied : reply ≡ reply_to (done (length s.objects)) result
+  pub does : did s.store result s'.store
+  pub objects : s'.objects ≡ s.objects ++ added object result
+  pub writes : s'.writes ≡ s.writes
+
+-- what an object does at a command, by its kind
+abbrev pub Acts : {L : Type 0} → Knowledge L → Option Merge → ℕ → Command → ℕ → Object → Known L → List Write → Reply → Object → Known L → List Write → Type 0
+Acts k merge n command made (Handle old) before writes reply (Handle new) after writes' =
+    HandleActs k.summary merge n command.moment command.second command.action made old before writes reply new after writes'
+Acts k merge n command made (Follower old) before writes reply (Follower new) after writes' =
+    FollowerActs k.is_stored k.rows merge command.action made old before writes reply new after writes'
+Acts k merge n command made old before writes reply new after writes' = ⊥
+
+-- The object with number n does what is asked of it. All others are as before.
+pub record ActsAt {L : Type 0} (k : Knowledge L) (merge : Option Merge) (n : ℕ) (command : Command) (made : ℕ) (old : Object) (s : State L) (reply : Reply) (s' : State L) : Type 0 where
+  pub new : Object
+  pub acts : Acts k merge n command made old s.store s.writes reply new s'.store s'.writes
+  pub objects : s'.objects ≡ slice_set s.objects n new
+
+-- an object that isn't there is unknown
+abbrev pub ActsOn : {L : Type 0} → Knowledge L → Option Merge → ℕ → Command → ℕ → Option Object → State L → Reply → State L → Type 0
+ActsOn k merge n command made None s reply s' = OnlyAnswers replies.Unknown made s reply s'
+ActsOn k merge n command made (Some old) s reply s' = ActsAt k merge n command made old s reply s'
+
+-- the reply where a write with this number is asked for, by the object that it was written to
+abbrev pub asked_reply : Option Object → ℕ → Reply
+asked_reply (Some (Handle handle)) number = durable_reply handle number
+asked_reply object number = replies.Unknown
+
+abbrev pub write_reply : List Object → Option Write → Reply
+write_reply objects None = replies.Unknown
+write_reply objects (Some write) = asked_reply (slice_get objects write.handle) write.number
+
+module _ {L : Type 0} (k : Knowledge L) (settings : Settings) where
+  abbrev pub OpensHandleIn : ℕ → State L → Reply → State L → Type 0
+  OpensHandleIn made s reply s' =
+      Adds (OpensHandle k.summary k.unsound k.is_stored made true settings.options.max_unflushed_bytes) Handle (λ n _. replies.Handle n) s reply s'
+
+  abbrev pub OpensFollowerIn : ℕ → State L → Reply → State L → Type 0
+  OpensFollowerIn made s reply s' =
+      Adds (Rebuilds k.is_stored true) (λ b. Follower b.0) (λ n b. followed_reply n b.1) s reply s' × (made ≡ 0)
+
+  -- what a command does, so many of whose changes were made
+  abbrev pub DoesBy : Command → Action → ℕ → State L → Reply → State L → Type 0
+  DoesBy command actions.Open made s reply s' = OpensHandleIn made s reply s'
+  DoesBy command (actions.Follow mode managed skip) made s reply s' = OpensFollowerIn made s reply s'
+  DoesBy command (actions.Await n) made s reply s' = OnlyAnswers (write_reply s.objects (slice_get s.writes n)) made s reply s'
+  DoesBy command (actions.Put n key value expire) made s reply s' = ActsOn k settings.merge n command made (slice_get s.objects n) s reply s'
+  DoesBy command (actions.Flush n flush_type) made s reply s' = ActsOn k settings.merge n command made (slice_get s.objects n) s reply s'
+  DoesBy command (actions.Get n key remote) made s reply s' = ActsOn k settings.merge n command made (slice_get s.objects n) s reply s'
+  DoesBy command (actions.Close n options) made s reply s' = ActsOn k settings.merge n command made (slice_get s.objects n) s reply s'
+  DoesBy command (actions.Poll n) made s reply s' = ActsOn k settings.merge n command made (slice_get s.objects n) s reply s'
+
+  abbrev pub Does : ℕ → State L → Command → Reply → State L → Type 0
+  Does made s command reply s' = DoesBy command command.action made s reply s'

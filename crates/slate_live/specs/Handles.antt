@@ -1,0 +1,98 @@
+-- What commands do to a handle.
+use Rattle.std.specs.Prelude.{◌≡◌, ℕ, ℤ, Bool, true, false, if◌then◌else◌, nat_le, List, [], ◌∷◌, ◌++◌, length, Option, Some, None, Result, Ok, Err}
+use Rattle.slate_types.specs.declared.batches.Batch.{Batch}
+use Rattle.slate_types.specs.declared.batches.KeyOp.{KeyOp}
+use Rattle.slate_types.specs.declared.batches.KeyValue.{KeyValue}
+use Rattle.slate_types.specs.declared.batches.Op.TheVariants.{Put}
+use Rattle.slate_types.specs.declared.options.CloseOptions.{CloseOptions}
+use Rattle.slate_types.specs.declared.options.DurabilityLevel.{DurabilityLevel}
+use Rattle.slate_types.specs.declared.options.DurabilityLevel.TheVariants.{Memory, Remote}
+use Rattle.slate_types.specs.declared.options.FlushType.{FlushType}
+use Rattle.slate_types.specs.declared.options.FlushType.TheVariants.{MemTable}
+use Rattle.slate_types.specs.Operator.{Merge}
+use Rattle.slate_reads.specs.Bound.{read_bound}
+use Rattle.slate_reads.specs.Read.{read_at}
+use Rattle.slate_errors.specs.declared.endings.Ended.{Ended}
+use Rattle.slate_errors.specs.declared.errors.SlateError.{SlateError}
+use Rattle.slate_errors.specs.Errors.{closed_error}
+use Rattle.slate_model.specs.Close.{Closes}
+use Rattle.slate_model.specs.declared.answers.Written.{Written}
+use Rattle.slate_model.specs.Flush.{Flushes}
+use Rattle.slate_model.specs.Handle.{CloseResult, Handle, accepted}
+use Rattle.slate_model.specs.Known.{Known, Untouched}
+use Rattle.slate_model.specs.Read.{Reads}
+use Rattle.slate_model.specs.Write.{Writes}
+use Rattle.slate_script.specs.declared.commands.Action.{Action}
+use Rattle.slate_script.specs.declared.commands.Action.TheVariants as actions
+use Rattle.slate_script.specs.declared.replies.Reply.{Reply}
+use Rattle.slate_script.specs.declared.replies.Reply.TheVariants as replies
+use Rattle.slate_live.specs.declared.states.Write.{Write}
+use Rattle.slate_live.specs.Replies.{ended_reply, found_reply, reply_to}
+
+abbrev pub put_op : List ℕ → List ℕ → Option ℤ → KeyOp
+put_op key value expire = record { key = key; op = Put value expire }
+
+-- the flush that a close asks for: without options, to a table
+abbrev pub flush_of_close : Option CloseOptions → Option FlushType
+flush_of_close None = Some MemTable
+flush_of_close (Some options) = options.flush_type
+
+abbrev pub level_of : Bool → DurabilityLevel
+level_of true = Remote
+level_of false = Memory
+
+-- up to which number a read sees the handle's line: what it accepted, or what is durable, too
+abbrev pub cut : Handle → Bool → Option ℕ
+cut handle remote = read_bound None handle.durable (accepted handle) (level_of remote) false
+
+-- a write that was accepted is noted with its handle
+abbrev pub noted : ℕ → Result Written SlateError → List Write
+noted handle (Ok written) = record { handle = handle; number = written.number } ∷ []
+noted handle (Err error) = []
+
+-- a write of operations to the handle n: one that is accepted is noted
+pub record WritesTo (n : ℕ) (ops : List KeyOp) (moment : ℤ) (second : Option ℤ) (old : Handle) (writes : List Write) (reply : Reply) (new : Handle) (writes' : List Write) : Type 0 where
+  pub result : Result Written SlateError
+  pub replied : reply ≡ reply_to (λ written. replies.Written (length writes) written.number) result
+  pub does : Writes old ops moment second result new
+  pub noted : writes' ≡ writes ++ noted n result
+
+pub record FlushesHandle {L : Type 0} (summary : List Batch → L) (made : ℕ) (old : Handle) (before : Known L) (reply : Reply) (new : Handle) (after : Known L) : Type 0 where
+  pub result : Result (Unit {0}) SlateError
+  pub replied : reply ≡ reply_to (λ _. replies.Flushed) result
+  pub does : Flushes summary made old before result new after
+
+pub record ClosesHandle {L : Type 0} (summary : List Batch → L) (made : ℕ) (flush_type : Option FlushType) (old : Handle) (before : Known L) (reply : Reply) (new : Handle) (after : Known L) : Type 0 where
+  pub ended : Ended
+  pub replied : reply ≡ ended_reply ended
+  pub does : Closes summary made flush_type old before ended new after
+
+-- a read of a key: the plain read of the handle's line at its cut
+pub record ReadsHandle (merge : Option Merge) (key : List ℕ) (remote : Bool) (handle : Handle) (reply : Reply) : Type 0 where
+  pub result : Result (Option KeyValue) SlateError
+  pub replied : reply ≡ reply_to found_reply result
+  pub does : Reads handle.result (read_at merge handle.line.batches (cut handle remote) key) result
+
+-- What a command does to the handle with number n, of which so many changes were made. One that names an object of
+-- another kind is answered that it is unknown.
+module _ {L : Type 0} (summary : List Batch → L) (merge : Option Merge) (n : ℕ) (moment : ℤ) (second : Option ℤ) where
+  abbrev pub HandleActs : Action → ℕ → Handle → Known L → List Write → Reply → Handle → Known L → List Write → Type 0
+  HandleActs (actions.Put object key value expire) made old before writes reply new after writes' =
+      WritesTo n (put_op key value expire ∷ []) moment second old writes reply new writes' × Untouched made before after
+  HandleActs (actions.Flush object flush_type) made old before writes reply new after writes' =
+      FlushesHandle summary made old before reply new after × (writes' ≡ writes)
+  HandleActs (actions.Get object key remote) made old before writes reply new after writes' =
+      ReadsHandle merge key remote old reply × (new ≡ old) × Untouched made before after × (writes' ≡ writes)
+  HandleActs (actions.Close object options) made old before writes reply new after writes' =
+      ClosesHandle summary made (flush_of_close options) old before reply new after × (writes' ≡ writes)
+  HandleActs action made old before writes reply new after writes' =
+      (reply ≡ replies.Unknown) × (new ≡ old) × Untouched made before after × (writes' ≡ writes)
+
+-- the reply where a write isn't durable
+abbrev pub pending_reply : CloseResult → Reply
+pending_reply None = replies.Pending
+pending_reply (Some result) = replies.Refused (closed_error result)
+
+-- whether a write with this number is durable: it is up to the durable number, and else pending while the handle is open
+abbrev pub durable_reply : Handle → ℕ → Reply
+durable_reply handle number = if nat_le number handle.durable then replies.Durable else pending_reply handle.result

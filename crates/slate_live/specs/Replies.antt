@@ -1,0 +1,49 @@
+-- The replies to what operations answer.
+use Rattle.std.specs.Prelude.{ℕ, List, true, false, Option, Some, None, Result, Ok, Err}
+use Rattle.slate_types.specs.declared.batches.KeyValue.{KeyValue}
+use Rattle.slate_errors.specs.declared.endings.Ended.{Ended}
+use Rattle.slate_errors.specs.declared.endings.TaskName.{TaskName}
+use Rattle.slate_errors.specs.declared.errors.SlateError.{SlateError}
+use Rattle.slate_errors.specs.declared.errors.SlateError.TheVariants as errors
+use Rattle.slate_model.specs.declared.answers.PollAnswer.{PollAnswer}
+use Rattle.slate_model.specs.declared.answers.PollAnswer.TheVariants.{Whole, Truncated}
+use Rattle.slate_script.specs.declared.replies.Reply.{Reply}
+use Rattle.slate_script.specs.declared.replies.Reply.TheVariants as replies
+
+-- the reply to a command that answers an error
+abbrev pub refusal : SlateError → Reply
+refusal errors.NoMemory = replies.NoMemory
+refusal error = replies.Refused error
+
+-- the reply to what is answered Ok, or with an error
+abbrev pub reply_to : {A : Type 0} → (A → Reply) → Result A SlateError → Reply
+reply_to done (Ok answer) = done answer
+reply_to done (Err error) = refusal error
+
+abbrev pub found_reply : Option KeyValue → Reply
+found_reply None = replies.Absent
+found_reply (Some row) = replies.Found row
+
+abbrev pub followed_reply : ℕ → PollAnswer → Reply
+followed_reply object (Whole at) = replies.Follower object true at
+followed_reply object (Truncated at) = replies.Follower object false at
+
+abbrev pub polled_reply : PollAnswer → Reply
+polled_reply (Whole at) = replies.Polled true at
+polled_reply (Truncated at) = replies.Polled false at
+
+-- the reply to a close that finds this error and ends these tasks: one of a handle that closed cleanly is refused
+abbrev pub closed_reply : Option SlateError → List TaskName → Reply
+closed_reply (Some errors.Closed) tasks = replies.Refused errors.Closed
+closed_reply fault tasks = replies.Ended fault tasks
+
+abbrev pub ended_reply : Ended → Reply
+ended_reply ended = closed_reply ended.fault ended.tasks
+
+-- the reply to a close of a follower: an error that was recorded is answered again
+abbrev pub follower_closed_reply : Option SlateError → List TaskName → Reply
+follower_closed_reply None tasks = replies.Ended None tasks
+follower_closed_reply (Some error) tasks = replies.Refused error
+
+abbrev pub follower_ended_reply : Ended → Reply
+follower_ended_reply ended = follower_closed_reply ended.fault ended.tasks

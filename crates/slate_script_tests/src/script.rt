@@ -141,14 +141,6 @@ fn scripts(rt: HostRuntime) -> Result<(), Fail> {
 }
 
 #[test]
-fn empty_scripts(rt: HostRuntime) -> Result<(), Fail> {
-    for empty in [b"".as_slice(), b"\n\r\n#x".as_slice()] {
-        assert!(rt; read_script(rt.alloc(), empty)?.is_empty());
-    }
-    Ok(())
-}
-
-#[test]
 fn fields(rt: HostRuntime) -> Result<(), Fail> {
     let fields = script_fields(rt.alloc(), b"a  b ")?;
     assert_eq!(rt; fields.len(), 4);

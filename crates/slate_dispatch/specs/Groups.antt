@@ -68,43 +68,54 @@ abbrev pub Works : ℤ → ℕ → (held : Option (Result (Unit {0}) CloseFault)
 Works moment random held (Some result) calls new = (calls ≡ []) × (new ≡ Some result)
 Works moment random held None calls new = (answer : TurnAnswer) × EndsBy moment random held answer (ending_of answer) calls new
 
--- What a turn makes of a member: its task was called so, besides cancels, where there were some. `held` is what the
--- cell holds in the end.
-pub record TurnsMember {T : Type 0} (steps : T → TaskCall → T → Type 0) (moment : ℤ) (random : ℕ) (cancels : Bool) (held : Option (Result (Unit {0}) CloseFault)) (old new : Member T) : Type 0 where
-  pub calls : List TaskCall
-  pub made : FoldsTo steps old.task calls new.task
-  pub work : Works moment random held old.ended (besides cancels calls) new.ended
+-- the first call is a turn
+abbrev pub BeginsWithTurn : List TaskCall → Type 0
+BeginsWithTurn [] = ⊥
+BeginsWithTurn (Turn moment random answer ∷ calls) = Unit {0}
+BeginsWithTurn (Cancel ∷ calls) = ⊥
+BeginsWithTurn (Finish result ∷ calls) = ⊥
 
 -- a member that ran has ended well
 abbrev pub EndsWell : {T : Type 0} → Member T → Member T → Type 0
 EndsWell old new = new.ended ≡ Some (unwrap_or old.ended (Ok tt))
+
+-- What a turn makes of a member: its task was called so, besides cancels, where there were some. `held` is what the
+-- cell holds in the end. Until a member has failed, the calls of each that runs begin with its turn; a late one, which
+-- comes after a failure, ends well.
+pub record TurnsMember {T : Type 0} (steps : T → TaskCall → T → Type 0) (moment : ℤ) (random : ℕ) (late cancels : Bool) (held : Option (Result (Unit {0}) CloseFault)) (old new : Member T) : Type 0 where
+  pub calls : List TaskCall
+  pub made : FoldsTo steps old.task calls new.task
+  pub work : Works moment random held old.ended (besides cancels calls) new.ended
+  pub prompt : late ≡ false → old.ended ≡ None → BeginsWithTurn calls
+  pub well : late ≡ true → EndsWell old new
 
 -- whether a member that may have ended has failed
 abbrev pub is_failure : Option (Result (Unit {0}) CloseFault) → Bool
 is_failure (Some result) = is_err result
 is_failure None = false
 
--- The members after one that failed ended well, as far as they ran: they were cancelled before their turn.
-abbrev pub EndAfterFailure : {T : Type 0} (old new : List (Member T)) → Type 0
-EndAfterFailure [] new = Unit {0}
-EndAfterFailure (m ∷ old) [] = Unit {0}
-EndAfterFailure (m ∷ old) (m' ∷ new) = (IsTrue (is_failure (ending m.ended m'.ended)) → AllZip EndsWell old new) × EndAfterFailure old new
+-- What a turn makes of members, one after another: those after one that failed are late, and all are where something
+-- had failed before.
+abbrev pub TurnsMembers : {T : Type 0} → (T → TaskCall → T → Type 0) → ℤ → ℕ → (late cancels : Bool) → (held : Option (Result (Unit {0}) CloseFault)) → (old new : List (Member T)) → Type 0
+TurnsMembers steps moment random late cancels held [] [] = Unit {0}
+TurnsMembers steps moment random late cancels held [] (m' ∷ new) = ⊥
+TurnsMembers steps moment random late cancels held (m ∷ old) [] = ⊥
+TurnsMembers steps moment random late cancels held (m ∷ old) (m' ∷ new) =
+    TurnsMember steps moment random late cancels held m m'
+    × TurnsMembers steps moment random (late || is_failure (ending m.ended m'.ended)) cancels held old new
 
 -- What a pass over members left, where something had failed before or not, and the cell held this before: each had its
--- turn, in order, and wrote its result to the cell as it ended. Where something had failed before, each ended well.
+-- turn, in order, and wrote its result to the cell as it ended.
 pub record Passes {T : Type 0} (steps : T → TaskCall → T → Type 0) (moment : ℤ) (random : ℕ) (failed : Bool) (held : Option (Result (Unit {0}) CloseFault)) (old new : List (Member T)) (failed' : Bool) (held' : Option (Result (Unit {0}) CloseFault)) : Type 0 where
-  pub turns : AllZip (TurnsMember steps moment random failed' held') old new
+  pub turns : TurnsMembers steps moment random failed failed' held' old new
   pub fails : failed' ≡ (failed || has_error (endings old new))
   pub holds : held' ≡ after_writes (endings old new) held
-  pub well : IsTrue failed → AllZip EndsWell old new
-  pub later : EndAfterFailure old new
 
 -- what a turn makes of a group
-pub record TurnsGroup {T : Type 0} (steps : T → TaskCall → T → Type 0) (moment : ℤ) (random : ℕ) (cancels : Bool) (held : Option (Result (Unit {0}) CloseFault)) (old new : TaskGroup T) : Type 0 where
+pub record TurnsGroup {T : Type 0} (steps : T → TaskCall → T → Type 0) (moment : ℤ) (random : ℕ) (late cancels : Bool) (held : Option (Result (Unit {0}) CloseFault)) (old new : TaskGroup T) : Type 0 where
   pub name : new.name ≡ old.name
-  pub members : AllZip (TurnsMember steps moment random cancels held) old.members new.members
+  pub members : TurnsMembers steps moment random late cancels held old.members new.members
   pub result : new.result ≡ first_error (old.result ∷ endings old.members new.members)
-  pub later : EndAfterFailure old.members new.members
 
 -- the results of all members that ran before and have ended, in order of registration
 abbrev pub all_endings : {T : Type 0} (old new : List (TaskGroup T)) → List (Result (Unit {0}) CloseFault)
@@ -112,23 +123,21 @@ all_endings [] new = []
 all_endings (g ∷ old) [] = []
 all_endings (g ∷ old) (g' ∷ new) = endings g.members g'.members ++ all_endings old new
 
--- the members of a group that ran have ended well
-abbrev pub GroupEndsWell : {T : Type 0} → TaskGroup T → TaskGroup T → Type 0
-GroupEndsWell old new = AllZip EndsWell old.members new.members
-
--- so did those of the groups after one in which a member failed
-abbrev pub GroupsEndAfterFailure : {T : Type 0} (old new : List (TaskGroup T)) → Type 0
-GroupsEndAfterFailure [] new = Unit {0}
-GroupsEndAfterFailure (g ∷ old) [] = Unit {0}
-GroupsEndAfterFailure (g ∷ old) (g' ∷ new) =
-    (IsTrue (has_error (endings g.members g'.members)) → AllZip GroupEndsWell old new) × GroupsEndAfterFailure old new
+-- What a turn makes of groups, one after another: the members after one that failed are late, in its group and in later
+-- ones.
+abbrev pub TurnsInOrder : {T : Type 0} → (T → TaskCall → T → Type 0) → ℤ → ℕ → (late cancels : Bool) → (held : Option (Result (Unit {0}) CloseFault)) → (old new : List (TaskGroup T)) → Type 0
+TurnsInOrder steps moment random late cancels held [] [] = Unit {0}
+TurnsInOrder steps moment random late cancels held [] (g' ∷ new) = ⊥
+TurnsInOrder steps moment random late cancels held (g ∷ old) [] = ⊥
+TurnsInOrder steps moment random late cancels held (g ∷ old) (g' ∷ new) =
+    TurnsGroup steps moment random late cancels held g g'
+    × TurnsInOrder steps moment random (late || has_error (endings g.members g'.members)) cancels held old new
 
 -- the same of a pass over groups
 pub record PassesGroups {T : Type 0} (steps : T → TaskCall → T → Type 0) (moment : ℤ) (random : ℕ) (failed : Bool) (held : Option (Result (Unit {0}) CloseFault)) (old new : List (TaskGroup T)) (failed' : Bool) (held' : Option (Result (Unit {0}) CloseFault)) : Type 0 where
-  pub turns : AllZip (TurnsGroup steps moment random failed' held') old new
+  pub turns : TurnsInOrder steps moment random failed failed' held' old new
   pub fails : failed' ≡ (failed || has_error (all_endings old new))
   pub holds : held' ≡ after_writes (all_endings old new) held
-  pub later : GroupsEndAfterFailure old new
 
 -- a member whose task was cancelled
 pub record CancelsMember {T : Type 0} (steps : T → TaskCall → T → Type 0) (is_cancelled : T → Bool) (old new : Member T) : Type 0 where
@@ -147,17 +156,16 @@ abbrev pub AreCancelled : {T : Type 0} → (T → Bool) → List (TaskGroup T) �
 AreCancelled is_cancelled groups = ByRecursion (λ group. ByRecursion (λ member. IsTrue (is_cancelled member.task)) group.members) groups
 
 -- A turn of an executor: each member that runs has its turn, in order of registration; the first of the results that
--- the cell is written stays; and an error cancels every member of every group, those that come later before their turn.
+-- the cell is written stays; and an error cancels every member of every group, none before its turn but those that come
+-- later, which end well.
 pub record TurnsGroups {T : Type 0} (steps : T → TaskCall → T → Type 0) (is_cancelled : T → Bool) (moment : ℤ) (random : ℕ) (held held' : Option (Result (Unit {0}) CloseFault)) (old new : List (TaskGroup T)) : Type 0 where
-  pub turns : AllZip (TurnsGroup steps moment random (has_error (all_endings old new)) held') old new
+  pub turns : TurnsInOrder steps moment random false (has_error (all_endings old new)) held' old new
   pub holds : held' ≡ after_writes (all_endings old new) held
   pub cancelled : IsTrue (has_error (all_endings old new)) → AreCancelled is_cancelled new
-  pub later : GroupsEndAfterFailure old new
 
--- a group that is shut down: each member that runs is cancelled and ends by one turn
+-- a group that is shut down: each member that runs is late, and so ends well by one turn
 pub record ShutsGroup {T : Type 0} (steps : T → TaskCall → T → Type 0) (held held' : Option (Result (Unit {0}) CloseFault)) (old new : TaskGroup T) : Type 0 where
-  pub turns : TurnsGroup steps (pos 0) 0 true held' old new
-  pub well : AllZip EndsWell old.members new.members
+  pub turns : TurnsGroup steps (pos 0) 0 true true held' old new
   pub holds : held' ≡ after_writes (endings old.members new.members) held
 
 -- a member runs

@@ -59,12 +59,12 @@ either_is : (b : Bool) (x y : ℕ) → either b x y ≡ (if b then x else y)
 either_is true x y = refl
 either_is false x y = refl
 
-pub exchanges_close : (slots id old code : ℕ) (me : Me (Unit {0}) SeatView) → me.0.lead ≡ true → old ≡ 0 → code ≤ 3
+pub exchanges_close : (slots id old code : ℕ) (me : Me (Unit {0}) SeatView) → me.0.lead ≡ true → old ≡ 0 → 1 ≤ code → code ≤ 3
     → Allows IsRuledState slots id me 2 (λ n. either (n == old) code n) (Exchanges (step slots 2 old code none) me)
-exchanges_close slots id old code me leads open_code within =
+exchanges_close slots id old code me leads open_code above within =
     let f : ℕ → ℕ = λ n. first_code n code in
     let F : ℕ → (ℕ → ℕ) → Type 0 = λ k g. Allows IsRuledState slots id me 2 g (Exchanges (step slots 2 k code none) me) in
-    let at_open : F 0 (λ n. either (n == 0) code n) = subst (F 0) (λ i n. sym (either_is (n == 0) code n) i) (allowed slots id 2 me f (omega arith) (λ before after writes. closes code id me.0 leads within writes)) in
+    let at_open : F 0 (λ n. either (n == 0) code n) = subst (F 0) (λ i n. sym (either_is (n == 0) code n) i) (allowed slots id 2 me f (omega arith) (λ before after writes. closes code id me.0 leads above within writes)) in
     subst (λ (k : ℕ). F k (λ n. either (n == k) code n)) (sym open_code) at_open
 
 pub splits_seat : (id : ℕ) (v : SeatView) → Splits IsRuledState id v v (follower_of v)
@@ -74,8 +74,8 @@ splits_seat id v state kept at =
     subst (λ (views : List SeatView). IsRuled record { words = state.words; views = views ++ follower_of v ∷ [] }) (sym same)
     (step_kept before record { words = state.words; views = state.views ++ follower_of v ∷ [] } kept (splits id v at refl)).0
 
-pub joins_seat : (id other : ℕ) (v w : SeatView) → Joins IsRuledState id v other w (union_of v w) spent_view
-joins_seat id other v w state kept at apart there =
+pub joins_seat : (id other : ℕ) (v w : SeatView) → w.lead ≡ false → Joins IsRuledState id v other w (union_of v w) spent_view
+joins_seat id other v w follows state kept at apart there =
     let before : Standing = record { words = state.words; views = state.views } in
     let after : Standing = record { words = state.words; views = slice_set (slice_set state.views id (union_of v w)) other spent_view } in
-    (step_kept before after kept (joins id other v w apart at (sym (set_else state.views id other (union_of v w) apart) ∙ there) refl)).0
+    (step_kept before after kept (joins id other v w apart at (sym (set_else state.views id other (union_of v w) apart) ∙ there) follows refl)).0

@@ -181,10 +181,10 @@ step_kept before after kept (loads place id v low writes) = written_kept before 
 step_kept before after kept (ticks tick id v leads writes) = written_kept before after 0 (max (slice_index before.words 0) tick) id v kept (tick_rises tick v before kept leads) writes
 step_kept before after kept (advances number id v leads writes) =
     written_kept before after 1 (max (slice_index before.words 1) number) id v kept (advance_rises number v before kept leads) writes
-step_kept before after kept (closes code id v leads within writes) =
+step_kept before after kept (closes code id v leads above within writes) =
     written_kept before after 2 (first_code (slice_index before.words 2) code) id v kept (close_rises code v before kept leads within) writes
 step_kept before after kept (splits id v at is) = subst (λ (z : Standing). IsKept before z) (sym is) (split_off before id v kept at, IsAtMost-refl (numbers_of before.words))
-step_kept before after kept (joins id other v w apart at there is) =
+step_kept before after kept (joins id other v w apart at there follows is) =
     subst (λ (z : Standing). IsKept before z) (sym is) (put_together before id other v w kept at there, IsAtMost-refl (numbers_of before.words))
 
 pub run_kept : (before : Standing) (later : List Standing) → IsRuled before → IsRun before later → (k : ℕ) (after : Standing) → get_elem? later k ≡ some after → IsKept before after

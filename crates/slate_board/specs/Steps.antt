@@ -28,7 +28,7 @@ pub record Writes (place word id : ℕ) (v : SeatView) (before after : Standing)
   pub views : after.views ≡ slice_set before.views id (view_with place word v)
 
 -- a load, a raise of the tick, a raise of the durable number, a close, a split and a join; the three that change a word
--- are the lead's
+-- are the lead's, a close has a code from 1 to 3, and the seat that is joined to another isn't the lead
 pub data IsStep (before after : Standing) : Type 0 where
   loads : (place id : ℕ) (v : SeatView) → place < 3
       → Writes place (slice_index before.words place) id v before after → IsStep before after
@@ -36,11 +36,11 @@ pub data IsStep (before after : Standing) : Type 0 where
       → Writes 0 (max (slice_index before.words 0) tick) id v before after → IsStep before after
   advances : (number id : ℕ) (v : SeatView) → v.lead ≡ true
       → Writes 1 (max (slice_index before.words 1) number) id v before after → IsStep before after
-  closes : (code id : ℕ) (v : SeatView) → v.lead ≡ true → code ≤ 3
+  closes : (code id : ℕ) (v : SeatView) → v.lead ≡ true → 1 ≤ code → code ≤ 3
       → Writes 2 (first_code (slice_index before.words 2) code) id v before after → IsStep before after
   splits : (id : ℕ) (v : SeatView) → Knows before.views id v
       → after ≡ record before { views = before.views ++ follower_of v ∷ [] } → IsStep before after
-  joins : (id other : ℕ) (v w : SeatView) → other ≢ id → Knows before.views id v → Knows before.views other w
+  joins : (id other : ℕ) (v w : SeatView) → other ≢ id → Knows before.views id v → Knows before.views other w → w.lead ≡ false
       → after ≡ record before { views = slice_set (slice_set before.views id (union_of v w)) other spent_view } → IsStep before after
 
 -- each of these comes from the one before it by a step

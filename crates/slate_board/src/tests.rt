@@ -1,6 +1,7 @@
 ghost use Rattle.std.specs.Prelude.{◌≡◌, IsTrue};
 
 use crate::{Board, BoardSeat, BoardView, ClockFault};
+use std::sync::Barrier;
 use std::test::Fail;
 use std::thread::join;
 
@@ -110,19 +111,29 @@ fn only_rises(board: &Board, mut seat: BoardSeat) -> bool
     true
 }
 
+// Each of the two threads passes the gate only when the other has begun.
 #[test]
 fn nothing_goes_back_beside_the_lead(rt: HostRuntime) -> Result<(), Fail> {
     let (board, mut lead) = Board::new(rt.alloc(), 0, 0)?;
     let second = board.split(&mut lead);
     let shared = &board;
+    let both = Barrier::new(2);
+    let gate = &both;
+    let waiting = &rt;
     let (_, rises) = join(
         &rt,
         move ||
             requires { (lead.board ≡ shared.now) × IsTrue lead.lead }
-        { advance(shared, lead) },
+        {
+            let _ = gate.wait(waiting);
+            advance(shared, lead)
+        },
         move ||
             requires { second.board ≡ shared.now }
-        { only_rises(shared, second) },
+        {
+            let _ = gate.wait(waiting);
+            only_rises(shared, second)
+        },
     );
     assert!(rt; rises);
     Ok(())

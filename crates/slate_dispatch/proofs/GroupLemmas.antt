@@ -11,7 +11,7 @@ use Rattle.slate_errors.specs.declared.closing.CloseFault.{CloseFault}
 use Rattle.slate_dispatch.specs.declared.groups.Member.{Member}
 use Rattle.slate_dispatch.specs.declared.tasks.TurnAnswer.{TurnAnswer}
 use Rattle.slate_dispatch.specs.declared.tasks.TurnAnswer.TheVariants.{Handled, Idle}
-use Rattle.slate_dispatch.specs.Groups.{TaskGroup, first_error, has_error, after_writes, ending, add_ending, endings, is_work, EndsBy, Works, TurnsMember, EndsWell, is_failure, EndAfterFailure, GroupEndsWell, GroupsEndAfterFailure, Passes, TurnsGroup, all_endings, PassesGroups, CancelsMember, CancelsGroup, AreCancelled, TurnsGroups, ShutsGroup}
+use Rattle.slate_dispatch.specs.Groups.{TaskGroup, first_error, has_error, after_writes, ending, add_ending, endings, is_work, EndsBy, Works, BeginsWithTurn, TurnsMember, EndsWell, is_failure, TurnsMembers, Passes, TurnsGroup, all_endings, TurnsInOrder, PassesGroups, CancelsMember, CancelsGroup, AreCancelled, TurnsGroups, ShutsGroup}
 use Rattle.slate_dispatch.specs.Tasks.{TaskCall, Turn, Cancel, Finish, ending_of}
 
 abbrev Held : Type 0
@@ -47,12 +47,12 @@ add_ending-alone : (o : Held) → add_ending o [] ≡ option_to_list o
 add_ending-alone (Some r) = refl
 add_ending-alone None = refl
 
-endings-push : {T : Type 0} (R : Member T → Member T → Type 0) (old new : List (Member T)) (m m' : Member T) → AllZip R old new → endings (old ++ m ∷ []) (new ++ m' ∷ []) ≡ endings old new ++ option_to_list (ending m.ended m'.ended)
-endings-push R [] [] m m' zip = add_ending-alone (ending m.ended m'.ended)
-endings-push R [] (x' ∷ new) m m' zip = elim zip [ ]
-endings-push R (x ∷ old) [] m m' zip = elim zip [ ]
-endings-push R (x ∷ old) (x' ∷ new) m m' zip =
-    ap (add_ending (ending x.ended x'.ended)) (endings-push R old new m m' zip.1)
+endings-push : {T : Type 0} (steps : T → TaskCall → T → Type 0) (moment : ℤ) (random : ℕ) (late f : Bool) (held : Held) (old new : List (Member T)) (m m' : Member T) → TurnsMembers steps moment random late f held old new → endings (old ++ m ∷ []) (new ++ m' ∷ []) ≡ endings old new ++ option_to_list (ending m.ended m'.ended)
+endings-push steps moment random late f held [] [] m m' t = add_ending-alone (ending m.ended m'.ended)
+endings-push steps moment random late f held [] (x' ∷ new) m m' t = elim t [ ]
+endings-push steps moment random late f held (x ∷ old) [] m m' t = elim t [ ]
+endings-push steps moment random late f held (x ∷ old) (x' ∷ new) m m' t =
+    ap (add_ending (ending x.ended x'.ended)) (endings-push steps moment random (late || is_failure (ending x.ended x'.ended)) f held old new m m' t.1)
     ∙ add_ending-append (ending x.ended x'.ended) (endings old new) (option_to_list (ending m.ended m'.ended))
 
 -- the calls that a member is owed have no cancel
@@ -74,26 +74,43 @@ works-later moment random held held' (Some r) calls new k w = w
 works-later moment random held held' None calls new k (answer, ends) = (answer, ends-later moment random held held' answer (ending_of answer) calls new k ends)
 
 -- what was said of a member's turn stays true as the pass goes on
-turns-later : {T : Type 0} (steps : T → TaskCall → T → Type 0) (moment : ℤ) (random : ℕ) (f f' : Bool) (held held' : Held) (m m' : Member T) → (f ≡ true → f' ≡ true) → Keeps held held' → TurnsMember steps moment random f held m m' → TurnsMember steps moment random f' held' m m'
-turns-later steps moment random true true held held' m m' up k t =
-    record { calls = t.calls; made = t.made; work = works-later moment random held held' m.ended (filter is_work t.calls) m'.ended k t.work }
-turns-later steps moment random false false held held' m m' up k t =
-    record { calls = t.calls; made = t.made; work = works-later moment random held held' m.ended t.calls m'.ended k t.work }
-turns-later steps moment random true false held held' m m' up k t = let no : false ≡ true = up refl in cc
-turns-later steps moment random false true held held' m m' up k t =
+turns-later : {T : Type 0} (steps : T → TaskCall → T → Type 0) (moment : ℤ) (random : ℕ) (late f f' : Bool) (held held' : Held) (m m' : Member T) → (f ≡ true → f' ≡ true) → Keeps held held' → TurnsMember steps moment random late f held m m' → TurnsMember steps moment random late f' held' m m'
+turns-later steps moment random late true true held held' m m' up k t =
+    record {
+      calls = t.calls;
+      made = t.made;
+      work = works-later moment random held held' m.ended (filter is_work t.calls) m'.ended k t.work;
+      prompt = t.prompt;
+      well = t.well;
+    }
+turns-later steps moment random late false false held held' m m' up k t =
+    record {
+      calls = t.calls;
+      made = t.made;
+      work = works-later moment random held held' m.ended t.calls m'.ended k t.work;
+      prompt = t.prompt;
+      well = t.well;
+    }
+turns-later steps moment random late true false held held' m m' up k t = let no : false ≡ true = up refl in cc
+turns-later steps moment random late false true held held' m m' up k t =
     record {
       calls = t.calls;
       made = t.made;
       work =
           subst (λ (calls : List TaskCall). Works moment random held' m.ended calls m'.ended) (sym (works-only moment random held m.ended t.calls m'.ended t.work))
           (works-later moment random held held' m.ended t.calls m'.ended k t.work);
+      prompt = t.prompt;
+      well = t.well;
     }
 
-zip-later : {X : Type 0} (R S : X → X → Type 0) (xs ys : List X) → ((x y : X) → R x y → S x y) → AllZip R xs ys → AllZip S xs ys
-zip-later R S [] [] f zip = tt
-zip-later R S [] (y ∷ ys) f zip = elim zip [ ]
-zip-later R S (x ∷ xs) [] f zip = elim zip [ ]
-zip-later R S (x ∷ xs) (y ∷ ys) f zip = (f x y zip.0, zip-later R S xs ys f zip.1)
+members-later : {T : Type 0} (steps : T → TaskCall → T → Type 0) (moment : ℤ) (random : ℕ) (late f f' : Bool) (held held' : Held) (old new : List (Member T)) → (f ≡ true → f' ≡ true) → Keeps held held' → TurnsMembers steps moment random late f held old new → TurnsMembers steps moment random late f' held' old new
+members-later steps moment random late f f' held held' [] [] up k t = tt
+members-later steps moment random late f f' held held' [] (x' ∷ new) up k t = elim t [ ]
+members-later steps moment random late f f' held held' (x ∷ old) [] up k t = elim t [ ]
+members-later steps moment random late f f' held held' (x ∷ old) (x' ∷ new) up k t = (
+  turns-later steps moment random late f f' held held' x x' up k t.0,
+  members-later steps moment random (late || is_failure (ending x.ended x'.ended)) f f' held held' old new up k t.1,
+)
 
 has_error-one : (o : Held) → has_error (option_to_list o) ≡ is_failure o
 has_error-one (Some (Ok _)) = refl
@@ -131,49 +148,40 @@ has_error-add : (o : Held) (rs : List (Result (Unit {0}) CloseFault)) → has_er
 has_error-add (Some r) rs = refl
 has_error-add None rs = refl
 
--- what comes after a failure goes on so
-later-push : {T : Type 0} (old new : List (Member T)) (m m' : Member T) → length new ≡ length old → EndAfterFailure old new → (has_error (endings old new) ≡ true → EndsWell m m') → EndAfterFailure (old ++ m ∷ []) (new ++ m' ∷ [])
-later-push [] [] m m' long later well = (λ _. tt, tt)
-later-push [] (x' ∷ new) m m' long later well = absurd (omega (arith, long))
-later-push (x ∷ old) [] m m' long later well = absurd (omega (arith, long))
-later-push (x ∷ old) (x' ∷ new) m m' long later well =
+-- one more member has its turn
+members-push : {T : Type 0} (steps : T → TaskCall → T → Type 0) (moment : ℤ) (random : ℕ) (late f : Bool) (held : Held) (old new : List (Member T)) (m m' : Member T)
+    → TurnsMembers steps moment random late f held old new
+    → TurnsMember steps moment random (late || has_error (endings old new)) f held m m'
+    → TurnsMembers steps moment random late f held (old ++ m ∷ []) (new ++ m' ∷ [])
+members-push steps moment random late f held [] [] m m' ts t = (subst (λ (l : Bool). TurnsMember steps moment random l f held m m') (sym (or-none late)) t, tt)
+members-push steps moment random late f held [] (x' ∷ new) m m' ts t = elim ts [ ]
+members-push steps moment random late f held (x ∷ old) [] m m' ts t = elim ts [ ]
+members-push steps moment random late f held (x ∷ old) (x' ∷ new) m m' ts t =
     let e = ending x.ended x'.ended in
-    let long' : length new ≡ length old = omega (arith, long) in (
-      λ fail. AllZip-push EndsWell old new m m' (later.0 fail) (well (has_error-add e (endings old new) ∙ or-true (is_failure e) (has_error (endings old new)) fail)),
-      later-push old new m m' long' later.1 (λ rest. well (has_error-add e (endings old new) ∙ or-right (is_failure e) (has_error (endings old new)) rest)),
-    )
-
-groups-later-push : {T : Type 0} (old new : List (TaskGroup T)) (g g' : TaskGroup T) → length new ≡ length old → GroupsEndAfterFailure old new → (has_error (all_endings old new) ≡ true → GroupEndsWell g g') → GroupsEndAfterFailure (old ++ g ∷ []) (new ++ g' ∷ [])
-groups-later-push [] [] g g' long later well = (λ _. tt, tt)
-groups-later-push [] (x' ∷ new) g g' long later well = absurd (omega (arith, long))
-groups-later-push (x ∷ old) [] g g' long later well = absurd (omega (arith, long))
-groups-later-push (x ∷ old) (x' ∷ new) g g' long later well =
-    let e = endings x.members x'.members in
-    let long' : length new ≡ length old = omega (arith, long) in
-    let both : has_error (e ++ all_endings old new) ≡ (has_error e || has_error (all_endings old new)) = list_any-append is_err e (all_endings old new) in (
-      λ fail. AllZip-push GroupEndsWell old new g g' (later.0 fail) (well (both ∙ or-true (has_error e) (has_error (all_endings old new)) fail)),
-      groups-later-push old new g g' long' later.1 (λ rest. well (both ∙ or-right (has_error e) (has_error (all_endings old new)) rest)),
+    let same : (late || has_error (add_ending e (endings old new))) ≡ ((late || is_failure e) || has_error (endings old new)) =
+    ap (λ b. late || b) (has_error-add e (endings old new)) ∙ sym (or-assoc late (is_failure e) (has_error (endings old new))) in (
+      ts.0,
+      members-push steps moment random (late || is_failure e) f held old new m m' ts.1 (subst (λ (l : Bool). TurnsMember steps moment random l f held m m') same t),
     )
 
 -- a pass goes on by one member
 pub passes-push : {T : Type 0} (steps : T → TaskCall → T → Type 0) (moment : ℤ) (random : ℕ) (failed : Bool) (held : Held) (old new : List (Member T)) (f1 : Bool) (h1 : Held) (m m' : Member T) (outcome : Held) (f2 : Bool) (h2 : Held)
     → Passes steps moment random failed held old new f1 h1
-    → TurnsMember steps moment random f1 h2 m m'
+    → TurnsMember steps moment random f1 f1 h2 m m'
     → outcome ≡ ending m.ended m'.ended
     → h2 ≡ after_writes (option_to_list outcome) h1
-    → (IsTrue f1 → EndsWell m m')
     → f2 ≡ (f1 || is_failure outcome)
     → Passes steps moment random failed held (old ++ m ∷ []) (new ++ m' ∷ []) f2 h2
-passes-push {T} steps moment random failed held old new f1 h1 m m' outcome f2 h2 p t o h well f =
+passes-push {T} steps moment random failed held old new f1 h1 m m' outcome f2 h2 p t o h f =
     let more : endings (old ++ m ∷ []) (new ++ m' ∷ []) ≡ endings old new ++ option_to_list outcome =
-    endings-push (TurnsMember steps moment random f1 h1) old new m m' p.turns ∙ ap (λ o. endings old new ++ option_to_list o) (sym o) in
+    endings-push steps moment random failed f1 h1 old new m m' p.turns ∙ ap (λ o. endings old new ++ option_to_list o) (sym o) in
     let up : f1 ≡ true → f2 ≡ true = λ e. f ∙ or-true f1 (is_failure outcome) e in
     record {
       turns =
-          AllZip-push (TurnsMember steps moment random f2 h2) old new m m'
-          (zip-later (TurnsMember steps moment random f1 h1) (TurnsMember steps moment random f2 h2) old new
-          (λ x y. turns-later steps moment random f1 f2 h1 h2 x y up (keeps-writes (option_to_list outcome) h1 h2 h)) p.turns)
-          (turns-later steps moment random f1 f2 h2 h2 m m' up (keeps-writes [] h2 h2 refl) t);
+          members-push steps moment random failed f2 h2 old new m m'
+          (members-later steps moment random failed f1 f2 h1 h2 old new up (keeps-writes (option_to_list outcome) h1 h2 h) p.turns)
+          (subst (λ (l : Bool). TurnsMember steps moment random l f2 h2 m m') p.fails
+          (turns-later steps moment random f1 f1 f2 h2 h2 m m' up (keeps-writes [] h2 h2 refl) t));
       fails =
           f
           ∙ ap (λ b. b || is_failure outcome) p.fails
@@ -187,35 +195,34 @@ passes-push {T} steps moment random failed held old new f1 h1 m m' outcome f2 h2
           ∙ ap (after_writes (option_to_list outcome)) p.holds
           ∙ sym (after_writes-append (endings old new) (option_to_list outcome) held)
           ∙ ap (λ rs. after_writes rs held) (sym more);
-      well = λ was. AllZip-push EndsWell old new m m' (p.well was) (well (subst IsTrue (sym p.fails) (or-left failed (has_error (endings old new)) was)));
-      later =
-          later-push old new m m' (AllZip-long (TurnsMember steps moment random f1 h1) old new p.turns) p.later
-          (λ has. well (p.fails ∙ or-right failed (has_error (endings old new)) has));
     }
 
 -- the result of a group goes on so
-pub first_error-push : {T : Type 0} (R : Member T → Member T → Type 0) (old new : List (Member T)) (m m' : Member T) (result first : Result (Unit {0}) CloseFault)
-    → AllZip R old new
+first_error-push : {T : Type 0} (steps : T → TaskCall → T → Type 0) (moment : ℤ) (random : ℕ) (failed : Bool) (held : Held) (old new : List (Member T)) (f1 : Bool) (h1 : Held) (m m' : Member T) (result first : Result (Unit {0}) CloseFault)
+    → Passes steps moment random failed held old new f1 h1
     → first ≡ first_error (result ∷ endings old new)
     → first_error (first ∷ option_to_list (ending m.ended m'.ended)) ≡ first_error (result ∷ endings (old ++ m ∷ []) (new ++ m' ∷ []))
-first_error-push R old new m m' result first zip e =
+first_error-push steps moment random failed held old new f1 h1 m m' result first p e =
     ap (λ r. first_error (r ∷ option_to_list (ending m.ended m'.ended))) e
     ∙ sym (first_error-append (result ∷ endings old new) (option_to_list (ending m.ended m'.ended)))
-    ∙ ap (λ rs. first_error (result ∷ rs)) (sym (endings-push R old new m m' zip))
+    ∙ ap (λ rs. first_error (result ∷ rs)) (sym (endings-push steps moment random failed f1 h1 old new m m' p.turns))
 
 -- a member that was cancelled before its turn
 pub turns-cancelled : {T : Type 0} (steps : T → TaskCall → T → Type 0) (moment : ℤ) (random : ℕ) (held : Held) (old mid new : Member T)
     → steps old.task Cancel mid.task
     → mid.ended ≡ old.ended
-    → TurnsMember steps moment random false held mid new
-    → TurnsMember steps moment random true held old new
-turns-cancelled steps moment random held old mid new step same t =
+    → TurnsMember steps moment random false false held mid new
+    → EndsWell mid new
+    → TurnsMember steps moment random true true held old new
+turns-cancelled steps moment random held old mid new step same t well =
     record {
       calls = Cancel ∷ t.calls;
       made = (mid.task, step, t.made);
       work =
           subst (λ (calls : List TaskCall). Works moment random held old.ended calls new.ended) (sym (works-only moment random held mid.ended t.calls new.ended t.work))
           (subst (λ (ended : Held). Works moment random held ended t.calls new.ended) same t.work);
+      prompt = λ late runs. let no : true ≡ false = late in cc;
+      well = λ late. well ∙ ap (λ (ended : Held). Some (unwrap_or ended (Ok tt))) same;
     }
 
 folds-push : {P A : Type 0} (R : P → A → P → Type 0) (p q r : P) (xs : List A) (x : A) → FoldsTo R p xs q → R q x r → FoldsTo R p (xs ++ x ∷ []) r
@@ -228,27 +235,42 @@ work-push (Turn moment random answer ∷ calls) = ap (λ rest. Turn moment rando
 work-push (Cancel ∷ calls) = work-push calls
 work-push (Finish result ∷ calls) = ap (λ rest. Finish result ∷ rest) (work-push calls)
 
+begins-push : (calls : List TaskCall) → BeginsWithTurn calls → BeginsWithTurn (calls ++ Cancel ∷ [])
+begins-push [] begins = elim begins [ ]
+begins-push (Turn moment random answer ∷ calls) begins = tt
+begins-push (Cancel ∷ calls) begins = elim begins [ ]
+begins-push (Finish result ∷ calls) begins = elim begins [ ]
+
 -- a member that is cancelled after its turn
-turns-then-cancels : {T : Type 0} (steps : T → TaskCall → T → Type 0) (is_cancelled : T → Bool) (moment : ℤ) (random : ℕ) (held : Held) (old mid new : Member T)
-    → TurnsMember steps moment random true held old mid
+turns-then-cancels : {T : Type 0} (steps : T → TaskCall → T → Type 0) (is_cancelled : T → Bool) (moment : ℤ) (random : ℕ) (late : Bool) (held : Held) (old mid new : Member T)
+    → TurnsMember steps moment random late true held old mid
     → CancelsMember steps is_cancelled mid new
-    → TurnsMember steps moment random true held old new
-turns-then-cancels steps is_cancelled moment random held old mid new t c =
+    → TurnsMember steps moment random late true held old new
+turns-then-cancels steps is_cancelled moment random late held old mid new t c =
     record {
       calls = t.calls ++ Cancel ∷ [];
       made = folds-push steps old.task mid.task new.task t.calls Cancel t.made c.step;
       work =
           subst (λ (calls : List TaskCall). Works moment random held old.ended calls new.ended) (sym (work-push t.calls))
           (subst (λ (ended : Held). Works moment random held old.ended (filter is_work t.calls) ended) (sym c.ended) t.work);
+      prompt = λ first runs. begins-push t.calls (t.prompt first runs);
+      well = λ after. c.ended ∙ t.well after;
     }
 
-zip-then : {X : Type 0} (R S Q : X → X → Type 0) (xs ys zs : List X) → ((x y z : X) → R x y → S y z → Q x z) → AllZip R xs ys → AllZip S ys zs → AllZip Q xs zs
-zip-then R S Q [] [] [] f r s = tt
-zip-then R S Q [] [] (z ∷ zs) f r s = elim s [ ]
-zip-then R S Q [] (y ∷ ys) zs f r s = elim r [ ]
-zip-then R S Q (x ∷ xs) [] zs f r s = elim r [ ]
-zip-then R S Q (x ∷ xs) (y ∷ ys) [] f r s = elim s [ ]
-zip-then R S Q (x ∷ xs) (y ∷ ys) (z ∷ zs) f r s = (f x y z r.0 s.0, zip-then R S Q xs ys zs f r.1 s.1)
+members-then-cancels : {T : Type 0} (steps : T → TaskCall → T → Type 0) (is_cancelled : T → Bool) (moment : ℤ) (random : ℕ) (late : Bool) (held : Held) (old mid new : List (Member T))
+    → TurnsMembers steps moment random late true held old mid
+    → AllZip (CancelsMember steps is_cancelled) mid new
+    → TurnsMembers steps moment random late true held old new
+members-then-cancels steps is_cancelled moment random late held [] [] [] t c = tt
+members-then-cancels steps is_cancelled moment random late held [] [] (z ∷ new) t c = elim c [ ]
+members-then-cancels steps is_cancelled moment random late held [] (y ∷ mid) new t c = elim t [ ]
+members-then-cancels steps is_cancelled moment random late held (x ∷ old) [] new t c = elim t [ ]
+members-then-cancels steps is_cancelled moment random late held (x ∷ old) (y ∷ mid) [] t c = elim c [ ]
+members-then-cancels steps is_cancelled moment random late held (x ∷ old) (y ∷ mid) (z ∷ new) t c = (
+  turns-then-cancels steps is_cancelled moment random late held x y z t.0 c.0,
+  members-then-cancels steps is_cancelled moment random (late || is_failure (ending x.ended z.ended)) held old mid new
+      (subst (λ (ended : Held). TurnsMembers steps moment random (late || is_failure (ending x.ended ended)) true held old mid) (sym c.0.ended) t.1) c.1,
+)
 
 -- a cancel ends no member
 endings-cancelled : {T : Type 0} (steps : T → TaskCall → T → Type 0) (is_cancelled : T → Bool) (old mid new : List (Member T)) → AllZip (CancelsMember steps is_cancelled) mid new → endings old new ≡ endings old mid
@@ -269,24 +291,46 @@ all_endings-cancelled steps is_cancelled (x ∷ old) (y ∷ mid) (z ∷ new) zip
     ap (λ e. e ++ all_endings old new) (endings-cancelled steps is_cancelled x.members y.members z.members zip.0.members)
     ∙ ap (λ e. endings x.members y.members ++ e) (all_endings-cancelled steps is_cancelled old mid new zip.1)
 
-group-later : {T : Type 0} (steps : T → TaskCall → T → Type 0) (moment : ℤ) (random : ℕ) (f f' : Bool) (held held' : Held) (g g' : TaskGroup T) → (f ≡ true → f' ≡ true) → Keeps held held' → TurnsGroup steps moment random f held g g' → TurnsGroup steps moment random f' held' g g'
-group-later steps moment random f f' held held' g g' up k t =
+group-later : {T : Type 0} (steps : T → TaskCall → T → Type 0) (moment : ℤ) (random : ℕ) (late f f' : Bool) (held held' : Held) (g g' : TaskGroup T) → (f ≡ true → f' ≡ true) → Keeps held held' → TurnsGroup steps moment random late f held g g' → TurnsGroup steps moment random late f' held' g g'
+group-later steps moment random late f f' held held' g g' up k t =
     record {
       name = t.name;
-      members =
-          zip-later (TurnsMember steps moment random f held) (TurnsMember steps moment random f' held') g.members g'.members
-          (λ x y. turns-later steps moment random f f' held held' x y up k) t.members;
+      members = members-later steps moment random late f f' held held' g.members g'.members up k t.members;
       result = t.result;
-      later = t.later;
     }
 
-all_endings-push : {T : Type 0} (R : TaskGroup T → TaskGroup T → Type 0) (old new : List (TaskGroup T)) (g g' : TaskGroup T) → AllZip R old new → all_endings (old ++ g ∷ []) (new ++ g' ∷ []) ≡ all_endings old new ++ endings g.members g'.members
-all_endings-push R [] [] g g' zip = append-nil (endings g.members g'.members)
-all_endings-push R [] (x' ∷ new) g g' zip = elim zip [ ]
-all_endings-push R (x ∷ old) [] g g' zip = elim zip [ ]
-all_endings-push R (x ∷ old) (x' ∷ new) g g' zip =
-    ap (λ e. endings x.members x'.members ++ e) (all_endings-push R old new g g' zip.1)
+order-later : {T : Type 0} (steps : T → TaskCall → T → Type 0) (moment : ℤ) (random : ℕ) (late f f' : Bool) (held held' : Held) (old new : List (TaskGroup T)) → (f ≡ true → f' ≡ true) → Keeps held held' → TurnsInOrder steps moment random late f held old new → TurnsInOrder steps moment random late f' held' old new
+order-later steps moment random late f f' held held' [] [] up k t = tt
+order-later steps moment random late f f' held held' [] (x' ∷ new) up k t = elim t [ ]
+order-later steps moment random late f f' held held' (x ∷ old) [] up k t = elim t [ ]
+order-later steps moment random late f f' held held' (x ∷ old) (x' ∷ new) up k t = (
+  group-later steps moment random late f f' held held' x x' up k t.0,
+  order-later steps moment random (late || has_error (endings x.members x'.members)) f f' held held' old new up k t.1,
+)
+
+all_endings-push : {T : Type 0} (steps : T → TaskCall → T → Type 0) (moment : ℤ) (random : ℕ) (late f : Bool) (held : Held) (old new : List (TaskGroup T)) (g g' : TaskGroup T) → TurnsInOrder steps moment random late f held old new → all_endings (old ++ g ∷ []) (new ++ g' ∷ []) ≡ all_endings old new ++ endings g.members g'.members
+all_endings-push steps moment random late f held [] [] g g' t = append-nil (endings g.members g'.members)
+all_endings-push steps moment random late f held [] (x' ∷ new) g g' t = elim t [ ]
+all_endings-push steps moment random late f held (x ∷ old) [] g g' t = elim t [ ]
+all_endings-push steps moment random late f held (x ∷ old) (x' ∷ new) g g' t =
+    ap (λ e. endings x.members x'.members ++ e) (all_endings-push steps moment random (late || has_error (endings x.members x'.members)) f held old new g g' t.1)
     ∙ sym (append_assoc (endings x.members x'.members) (all_endings old new) (endings g.members g'.members))
+
+-- one more group has its turn
+order-push : {T : Type 0} (steps : T → TaskCall → T → Type 0) (moment : ℤ) (random : ℕ) (late f : Bool) (held : Held) (old new : List (TaskGroup T)) (g g' : TaskGroup T)
+    → TurnsInOrder steps moment random late f held old new
+    → TurnsGroup steps moment random (late || has_error (all_endings old new)) f held g g'
+    → TurnsInOrder steps moment random late f held (old ++ g ∷ []) (new ++ g' ∷ [])
+order-push steps moment random late f held [] [] g g' ts t = (subst (λ (l : Bool). TurnsGroup steps moment random l f held g g') (sym (or-none late)) t, tt)
+order-push steps moment random late f held [] (x' ∷ new) g g' ts t = elim ts [ ]
+order-push steps moment random late f held (x ∷ old) [] g g' ts t = elim ts [ ]
+order-push steps moment random late f held (x ∷ old) (x' ∷ new) g g' ts t =
+    let e = endings x.members x'.members in
+    let same : (late || has_error (e ++ all_endings old new)) ≡ ((late || has_error e) || has_error (all_endings old new)) =
+    ap (λ b. late || b) (list_any-append is_err e (all_endings old new)) ∙ sym (or-assoc late (has_error e) (has_error (all_endings old new))) in (
+      ts.0,
+      order-push steps moment random (late || has_error e) f held old new g g' ts.1 (subst (λ (l : Bool). TurnsGroup steps moment random l f held g g') same t),
+    )
 
 -- a pass goes on by one group
 pub groups-push : {T : Type 0} (steps : T → TaskCall → T → Type 0) (moment : ℤ) (random : ℕ) (failed : Bool) (held : Held) (old new : List (TaskGroup T)) (f1 : Bool) (h1 : Held) (g g' : TaskGroup T) (f2 : Bool) (h2 : Held)
@@ -297,14 +341,13 @@ pub groups-push : {T : Type 0} (steps : T → TaskCall → T → Type 0) (moment
     → PassesGroups steps moment random failed held (old ++ g ∷ []) (new ++ g' ∷ []) f2 h2
 groups-push {T} steps moment random failed held old new f1 h1 g g' f2 h2 p name passes result =
     let more : all_endings (old ++ g ∷ []) (new ++ g' ∷ []) ≡ all_endings old new ++ endings g.members g'.members =
-    all_endings-push (TurnsGroup steps moment random f1 h1) old new g g' p.turns in
+    all_endings-push steps moment random failed f1 h1 old new g g' p.turns in
     let up : f1 ≡ true → f2 ≡ true = λ e. passes.fails ∙ or-true f1 (has_error (endings g.members g'.members)) e in
     record {
       turns =
-          AllZip-push (TurnsGroup steps moment random f2 h2) old new g g'
-          (zip-later (TurnsGroup steps moment random f1 h1) (TurnsGroup steps moment random f2 h2) old new
-          (λ x y. group-later steps moment random f1 f2 h1 h2 x y up (keeps-writes (endings g.members g'.members) h1 h2 passes.holds)) p.turns)
-          (record { name = name; members = passes.turns; result = result; later = passes.later });
+          order-push steps moment random failed f2 h2 old new g g'
+          (order-later steps moment random failed f1 f2 h1 h2 old new up (keeps-writes (endings g.members g'.members) h1 h2 passes.holds) p.turns)
+          (subst (λ (l : Bool). TurnsGroup steps moment random l f2 h2 g g') p.fails (record { name = name; members = passes.turns; result = result }));
       fails =
           passes.fails
           ∙ ap (λ b. b || has_error (endings g.members g'.members)) p.fails
@@ -315,9 +358,6 @@ groups-push {T} steps moment random failed held old new f1 h1 g g' f2 h2 p name 
           ∙ ap (after_writes (endings g.members g'.members)) p.holds
           ∙ sym (after_writes-append (all_endings old new) (endings g.members g'.members) held)
           ∙ ap (λ rs. after_writes rs held) (sym more);
-      later =
-          groups-later-push old new g g' (AllZip-long (TurnsGroup steps moment random f1 h1) old new p.turns) p.later
-          (λ has. passes.well (p.fails ∙ or-right failed (has_error (all_endings old new)) has));
     }
 
 are_cancelled : {T : Type 0} (steps : T → TaskCall → T → Type 0) (is_cancelled : T → Bool) (mid new : List (Member T)) → AllZip (CancelsMember steps is_cancelled) mid new → ByRecursion (λ member. IsTrue (is_cancelled member.task)) new
@@ -333,44 +373,29 @@ all_are_cancelled steps is_cancelled (y ∷ mid) [] zip = elim zip [ ]
 all_are_cancelled steps is_cancelled (y ∷ mid) (z ∷ new) zip =
     (are_cancelled steps is_cancelled y.members z.members zip.0.members, all_are_cancelled steps is_cancelled mid new zip.1)
 
-well-cancelled : {T : Type 0} (steps : T → TaskCall → T → Type 0) (is_cancelled : T → Bool) (old mid new : List (Member T)) → AllZip (CancelsMember steps is_cancelled) mid new → AllZip EndsWell old mid → AllZip EndsWell old new
-well-cancelled steps is_cancelled old mid new cancels well =
-    zip-then EndsWell (CancelsMember steps is_cancelled) EndsWell old mid new (λ x y z h c. c.ended ∙ h) well cancels
-
-later-cancelled : {T : Type 0} (steps : T → TaskCall → T → Type 0) (is_cancelled : T → Bool) (old mid new : List (Member T)) → AllZip (CancelsMember steps is_cancelled) mid new → EndAfterFailure old mid → EndAfterFailure old new
-later-cancelled steps is_cancelled [] mid new cancels later = tt
-later-cancelled steps is_cancelled (x ∷ old) [] [] cancels later = tt
-later-cancelled steps is_cancelled (x ∷ old) [] (z ∷ new) cancels later = elim cancels [ ]
-later-cancelled steps is_cancelled (x ∷ old) (y ∷ mid) [] cancels later = elim cancels [ ]
-later-cancelled steps is_cancelled (x ∷ old) (y ∷ mid) (z ∷ new) cancels later = (
-  λ fail. well-cancelled steps is_cancelled old mid new cancels.1 (later.0 (sym (ap (λ o. is_failure (ending x.ended o)) cancels.0.ended) ∙ fail)),
-  later-cancelled steps is_cancelled old mid new cancels.1 later.1,
-)
-
-groups-later-cancelled : {T : Type 0} (steps : T → TaskCall → T → Type 0) (is_cancelled : T → Bool) (old mid new : List (TaskGroup T)) → AllZip (CancelsGroup steps is_cancelled) mid new → GroupsEndAfterFailure old mid → GroupsEndAfterFailure old new
-groups-later-cancelled steps is_cancelled [] mid new cancels later = tt
-groups-later-cancelled steps is_cancelled (x ∷ old) [] [] cancels later = tt
-groups-later-cancelled steps is_cancelled (x ∷ old) [] (z ∷ new) cancels later = elim cancels [ ]
-groups-later-cancelled steps is_cancelled (x ∷ old) (y ∷ mid) [] cancels later = elim cancels [ ]
-groups-later-cancelled steps is_cancelled (x ∷ old) (y ∷ mid) (z ∷ new) cancels later = (
-  λ fail.
-      zip-then GroupEndsWell (CancelsGroup steps is_cancelled) GroupEndsWell old mid new
-      (λ a b c h k. well-cancelled steps is_cancelled a.members b.members c.members k.members h)
-      (later.0 (sym (ap has_error (endings-cancelled steps is_cancelled x.members y.members z.members cancels.0.members)) ∙ fail))
-      cancels.1,
-  groups-later-cancelled steps is_cancelled old mid new cancels.1 later.1,
-)
-
-group-then-cancels : {T : Type 0} (steps : T → TaskCall → T → Type 0) (is_cancelled : T → Bool) (moment : ℤ) (random : ℕ) (held : Held) (old mid new : TaskGroup T) → TurnsGroup steps moment random true held old mid → CancelsGroup steps is_cancelled mid new → TurnsGroup steps moment random true held old new
-group-then-cancels steps is_cancelled moment random held old mid new t c =
+group-then-cancels : {T : Type 0} (steps : T → TaskCall → T → Type 0) (is_cancelled : T → Bool) (moment : ℤ) (random : ℕ) (late : Bool) (held : Held) (old mid new : TaskGroup T) → TurnsGroup steps moment random late true held old mid → CancelsGroup steps is_cancelled mid new → TurnsGroup steps moment random late true held old new
+group-then-cancels steps is_cancelled moment random late held old mid new t c =
     record {
       name = c.name ∙ t.name;
-      members =
-          zip-then (TurnsMember steps moment random true held) (CancelsMember steps is_cancelled) (TurnsMember steps moment random true held) old.members mid.members new.members
-          (turns-then-cancels steps is_cancelled moment random held) t.members c.members;
+      members = members-then-cancels steps is_cancelled moment random late held old.members mid.members new.members t.members c.members;
       result = c.result ∙ t.result ∙ ap (λ e. first_error (old.result ∷ e)) (sym (endings-cancelled steps is_cancelled old.members mid.members new.members c.members));
-      later = later-cancelled steps is_cancelled old.members mid.members new.members c.members t.later;
     }
+
+order-then-cancels : {T : Type 0} (steps : T → TaskCall → T → Type 0) (is_cancelled : T → Bool) (moment : ℤ) (random : ℕ) (late : Bool) (held : Held) (old mid new : List (TaskGroup T))
+    → TurnsInOrder steps moment random late true held old mid
+    → AllZip (CancelsGroup steps is_cancelled) mid new
+    → TurnsInOrder steps moment random late true held old new
+order-then-cancels steps is_cancelled moment random late held [] [] [] t c = tt
+order-then-cancels steps is_cancelled moment random late held [] [] (z ∷ new) t c = elim c [ ]
+order-then-cancels steps is_cancelled moment random late held [] (y ∷ mid) new t c = elim t [ ]
+order-then-cancels steps is_cancelled moment random late held (x ∷ old) [] new t c = elim t [ ]
+order-then-cancels steps is_cancelled moment random late held (x ∷ old) (y ∷ mid) [] t c = elim c [ ]
+order-then-cancels steps is_cancelled moment random late held (x ∷ old) (y ∷ mid) (z ∷ new) t c = (
+  group-then-cancels steps is_cancelled moment random late held x y z t.0 c.0,
+  order-then-cancels steps is_cancelled moment random (late || has_error (endings x.members z.members)) held old mid new
+      (subst (λ (e : List (Result (Unit {0}) CloseFault)). TurnsInOrder steps moment random (late || has_error e) true held old mid) (sym (endings-cancelled steps is_cancelled x.members y.members z.members c.0.members)) t.1)
+      c.1,
+)
 
 -- a turn in which one failed
 pub turns-failed : {T : Type 0} (steps : T → TaskCall → T → Type 0) (is_cancelled : T → Bool) (moment : ℤ) (random : ℕ) (held held' : Held) (old mid new : List (TaskGroup T)) (failed : Bool)
@@ -383,13 +408,11 @@ turns-failed {T} steps is_cancelled moment random held held' old mid new failed 
     let flag : true ≡ has_error (all_endings old new) = sym was ∙ p.fails ∙ ap has_error (sym same) in
     record {
       turns =
-          subst (λ (f : Bool). AllZip (TurnsGroup steps moment random f held') old new) flag
-          (zip-then (TurnsGroup steps moment random true held') (CancelsGroup steps is_cancelled) (TurnsGroup steps moment random true held') old mid new
-          (group-then-cancels steps is_cancelled moment random held')
-          (subst (λ (f : Bool). AllZip (TurnsGroup steps moment random f held') old mid) was p.turns) cancels);
+          subst (λ (f : Bool). TurnsInOrder steps moment random false f held' old new) flag
+          (order-then-cancels steps is_cancelled moment random false held' old mid new
+          (subst (λ (f : Bool). TurnsInOrder steps moment random false f held' old mid) was p.turns) cancels);
       holds = p.holds ∙ ap (λ e. after_writes e held) (sym same);
       cancelled = λ _. all_are_cancelled steps is_cancelled mid new cancels;
-      later = groups-later-cancelled steps is_cancelled old mid new cancels p.later;
     }
 
 -- and one in which none did
@@ -400,10 +423,9 @@ pub turns-well : {T : Type 0} (steps : T → TaskCall → T → Type 0) (is_canc
 turns-well {T} steps is_cancelled moment random held held' old new failed was p =
     let flag : failed ≡ has_error (all_endings old new) = p.fails in
     record {
-      turns = subst (λ (f : Bool). AllZip (TurnsGroup steps moment random f held') old new) flag p.turns;
+      turns = subst (λ (f : Bool). TurnsInOrder steps moment random false f held' old new) flag p.turns;
       holds = p.holds;
       cancelled = λ has. let no : false ≡ true = sym was ∙ flag ∙ has in cc;
-      later = p.later;
     }
 
 -- a group that was shut down
@@ -417,11 +439,9 @@ shuts {T} steps held held' old new failed name p result =
       turns =
           record {
             name = name;
-            members = subst (λ (f : Bool). AllZip (TurnsMember steps (pos 0) 0 f held') old.members new.members) p.fails p.turns;
+            members = subst (λ (f : Bool). TurnsMembers steps (pos 0) 0 true f held' old.members new.members) p.fails p.turns;
             result = result;
-            later = p.later;
           };
-      well = p.well refl;
       holds = p.holds;
     }
 
@@ -468,31 +488,30 @@ pub passes-next : {T : Type 0} (steps : T → TaskCall → T → Type 0) (moment
     → Writes old new i m m'
     → Passes steps moment random failed held (take i old) (take i new) f1 h1
     → m ≡ read
-    → TurnsMember steps moment random f1 h2 read m'
+    → TurnsMember steps moment random f1 f1 h2 read m'
     → outcome ≡ ending read.ended m'.ended
     → h2 ≡ after_writes (option_to_list outcome) h1
-    → (IsTrue f1 → EndsWell read m')
     → f2 ≡ (f1 || is_failure outcome)
     → Passes steps moment random failed held (take (i + 1) old) (take (i + 1) (set new i m')) f2 h2
-passes-next {T} steps moment random failed held old new i f1 h1 m read m' outcome f2 h2 w p same t o h well f =
+passes-next {T} steps moment random failed held old new i f1 h1 m read m' outcome f2 h2 w p same t o h f =
     subst (λ (front : List (Member T)). Passes steps moment random failed held front (take (i + 1) (set new i m')) f2 h2) (sym w.before)
     (subst (λ (front : List (Member T)). Passes steps moment random failed held (take i old ++ m ∷ []) front f2 h2) (sym w.after)
     (subst (λ (member : Member T). Passes steps moment random failed held (take i old ++ member ∷ []) (take i new ++ m' ∷ []) f2 h2) (sym same)
-    (passes-push steps moment random failed held (take i old) (take i new) f1 h1 read m' outcome f2 h2 p t o h well f)))
+    (passes-push steps moment random failed held (take i old) (take i new) f1 h1 read m' outcome f2 h2 p t o h f)))
 
-pub first-next : {T : Type 0} (R : Member T → Member T → Type 0) (old new : List (Member T)) (i : ℕ) (m read m' : Member T) (outcome : Held) (result first first' : Result (Unit {0}) CloseFault)
+pub first-next : {T : Type 0} (steps : T → TaskCall → T → Type 0) (moment : ℤ) (random : ℕ) (failed : Bool) (held : Held) (old new : List (Member T)) (i : ℕ) (f1 : Bool) (h1 : Held) (m read m' : Member T) (outcome : Held) (result first first' : Result (Unit {0}) CloseFault)
     → Writes old new i m m'
-    → AllZip R (take i old) (take i new)
+    → Passes steps moment random failed held (take i old) (take i new) f1 h1
     → m ≡ read
     → outcome ≡ ending read.ended m'.ended
     → first ≡ first_error (result ∷ endings (take i old) (take i new))
     → first' ≡ first_error (first ∷ option_to_list outcome)
     → first' ≡ first_error (result ∷ endings (take (i + 1) old) (take (i + 1) (set new i m')))
-first-next {T} R old new i m read m' outcome result first first' w zip same o e e' =
+first-next {T} steps moment random failed held old new i f1 h1 m read m' outcome result first first' w p same o e e' =
     subst (λ (front : List (Member T)). first' ≡ first_error (result ∷ endings front (take (i + 1) (set new i m')))) (sym w.before)
     (subst (λ (front : List (Member T)). first' ≡ first_error (result ∷ endings (take i old ++ m ∷ []) front)) (sym w.after)
     (subst (λ (member : Member T). first' ≡ first_error (result ∷ endings (take i old ++ member ∷ []) (take i new ++ m' ∷ []))) (sym same)
-    (e' ∙ ap (λ (o : Held). first_error (first ∷ option_to_list o)) o ∙ first_error-push R (take i old) (take i new) read m' result first zip e)))
+    (e' ∙ ap (λ (o : Held). first_error (first ∷ option_to_list o)) o ∙ first_error-push steps moment random failed held (take i old) (take i new) f1 h1 read m' result first p e)))
 
 -- whether something has failed goes on so
 pub fails-Some : (f1 f2 : Bool) (outcome : Held) (r : Result (Unit {0}) CloseFault) → outcome ≡ Some r → f1 ≡ false → f2 ≡ is_err r → f2 ≡ (f1 || is_failure outcome)
@@ -524,7 +543,7 @@ pub turns-on : {T : Type 0} (steps : T → TaskCall → T → Type 0) (moment mo
     → old.ended ≡ None
     → ending_of answer ≡ None
     → steps old.task (Turn moment' random answer) task
-    → TurnsMember steps moment random false held old (record { task = task; ended = old.ended })
+    → TurnsMember steps moment random false false held old (record { task = task; ended = old.ended })
 turns-on {T} steps moment moment' random held old task answer same runs on step =
     record {
       calls = Turn moment random answer ∷ [];
@@ -532,6 +551,8 @@ turns-on {T} steps moment moment' random held old task answer same runs on step 
       work =
           subst (λ (e : Held). Works moment random held e (Turn moment random answer ∷ []) e) (sym runs)
           (answer, subst (λ (o : Held). EndsBy moment random held answer o (Turn moment random answer ∷ []) None) (sym on) (refl, refl));
+      prompt = λ first running. tt;
+      well = λ late. let no : false ≡ true = late in cc;
     }
 
 -- a member ends by its turn
@@ -542,7 +563,7 @@ pub turns-end : {T : Type 0} (steps : T → TaskCall → T → Type 0) (moment m
     → held ≡ Some closed
     → steps old.task (Turn moment' random answer) mid
     → steps mid (Finish closed) task
-    → TurnsMember steps moment random false held old (record { task = task; ended = Some result })
+    → TurnsMember steps moment random false false held old (record { task = task; ended = Some result })
 turns-end {T} steps moment moment' random held old mid task answer result closed same runs end is step finish =
     let calls : List TaskCall = Turn moment random answer ∷ Finish closed ∷ [] in
     record {
@@ -551,4 +572,6 @@ turns-end {T} steps moment moment' random held old mid task answer result closed
       work =
           subst (λ (e : Held). Works moment random held e calls (Some result)) (sym runs)
           (answer, subst (λ (o : Held). EndsBy moment random held answer o calls (Some result)) (sym end) (closed, is, refl, refl));
+      prompt = λ first running. tt;
+      well = λ late. let no : false ≡ true = late in cc;
     }

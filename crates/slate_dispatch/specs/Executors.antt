@@ -2,12 +2,11 @@
 use Rattle.std.specs.Prelude.{◌≡◌, ℕ, Bool, false, if◌then◌else◌, List, [], ◌∷◌, ◌++◌, map, nat_eq, remove, slice_get, slice_set, Option, Some, None, MatchOption, Result, Ok, Err}
 use Rattle.std.specs.Cmp.Lexicographic.{pointwise}
 use Rattle.std.specs.List.{position}
-use Rattle.slate_errors.specs.declared.closing.CloseFault.{CloseFault}
 use Rattle.slate_errors.specs.declared.errors.SlateError.{SlateError}
 use Rattle.slate_errors.specs.declared.errors.SlateError.TheVariants as errors
 use Rattle.slate_dispatch.specs.declared.executors.ExecutorRefusal.{ExecutorRefusal}
 use Rattle.slate_dispatch.specs.declared.groups.Member.{Member}
-use Rattle.slate_dispatch.specs.Groups.{TaskGroup, CancelsGroup, ShutsGroup, outcome_of}
+use Rattle.slate_dispatch.specs.Groups.{Outcome, TaskGroup, CancelsGroup, ShutsGroup, outcome_of}
 use Rattle.slate_dispatch.specs.Tasks.{TaskCall}
 
 pub record Executing (T : Type 0) : Type 0 where
@@ -63,20 +62,20 @@ CancelsTask steps is_cancelled name old new =
     MatchOption (started_index name old) (new ≡ old) (λ index. ChangesAt index (CancelsGroup steps is_cancelled) old new)
 
 -- the result of a started group; that of any other name is Ok
-abbrev pub Joins : {T : Type 0} → List ℕ → Executing T → Option (Result (Unit {0}) CloseFault) → Type 0
+abbrev pub Joins : {T : Type 0} → List ℕ → Executing T → Option Outcome → Type 0
 Joins {T} name e result =
     MatchOption (started_index name e) (result ≡ Some (Ok tt))
     (λ index. (group : TaskGroup T) × (slice_get e.groups index ≡ Some group) × (result ≡ outcome_of group))
 
 -- A started group is shut down, and its result is answered. For any other name nothing changes, and the answer is Ok.
-abbrev pub ShutsTask : {T : Type 0} → (T → TaskCall → T → Type 0) → List ℕ → (held held' : Option (Result (Unit {0}) CloseFault)) → Executing T → Result (Unit {0}) CloseFault → Executing T → Type 0
+abbrev pub ShutsTask : {T : Type 0} → (T → TaskCall → T → Type 0) → List ℕ → (held held' : Option Outcome) → Executing T → Outcome → Executing T → Type 0
 ShutsTask steps name held held' old result new =
     MatchOption (started_index name old) ((result ≡ Ok tt) × (held' ≡ held) × (new ≡ old))
     (λ index. ChangesAt index (λ group group'. ShutsGroup steps held held' group group' × (result ≡ group'.result)) old new)
 
 -- a group that wasn't started is taken out; any other name is shut down
-abbrev pub TakesOut : {T : Type 0} → (T → TaskCall → T → Type 0) → List ℕ → (held held' : Option (Result (Unit {0}) CloseFault)) → Executing T → Option (Result (Unit {0}) CloseFault) → Executing T → Type 0
+abbrev pub TakesOut : {T : Type 0} → (T → TaskCall → T → Type 0) → List ℕ → (held held' : Option Outcome) → Executing T → Option Outcome → Executing T → Type 0
 TakesOut steps name held held' old answer new =
     MatchOption (waiting_index name old)
-    ((result : Result (Unit {0}) CloseFault) × (answer ≡ Some result) × ShutsTask steps name held held' old result new)
+    ((result : Outcome) × (answer ≡ Some result) × ShutsTask steps name held held' old result new)
     (λ index. (answer ≡ None) × (held' ≡ held) × (new ≡ record old { groups = remove old.groups index }))

@@ -10,7 +10,7 @@ use std::collections::VecDeque;
 use std::rc::Rc;
 use std::test::Fail;
 
-/// A handler of numbers, which fails with each number that it handles, so that the answer of a turn tells it. The
+/// A handler of numbers, which fails with each number but 0 that it handles, so that the answer of a turn tells it. The
 /// message of ticker `i` is `10 + i`, and that of notifier `i` is `20 + i`.
 #[derive(Drop)]
 struct Teller {
@@ -53,8 +53,12 @@ impl MessageHandler for Teller {
     }
 
     fn handle(&mut self, message: u64) -> Result<(), CloseFault> {
-        self.told = Some(Err(CloseFault::Custom(message)));
-        Err(CloseFault::Custom(message))
+        let answer = match message {
+            0 => Ok(()),
+            _ => Err(CloseFault::Custom(message)),
+        };
+        self.told = Some(answer);
+        answer
     }
 
     fn cleanup(&mut self, mut messages: VecDeque<u64>, _outcome: Result<(), CloseFault>)
@@ -105,9 +109,13 @@ fn of(message: u64) -> TurnAnswer {
 fn queue_then_tickers_then_notifiers(rt: HostRuntime) -> Result<(), Fail> {
     let offered = Rc::new(rt.alloc(), Cell::new([0, 0]))?;
     let mut dispatcher = dispatcher_of(rt.alloc(), [every(5), every(3)], 0, offered)?;
-    dispatcher.send(1, &CloseCell::new())?;
+    for message in [1, 0, 2] {
+        dispatcher.send(message, &CloseCell::new())?;
+    }
     for (moment, answer) in [
         (3, of(1)),
+        (3, TurnAnswer::Handled),
+        (3, of(2)),
         (3, of(11)),
         (3, of(21)),
         (3, TurnAnswer::Idle),

@@ -104,6 +104,41 @@ fn an_error_cancels_the_other_task(rt: HostRuntime) -> Result<(), AllocError> {
     Ok(())
 }
 
+#[test]
+fn five_groups(rt: HostRuntime) -> Result<(), AllocError> {
+    let alloc = rt.alloc();
+    let mut executor = Executor::new(alloc);
+    for name in ["a", "b", "c", "d", "e"] {
+        assert!(rt; add(&mut executor, alloc, name, task(alloc, None)?));
+    }
+    assert!(rt; !add(&mut executor, alloc, "c", task(alloc, None)?));
+    Ok(())
+}
+
+#[test]
+fn an_error_cancels_the_other_group(rt: HostRuntime) -> Result<(), AllocError> {
+    let alloc = rt.alloc();
+    let mut executor = Executor::new(alloc);
+    assert!(rt; add(&mut executor, alloc, "a", task(alloc, None)?));
+    assert!(rt;
+        add(
+            &mut executor,
+            alloc,
+            "b",
+            task(alloc, Some(CloseFault::Fenced))?
+        )
+    );
+    assert!(rt; executor.start().is_ok());
+    let mut cell = CloseCell::new();
+    executor.turn(&mut cell, 0, 0);
+    assert_eq!(rt; executor.join_task("a"), None);
+    assert_eq!(rt; executor.join_task("b"), Some(FENCED));
+    executor.turn(&mut cell, 0, 0);
+    assert_eq!(rt; executor.join_task("a"), Some(Ok(())));
+    assert_eq!(rt; cell.read(), Some(FENCED));
+    Ok(())
+}
+
 /// Whether a registration of two tasks was refused since the executor was started, and both came back.
 fn comes_too_late(refusal: &Result<(), ExecutorRefusal<Scripted>>) -> bool {
     match refusal {

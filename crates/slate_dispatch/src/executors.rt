@@ -96,7 +96,7 @@ impl<T: Task> Executor<T> {
     }
 
     /// Gives each task that runs one turn, in order of registration. `moment` is in milliseconds, `random` is any word.
-    /// Tasks that come after one that fails are cancelled before their turn.
+    /// Tasks that come after one that fails are cancelled before their turn, and those before it after their turn.
     pub fn turn(&mut self, cell: &mut CloseCell, moment: i64, random: u64)
         requires { IsTrue self.old.is_started }
         ensures turns { TurnsGroups T.steps T.is_cancelled moment random cell.old cell.new self.old.groups self.new.groups }
@@ -106,7 +106,7 @@ impl<T: Task> Executor<T> {
     }
 
     /// Cancels each task of a started group. Before the start, or where no group has the name, it does nothing. It takes
-    /// no memory.
+    /// no memory but what the tasks' `cancel` takes.
     pub fn cancel_task(&mut self, name: &str)
         ensures { CancelsTask T.steps T.is_cancelled name.now self.old self.new }
     {

@@ -24,7 +24,7 @@ impl<T: Task> Member<T> {
         moment: i64,
         random: u64,
     ) -> Option<Result<(), CloseFault>>
-        ensures turns { TurnsMember T.steps moment random false cell.new self.old self.new }
+        ensures turns { TurnsMember T.steps moment random false false cell.new self.old self.new }
         ensures ended { result ≡ ending self.old.ended self.new.ended }
         ensures holds { cell.new ≡ after_writes (option_to_list result) cell.old }
         ensures well { IsTrue (T.is_cancelled self.old.task) → EndsWell self.old self.new }
@@ -51,10 +51,9 @@ impl<T: Task> Member<T> {
         random: u64,
         cancels: bool,
     ) -> Option<Result<(), CloseFault>>
-        ensures turns { TurnsMember T.steps moment random cancels cell.new self.old self.new }
+        ensures turns { TurnsMember T.steps moment random cancels cancels cell.new self.old self.new }
         ensures ended { result ≡ ending self.old.ended self.new.ended }
         ensures holds { cell.new ≡ after_writes (option_to_list result) cell.old }
-        ensures well { IsTrue cancels → EndsWell self.old self.new }
     {
         if cancels {
             self.task.cancel();

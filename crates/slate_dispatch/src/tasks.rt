@@ -20,7 +20,7 @@ pub enum TurnAnswer {
 
 /// Work that is done in turns, until it is cancelled or fails.
 ///
-/// No call takes memory. A task whose last turn answered `Cancelled` or `Failed` has ended.
+/// A task whose last turn answered `Cancelled` or `Failed` has ended.
 pub trait Task: Drop {
     /// Whether `cancel` was called.
     ghost is_cancelled: { Self → Bool };

@@ -19,4 +19,5 @@ pub use slate_streams::{
     InputFault, MAX_SCRIPT, ReadAnswer, Sink, SliceSource, Source, VecSink, WriteAnswer,
     read_whole, write_whole,
 };
+pub use slate_text::{read_byte_word, read_moment, read_number, write_byte_word};
 pub use states::LiveState;

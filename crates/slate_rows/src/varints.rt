@@ -3,13 +3,16 @@ ghost use Rattle.slate_rows.specs.Varint.{IsLeb128, number_at_front, varint};
 
 use slate_types::NoMemory;
 use std::alloc::Global;
+use thiserror::Error;
 
 /// Why bytes don't begin with a number.
-#[derive(Clone, Copy, Debug, PartialEq, Eq)]
+#[derive(Clone, Copy, Debug, PartialEq, Eq, Error)]
 pub enum VarintFault {
     /// The bytes end first.
+    #[error("the bytes end within the number")]
     Short,
     /// The number passes 32 bits, or a fifth byte says that a sixth one follows.
+    #[error("the number passes 32 bits")]
     TooLong,
 }
 

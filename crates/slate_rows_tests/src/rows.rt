@@ -3,15 +3,15 @@ ghost use Rattle.std.specs.Prelude.{◌≡◌, None};
 use bytes::Bytes;
 use slate_rows::{
     Batch, ByteRange, CloseOptions, ConcatOperator, DbIterator, DurabilityLevel, FixedPrefix,
-    FlushType, IndexedTable, IterationOrder, KeyBound, KeyOp, MergeFault, MergeOperator,
+    FlushType, IndexedTable, IterationOrder, KeyBound, KeyOp, KeyValue, MergeFault, MergeOperator,
     MergeOptions, NoMemory, Op, PrefixExtractor, PutOptions, ReadFault, ReadOptions, ScanOptions,
-    SeekFault, Seq, ValueDeletable, VarintFault, WriteBatch, WriteOptions, compute_index_key,
-    decode_varint, encode_varint, prepare_max_seq, read, read_indexed, recency, scan, varint_len,
+    SeekFault, Seq, VarintFault, WriteBatch, WriteOptions, compute_index_key, decode_varint,
+    encode_varint, prepare_max_seq, read, read_indexed, scan, varint_len,
 };
 use std::alloc::Global;
 use std::test::Fail;
 
-const NONE: Option<&ConcatOperator> = None;
+pub(crate) const NONE: Option<&ConcatOperator> = None;
 
 // A batch that puts these values.
 fn puts(alloc: Global, number: u64, rows: &[(&[u8], &[u8])]) -> Result<Batch, NoMemory> {
@@ -26,7 +26,7 @@ fn puts(alloc: Global, number: u64, rows: &[(&[u8], &[u8])]) -> Result<Batch, No
     })
 }
 
-fn bytes(alloc: Global, text: &[u8]) -> Result<Bytes, NoMemory> {
+pub(crate) fn bytes(alloc: Global, text: &[u8]) -> Result<Bytes, NoMemory> {
     Ok(Bytes::copy_from_slice(alloc, text)?)
 }
 
@@ -37,20 +37,29 @@ fn from(alloc: Global, low: &[u8]) -> Result<ByteRange, NoMemory> {
     })
 }
 
-// The keys of what is left, with a blank between them, and the fault that ends them.
-fn keys(alloc: Global, rows: &mut DbIterator) -> Result<(Vec<u8>, Option<ReadFault>), NoMemory> {
-    let mut keys = Vec::new(alloc);
+// Writes a row: its key, value and number.
+fn write_row(text: &mut Vec<u8>, row: &KeyValue) -> Result<(), NoMemory> {
+    text.extend_from_slice(row.key.as_slice())?;
+    text.push(b'=')?;
+    text.extend_from_slice(row.value.as_slice())?;
+    text.extend_from_slice(if row.seq == 1 { b"@1 " } else { b"@2 " })?;
+    Ok(())
+}
+
+// The rows that are left, and the fault that ends them.
+pub(crate) fn left_rows(
+    alloc: Global,
+    left: &mut DbIterator,
+) -> Result<(Vec<u8>, Option<ReadFault>), NoMemory> {
+    let mut text = Vec::new(alloc);
     for _ in 0..100 {
-        match rows.next() {
-            Ok(Some(row)) => {
-                keys.extend_from_slice(row.key.as_slice())?;
-                keys.push(b' ')?;
-            }
-            Ok(None) => return Ok((keys, None)),
-            Err(fault) => return Ok((keys, Some(fault))),
+        match left.next() {
+            Ok(Some(row)) => write_row(&mut text, &row)?,
+            Ok(None) => return Ok((text, None)),
+            Err(fault) => return Ok((text, Some(fault))),
         }
     }
-    Ok((keys, None))
+    Ok((text, None))
 }
 
 // Refuses each operand.
@@ -164,7 +173,7 @@ fn reads(rt: HostRuntime) -> Result<(), Fail> {
     Ok(())
 }
 
-fn older_merges(alloc: Global) -> Result<Batch, NoMemory> {
+pub(crate) fn older_merges(alloc: Global) -> Result<Batch, NoMemory> {
     let mut written = WriteBatch::new(alloc);
     written.merge(alloc, b"a", b"0")?;
     written.put(alloc, b"a", b"x")?;
@@ -178,7 +187,7 @@ fn older_merges(alloc: Global) -> Result<Batch, NoMemory> {
     })
 }
 
-fn newer_merges(alloc: Global) -> Result<Batch, NoMemory> {
+pub(crate) fn newer_merges(alloc: Global) -> Result<Batch, NoMemory> {
     let mut written = WriteBatch::new(alloc);
     written.merge_with_options(alloc, b"a", b"z", &MergeOptions { expire_ts: Some(3) })?;
     written.delete(alloc, b"b")?;
@@ -207,7 +216,7 @@ fn merges(rt: HostRuntime) -> Result<(), Fail> {
     Ok(())
 }
 
-fn table(alloc: Global, batch: Batch) -> Result<IndexedTable, NoMemory> {
+pub(crate) fn table(alloc: Global, batch: Batch) -> Result<IndexedTable, NoMemory> {
     let mut table = IndexedTable::new(alloc);
     match table.push(batch) {
         Ok(()) => Ok(table),
@@ -247,32 +256,6 @@ fn refused_merges(rt: HostRuntime) -> Result<(), Fail> {
     assert_eq!(rt; refused, Some(ReadFault::MergeOperatorError));
     let missing = read(alloc, &batches, None, b"a", NONE).err();
     assert_eq!(rt; missing, Some(ReadFault::MergeOperatorMissing));
-    Ok(())
-}
-
-// The keys of a scan from the greatest key down, and the fault that ends them.
-fn keys_down(
-    alloc: Global,
-    batches: &[Batch],
-    operator: Option<&ConcatOperator>,
-) -> Result<(Vec<u8>, Option<ReadFault>), NoMemory> {
-    let order = IterationOrder::Descending;
-    let mut rows = scan(alloc, batches, None, &ByteRange::full(), order, operator)?;
-    keys(alloc, &mut rows)
-}
-
-// A key whose merge is refused ends a scan.
-#[test]
-fn scanned_merges(rt: HostRuntime) -> Result<(), Fail> {
-    let batches = [older_merges(rt.alloc())?, newer_merges(rt.alloc())?];
-    let missing = Some(ReadFault::MergeOperatorMissing);
-    for (operator, want, end) in [
-        (NONE, b"c ".as_slice(), missing),
-        (Some(&ConcatOperator), b"c b a ".as_slice(), None),
-    ] {
-        let (found, fault) = keys_down(rt.alloc(), &batches, operator)?;
-        assert_eq!(rt; (found.as_slice(), fault), (want, end));
-    }
     Ok(())
 }
 
@@ -320,10 +303,10 @@ fn four_rows(alloc: Global, range: &ByteRange) -> Result<DbIterator, NoMemory> {
         alloc,
         1,
         &[
-            (b"test_key1", b"test_value1"),
-            (b"test_key2", b"test_value2"),
-            (b"test_key3", b"test_value3"),
-            (b"test_key4", b"test_value4"),
+            (b"k1", b"v1"),
+            (b"k2", b"v2"),
+            (b"k3", b"v3"),
+            (b"k4", b"v4"),
         ],
     )?];
     scan(
@@ -346,37 +329,45 @@ fn crossed_bounds(rt: HostRuntime) -> Result<(), Fail> {
     Ok(())
 }
 
+// What a seek of a key answers after so many rows, and the rows that are left then.
+fn sought(
+    alloc: Global,
+    mut rows: DbIterator,
+    count: usize,
+    key: &[u8],
+) -> Result<(Result<(), SeekFault>, Vec<u8>), NoMemory> {
+    for _ in 0..count {
+        if rows.next().is_err() {
+            return Err(NoMemory);
+        }
+    }
+    let answer = rows.seek(key);
+    let (left, _) = left_rows(alloc, &mut rows)?;
+    Ok((answer, left))
+}
+
+// A seek that is refused changes nothing. After a row, that of its key is.
 #[test]
 fn seeks(rt: HostRuntime) -> Result<(), Fail> {
     let alloc = rt.alloc();
-    let mut rows = four_rows(alloc, &ByteRange::full())?;
-    assert_eq!(rt; rows.seek(b"test_key4"), Ok(()));
-    assert_eq!(rt;
-        keys(alloc, &mut rows)?.0.as_slice(),
-        b"test_key4 ".as_slice()
-    );
-    let mut rows = four_rows(alloc, &from(alloc, b"b")?)?;
-    assert_eq!(rt; rows.seek(b"a"), Err(SeekFault::OutOfRange));
+    let less = Err(SeekFault::LessThanLastReturned);
+    for (low, count, key, want) in [
+        (b"".as_slice(), 0, b"k3".as_slice(), Ok(())),
+        (b"", 2, b"k2", less),
+        (b"", 2, b"k21", Ok(())),
+        (b"k3", 0, b"a", Err(SeekFault::OutOfRange)),
+    ] {
+        let rows = four_rows(alloc, &from(alloc, low)?)?;
+        let (answer, found) = sought(alloc, rows, count, key)?;
+        assert_eq!(rt;
+            (answer, found.as_slice()),
+            (want, b"k3=v3@1 k4=v4@1 ".as_slice())
+        );
+    }
     Ok(())
 }
 
-// After a row, a seek of its key is refused.
-#[test]
-fn seeks_after_a_row(rt: HostRuntime) -> Result<(), Fail> {
-    let alloc = rt.alloc();
-    let mut rows = four_rows(alloc, &ByteRange::full())?;
-    assert!(rt; rows.next()?.is_some());
-    assert_eq!(rt;
-        rows.seek(b"test_key1"),
-        Err(SeekFault::LessThanLastReturned)
-    );
-    assert_eq!(rt; rows.seek(b"test_key11"), Ok(()));
-    let want = b"test_key2 test_key3 test_key4 ".as_slice();
-    assert_eq!(rt; keys(alloc, &mut rows)?.0.as_slice(), want);
-    Ok(())
-}
-
-// A scan of three keys up to a bound, from the greatest key down.
+// A scan of three keys up to a bound, from the greatest key down. Batch 1 has two of them.
 fn three_rows(alloc: Global, bound: Option<u64>) -> Result<DbIterator, NoMemory> {
     let batches = [
         puts(alloc, 1, &[(b"a", b"1"), (b"c", b"3")])?,
@@ -386,25 +377,21 @@ fn three_rows(alloc: Global, bound: Option<u64>) -> Result<DbIterator, NoMemory>
     scan(alloc, &batches, bound, &ByteRange::full(), order, NONE)
 }
 
-// After a row of a descending scan, a seek of that key or of one below is refused.
-#[test]
-fn descending(rt: HostRuntime) -> Result<(), Fail> {
-    let alloc = rt.alloc();
-    let mut rows = three_rows(alloc, None)?;
-    let row = rows.next()?.ok_or("a row")?;
-    assert_eq!(rt; (row.key.as_slice(), row.seq), (b"c".as_slice(), 2));
-    for key in [b"c".as_slice(), b"a".as_slice()] {
-        assert_eq!(rt; rows.seek(key), Err(SeekFault::LessThanLastReturned));
-    }
-    assert_eq!(rt; keys(alloc, &mut rows)?.0.as_slice(), b"b a ".as_slice());
-    Ok(())
-}
-
+// After a row of a descending scan, a seek of that key or of one below is refused, and one above the greatest key leaves
+// all.
 #[test]
 fn descending_seeks(rt: HostRuntime) -> Result<(), Fail> {
-    let mut rows = three_rows(rt.alloc(), Some(1))?;
-    assert_eq!(rt; rows.seek(b"bb"), Ok(()));
-    assert_eq!(rt; keys(rt.alloc(), &mut rows)?.0.as_slice(), b"a ".as_slice());
+    let less = Err(SeekFault::LessThanLastReturned);
+    for (bound, count, key, want, left) in [
+        (None, 1, b"c".as_slice(), less, b"b=2@2 a=1@1 ".as_slice()),
+        (None, 1, b"a", less, b"b=2@2 a=1@1 "),
+        (None, 0, b"d", Ok(()), b"c=4@2 b=2@2 a=1@1 "),
+        (Some(1), 0, b"bb", Ok(()), b"a=1@1 "),
+    ] {
+        let rows = three_rows(rt.alloc(), bound)?;
+        let (answer, found) = sought(rt.alloc(), rows, count, key)?;
+        assert_eq!(rt; (answer, found.as_slice()), (want, left));
+    }
     Ok(())
 }
 
@@ -427,38 +414,6 @@ fn faults(rt: HostRuntime) -> Result<(), Fail> {
         rows.seek(b"a"),
         Err(SeekFault::Stored(ReadFault::ChecksumMismatch))
     );
-    Ok(())
-}
-
-#[test]
-fn recent(rt: HostRuntime) -> Result<(), Fail> {
-    let alloc = rt.alloc();
-    let mut newer = Vec::new(alloc);
-    newer.push(puts(alloc, 2, &[(b"a", b"y")])?)?;
-    let mut older = Vec::new(alloc);
-    older.push(puts(alloc, 1, &[(b"a", b"x")])?)?;
-    let mut sources = Vec::new(alloc);
-    sources.push(Seq::of(newer))?;
-    sources.push(Seq::of(older))?;
-    let mut entries = recency(
-        alloc,
-        &Seq::of(sources),
-        None,
-        b"a",
-        IterationOrder::Ascending,
-    )?;
-    for (want, number) in [(b"y".as_slice(), 2), (b"x".as_slice(), 1)] {
-        let entry = entries.next_entry().ok_or("an entry")?;
-        assert_eq!(rt;
-            (entry.key.as_slice(), entry.seq),
-            (b"a".as_slice(), number)
-        );
-        let ValueDeletable::Value(value) = &entry.value else {
-            return Err(Fail::from("a value"));
-        };
-        assert_eq!(rt; value.as_slice(), want);
-    }
-    assert!(rt; entries.next_entry().is_none());
     Ok(())
 }
 

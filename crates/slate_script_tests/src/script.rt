@@ -8,58 +8,6 @@ use slate_types::{KeyValue, NoMemory};
 use std::alloc::Global;
 use std::test::Fail;
 
-// Lines that aren't script lines.
-#[test]
-fn refused_lines(rt: HostRuntime) -> Result<(), Fail> {
-    for line in [
-        b" ".as_slice(),
-        b"0".as_slice(),
-        b"0 ".as_slice(),
-        b"0 fly".as_slice(),
-        b"0 Open".as_slice(),
-        b"0  open".as_slice(),
-        b" 0 open".as_slice(),
-        b"0 open ".as_slice(),
-        b"0 open x".as_slice(),
-        b"0/ open".as_slice(),
-        b"/0 open".as_slice(),
-        b"x open".as_slice(),
-        b"-1 open".as_slice(),
-        b"9223372036854775808 open".as_slice(),
-        b"0\topen".as_slice(),
-        b"0 open\r".as_slice(),
-        b"0 put 0 a".as_slice(),
-        b"0 put 0 a ".as_slice(),
-        b"0 put 0 a%".as_slice(),
-        b"0 put 0 a% x".as_slice(),
-        b"0 put 0 %4 x".as_slice(),
-        b"0 put 0  x".as_slice(),
-        b"0 put x a b".as_slice(),
-        b"0 put 18446744073709551616 a b".as_slice(),
-        b"0 put 0 a b c d".as_slice(),
-        b"0 flush".as_slice(),
-        b"0 flush -1".as_slice(),
-        b"0 flush 0 ".as_slice(),
-        b"0 flush 0 memtable".as_slice(),
-        b"0 flush 0 wal wal".as_slice(),
-        b"0 close 0".as_slice(),
-        b"0 follow".as_slice(),
-        b"0 follow latest skip".as_slice(),
-        b"0 follow pinned 1".as_slice(),
-        b"0 poll".as_slice(),
-        b"0 await -1".as_slice(),
-        b"0 close 0 memtable".as_slice(),
-        b"0 close none".as_slice(),
-        b"0 close 0 WAL".as_slice(),
-        b"0 get 0".as_slice(),
-        b"0 get 0 a b".as_slice(),
-    ] {
-        let answer = read_line(rt.alloc(), line)?;
-        assert!(rt; matches!(answer, LineAnswer::Refused), "{line:?}");
-    }
-    Ok(())
-}
-
 #[test]
 fn blank_lines(rt: HostRuntime) -> Result<(), Fail> {
     for line in [b"".as_slice(), b"#".as_slice(), b"# 0 open".as_slice()] {
@@ -137,14 +85,6 @@ fn are_four(commands: &[Command]) -> bool {
 fn scripts(rt: HostRuntime) -> Result<(), Fail> {
     let commands = read_script(rt.alloc(), b"0 open\n\n1 put 0 a %\n2 flush 0\n3 get 0 a\r")?;
     assert!(rt; are_four(commands.as_slice()));
-    Ok(())
-}
-
-#[test]
-fn empty_scripts(rt: HostRuntime) -> Result<(), Fail> {
-    for empty in [b"".as_slice(), b"\n\r\n#x".as_slice()] {
-        assert!(rt; read_script(rt.alloc(), empty)?.is_empty());
-    }
     Ok(())
 }
 

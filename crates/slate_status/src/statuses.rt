@@ -7,7 +7,7 @@ use bytes::Bytes;
 use slate_errors::{CloseReason, SlateError};
 use slate_store::VersionedManifest;
 use slate_types::{NoMemory, Seq};
-use std::alloc::{AllocError, Global};
+use std::alloc::Global;
 
 /// The status of a database, or of a reader. SlateDB's type of this name.
 #[derive(Debug, PartialEq, Eq, Drop)]
@@ -33,13 +33,12 @@ impl DbStatus {
         let prefixes = union(alloc, stored, self.memtable_segments.as_slice())?;
         Ok(Seq::of(segments_of(alloc, prefixes)?))
     }
-}
 
-impl Clone for DbStatus {
-    ghost is_clone = { λ status copy. copy ≡ status };
-
+    /// The same status. Its lists are copied with their own allocators, and its prefixes share their bytes.
     #[tactic(auto, using(slate_store::proofs::Copies::same_items))]
-    fn clone(&self) -> Result<DbStatus, AllocError> {
+    pub fn clone(&self) -> Result<DbStatus, NoMemory>
+        ensures { IfOk result (λ copy. copy ≡ self.now) }
+    {
         Ok(DbStatus {
             durable_seq: self.durable_seq,
             current_manifest: self.current_manifest.clone()?,

@@ -4,8 +4,8 @@ ghost use Rattle.slate_status.specs.Segments.{AreRising};
 use bytes::Bytes;
 use slate_rows::{ByteRange, KeyBound, Name, NoMemory, Seq};
 use slate_status::{
-    CloseCell, CloseFault, CloseReason, DbStatus, DurableAnswer, Error, ErrorKind, SlateError,
-    StatusRecord, write_error,
+    CloseCell, CloseFault, CloseReason, DbStatus, DurableAnswer, Error, ErrorKind, RetryReason,
+    SlateError, StatusRecord, write_error,
 };
 use slate_store::{Manifest, StoreFault, VersionedManifest};
 use std::alloc::Global;
@@ -302,6 +302,45 @@ fn words_of_a_kind(rt: HostRuntime) -> Result<(), Fail> {
     Ok(())
 }
 
+// What each of the three questions answers of an error: whether an id was taken, whether an object is missing, and why
+// reading again may help.
+fn answers(error: &SlateError) -> (bool, bool, Option<RetryReason>) {
+    (
+        error.is_sequenced_write_conflict(),
+        error.has_object_store_not_found(),
+        error.maybe_validation_retry_reason(),
+    )
+}
+
+#[test]
+fn questions_of_an_error(rt: HostRuntime) {
+    for (error, want) in [
+        (
+            SlateError::TransactionalObjectVersionExists,
+            (true, false, None),
+        ),
+        (
+            SlateError::ObjectStoreError(StoreFault::NotFound),
+            (false, true, None),
+        ),
+        (
+            SlateError::ObjectStoreError(StoreFault::Unavailable),
+            (false, false, None),
+        ),
+        (
+            SlateError::ChecksumMismatch,
+            (false, false, Some(RetryReason::CrcMismatch)),
+        ),
+        (
+            SlateError::EmptyBlock,
+            (false, false, Some(RetryReason::BlockDecodeError)),
+        ),
+        (SlateError::Fenced, (false, false, None)),
+    ] {
+        assert_eq!(rt; answers(&error), want);
+    }
+}
+
 // The first result stays.
 #[test]
 fn close_cell(rt: HostRuntime) {
@@ -373,6 +412,9 @@ fn clones(rt: HostRuntime) -> Result<(), Fail> {
     let status = status(rt.alloc())?;
     let copy = status.clone()?;
     assert!(rt; copy == status);
+    let manifest = status.current_manifest.clone()?;
+    assert_eq!(rt; manifest.id, 1);
+    assert_eq!(rt; manifest.manifest.segments.as_slice().len(), 2);
     Ok(())
 }
 
@@ -418,6 +460,35 @@ fn report_older(alloc: Global) -> Result<(bool, u64, u64), NoMemory> {
 #[test]
 fn older_manifest(rt: HostRuntime) -> Result<(), NoMemory> {
     assert_eq!(rt; report_older(rt.alloc())?, (false, 0, 5));
+    Ok(())
+}
+
+// What the report of an opening, which is told twice, and one of segments, told twice too, answer; then the version, the
+// durable number, the id of the manifest and the segments.
+fn report_opening(alloc: Global) -> Result<([bool; 4], [u64; 3], Vec<u8>), NoMemory> {
+    let mut record = record(alloc, 5, b"")?;
+    let answers = [
+        record.report_fence_manifest(7, manifest(alloc, 3, b"")?),
+        record.report_fence_manifest(7, manifest(alloc, 3, b"")?),
+        record.report_memtable_segments(rising(alloc, b"dc")?),
+        record.report_memtable_segments(rising(alloc, b"cd")?),
+    ];
+    let status = record.status(alloc)?;
+    let numbers = [
+        record.version(),
+        status.durable_seq,
+        status.current_manifest.id,
+    ];
+    Ok((answers, numbers, listed(alloc, &status)?))
+}
+
+// An opening's report always raises the version, also with a smaller id; one of segments does where they differ.
+#[test]
+fn opening_report(rt: HostRuntime) -> Result<(), NoMemory> {
+    let (answers, numbers, segments) = report_opening(rt.alloc())?;
+    assert_eq!(rt; answers, [true, true, true, false]);
+    assert_eq!(rt; numbers, [3, 7, 3]);
+    assert_eq!(rt; segments.as_slice(), b"cd".as_slice());
     Ok(())
 }
 

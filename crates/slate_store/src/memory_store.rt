@@ -50,7 +50,7 @@ impl Store for MemoryStore {
             None => Ok(None),
             Some((id, manifest)) => Ok(Some(VersionedManifest {
                 id: *id,
-                manifest: manifest.clone().map_err(NoMemory::from)?,
+                manifest: manifest.clone()?,
             })),
         }
     }
@@ -65,7 +65,7 @@ impl Store for MemoryStore {
         if self.manifests.contains_key(&id) {
             return Err(StoreError::Exists);
         }
-        let manifest = manifest.clone().map_err(NoMemory::from)?;
+        let manifest = manifest.clone()?;
         self.manifests.insert(id, manifest).map_err(NoMemory::from)?;
         Ok(())
     }

@@ -1,8 +1,7 @@
-ghost use Rattle.std.specs.Prelude.{◌≡◌};
+ghost use Rattle.std.specs.Prelude.{◌≡◌, IfOk};
 
 use bytes::Bytes;
-use slate_types::{Name, Seq};
-use std::alloc::AllocError;
+use slate_types::{Name, NoMemory, Seq};
 use uuid::Uuid;
 
 /// The id of a table: the epoch of the writer that put it, and that writer's count of tables before.
@@ -46,11 +45,12 @@ pub struct Manifest {
     pub extractor_name: Option<Name>,
 }
 
-impl Clone for Manifest {
-    ghost is_clone = { λ manifest copy. copy ≡ manifest };
-
+impl Manifest {
+    /// The same manifest. Its lists are copied with their own allocators, and its prefixes share their bytes.
     #[tactic(auto, using(crate::proofs::Copies::same_items))]
-    fn clone(&self) -> Result<Manifest, AllocError> {
+    pub fn clone(&self) -> Result<Manifest, NoMemory>
+        ensures { IfOk result (λ copy. copy ≡ self.now) }
+    {
         Ok(Manifest {
             writer_epoch: self.writer_epoch,
             initialized: self.initialized,
@@ -73,10 +73,11 @@ pub struct VersionedManifest {
     pub manifest: Manifest,
 }
 
-impl Clone for VersionedManifest {
-    ghost is_clone = { λ versioned copy. copy ≡ versioned };
-
-    fn clone(&self) -> Result<VersionedManifest, AllocError> {
+impl VersionedManifest {
+    /// The same manifest under the same id, as by `Manifest::clone`.
+    pub fn clone(&self) -> Result<VersionedManifest, NoMemory>
+        ensures { IfOk result (λ copy. copy ≡ self.now) }
+    {
         Ok(VersionedManifest {
             id: self.id,
             manifest: self.manifest.clone()?,

@@ -9,13 +9,16 @@ use crate::{Name, NoMemory};
 use bytes::Bytes;
 use std::alloc::Global;
 use std::marker::Model;
+use thiserror::Error;
 
 /// Why a merge gave no value.
-#[derive(Clone, Copy, Debug, PartialEq, Eq)]
+#[derive(Clone, Copy, Debug, PartialEq, Eq, Error)]
 pub enum MergeFault {
     /// The operator refuses this operand at this value.
+    #[error("the merge operator refuses the operand at this value")]
     Refused,
     /// Memory ran out.
+    #[error("memory ran out")]
     NoMemory,
 }
 

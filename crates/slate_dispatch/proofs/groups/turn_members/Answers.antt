@@ -23,8 +23,7 @@ loop-member-preserved g c =
     ] in
     record {
       passes =
-          passes-next _ _ _ _ _ _ _ _ _ _ _ _ _ _ _ _ wrote c.loop-member.invariant.passes c.member-item.is c.visit.ensures.turns c.visit.ensures.ended c.visit.ensures.holds
-          c.visit.ensures.well fails;
-      first = first-next _ _ _ _ _ _ _ _ _ _ _ wrote c.loop-member.invariant.passes.turns c.member-item.is c.visit.ensures.ended c.loop-member.invariant.first first;
+          passes-next _ _ _ _ _ _ _ _ _ _ _ _ _ _ _ _ wrote c.loop-member.invariant.passes c.member-item.is c.visit.ensures.turns c.visit.ensures.ended c.visit.ensures.holds fails;
+      first = first-next _ _ _ _ _ _ _ _ _ _ _ _ _ _ _ _ _ wrote c.loop-member.invariant.passes c.member-item.is c.visit.ensures.ended c.loop-member.invariant.first first;
       rest = wrote.rest;
     }

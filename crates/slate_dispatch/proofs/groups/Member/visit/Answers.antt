@@ -11,6 +11,6 @@ returns-clause-turns g c =
       | then-cancels w ↦
           rw w.if-cancels.true
           (turns-cancelled g.T.Task.steps c.args.moment c.args.random _ _ _ _ w.cancel.ensures.step refl
-          (rw (moment_back, w.self-is) at c.turn.ensures.turns))
+          (rw (moment_back, w.self-is) at c.turn.ensures.turns) ((rw (w.self-is) at c.turn.ensures.well) w.cancel.ensures.flag))
       | else-cancels w ↦ rw w.if-cancels.false (rw (moment_back, w.self-is) at c.turn.ensures.turns)
     ]

@@ -63,8 +63,9 @@ impl LiveState {
     /// Does one command on the store.
     ///
     /// Over an honest store the reply is one that the command may have, and the state and the store stand afterwards
-    /// for the world that the command then leads to. A valid command that meets no fault of the
-    /// store is refused nothing.
+    /// for the world that the command then leads to. A valid command that meets no fault of the store is refused
+    /// nothing. It takes the time of the call that does it (`open`, `write`, `flush`, `get` and `close` of the handle,
+    /// or `open`, `poll`, `get` and `close` of the reader), and a constant beside it, amortised.
     pub fn apply<S: Store, M: MergeOperator, E: PrefixExtractor>(
         &mut self,
         alloc: Global,

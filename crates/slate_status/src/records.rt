@@ -11,8 +11,8 @@ use std::alloc::Global;
 use std::marker::Model;
 
 /// The status of a database with its version, and the result with which it closed. Each report that changes the status
-/// raises the version by one and answers true; every other report changes nothing and answers false. At the greatest
-/// `u64` the version stays, and counts as risen.
+/// raises the version by one and answers true, and `report_fence_manifest` always raises it; every other report changes
+/// nothing and answers false. At the greatest `u64` the version stays, and counts as risen.
 #[derive(Debug, Drop)]
 pub struct StatusRecord {
     version: u64,

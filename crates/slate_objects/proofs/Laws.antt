@@ -1,17 +1,18 @@
 -- What is read is spelled so, and what is spelled so is read again: one law for each combinator.
-use Rattle.std.proofs.Common.{◌≡◌, ℕ, ℤ, zero, suc, ◌+◌, ◌^◌, ◌<◌, ◌≤◌, Bool, true, false, cond, ltb, List, [], ◌∷◌, ◌++◌, length, take, drop, Option, Some, None, Result, Ok, Err, refl, sym, ap, subst, ◌∙◌, append_assoc, arith, inl, inr}
+use Rattle.std.proofs.Common.{◌≡◌, ℕ, ℤ, zero, suc, ◌+◌, ◌-◌, ◌*◌, ◌/◌, ◌%◌, ◌^◌, ◌<◌, ◌≤◌, Bool, true, false, cond, eqb, ltb, List, [], ◌∷◌, ◌++◌, length, take, drop, Option, Some, None, Result, Ok, Err, refl, sym, ap, subst, ◌∙◌, append_assoc, arith, inl, inr}
 use Rattle.std.specs.List.{flat_map, AllByRecursion}
-use Rattle.std.specs.Int.{Width, w32, w64, byte_len, from_be_bytes, to_be_bytes, cast_signed, cast_unsigned}
-use Rattle.std.proofs.lemmas.Bool.{cases_lt, ltb-false, le-ltb}
+use Rattle.std.specs.Int.{w32, w64, from_be_bytes, to_be_bytes, cast_signed, cast_unsigned}
+use Rattle.std.proofs.lemmas.Bool.{cases_lt, ltb-false, ltb-true, le-ltb, lt-ltb, ne_eqb}
+use Rattle.std.proofs.lemmas.Grind.{pow_more}
 use Rattle.std.proofs.Math.Facts.{Fits-of_z, sfits_to_z}
 use Rattle.std.proofs.lemmas.Int.{to_z-of_z, of_z-to_z}
 use Rattle.std.proofs.lemmas.List.{take_at, drop_at, take-append-drop, length-append, length-take, get_or-drop, get_or-take, get_or_past}
 use Rattle.std.proofs.lemmas.List.Concat.{flat_map-cons}
-use Rattle.std.proofs.lemmas.Nat.{be_bytes_4, be_bytes_8, from_be_bytes-to_be_bytes_4, from_be_bytes-to_be_bytes_8}
+use Rattle.std.proofs.lemmas.Nat.{be_bytes_4, from_be_bytes-to_be_bytes_4}
 use Rattle.slate_objects.specs.declared.faults.DecodeFault.{DecodeFault}
-use Rattle.slate_objects.specs.declared.faults.DecodeFault.TheVariants.{TooShort}
-use Rattle.slate_objects.specs.Reading.{◌>>=◌, IsBytes, both_at, bytes_at, list_at, made_at, many_at, number_at, option_at, tag_at, time_at}
-use Rattle.slate_objects.specs.Spelling.{BothFit, BytesFit, ListFits, NumberFits, OptionFits, TimeFits, both_of, bytes_of, list_of, number, option_of, time, word}
+use Rattle.slate_objects.specs.declared.faults.DecodeFault.TheVariants.{NotANumber, TooShort}
+use Rattle.slate_objects.specs.Reading.{◌>>=◌, IsBytes, both_at, bytes_at, joined, list_at, made_at, many_at, number_at, number_in, option_at, tag_at, time_at, word_at}
+use Rattle.slate_objects.specs.Spelling.{BothFit, BytesFit, ListFits, NumberFits, OptionFits, TimeFits, both_of, bytes_of, digits, list_of, number, option_of, time, word}
 
 pub IsBytes-drop : (n : ℕ) (bytes : List ℕ) → IsBytes bytes → IsBytes (drop n bytes)
 IsBytes-drop n bytes h i = rw get_or-drop (h (n + i))
@@ -56,15 +57,16 @@ pub record IsFormat {A : Type 0} (read_at : List ℕ → Result (A × List ℕ) 
   pub takes : (bytes : List ℕ) (x : A) (rest : List ℕ) → IsBytes bytes → read_at bytes ≡ Ok (x, rest) → Takes bytes (spelled x) rest × Fits x
   pub again : (x : A) (rest : List ℕ) → Fits x → read_at (spelled x ++ rest) ≡ Ok (x, rest)
 
--- ---- numbers
+-- ---- words and numbers
 
-pub record IsWide (w : Width) (limit : ℕ) : Type 0 where
-  pub len : (n : ℕ) → length (to_be_bytes w n) ≡ byte_len w
-  pub back : (bytes : List ℕ) → length bytes ≡ byte_len w → IsBytes bytes → to_be_bytes w (from_be_bytes w bytes) ≡ bytes
-  pub again : (n : ℕ) → n < limit → from_be_bytes w (to_be_bytes w n) ≡ n
-  pub below : (bytes : List ℕ) → IsBytes bytes → from_be_bytes w bytes < limit
+-- a number in so many bytes, spelled and read so
+record IsWide (count limit : ℕ) (spelled : ℕ → List ℕ) (value : List ℕ → ℕ) : Type 0 where
+  len : (n : ℕ) → length (spelled n) ≡ count
+  back : (bytes : List ℕ) → length bytes ≡ count → IsBytes bytes → spelled (value bytes) ≡ bytes
+  again : (n : ℕ) → n < limit → value (spelled n) ≡ n
+  below : (bytes : List ℕ) → IsBytes bytes → value bytes < limit
 
-wide32 : IsWide w32 (2 ^ 32)
+wide32 : IsWide 4 (2 ^ 32) (to_be_bytes w32) (from_be_bytes w32)
 wide32 = record {
   len = λ n. refl;
   back = λ bytes len fits. be_bytes_4 bytes _ len fits refl;
@@ -72,37 +74,116 @@ wide32 = record {
   below = λ bytes fits. omega (arith, fits 0, fits 1, fits 2, fits 3);
 }
 
-wide64 : IsWide w64 (2 ^ 64)
-wide64 = record {
-  len = λ n. refl;
-  back = λ bytes len fits. be_bytes_8 bytes _ len fits refl;
-  again = λ n lt. from_be_bytes-to_be_bytes_8 n lt;
-  below = λ bytes fits. omega (arith, fits 0, fits 1, fits 2, fits 3, fits 4, fits 5, fits 6, fits 7);
-}
+abbrev wide_at : ℕ → (List ℕ → ℕ) → List ℕ → Result (ℕ × List ℕ) DecodeFault
+wide_at count value bytes = cond (ltb (length bytes) count) (Err TooShort) (Ok (value (take count bytes), drop count bytes))
 
-wide_format : (w : Width) (limit : ℕ) → IsWide w limit → IsFormat (number_at w) (to_be_bytes w) (λ n. n < limit)
-unfolding number_at
-wide_format w limit wide = record {
+wide_format : (count limit : ℕ) (spelled : ℕ → List ℕ) (value : List ℕ → ℕ) → IsWide count limit spelled value → IsFormat (wide_at count value) spelled (λ n. n < limit)
+wide_format count limit spelled value wide = record {
   takes = λ bytes n rest fits e.
-      let g = guard_ok (ltb (length bytes) (byte_len w)) TooShort (from_be_bytes w (take (byte_len w) bytes), drop (byte_len w) bytes) (n, rest) e in
-      let long : byte_len w ≤ length bytes = ltb-false _ _ g.0 in
-      let n-is : from_be_bytes w (take (byte_len w) bytes) ≡ n = ap (λ (p : ℕ × List ℕ). p.0) g.1 in
-      let rest-is : drop (byte_len w) bytes ≡ rest = ap (λ (p : ℕ × List ℕ). p.1) g.1 in
-      let front : to_be_bytes w n ≡ take (byte_len w) bytes = rw (← n-is) (wide.back (take (byte_len w) bytes) (omega (arith, length-take (byte_len w) bytes)) (IsBytes-take (byte_len w) bytes fits)) in
-      (record { parts = rw (front, ← rest-is) (sym (take-append-drop (byte_len w) bytes)); rest_fits = rw (← rest-is) (IsBytes-drop (byte_len w) bytes fits) }, rw (← n-is) (wide.below (take (byte_len w) bytes) (IsBytes-take (byte_len w) bytes fits)));
+      let g = guard_ok (ltb (length bytes) count) TooShort (value (take count bytes), drop count bytes) (n, rest) e in
+      let long : count ≤ length bytes = ltb-false _ _ g.0 in
+      let n-is : value (take count bytes) ≡ n = ap (λ (p : ℕ × List ℕ). p.0) g.1 in
+      let rest-is : drop count bytes ≡ rest = ap (λ (p : ℕ × List ℕ). p.1) g.1 in
+      let front : spelled n ≡ take count bytes = rw (← n-is) (wide.back (take count bytes) (omega (arith, length-take count bytes)) (IsBytes-take count bytes fits)) in
+      (record { parts = rw (front, ← rest-is) (sym (take-append-drop count bytes)); rest_fits = rw (← rest-is) (IsBytes-drop count bytes fits) }, rw (← n-is) (wide.below (take count bytes) (IsBytes-take count bytes fits)));
   again = λ n rest lt.
       let len = wide.len n in
-      let long : ltb (length (to_be_bytes w n ++ rest)) (byte_len w) ≡ false = le-ltb _ _ (omega (arith, length-append (to_be_bytes w n) rest)) in
-      rw (long, take_at (to_be_bytes w n) rest (byte_len w) len, drop_at (to_be_bytes w n) rest (byte_len w) len, wide.again n lt) refl;
+      let long : ltb (length (spelled n ++ rest)) count ≡ false = le-ltb _ _ (omega (arith, length-append (spelled n) rest)) in
+      rw (long, take_at (spelled n) rest count len, drop_at (spelled n) rest count len, wide.again n lt) refl;
 }
 
-pub number_format : IsFormat (number_at w64) number NumberFits
-unfolding number
-number_format = wide_format w64 (2 ^ 64) wide64
+pub word_format : IsFormat word_at word (λ n. n < 2 ^ 32)
+unfolding word_at word
+word_format = wide_format 4 (2 ^ 32) (to_be_bytes w32) (from_be_bytes w32) wide32
 
-pub word_format : IsFormat (number_at w32) word (λ n. n < 2 ^ 32)
-unfolding word
-word_format = wide_format w32 (2 ^ 32) wide32
+-- a tag is a byte
+tag_takes : (bytes : List ℕ) (tag : ℕ) (rest : List ℕ) → IsBytes bytes → tag_at bytes ≡ Ok (tag, rest) → Takes bytes (tag ∷ []) rest × (tag < 256)
+unfolding tag_at
+tag_takes [] tag rest fits e = absurd cc
+tag_takes (b ∷ bytes) tag rest fits e =
+    subst (λ (x : ℕ × List ℕ). Takes (b ∷ bytes) (x.0 ∷ []) x.1 × (x.0 < 256)) (ok_is (b, bytes) (tag, rest) e)
+    (record { parts = refl; rest_fits = IsBytes-rest b bytes fits }, fits 0)
+
+tag_again : (tag : ℕ) (rest : List ℕ) → tag_at (tag ∷ rest) ≡ Ok (tag, rest)
+unfolding tag_at
+tag_again tag rest = refl
+
+joined_by : (byte high n : ℕ) (none small : Bool) → eqb high 0 ≡ none → ltb high (2 ^ 57) ≡ small → cond none (Err NotANumber) (cond small (Ok (byte - 128 + 128 * high)) (Err NotANumber)) ≡ Ok n
+    → (0 < high) × (high < 2 ^ 57) × (byte - 128 + 128 * high ≡ n)
+joined_by byte high n true small z s e = absurd cc
+joined_by byte high n false true z s e = (grind arith, ltb-true high (2 ^ 57) s, cc)
+joined_by byte high n false false z s e = absurd cc
+
+joined_is : (byte high n : ℕ) → joined byte high ≡ Ok n → (0 < high) × (high < 2 ^ 57) × (byte - 128 + 128 * high ≡ n)
+joined_is byte high n e = joined_by byte high n (eqb high 0) (ltb high (2 ^ 57)) refl refl e
+
+joined_again : (byte high : ℕ) → 0 < high → high < 2 ^ 57 → joined byte high ≡ Ok (byte - 128 + 128 * high)
+joined_again byte high some small = rw (ne_eqb high 0 (λ e. omega (arith, e, some)), lt-ltb high (2 ^ 57) small) refl
+
+abbrev more_digits : (left byte : ℕ) → List ℕ → Result (ℕ × List ℕ) DecodeFault
+more_digits left byte bytes = number_in left bytes >>= λ high. joined byte high.0 >>= λ n. Ok (n, high.1)
+
+digits_take : (left byte : ℕ) (bytes : List ℕ) (n : ℕ) (rest : List ℕ) → byte < 256 → IsBytes bytes
+    → ((m : ℕ) (r : List ℕ) → number_in left bytes ≡ Ok (m, r) → Takes bytes (digits left m) r × NumberFits m)
+    → (last : Bool) → ltb byte 128 ≡ last → cond last (Ok (byte, bytes)) (more_digits left byte bytes) ≡ Ok (n, rest)
+    → Takes (byte ∷ bytes) (digits (suc left) n) rest × NumberFits n
+digits_take left byte bytes n rest lt fits before true l e =
+    let low : byte < 128 = ltb-true byte 128 l in
+    subst (λ (x : ℕ × List ℕ). Takes (byte ∷ bytes) (digits (suc left) x.0) x.1 × NumberFits x.0) (ok_is (byte, bytes) (n, rest) e)
+    (rw l (record { parts = refl; rest_fits = fits }), omega arith)
+digits_take left byte bytes n rest lt fits before false l e =
+    let a = bind_ok (number_in left bytes) (λ high. joined byte high.0 >>= λ n. Ok (n, high.1)) (n, rest) e in
+    let b = bind_ok (joined byte a.0.0) (λ n. Ok (n, a.0.1)) (n, rest) a.2 in
+    let t = before a.0.0 a.0.1 a.1 in
+    let j = joined_is byte a.0.0 b.0 b.1 in
+    let high : 128 ≤ byte = ltb-false byte 128 l in
+    let some : 0 < a.0.0 = j.0 in
+    let small : a.0.0 < 2 ^ 57 = j.1 in
+    let is : byte - 128 + 128 * a.0.0 ≡ b.0 = j.2 in
+    let rest-of : b.0 / 128 ≡ a.0.0 = omega arith in
+    let first : b.0 % 128 + 128 ≡ byte = omega arith in
+    let large : ltb b.0 128 ≡ false = le-ltb b.0 128 (omega arith) in
+    let parts : Takes (byte ∷ bytes) (digits (suc left) b.0) a.0.1 =
+    rw (large, rest-of, first) (record { parts = ap (λ (r : List ℕ). byte ∷ r) t.0.parts; rest_fits = t.0.rest_fits }) in
+    let made : ℕ × List ℕ = (b.0, a.0.1) in
+    let below : b.0 < 2 ^ 64 = omega arith in
+    subst (λ (x : ℕ × List ℕ). Takes (byte ∷ bytes) (digits (suc left) x.0) x.1 × NumberFits x.0) (ok_is made (n, rest) b.2) (parts, below)
+
+numbers_take : (left : ℕ) (bytes : List ℕ) (n : ℕ) (rest : List ℕ) → IsBytes bytes → number_in left bytes ≡ Ok (n, rest) → Takes bytes (digits left n) rest × NumberFits n
+numbers_take zero bytes n rest fits e = absurd cc
+numbers_take (suc left) bytes n rest fits e =
+    let a = bind_ok (tag_at bytes) (λ byte. cond (ltb byte.0 128) (Ok byte) (more_digits left byte.0 byte.1)) (n, rest) e in
+    let t = tag_takes bytes a.0.0 a.0.1 fits a.1 in
+    let d = digits_take left a.0.0 a.0.1 n rest t.1 t.0.rest_fits (λ m r. numbers_take left a.0.1 m r t.0.rest_fits) (ltb a.0.0 128) refl a.2 in
+    (record { parts = t.0.parts ∙ d.0.parts; rest_fits = d.0.rest_fits }, d.1)
+
+one_again : (left n : ℕ) (rest : List ℕ) → n < 128 → number_in (suc left) (digits (suc left) n ++ rest) ≡ Ok (n, rest)
+unfolding tag_at
+one_again left n rest lt = rw (lt-ltb n 128 lt) (rw (lt-ltb n 128 lt) refl)
+
+numbers_again : (left n : ℕ) (rest : List ℕ) → n < 128 ^ (suc left) → NumberFits n → number_in (suc left) (digits (suc left) n ++ rest) ≡ Ok (n, rest)
+unfolding tag_at
+numbers_again zero n rest lt fits = one_again zero n rest (omega (arith, lt))
+numbers_again (suc left) n rest lt fits =
+    elim (cases_lt n 128) [
+      | inl small ↦ one_again (suc left) n rest small
+      | inr large ↦
+          let more : 128 ^ (suc left + 1) ≡ 128 ^ (suc left) * 128 = pow_more 128 (suc left) in
+          let lt' : n / 128 < 128 ^ (suc left) = omega arith in
+          let fits' : n / 128 < 2 ^ 64 = omega arith in
+          let some : 0 < n / 128 = omega arith in
+          let few : n / 128 < 2 ^ 57 = omega arith in
+          let first : ltb (n % 128 + 128) 128 ≡ false = le-ltb _ _ (omega arith) in
+          let back : n % 128 + 128 - 128 + 128 * (n / 128) ≡ n = omega arith in
+          rw (le-ltb n 128 large) (rw (first, numbers_again left (n / 128) rest lt' fits', joined_again (n % 128 + 128) (n / 128) some few, back) refl)
+    ]
+
+pub number_format : IsFormat number_at number NumberFits
+unfolding number_at number
+number_format = record {
+  takes = numbers_take 10;
+  again = λ n rest fits. numbers_again 9 n rest (omega (arith, fits)) fits;
+}
 
 -- ---- one value after another, and a value that is made of what is read
 
@@ -142,7 +223,7 @@ pub time_format : IsFormat time_at time TimeFits
 unfolding time_at
 time_format = record {
   takes = λ bytes t rest fits e.
-      let a = bind_ok (number_at w64 bytes) (λ n. Ok (cast_signed w64 n.0, n.1)) (t, rest) e in
+      let a = bind_ok (number_at bytes) (λ n. Ok (cast_signed w64 n.0, n.1)) (t, rest) e in
       let n = number_format.takes bytes a.0.0 a.0.1 fits a.1 in
       let made : ℤ × List ℕ = (cast_signed w64 a.0.0, a.0.1) in
       subst (λ (z : ℤ × List ℕ). Takes bytes (time z.0) z.1 × TimeFits z.0) (ok_is made (t, rest) a.2)
@@ -155,7 +236,7 @@ pub bytes_format : IsFormat bytes_at bytes_of BytesFit
 unfolding bytes_at
 bytes_format = record {
   takes = λ bytes text rest fits e.
-      let b = bind_ok (number_at w64 bytes) (λ n. cond (ltb (length n.1) n.0) (Err TooShort) (Ok (take n.0 n.1, drop n.0 n.1))) (text, rest) e in
+      let b = bind_ok (number_at bytes) (λ n. cond (ltb (length n.1) n.0) (Err TooShort) (Ok (take n.0 n.1, drop n.0 n.1))) (text, rest) e in
       let n = b.0 in
       let t = number_format.takes bytes n.0 n.1 fits b.1 in
       let g = guard_ok (ltb (length n.1) n.0) TooShort (take n.0 n.1, drop n.0 n.1) (text, rest) b.2 in
@@ -215,7 +296,7 @@ module _ {A : Type 0} {read_at : List ℕ → Result (A × List ℕ) DecodeFault
   unfolding list_at
   list_format = record {
     takes = λ bytes xs rest fits e.
-        let a = bind_ok (number_at w64 bytes) (λ n. many_at read_at n.0 n.1) (xs, rest) e in
+        let a = bind_ok (number_at bytes) (λ n. many_at read_at n.0 n.1) (xs, rest) e in
         let n = number_format.takes bytes a.0.0 a.0.1 fits a.1 in
         let m = many_take a.0.0 a.0.1 (xs, rest) n.0.rest_fits a.2 in
         let both = Takes-then bytes (number a.0.0) a.0.1 (flat_map spelled xs) rest n.0 m.0 in

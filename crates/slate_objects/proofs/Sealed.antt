@@ -1,7 +1,6 @@
 -- An object that is read is spelled so, and one that is spelled so is read again.
 use Rattle.std.proofs.Common.{◌≡◌, ℕ, ◌^◌, ◌<◌, ◌≤◌, Bool, true, false, cond, eqb, ltb, List, [], ◌++◌, length, Result, Ok, Err, refl, sym, ap, subst, ◌∙◌, append_assoc, arith}
 use Rattle.std.specs.Prelude.{IfOk}
-use Rattle.std.specs.Int.{w32, w64}
 use Rattle.std.proofs.lemmas.Bool.{eqb-true, eq-eqb, ltb-false, le-ltb}
 use Rattle.std.proofs.lemmas.List.{append-nil, nil_from_length}
 use Rattle.slate_objects.specs.declared.faults.DecodeFault.{DecodeFault}
@@ -9,7 +8,7 @@ use Rattle.slate_objects.specs.declared.faults.DecodeFault.TheVariants.{AnotherK
 use Rattle.slate_objects.specs.declared.faults.DecodeError.{DecodeError}
 use Rattle.slate_objects.specs.declared.seals.Head.{Head}
 use Rattle.slate_objects.specs.Checksum.{crc32}
-use Rattle.slate_objects.specs.Reading.{◌>>=◌, Gives, IsBytes, number_at}
+use Rattle.slate_objects.specs.Reading.{◌>>=◌, Gives, IsBytes, number_at, word_at}
 use Rattle.slate_objects.specs.Sealing.{checked, head_at, kind_at, object_in, sealed, version, version_at}
 use Rattle.slate_objects.specs.Spelling.{number, word}
 use Rattle.slate_objects.proofs.Laws.{IsFormat, Takes, Takes-then, bind_ok, number_format, ok_is, word_format}
@@ -28,7 +27,7 @@ passed false d r y e = (refl, e)
 kind_takes : (kind : ℕ) (bytes : List ℕ) (n : ℕ) (rest : List ℕ) → IsBytes bytes → kind_at kind bytes ≡ Ok (n, rest) → Takes bytes (word kind) rest
 unfolding kind_at
 kind_takes kind bytes n rest fits e =
-    let a = bind_ok (number_at w32 bytes) (λ found. cond (eqb found.0 kind) (Ok found) (Err AnotherKind)) (n, rest) e in
+    let a = bind_ok (word_at bytes) (λ found. cond (eqb found.0 kind) (Ok found) (Err AnotherKind)) (n, rest) e in
     let g = guard_held (eqb a.0.0 kind) AnotherKind a.0 (n, rest) a.2 in
     let t = word_format.takes bytes a.0.0 a.0.1 fits a.1 in
     let same : a.0.0 ≡ kind = eqb-true _ _ g.0 in
@@ -41,7 +40,7 @@ kind_again kind rest lt = rw (word_format.again kind rest lt, eq-eqb kind kind r
 version_takes : (bytes : List ℕ) (n : ℕ) (rest : List ℕ) → IsBytes bytes → version_at bytes ≡ Ok (n, rest) → Takes bytes (word version) rest
 unfolding version_at
 version_takes bytes n rest fits e =
-    let a = bind_ok (number_at w32 bytes) (λ found. cond (eqb found.0 version) (Ok found) (Err (AnotherVersion found.0))) (n, rest) e in
+    let a = bind_ok (word_at bytes) (λ found. cond (eqb found.0 version) (Ok found) (Err (AnotherVersion found.0))) (n, rest) e in
     let g = guard_held (eqb a.0.0 version) (AnotherVersion a.0.0) a.0 (n, rest) a.2 in
     let t = word_format.takes bytes a.0.0 a.0.1 fits a.1 in
     let same : a.0.0 ≡ version = eqb-true _ _ g.0 in
@@ -57,10 +56,10 @@ head_of kind head = word kind ++ (word version ++ (number head.length ++ word he
 head_takes : (kind : ℕ) (bytes : List ℕ) (head : Head) (rest : List ℕ) → IsBytes bytes → head_at kind bytes ≡ Ok (head, rest) → Takes bytes (head_of kind head) rest
 unfolding head_at
 head_takes kind bytes head rest fits e =
-    let a = bind_ok (kind_at kind bytes) (λ found. version_at found.1 >>= λ v. number_at w64 v.1 >>= λ length. number_at w32 length.1 >>= λ sum. Ok (record { length = length.0; sum = sum.0 }, sum.1)) (head, rest) e in
-    let b = bind_ok (version_at a.0.1) (λ v. number_at w64 v.1 >>= λ length. number_at w32 length.1 >>= λ sum. Ok (record { length = length.0; sum = sum.0 }, sum.1)) (head, rest) a.2 in
-    let c = bind_ok (number_at w64 b.0.1) (λ length. number_at w32 length.1 >>= λ sum. Ok (record { length = length.0; sum = sum.0 }, sum.1)) (head, rest) b.2 in
-    let d = bind_ok (number_at w32 c.0.1) (λ sum. Ok (record { length = c.0.0; sum = sum.0 }, sum.1)) (head, rest) c.2 in
+    let a = bind_ok (kind_at kind bytes) (λ found. version_at found.1 >>= λ v. number_at v.1 >>= λ length. word_at length.1 >>= λ sum. Ok (record { length = length.0; sum = sum.0 }, sum.1)) (head, rest) e in
+    let b = bind_ok (version_at a.0.1) (λ v. number_at v.1 >>= λ length. word_at length.1 >>= λ sum. Ok (record { length = length.0; sum = sum.0 }, sum.1)) (head, rest) a.2 in
+    let c = bind_ok (number_at b.0.1) (λ length. word_at length.1 >>= λ sum. Ok (record { length = length.0; sum = sum.0 }, sum.1)) (head, rest) b.2 in
+    let d = bind_ok (word_at c.0.1) (λ sum. Ok (record { length = c.0.0; sum = sum.0 }, sum.1)) (head, rest) c.2 in
     let t0 = kind_takes kind bytes a.0.0 a.0.1 fits a.1 in
     let t1 = version_takes a.0.1 b.0.0 b.0.1 t0.rest_fits b.1 in
     let t2 = number_format.takes b.0.1 c.0.0 c.0.1 t1.rest_fits c.1 in

@@ -1,6 +1,5 @@
 -- Batches as bytes: how they are read, their one spelling, and which have one.
 use Rattle.std.specs.Prelude.{ℕ, ℤ, zero, suc, List, [], ◌∷◌, Option, Result, Ok, Err}
-use Rattle.std.specs.Int.{w64}
 use Rattle.slate_types.specs.declared.batches.Batch.{Batch}
 use Rattle.slate_types.specs.declared.batches.KeyOp.{KeyOp}
 use Rattle.slate_types.specs.declared.batches.Op.{Op}
@@ -59,7 +58,7 @@ KeyOpFits o = BothFit BytesFit OpFits (o.key, o.op)
 unfoldable pub batch_at : List ℕ → Result (Batch × List ℕ) DecodeFault
 batch_at =
     made_at (λ (p : ℕ × (ℤ × List KeyOp)). record { number = p.0; create_ts = p.1.0; ops = p.1.1 })
-    (both_at (number_at w64) (both_at time_at (list_at key_op_at)))
+    (both_at number_at (both_at time_at (list_at key_op_at)))
 
 abbrev pub batch_of : Batch → List ℕ
 batch_of batch = both_of number (both_of time (list_of key_op_of)) (batch.number, (batch.create_ts, batch.ops))

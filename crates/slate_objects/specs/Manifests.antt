@@ -1,6 +1,5 @@
 -- Manifests as bytes: how they are read, their one spelling, and which have one.
 use Rattle.std.specs.Prelude.{ℕ, ℤ, zero, suc, ◌≡◌, ◌<◌, ◌^◌, Bool, true, false, List, [], ◌∷◌, length, take, drop, Option, Result, Ok, Err, nat_lt, if◌then◌else◌}
-use Rattle.std.specs.Int.{w64}
 use Rattle.std.specs.Str.{IsUtf8, is_utf8}
 use Rattle.slate_store.specs.declared.objects.Checkpoint.{Checkpoint}
 use Rattle.slate_store.specs.declared.objects.Manifest.{Manifest}
@@ -56,7 +55,7 @@ abbrev pub table_id_parts : TableId → ℕ × ℕ
 table_id_parts id = (id.epoch, id.index)
 
 unfoldable pub table_id_at : List ℕ → Result (TableId × List ℕ) DecodeFault
-table_id_at = made_at (λ (p : ℕ × ℕ). record { epoch = p.0; index = p.1 }) (both_at (number_at w64) (number_at w64))
+table_id_at = made_at (λ (p : ℕ × ℕ). record { epoch = p.0; index = p.1 }) (both_at number_at number_at)
 
 abbrev pub table_id_of : TableId → List ℕ
 table_id_of id = both_of number number (table_id_parts id)
@@ -75,7 +74,7 @@ abbrev pub checkpoint_made : CheckpointParts → Checkpoint
 checkpoint_made p = record { id = p.0; manifest_id = p.1.0; create_ms = p.1.1.0; expire_ms = p.1.1.1 }
 
 unfoldable pub checkpoint_at : List ℕ → Result (Checkpoint × List ℕ) DecodeFault
-checkpoint_at = made_at checkpoint_made (both_at uuid_at (both_at (number_at w64) (both_at time_at (option_at time_at))))
+checkpoint_at = made_at checkpoint_made (both_at uuid_at (both_at number_at (both_at time_at (option_at time_at))))
 
 abbrev pub checkpoint_of : Checkpoint → List ℕ
 checkpoint_of c = both_of uuid_of (both_of number (both_of time (option_of time))) (checkpoint_parts c)
@@ -131,8 +130,8 @@ manifest_made p =
 unfoldable pub manifest_at : List ℕ → Result (Manifest × List ℕ) DecodeFault
 manifest_at =
     made_at manifest_made
-    (both_at (number_at w64) (both_at flag_at (both_at (list_at table_id_at) (both_at (number_at w64) (both_at time_at
-    (both_at (number_at w64) (both_at (number_at w64) (both_at (list_at checkpoint_at) (both_at (list_at bytes_at)
+    (both_at number_at (both_at flag_at (both_at (list_at table_id_at) (both_at number_at (both_at time_at
+    (both_at number_at (both_at number_at (both_at (list_at checkpoint_at) (both_at (list_at bytes_at)
     (option_at name_at))))))))))
 
 abbrev pub manifest_of : Manifest → List ℕ

@@ -1,8 +1,8 @@
 -- Reading from left to right: what stands at the front of bytes, and the bytes after it; or the first fault.
-use Rattle.std.specs.Prelude.{◌≡◌, ℕ, zero, suc, ℤ, List, [], ◌∷◌, length, slice_index, take, drop, ◌<◌, Option, Some, None, Result, Ok, Err, nat_lt, if◌then◌else◌}
-use Rattle.std.specs.Int.{Width, w64, byte_len, from_be_bytes, cast_signed}
+use Rattle.std.specs.Prelude.{◌≡◌, ℕ, zero, suc, ℤ, ◌+◌, ◌-◌, ◌*◌, ◌<◌, ◌^◌, List, [], ◌∷◌, length, slice_index, take, drop, Option, Some, None, Result, Ok, Err, nat_lt, ◌==◌, if◌then◌else◌}
+use Rattle.std.specs.Int.{w32, w64, from_be_bytes, cast_signed}
 use Rattle.slate_objects.specs.declared.faults.DecodeFault.{DecodeFault}
-use Rattle.slate_objects.specs.declared.faults.DecodeFault.TheVariants.{TooShort, UnknownTag}
+use Rattle.slate_objects.specs.declared.faults.DecodeFault.TheVariants.{NotANumber, TooShort, UnknownTag}
 use Rattle.slate_objects.specs.declared.faults.DecodeError.{DecodeError}
 use Rattle.slate_objects.specs.declared.faults.DecodeError.TheVariants as errors
 
@@ -30,26 +30,46 @@ abbrev pub Reads : {X : Type 0} → Result X DecodeError → List ℕ → Result
 Reads (Ok x) left read = read ≡ Ok (x, left)
 Reads (Err error) left read = Fails error read
 
--- a number, with its highest byte first
-unfoldable pub number_at : Width → List ℕ → Result (ℕ × List ℕ) DecodeFault
-number_at w bytes = if nat_lt (length bytes) (byte_len w) then Err TooShort else Ok (from_be_bytes w (take (byte_len w) bytes), drop (byte_len w) bytes)
+-- a tag
+unfoldable pub tag_at : List ℕ → Result (ℕ × List ℕ) DecodeFault
+tag_at [] = Err TooShort
+tag_at (tag ∷ rest) = Ok (tag, rest)
+
+-- a word of four bytes, the highest first
+unfoldable pub word_at : List ℕ → Result (ℕ × List ℕ) DecodeFault
+word_at bytes = if nat_lt (length bytes) 4 then Err TooShort else Ok (from_be_bytes w32 (take 4 bytes), drop 4 bytes)
+
+-- a byte from 128 on, and the number that follows: not 0, which could be left out, and within 64 bits
+abbrev pub joined : ℕ → ℕ → Result ℕ DecodeFault
+joined byte high =
+    if high == 0 then Err NotANumber
+    else if nat_lt high (2 ^ 57) then Ok (byte - 128 + 128 * high)
+    else Err NotANumber
+
+-- A number of at most so many bytes: seven bits in each, the lowest first. Each byte but the last is from 128 on.
+abbrev pub number_in : ℕ → List ℕ → Result (ℕ × List ℕ) DecodeFault
+number_in zero bytes = Err NotANumber
+number_in (suc left) bytes = do
+  byte ← tag_at bytes
+  if nat_lt byte.0 128 then Ok byte else (do
+    high ← number_in left byte.1
+    n ← joined byte.0 high.0
+    Ok (n, high.1))
+
+unfoldable pub number_at : List ℕ → Result (ℕ × List ℕ) DecodeFault
+number_at = number_in 10
 
 -- a time, in two's complement
 unfoldable pub time_at : List ℕ → Result (ℤ × List ℕ) DecodeFault
 time_at bytes = do
-  n ← number_at w64 bytes
+  n ← number_at bytes
   Ok (cast_signed w64 n.0, n.1)
 
 -- a length, and as many bytes
 unfoldable pub bytes_at : List ℕ → Result (List ℕ × List ℕ) DecodeFault
 bytes_at bytes = do
-  n ← number_at w64 bytes
+  n ← number_at bytes
   if nat_lt (length n.1) n.0 then Err TooShort else Ok (take n.0 n.1, drop n.0 n.1)
-
--- a tag
-unfoldable pub tag_at : List ℕ → Result (ℕ × List ℕ) DecodeFault
-tag_at [] = Err TooShort
-tag_at (tag ∷ rest) = Ok (tag, rest)
 
 module _ {A : Type 0} (read : List ℕ → Result (A × List ℕ) DecodeFault) where
   -- the tag 0, or 1 and a value
@@ -76,7 +96,7 @@ module _ {A : Type 0} (read : List ℕ → Result (A × List ℕ) DecodeFault) w
   -- a count, and as many values
   unfoldable pub list_at : List ℕ → Result (List A × List ℕ) DecodeFault
   list_at bytes = do
-    n ← number_at w64 bytes
+    n ← number_at bytes
     many_at n.0 n.1
 
 -- one value, and then another

@@ -1,11 +1,10 @@
 -- An object as bytes: a head with its kind, the version, the length of its body and the body's checksum; and the body.
 use Rattle.std.specs.Prelude.{ℕ, List, ◌++◌, length, Result, Ok, Err, nat_lt, ◌==◌, if◌then◌else◌}
-use Rattle.std.specs.Int.{w32, w64}
 use Rattle.slate_objects.specs.declared.faults.DecodeFault.{DecodeFault}
 use Rattle.slate_objects.specs.declared.faults.DecodeFault.TheVariants.{AnotherKind, AnotherVersion, Checksum, TooShort, Trailing}
 use Rattle.slate_objects.specs.declared.seals.Head.{Head}
 use Rattle.slate_objects.specs.Checksum.{crc32}
-use Rattle.slate_objects.specs.Reading.{◌>>=◌, number_at}
+use Rattle.slate_objects.specs.Reading.{◌>>=◌, number_at, word_at}
 use Rattle.slate_objects.specs.Spelling.{number, word}
 
 abbrev pub version : ℕ
@@ -13,20 +12,20 @@ version = 1
 
 unfoldable pub kind_at : ℕ → List ℕ → Result (ℕ × List ℕ) DecodeFault
 kind_at kind bytes = do
-  found ← number_at w32 bytes
+  found ← word_at bytes
   if found.0 == kind then Ok found else Err AnotherKind
 
 unfoldable pub version_at : List ℕ → Result (ℕ × List ℕ) DecodeFault
 version_at bytes = do
-  found ← number_at w32 bytes
+  found ← word_at bytes
   if found.0 == version then Ok found else Err (AnotherVersion found.0)
 
 unfoldable pub head_at : ℕ → List ℕ → Result (Head × List ℕ) DecodeFault
 head_at kind bytes = do
   found ← kind_at kind bytes
   version ← version_at found.1
-  length ← number_at w64 version.1
-  sum ← number_at w32 length.1
+  length ← number_at version.1
+  sum ← word_at length.1
   Ok (record { length = length.0; sum = sum.0 }, sum.1)
 
 -- whether a body is the one that a head speaks of

@@ -1,11 +1,15 @@
 -- The one spelling of each value, and which values have one.
-use Rattle.std.specs.Prelude.{ℕ, ℤ, ◌<◌, ◌^◌, List, [], ◌∷◌, ◌++◌, length, Option, Some, None, IfSome, FitsSigned}
+use Rattle.std.specs.Prelude.{ℕ, zero, suc, ℤ, ◌+◌, ◌/◌, ◌%◌, ◌<◌, ◌^◌, List, [], ◌∷◌, ◌++◌, length, Option, Some, None, IfSome, FitsSigned, nat_lt, if◌then◌else◌}
 use Rattle.std.specs.List.{flat_map, AllByRecursion}
 use Rattle.std.specs.Int.{w32, w64, to_be_bytes, cast_unsigned}
 
--- eight bytes, the highest first
+-- a number in at most so many bytes: seven bits in each, the lowest first, and 128 more in each but the last
+abbrev pub digits : ℕ → ℕ → List ℕ
+digits zero n = []
+digits (suc left) n = if nat_lt n 128 then n ∷ [] else (n % 128 + 128) ∷ digits left (n / 128)
+
 unfoldable pub number : ℕ → List ℕ
-number n = to_be_bytes w64 n
+number = digits 10
 
 -- a time in two's complement
 abbrev pub time : ℤ → List ℕ

@@ -23,6 +23,9 @@ pub enum DecodeFault {
     /// The checksum isn't that of the bytes.
     #[error("checksum mismatch")]
     Checksum,
+    /// A number has a byte that could be left out, or passes 64 bits.
+    #[error("not a number")]
+    NotANumber,
     /// A tag is none of those that may stand there.
     #[error("unknown tag {tag}")]
     UnknownTag { tag: u8 },

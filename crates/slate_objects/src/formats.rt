@@ -1,9 +1,8 @@
 // Values as bytes: how one is read at the front of bytes, and how it is spelled.
-ghost use Rattle.std.specs.Prelude.{◌≡◌, ◌<◌, ◌^◌, ◌++◌, List, ℕ, length, OnOk, Result};
-ghost use Rattle.std.specs.Int.{w32, w64};
+ghost use Rattle.std.specs.Prelude.{◌≡◌, ◌≤◌, ◌<◌, ◌^◌, ◌++◌, List, ℕ, suc, length, OnOk, Result};
 ghost use Rattle.slate_objects.specs.declared.faults.DecodeFault.{DecodeFault};
-ghost use Rattle.slate_objects.specs.Reading.{Reads, number_at, time_at, bytes_at, tag_at, option_at, list_at, many_at};
-ghost use Rattle.slate_objects.specs.Spelling.{BytesFit, ListFits, NumberFits, OptionFits, TimeFits, bytes_of, list_of, number, option_of, time};
+ghost use Rattle.slate_objects.specs.Reading.{Gives, Reads, bytes_at, joined, list_at, many_at, number_at, number_in, option_at, tag_at, time_at};
+ghost use Rattle.slate_objects.specs.Spelling.{digits, BytesFit, ListFits, NumberFits, OptionFits, TimeFits, bytes_of, list_of, number, option_of, time};
 
 use crate::faults::{DecodeError, DecodeFault};
 use bytes::{Buf, Bytes};
@@ -27,17 +26,6 @@ pub(crate) trait Format: Sized {
         ensures { OnOk result ((out.new.items ≡ out.old.items ++ spelled self.now) × Fits self.now) };
 }
 
-/// Takes a number of eight bytes from the front.
-#[tactic(auto, unfolding(crate::specs::Reading::number_at))]
-pub(crate) fn read_u64(bytes: &mut Bytes) -> Result<u64, DecodeError>
-    ensures { Reads result bytes.new (number_at w64 bytes.old) }
-{
-    match bytes.try_get_u64() {
-        Ok(number) => Ok(number),
-        Err(_) => Err(DecodeError::Fault(DecodeFault::TooShort)),
-    }
-}
-
 /// Takes a tag from the front.
 #[tactic(auto, unfolding(crate::specs::Reading::tag_at))]
 pub(crate) fn read_tag(bytes: &mut Bytes) -> Result<u8, DecodeError>
@@ -49,10 +37,58 @@ pub(crate) fn read_tag(bytes: &mut Bytes) -> Result<u8, DecodeError>
     }
 }
 
-impl Format for u64 {
-    ghost use Rattle.std.specs.Int.{w64};
+/// How many bytes a number has at most.
+const MOST: u8 = 10;
 
-    ghost read_at = { number_at w64 };
+/// Takes a number of at most so many bytes from the front.
+fn read_digits(bytes: &mut Bytes, left: u8) -> Result<u64, DecodeError>
+    ensures { Reads result bytes.new (number_in left bytes.old) }
+{
+    if left == 0 {
+        return Err(DecodeError::Fault(DecodeFault::NotANumber));
+    }
+    let byte = read_tag(bytes)?;
+    if byte < 128 {
+        return Ok(u64::from(byte));
+    }
+    let high = read_digits(bytes, left - 1)?;
+    let number = join(byte, high)?;
+    Ok(number)
+}
+
+/// The number with these lowest seven bits, and the others above.
+fn join(byte: u8, high: u64) -> Result<u64, DecodeError>
+    requires { 128 ≤ byte }
+    ensures { Gives result (joined byte high) }
+{
+    if high == 0 || high >= 1 << 57 {
+        return Err(DecodeError::Fault(DecodeFault::NotANumber));
+    }
+    Ok(u64::from(byte - 128) + 128 * high)
+}
+
+/// Takes a number from the front.
+#[tactic(auto, unfolding(crate::specs::Reading::number_at))]
+pub(crate) fn read_u64(bytes: &mut Bytes) -> Result<u64, DecodeError>
+    ensures { Reads result bytes.new (number_at bytes.old) }
+{
+    read_digits(bytes, MOST)
+}
+
+/// Appends a number in as few bytes as it has.
+fn write_digits(number: u64, out: &mut Vec<u8>) -> Result<(), NoMemory>
+    ensures fits { number < 2 ^ 64 }
+    ensures digits { (left : ℕ) → number < 128 ^ suc left → OnOk result (out.new.items ≡ out.old.items ++ digits (suc left) number) }
+{
+    if number < 128 {
+        return Ok(out.push(number as u8)?);
+    }
+    out.push((number % 128) as u8 + 128)?;
+    write_digits(number / 128, out)
+}
+
+impl Format for u64 {
+    ghost read_at = { number_at };
 
     ghost spelled = { number };
 
@@ -64,7 +100,7 @@ impl Format for u64 {
 
     #[tactic(auto, unfolding(crate::specs::Spelling::number))]
     fn write(&self, out: &mut Vec<u8>) -> Result<(), NoMemory> {
-        Ok(out.extend_from_slice(&self.to_be_bytes())?)
+        write_digits(*self, out)
     }
 }
 

@@ -1,8 +1,7 @@
 // The head of an object, and whole objects.
 ghost use Rattle.std.specs.Prelude.{◌≡◌, IfOk, length, ◌<◌, ◌^◌, ◌++◌, OnOk};
-ghost use Rattle.std.specs.Int.{w32};
 ghost use Rattle.slate_objects.specs.Checksum.{crc32};
-ghost use Rattle.slate_objects.specs.Reading.{Gives, IsBytes, Reads, number_at};
+ghost use Rattle.slate_objects.specs.Reading.{Gives, IsBytes, Reads, word_at};
 ghost use Rattle.slate_objects.specs.Sealing.{checked, head_at, kind_at, object_in, sealed, version_at};
 ghost use Rattle.slate_objects.specs.Spelling.{word};
 
@@ -16,8 +15,8 @@ use std::alloc::Global;
 /// The version of the format that is written and read.
 const VERSION: u32 = 1;
 
-/// How many bytes the head of an object has.
-const HEAD: usize = 20;
+/// How many bytes the head of an object has at most.
+const HEAD: usize = 22;
 
 /// What the head of an object says of its body.
 #[derive(Clone, Copy, Debug, PartialEq, Eq)]
@@ -27,9 +26,9 @@ pub(crate) struct Head {
 }
 
 /// Takes a number of four bytes from the front.
-#[tactic(auto, unfolding(crate::specs::Reading::number_at))]
+#[tactic(auto, unfolding(crate::specs::Reading::word_at))]
 fn read_u32(bytes: &mut Bytes) -> Result<u32, DecodeError>
-    ensures { Reads result bytes.new (number_at w32 bytes.old) }
+    ensures { Reads result bytes.new (word_at bytes.old) }
 {
     match bytes.try_get_u32() {
         Ok(number) => Ok(number),

@@ -23,8 +23,9 @@ A line of the script is a moment in milliseconds and a command, as in
   3 get 0 a
 Lines that are empty or begin with # hold no command.
 
-exit status: 0 done, 2 a line was refused, 3 read fault, 4 write fault, 5 no
-memory, 6 script too long, 64 words refused
+exit status: 0 each command was answered, by its result or its error; 2 a line
+was refused; 3 read fault; 4 write fault; 5 no memory; 6 script too long; 64
+words refused
 ";
 
 const VERSION: &str = "slate 0.1.0\n";

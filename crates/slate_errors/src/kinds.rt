@@ -11,7 +11,8 @@ pub enum ErrorKind {
     Transaction,
     /// The object is closed, for this reason.
     Closed(CloseReason),
-    /// The object store, or another means, isn't there now. The call may be tried again.
+    /// The object store, or another means, isn't there now. A call that closed nothing may be tried again; a flush that
+    /// met such a fault has closed its handle.
     Unavailable,
     /// The call isn't one that may be made.
     Invalid,

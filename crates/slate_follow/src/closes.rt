@@ -9,7 +9,8 @@ impl FollowerState {
     /// Closes the reader. From then on its gets and polls answer `Closed`. It doesn't touch the store.
     ///
     /// A reader that was closed before answers the error that was recorded, and none where it closed cleanly; what was
-    /// recorded first stays. Until readers run a task, it ends none. SlateDB's `DbReader::close`.
+    /// recorded first stays. It takes constant time. Until readers run a task, it ends none. SlateDB's
+    /// `DbReader::close`.
     pub fn close<S: Store>(&mut self, store: &mut S) -> Ended
         ensures answer { result ≡ ended (recorded_fault self.old.result) }
         ensures closed { self.new ≡ closed_follower self.old }

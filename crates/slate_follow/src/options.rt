@@ -1,13 +1,14 @@
 /// How a reader follows a database. SlateDB's struct of this name.
 #[derive(Clone, Copy, Debug, PartialEq, Eq)]
 pub struct DbReaderOptions {
-    /// How far apart polls are, in milliseconds.
+    /// How far apart polls are to be, in milliseconds. Nothing polls by itself yet.
     pub manifest_poll_interval_ms: u64,
-    /// For how long a checkpoint of the reader is kept unless it is renewed, in milliseconds.
+    /// For how long a checkpoint of the reader is to be kept unless it is renewed, in milliseconds. Readers have none
+    /// yet.
     pub checkpoint_lifetime_ms: u64,
-    /// Whether the reader sees the tables alone, and reads no log file.
+    /// Whether the reader is to see the tables alone, and to read no log file. It can't be opened so yet.
     pub skip_wal_replay: bool,
-    /// At how many bytes of replayed batches another table in memory is begun.
+    /// At how many bytes of replayed batches another table in memory is to be begun. One table has them all yet.
     pub max_memtable_bytes: u64,
 }
 

@@ -16,7 +16,8 @@ use std::alloc::Global;
 ///
 /// Over an honest store and with a lawful operator the commands lead through worlds, one link for each command with its
 /// reply, from the world of the store as it was to one that the store holds afterwards. Where memory runs out before
-/// the first command, nothing was done; a command that finds no memory has a reply of its own.
+/// the first command, nothing was done; a command that finds no memory has a reply of its own. It takes room for all
+/// replies first, and then the time of each command by `LiveState::apply`.
 pub fn run<S: Store, M: MergeOperator, E: PrefixExtractor>(
     alloc: Global,
     store: &mut S,

@@ -137,7 +137,9 @@ fn write_replies<O: Sink>(alloc: Global, sink: &mut O, replies: &[Reply]) -> Out
 /// The status says how it ended. Words that spell no options end it before anything is read (64). A source that fails
 /// (3), a script of more than `MAX_SCRIPT` bytes (6) and a line that isn't a script line (2) end it before anything is
 /// run. Where the sink fails (4), the run is whole and a part of the text is written. Where memory runs out (5), nothing
-/// is written, and the store is as it was or the run is whole. Else all is done and written (0).
+/// is written, and the store is as it was or the run is whole. Else every command was answered, with an error or
+/// without one, and the answers are written (0). It takes the time of `run`, and beside it time and memory linear in
+/// the bytes of the script and of the text.
 pub fn session<I: Source, O: Sink, S: Store>(
     alloc: Global,
     words: &[String],

@@ -30,7 +30,7 @@ pub enum Action {
         key: Bytes,
         remote: bool,
     },
-    /// Closes an object. What a handle wrote is flushed before as the options ask; without them to a table.
+    /// Closes an object, and then flushes what a handle wrote as the options ask; without them to a table.
     Close {
         object: u64,
         options: Option<CloseOptions>,

@@ -1,16 +1,16 @@
 ghost use Rattle.std.specs.Prelude.{◌≡◌, map, string_bytes};
 ghost use Rattle.slate_script.specs.Options.{options_of};
 
-/// What the words of the command line say of a run.
+/// What the words of the command line say of a run. No command looks at these options yet.
 #[derive(Clone, Copy, Debug, PartialEq, Eq)]
 pub struct Options {
-    /// A write is refused from this many unflushed bytes of keys and values on.
+    /// From this many unflushed bytes of keys and values on a write is to be refused.
     pub max_unflushed_bytes: u64,
-    /// Whether handles register a compactor.
+    /// Whether handles are to register a compactor.
     pub compactor: bool,
-    /// Whether handles register a compaction worker.
+    /// Whether handles are to register a compaction worker.
     pub compaction_worker: bool,
-    /// Whether handles register a collector.
+    /// Whether handles are to register a collector.
     pub collector: bool,
 }
 

@@ -47,7 +47,7 @@ impl Default for ReadOptions {
 pub enum FlushType {
     /// The batches that aren't in log files yet, to a log file.
     Wal,
-    /// The same, and then the batches that aren't in tables yet, to a table.
+    /// The same, and then the batches that aren't in tables yet, to a table. No call takes it until tables are built.
     MemTable,
 }
 
@@ -60,11 +60,11 @@ pub struct FlushOptions {
 /// How to close.
 #[derive(Clone, Copy, Debug, PartialEq, Eq)]
 pub struct CloseOptions {
-    /// The flush that comes before, where there is one.
+    /// The flush that is made once the close is recorded, where there is one.
     pub flush_type: Option<FlushType>,
 }
 
-/// A flush of memory to a table.
+/// A flush of memory to a table, which no call takes until tables are built.
 impl Default for CloseOptions {
     ghost use Rattle.slate_types.specs.declared.options.FlushType.TheVariants.{MemTable};
 

@@ -13,9 +13,11 @@ impl WriterState {
     /// Closes the handle: records that it closed cleanly, and then flushes what the options ask for. From then on its
     /// writes, reads and flushes answer `Closed`.
     ///
-    /// The error of the flush is answered, and is what `flush` would answer; the handle stays cleanly closed. A handle
-    /// that closed cleanly before answers `Closed`, and one that an error closed answers none; neither touches the
-    /// store, and the result that was recorded first stays. Until handles run tasks, it ends none. SlateDB's `close`.
+    /// The error of the flush is answered, and is what `flush` would answer, `NoMemory` among them; the handle stays
+    /// cleanly closed, and a batch that wasn't stored is lost. A handle that closed cleanly before answers `Closed`, and
+    /// one that an error closed answers none; neither touches the store, and the result that was recorded first stays.
+    /// It takes the time of the flush, and a constant where there is none. Until handles run tasks, it ends none.
+    /// SlateDB's `close`.
     ///
     /// Until tables are built it flushes the log alone.
     pub fn close<S: Store>(&mut self, alloc: Global, store: &mut S, options: &CloseOptions) -> Ended

@@ -17,8 +17,9 @@ impl WriterState {
     /// On a closed handle it answers `Closed` or the error that closed it, and touches no store. A handle that keeps
     /// no log answers `WalDisabled`. `Fenced`, where another handle opened since, and every fault of the store
     /// (`ObjectStoreError`, `TransactionalObjectVersionExists`, `LatestTransactionalObjectVersionMissing`) close the
-    /// handle with that error; the log file may be stored then. `InvalidDBState`, where the next log file would pass
-    /// the greatest id, and `NoMemory` close nothing. SlateDB's `flush`.
+    /// handle with that error. `InvalidDBState`, where the next log file would pass the greatest id, and `NoMemory`
+    /// close nothing. After `ObjectStoreError` the log file may be stored; after any other error it isn't. SlateDB's
+    /// `flush`.
     ///
     /// Until tables are built it flushes the log alone.
     pub fn flush<S: Store>(

@@ -20,12 +20,15 @@ use std::alloc::Global;
 /// How a handle writes. SlateDB's `Settings`, as far as it is used here.
 #[derive(Clone, Copy, Debug, PartialEq, Eq)]
 pub struct WriterOptions {
-    /// Whether the handle keeps a log. One that keeps none stores its batches in tables alone.
+    /// Whether the handle keeps a log. One that keeps none stores nothing until tables are built.
     pub wal_enabled: bool,
-    /// From how many bytes on that aren't stored a write is held up.
+    /// From how many bytes on that aren't stored a write is to be held up. None is held up yet.
     pub max_unflushed_bytes: u64,
+    /// Whether the handle is to run a compactor. None runs yet.
     pub compactor: bool,
+    /// Whether the handle is to run a compaction worker. None runs yet.
     pub compaction_worker: bool,
+    /// Whether the handle is to run a collector. None runs yet.
     pub collector: bool,
 }
 
@@ -47,16 +50,17 @@ impl Default for WriterOptions {
 
 impl WriterState {
     /// Opens a database, a new one where the store has no manifest. It commits the next manifest, with an epoch above
-    /// those of the handles that were opened before, and puts an empty log file: from then on their flushes answer
-    /// `Fenced`. Then it replays the log files above the manifest's replay mark. The handle sees all batches that are
-    /// stored, and all of them are durable. It takes time linear in the batches of the log files. SlateDB's `Db::open`.
+    /// those of the handles that were opened before, and puts an empty log file: from then on their flushes store
+    /// nothing and answer `Fenced`, if nothing else fails first, while their writes and gets go on until then. Then it
+    /// replays the log files above the manifest's replay mark. The handle sees all batches that are stored, and all of
+    /// them are durable. It takes time linear in the batches of the log files. SlateDB's `Db::open`.
     ///
     /// It answers `InvalidDBState` where the latest manifest isn't initialised, and where the next manifest, epoch or
     /// log file would pass the greatest number; nothing is put then. Until tables are built it answers so too where
-    /// the manifest names one. A fault of the store (`ObjectStoreError`) or `NoMemory` may leave the manifest, or the manifest
-    /// and the log file. `WalTruncated` comes where log files or batches of the replay are missing, and `Fenced` where
-    /// another handle was opened meanwhile; none of the two, nor `TransactionalObjectVersionExists`, comes over a store
-    /// that only handles wrote.
+    /// the manifest names one. A fault of the store (`ObjectStoreError`) or `NoMemory` may leave the manifest, which
+    /// fences the handles before it, or the manifest and the log file. `WalTruncated` comes where log files or batches
+    /// of the replay are missing, and `Fenced` where another handle was opened meanwhile; none of the two, nor
+    /// `TransactionalObjectVersionExists`, comes over a store that only handles wrote.
     pub fn open<S: Store, E: PrefixExtractor>(
         alloc: Global,
         store: &mut S,

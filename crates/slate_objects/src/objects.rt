@@ -1,0 +1,105 @@
+ghost use Rattle.std.specs.Prelude.{◌≡◌, Ok, IfOk};
+ghost use Rattle.slate_objects.specs.Batches.{batch_at, batch_of};
+ghost use Rattle.slate_objects.specs.Objects.{log_bytes, log_in, manifest_bytes, manifest_in, table_bytes, table_in};
+ghost use Rattle.slate_objects.specs.Reading.{Gives, list_at};
+ghost use Rattle.slate_objects.specs.Sealing.{object_in, sealed};
+ghost use Rattle.slate_objects.specs.Spelling.{list_of};
+
+use crate::faults::DecodeError;
+use crate::formats::{Format, write_list};
+use crate::seals::{open, seal};
+use bytes::Bytes;
+use slate_store::Manifest;
+use slate_types::{Batch, NoMemory, Seq};
+use std::alloc::Global;
+
+/// The first four bytes of a manifest, `HTNM`.
+const MANIFEST: u32 = 0x4854_4e4d;
+
+/// The first four bytes of a log file, `HTNW`.
+const LOG: u32 = 0x4854_4e57;
+
+/// The first four bytes of a table, `HTNT`.
+const TABLE: u32 = 0x4854_4e54;
+
+/// The bytes of a manifest, which `decode_manifest` reads as the same manifest. It takes time linear in them.
+#[tactic(auto, unfolding(crate::specs::Objects::manifest_bytes))]
+pub fn encode_manifest(alloc: Global, manifest: &Manifest) -> Result<Vec<u8>, NoMemory>
+    ensures bytes { IfOk result (λ bytes. bytes.items ≡ manifest_bytes manifest.now) }
+    ensures again { IfOk result (λ bytes. manifest_in bytes.items ≡ Ok manifest.now) }
+{
+    let mut body = Vec::new(alloc);
+    manifest.write(&mut body)?;
+    seal(alloc, MANIFEST, body.as_slice())
+}
+
+/// The manifest that the bytes are. Any bytes but those of `encode_manifest` are refused with the first fault from the
+/// left. It takes time linear in the bytes, and memory by what they have, whatever a length or a count in them says. The
+/// prefixes share the bytes.
+#[tactic(auto, unfolding(crate::specs::Objects::manifest_in))]
+pub fn decode_manifest(alloc: Global, bytes: Bytes) -> Result<Manifest, DecodeError>
+    ensures read { Gives result (manifest_in bytes) }
+    ensures only { IfOk result (λ manifest. bytes ≡ manifest_bytes manifest) }
+{
+    open(alloc, MANIFEST, bytes)
+}
+
+/// The bytes of a log file with these batches, which `decode_log` reads as the same batches. It takes time linear in
+/// them.
+#[tactic(auto, unfolding(crate::specs::Objects::log_bytes, crate::specs::Objects::log_in))]
+pub fn encode_log(alloc: Global, batches: &[Batch]) -> Result<Vec<u8>, NoMemory>
+    ensures bytes { IfOk result (λ bytes. bytes.items ≡ log_bytes batches.now) }
+    ensures again { IfOk result (λ bytes. log_in bytes.items ≡ Ok batches.now) }
+{
+    encode_batches(alloc, LOG, batches)
+}
+
+/// The batches of the log file that the bytes are. Any bytes but those of `encode_log` are refused with the first fault
+/// from the left. It takes time linear in the bytes, and memory by what they have, whatever a length or a count in them
+/// says. Keys and values share the bytes.
+#[tactic(auto, unfolding(crate::specs::Objects::log_bytes, crate::specs::Objects::log_in))]
+pub fn decode_log(alloc: Global, bytes: Bytes) -> Result<Seq<Batch>, DecodeError>
+    ensures read { Gives result (log_in bytes) }
+    ensures only { IfOk result (λ batches. bytes ≡ log_bytes batches) }
+{
+    decode_batches(alloc, LOG, bytes)
+}
+
+/// The bytes of a table with these batches, which `decode_table` reads as the same batches. It takes time linear in
+/// them.
+#[tactic(auto, unfolding(crate::specs::Objects::table_bytes, crate::specs::Objects::table_in))]
+pub fn encode_table(alloc: Global, batches: &[Batch]) -> Result<Vec<u8>, NoMemory>
+    ensures bytes { IfOk result (λ bytes. bytes.items ≡ table_bytes batches.now) }
+    ensures again { IfOk result (λ bytes. table_in bytes.items ≡ Ok batches.now) }
+{
+    encode_batches(alloc, TABLE, batches)
+}
+
+/// The batches of the table that the bytes are. Any bytes but those of `encode_table` are refused with the first fault
+/// from the left. It takes time linear in the bytes, and memory by what they have, whatever a length or a count in them
+/// says. Keys and values share the bytes.
+#[tactic(auto, unfolding(crate::specs::Objects::table_bytes, crate::specs::Objects::table_in))]
+pub fn decode_table(alloc: Global, bytes: Bytes) -> Result<Seq<Batch>, DecodeError>
+    ensures read { Gives result (table_in bytes) }
+    ensures only { IfOk result (λ batches. bytes ≡ table_bytes batches) }
+{
+    decode_batches(alloc, TABLE, bytes)
+}
+
+/// The bytes of an object of this kind with these batches.
+fn encode_batches(alloc: Global, kind: u32, batches: &[Batch]) -> Result<Vec<u8>, NoMemory>
+    ensures bytes { IfOk result (λ bytes. bytes.items ≡ sealed kind (list_of batch_of batches.now)) }
+    ensures again { IfOk result (λ bytes. object_in (list_at batch_at) kind bytes.items ≡ Ok batches.now) }
+{
+    let mut body = Vec::new(alloc);
+    write_list(batches, &mut body)?;
+    seal(alloc, kind, body.as_slice())
+}
+
+/// The batches of the object of this kind that the bytes are.
+fn decode_batches(alloc: Global, kind: u32, bytes: Bytes) -> Result<Seq<Batch>, DecodeError>
+    ensures read { Gives result (object_in (list_at batch_at) kind bytes) }
+    ensures only { IfOk result (λ batches. bytes ≡ sealed kind (list_of batch_of batches)) }
+{
+    open(alloc, kind, bytes)
+}

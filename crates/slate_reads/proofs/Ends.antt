@@ -1,5 +1,5 @@
 use Rattle.std.proofs.Common.{◌≡◌, refl, sym, ◌∙◌, ap, subst, ℕ, Bool, true, false, cond, List, [], ◌∷◌, ◌++◌, get_or, filter, map, reverse, Option}
-use Rattle.std.specs.List.{flat_map, AllByRecursion}
+use Rattle.std.specs.List.{flat_map}
 use Rattle.std.specs.Str.{bytes_eq}
 use Rattle.std.proofs.lemmas.List.{append-nil, append_assoc, reverse-append, map_push, map-append}
 use Rattle.std.proofs.lemmas.List.Concat.{flat_map-append}
@@ -10,8 +10,10 @@ use Rattle.slate_reads.specs.declared.reads.Version.{Version as Held}
 use Rattle.slate_reads.specs.declared.tables.Entry.{Entry}
 use Rattle.slate_reads.specs.Read.{Version, is_base, is_within, since_base, versions_in, history}
 use Rattle.slate_reads.specs.Tails.{seen, IsTail, IsEnd}
-use Rattle.slate_reads.proofs.Tails.{since_base-base, since_base-merge, same_key-push}
-use Rattle.slate_reads.proofs.Index.{Found}
+use Rattle.slate_reads.proofs.Tails.{since_base-base, since_base-merge}
+use Rattle.slate_reads.specs.Run.{Run, Stands}
+use Rattle.slate_reads.proofs.Lists.{all-append, all-reverse}
+use Rattle.slate_reads.proofs.Index.{Found, Stands-same}
 
 pub history-append : (earlier later : List Batch) (bound : Option ℕ) (key : List ℕ) → history (earlier ++ later) bound key ≡ history earlier bound key ++ history later bound key
 history-append earlier later bound key =
@@ -23,7 +25,7 @@ pub IsEnd-step : (key : List ℕ) (whole rest : List Version) (held new : List H
     new ≡ held ++ next ∷ [] → IsEnd key whole (rest ++ seen next ∷ []) false held → IsEnd key whole rest base new
 IsEnd-step key whole rest held new next base is same new-is end = record {
   tail = rw (new-is, map_push seen held next, reverse-append (map seen held) (seen next ∷ [])) (go base is);
-  same_key = rw new-is (same_key-push key held next end.same_key same);
+  same_key = rw new-is (all-append (λ (h : Held). h.key_op.now.key ≡ key) held (next ∷ []) end.same_key (same, tt));
 } where
   go : (base : Bool) → base ≡ is_base next.key_op.now.op → cond base [] (since_base rest) ++ (seen next ∷ reverse (map seen held)) ≡ whole
   go true is = ap (λ vs. vs ++ reverse (map seen held)) (sym (since_base-base rest (seen next) (sym is))) ∙ end.tail
@@ -69,23 +71,23 @@ walked bound rest left older v seen_it left-is is =
     (sym (append_assoc rest (within bound (reverse older)) (cond seen_it (v ∷ []) [])))
 
 -- a version within the bound, as the code reads it by its entry
-pub IsEnd-walk : (batches : List Batch) (entries : List Entry) (key : List ℕ) (place : ℕ) (entry : Entry) (left : List Version) (f : Found batches entries key place entry left)
-    (bound : Option ℕ) (held new : List Held) (h : Held) (ops : List KeyOp) (base : Bool) → h.batch.now ≡ get_or batches entry.batch h.batch.now →
+pub IsEnd-walk : (batches : Run Batch) (entries : Run Entry) (key : List ℕ) (place : ℕ) (entry : Entry) (left : List Version) (f : Found batches entries key place entry left)
+    (bound : Option ℕ) (held new : List Held) (h : Held) (ops : List KeyOp) (base : Bool) → Stands batches entry.batch h.batch.now →
     ops ≡ h.batch.now.ops → h.key_op.now ≡ get_or ops entry.op h.key_op.now → true ≡ is_within bound h.batch.now.number → base ≡ is_base h.key_op.now.op → new ≡ held ++ h ∷ [] →
     (whole rest : List Version) → IsEnd key whole (rest ++ within bound (reverse left)) false held → IsEnd key whole (rest ++ within bound (reverse f.older)) base new
 IsEnd-walk batches entries key place entry left f bound held new h ops base batch-is ops-are op-is is base-is new-is whole rest end =
-    let same_batch : h.batch.now ≡ f.batch = batch-is ∙ f.batch_at.is h.batch.now in
+    let same_batch : h.batch.now ≡ f.batch = Stands-same batches entry.batch h.batch.now f.batch batch-is f.batch_at in
     let same_op : h.key_op.now ≡ f.key_op = op-is ∙ ap (λ os. get_or os entry.op h.key_op.now) (ops-are ∙ ap (λ b. b.ops) same_batch) ∙ f.op_at.is h.key_op.now in
     let left-is : left ≡ seen h ∷ f.older = rw (same_batch, same_op) f.left_is in
     IsEnd-step key whole (rest ++ within bound (reverse f.older)) held new h base base-is (ap (λ o. o.key) same_op ∙ f.key_is) new-is
     (subst (λ vs. IsEnd key whole vs false held) (walked bound rest left f.older (seen h) true left-is is) end)
 
 -- a version above the bound
-pub IsEnd-skip : (batches : List Batch) (entries : List Entry) (key : List ℕ) (place : ℕ) (entry : Entry) (left : List Version) (f : Found batches entries key place entry left)
-    (bound : Option ℕ) (held : List Held) (batch : Batch) → batch ≡ get_or batches entry.batch batch → false ≡ is_within bound batch.number →
+pub IsEnd-skip : (batches : Run Batch) (entries : Run Entry) (key : List ℕ) (place : ℕ) (entry : Entry) (left : List Version) (f : Found batches entries key place entry left)
+    (bound : Option ℕ) (held : List Held) (batch : Batch) → Stands batches entry.batch batch → false ≡ is_within bound batch.number →
     (whole rest : List Version) → IsEnd key whole (rest ++ within bound (reverse left)) false held → IsEnd key whole (rest ++ within bound (reverse f.older)) false held
 IsEnd-skip batches entries key place entry left f bound held batch batch-is is whole rest end =
-    let same_batch : batch ≡ f.batch = batch-is ∙ f.batch_at.is batch in
+    let same_batch : batch ≡ f.batch = Stands-same batches entry.batch batch f.batch batch-is f.batch_at in
     let version : Version = record { op = f.key_op.op; number = f.batch.number; create_ts = f.batch.create_ts } in
     subst (λ vs. IsEnd key whole vs false held)
     (walked bound rest left f.older version false f.left_is (is ∙ ap (λ b. is_within bound b.number) same_batch) ∙ append-nil (rest ++ within bound (reverse f.older))) end
@@ -95,11 +97,11 @@ pub IsEnd-ended : (key : List ℕ) (whole rest other : List Version) (held : Lis
 IsEnd-ended key whole rest other held end = record { tail = end.tail; same_key = end.same_key }
 
 -- ---- the walk over tables, newest first
-pub tables-last : (tables earlier : List (List Batch)) (table : List Batch) (bound : Option ℕ) (key : List ℕ) (rest : List Version) → tables ≡ earlier ++ table ∷ [] →
-    rest ++ history (flat_map (λ t. t) tables) bound key ≡ (rest ++ history (flat_map (λ t. t) earlier) bound key) ++ history table bound key
-tables-last tables earlier table bound key rest is =
-    rw (is, flat_map-append (λ (t : List Batch). t) earlier (table ∷ []), append-nil table)
-    (ap (λ vs. rest ++ vs) (history-append (flat_map (λ t. t) earlier) table bound key) ∙ sym (append_assoc rest _ (history table bound key)))
+pub tables-last : {T : Type 0} (batches : T → List Batch) (tables earlier : List T) (table : T) (bound : Option ℕ) (key : List ℕ) (rest : List Version) → tables ≡ earlier ++ table ∷ [] →
+    rest ++ history (flat_map batches tables) bound key ≡ (rest ++ history (flat_map batches earlier) bound key) ++ history (batches table) bound key
+tables-last batches tables earlier table bound key rest is =
+    rw (is, flat_map-append batches earlier (table ∷ []), append-nil (batches table))
+    (ap (λ vs. rest ++ vs) (history-append (flat_map batches earlier) (batches table) bound key) ∙ sym (append_assoc rest _ (history (batches table) bound key)))
 
 -- ---- the whole tail
 map-reverse : (held : List Held) → map seen (reverse held) ≡ reverse (map seen held)
@@ -107,15 +109,6 @@ map-reverse [] = refl
 map-reverse (h ∷ held) =
     ap (map seen) (reverse-append (h ∷ []) held) ∙ map_push seen (reverse held) h ∙ ap (λ vs. vs ++ seen h ∷ []) (map-reverse held)
     ∙ sym (reverse-append (seen h ∷ []) (map seen held))
-
-same_key-append : (key : List ℕ) (held more : List Held) → AllByRecursion (λ h. h.key_op.now.key ≡ key) held → AllByRecursion (λ h. h.key_op.now.key ≡ key) more →
-    AllByRecursion (λ h. h.key_op.now.key ≡ key) (held ++ more)
-same_key-append key [] more all also = also
-same_key-append key (h ∷ held) more all also = (all.0, same_key-append key held more all.1 also)
-
-same_key-reverse : (key : List ℕ) (held : List Held) → AllByRecursion (λ h. h.key_op.now.key ≡ key) held → AllByRecursion (λ h. h.key_op.now.key ≡ key) (reverse held)
-same_key-reverse key [] all = tt
-same_key-reverse key (h ∷ held) all = rw (reverse-append (h ∷ []) held) (same_key-push key (reverse held) h (same_key-reverse key held all.1) all.0)
 
 -- the tail before the versions of the tables, and these
 pub IsTail-whole : (key : List ℕ) (bound : Option ℕ) (older : List Batch) (tables : List Batch) (ended : Bool) (newest reversed before all : List Held) →
@@ -125,7 +118,7 @@ pub IsTail-whole : (key : List ℕ) (bound : Option ℕ) (older : List Batch) (t
 IsTail-whole key bound older tables ended newest reversed before all walk tail reversed-is all-is = record {
   tail = rw (all-is, reversed-is, map-append seen before (reverse newest), map-reverse newest, tail.tail, history-append older tables bound key)
       (ap (λ vs. vs ++ reverse (map seen newest)) (shut ended) ∙ end.tail);
-  same_key = rw (all-is, reversed-is) (same_key-append key before (reverse newest) tail.same_key (same_key-reverse key newest end.same_key));
+  same_key = rw (all-is, reversed-is) (all-append (λ (h : Held). h.key_op.now.key ≡ key) before (reverse newest) tail.same_key (all-reverse (λ (h : Held). h.key_op.now.key ≡ key) newest end.same_key));
 } where
   whole : List Version
   whole = history older bound key ++ history tables bound key

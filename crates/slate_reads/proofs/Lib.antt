@@ -1,3 +1,7 @@
+pub mod Dropping
 pub mod Ends
 pub mod Index
+pub mod Keeping
+pub mod Lists
 pub mod Tails
+pub mod Walking

@@ -12,6 +12,7 @@ use Rattle.slate_reads.specs.declared.reads.Version.{Version as Held}
 use Rattle.slate_types.specs.Operator.{Merge}
 use Rattle.slate_reads.specs.Read.{Version, is_base, since_base, versions_in, history, row_after, and_then, fold_versions}
 use Rattle.slate_reads.specs.Tails.{seen, IsTail}
+use Rattle.slate_reads.proofs.Lists.{all-append}
 
 -- a put or a delete at the end: nothing before it counts
 pub since_base-base : (versions : List Version) (last : Version) → is_base last.op ≡ true → since_base (versions ++ last ∷ []) ≡ last ∷ []
@@ -31,11 +32,6 @@ since_base-merge (version ∷ versions) last merge =
     (λ b. cond (b || false) (since_base (versions ++ last ∷ [])) (version ∷ (versions ++ last ∷ [])) ≡ cond b (since_base versions) (version ∷ versions) ++ last ∷ [])
     [ true ↦ since_base-merge versions last merge | false ↦ refl ]))
 
-pub same_key-push : (key : List ℕ) (held : List Held) (last : Held) → AllByRecursion (λ h. h.key_op.now.key ≡ key) held → last.key_op.now.key ≡ key →
-    AllByRecursion (λ h. h.key_op.now.key ≡ key) (held ++ last ∷ [])
-same_key-push key [] last all same = (same, tt)
-same_key-push key (h ∷ held) last all same = (all.0, same_key-push key held last all.1 same)
-
 -- one more version, as `take_version` adds it: kept is what stays of the versions held
 pub IsTail-more : (history : List Version) (held kept new : List Held) (last : Held) (base : Bool) → base ≡ is_base last.key_op.now.op →
     kept ≡ cond base [] held → new ≡ kept ++ last ∷ [] →
@@ -46,7 +42,7 @@ IsTail-more history held kept new last true is kept-is new-is before = record {
 }
 IsTail-more history held kept new last false is kept-is new-is before = record {
   tail = rw (new-is, kept-is) (map_push seen held last ∙ ap (λ vs. vs ++ seen last ∷ []) before.tail ∙ sym (since_base-merge history (seen last) (sym is)));
-  same_key = rw (new-is, kept-is) (same_key-push last.key_op.now.key held last before.same_key refl);
+  same_key = rw (new-is, kept-is) (all-append (λ (h : Held). h.key_op.now.key ≡ last.key_op.now.key) held (last ∷ []) before.same_key (refl, tt));
 }
 
 -- the versions of a key in the operations so far, and in one more

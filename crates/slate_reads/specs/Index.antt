@@ -1,47 +1,91 @@
-use Rattle.std.specs.Prelude.{◌≡◌, ℕ, ◌<◌, List, [], ◌∷◌, reverse, length, get_or, Option, Some, None, IfSome}
-use Rattle.std.specs.List.{flat_map}
+use Rattle.std.specs.Prelude.{◌≡◌, ◌⊎◌, ℕ, ◌+◌, ◌^◌, ◌<◌, Bool, true, false, nat_le, List, [], ◌∷◌, ◌++◌, map, replicate, reverse, length, Option, Some, None, IfSome, IsSome}
+use Rattle.std.specs.List.{AllByRecursion, flat_map}
+use Rattle.std.specs.Option.{unwrap_or}
 use Rattle.std.specs.Str.{bytes_eq}
 use Rattle.std.specs.HashMap.{HashMap, get}
+use Rattle.std.specs.BTreeSet.{BTreeSet, contains}
 use Rattle.slate_types.specs.declared.batches.Batch.{Batch}
 use Rattle.slate_types.specs.declared.batches.KeyOp.{KeyOp}
+use Rattle.slate_types.specs.Range.{key_cmp}
 use Rattle.slate_reads.specs.declared.tables.Entry.{Entry}
 use Rattle.slate_reads.specs.Read.{Version, versions_in}
+use Rattle.slate_reads.specs.Run.{Run, IsAt, Stands}
+use Rattle.slate_reads.specs.Size.{size_of}
 
--- the list has this at an index
-pub record IsAt {A : Type 0} (list : List A) (index : ℕ) (item : A) : Type 0 where
-  pub within : index < length list
-  pub is : (d : A) → get_or list index d ≡ item
+-- each batch has a number above those before it
+abbrev pub AreRising : List Batch → Type 0
+AreRising [] = Unit {0}
+AreRising (batch ∷ batches) = AllByRecursion (λ later. batch.number < later.number) batches × AreRising batches
+
+-- a number is above that of the last batch, where there is one
+abbrev pub IsAboveLast : ℕ → List Batch → Type 0
+IsAboveLast number [] = Unit {0}
+IsAboveLast number (batch ∷ []) = batch.number < number
+IsAboveLast number (batch ∷ next ∷ batches) = IsAboveLast number (next ∷ batches)
 
 -- an entry that leads to an operation on a key
-pub record Step (batches : List Batch) (entries : List Entry) (key : List ℕ) (next : Option ℕ) : Type 0 where
+pub record Step (batches : Run Batch) (entries : Run Entry) (key : List ℕ) (next : Option ℕ) : Type 0 where
   pub place : ℕ
   pub entry : Entry
   pub batch : Batch
   pub key_op : KeyOp
   pub next_is : next ≡ Some place
-  pub entry_at : IsAt entries place entry
-  pub batch_at : IsAt batches entry.batch batch
+  pub entry_at : Stands entries place entry
+  pub batch_at : Stands batches entry.batch batch
   pub op_at : IsAt batch.ops entry.op key_op
   pub key_is : key_op.key ≡ key
   pub back : IfSome entry.previous (λ previous. previous < place)
 
--- From an entry these versions of a key are reached, newest first.
-abbrev pub Leads : List Batch → List Entry → List ℕ → Option ℕ → List Version → Type 0
-Leads batches entries key next [] = next ≡ None
+-- From an entry these versions of a key are reached, newest first. There it ends, or goes on to what was dropped.
+abbrev pub Leads : Run Batch → Run Entry → List ℕ → Option ℕ → List Version → Type 0
+Leads batches entries key next [] = IfSome next (λ place. place < entries.start)
 Leads batches entries key next (version ∷ older) =
     (step : Step batches entries key next)
     × (version ≡ record { op = step.key_op.op; number = step.batch.number; create_ts = step.batch.create_ts })
     × Leads batches entries key step.entry.previous older
 
 -- Each key leads to its versions, which are given oldest first.
-abbrev pub AreLed : List Batch → List Entry → (List ℕ → Option ℕ) → (List ℕ → List Version) → Type 0
+abbrev pub AreLed : Run Batch → Run Entry → (List ℕ → Option ℕ) → (List ℕ → List Version) → Type 0
 AreLed batches entries latest versions = (key : List ℕ) → Leads batches entries key (latest key) (reverse (versions key))
 
--- Each key leads to its versions in the batches.
-abbrev pub IsIndex : List Batch → List Entry → (List ℕ → Option ℕ) → Type 0
-IsIndex batches entries latest = AreLed batches entries latest (λ key. flat_map (versions_in key) batches)
+-- for each operation of batches, the place of its batch, from the place of the first one on
+abbrev pub batch_places : ℕ → List Batch → List ℕ
+batch_places start [] = []
+batch_places start (batch ∷ batches) = replicate (length batch.ops) start ++ batch_places (start + 1) batches
 
--- what a reserve leaves as it was
-abbrev pub AreSame : {S : Type 0} → List Batch → List Batch → List Entry → List Entry → HashMap (List ℕ) ℕ S → HashMap (List ℕ) ℕ S → Type 0
-AreSame batches new_batches entries new_entries latest new_latest =
-    (new_batches ≡ batches) × (new_entries ≡ entries) × ((key : List ℕ) → get bytes_eq new_latest key ≡ get bytes_eq latest key)
+-- the place of a key's last entry, as a map has it; a key may be in the map without one
+abbrev pub place_of : {S : Type 0} → HashMap (List ℕ) (Option ℕ) S → List ℕ → Option ℕ
+place_of latest key = unwrap_or (get bytes_eq latest key) None
+
+-- each key of the map is in the set
+abbrev pub AreOrdered : {S : Type 0} → HashMap (List ℕ) (Option ℕ) S → BTreeSet (List ℕ) → Type 0
+AreOrdered latest order = (key : List ℕ) → IsSome (get bytes_eq latest key) → contains key_cmp order key ≡ true
+
+-- Each key leads to its versions in the batches, and there is an entry for each operation, in order.
+pub record IsIndex (batches : Run Batch) (entries : Run Entry) (latest : List ℕ → Option ℕ) : Type 0 where
+  pub led : AreLed batches entries latest (λ key. flat_map (versions_in key) batches.items)
+  pub placed : map (λ e. e.batch) entries.items ≡ batch_places batches.start batches.items
+
+-- what a table keeps
+pub record IsTable {S : Type 0} (batches : Run Batch) (entries : Run Entry) (latest : HashMap (List ℕ) (Option ℕ) S) (order : BTreeSet (List ℕ)) (size : ℕ) : Type 0 where
+  pub index : IsIndex batches entries (place_of latest)
+  pub ordered : AreOrdered latest order
+  pub rising : AreRising batches.items
+  pub sized : size ≡ size_of batches.items
+  pub batches_fit : batches.start + length batches.items < 2 ^ 64
+  pub entries_fit : entries.start + length entries.items < 2 ^ 64
+
+-- a key's place after this one was forgotten
+abbrev pub Loses : ℕ → Option ℕ → Option ℕ → Type 0
+Loses place old new = (new ≡ old) ⊎ ((new ≡ None) × (old ≡ Some place))
+
+-- a key's place after some below another place were forgotten
+abbrev pub Forgets : ℕ → Option ℕ → Option ℕ → Type 0
+Forgets end None new = new ≡ None
+Forgets end (Some place) None = place < end
+Forgets end (Some place) (Some new) = new ≡ place
+
+-- whether there is a first batch, and it is at or below a number
+abbrev pub begins_through : ℕ → List Batch → Bool
+begins_through number [] = false
+begins_through number (batch ∷ batches) = nat_le batch.number number

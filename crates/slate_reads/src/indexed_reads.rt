@@ -1,49 +1,100 @@
-ghost use Rattle.std.specs.Prelude.{◌≡◌, ◌++◌, [], Bool, false, List, Option, IfOk, if◌then◌else◌};
+ghost use Rattle.std.specs.Prelude.{◌≡◌, ◌++◌, ◌+◌, ◌≤◌, [], ℕ, Bool, false, List, Option, Some, IfOk, IfSome, MatchOption, if◌then◌else◌, length};
 ghost use Rattle.std.specs.List.{flat_map};
 ghost use Rattle.std.specs.Option.{option_copied};
 ghost use Rattle.slate_types.specs.Operator.{Merge};
+ghost use Rattle.slate_types.specs.declared.batches.Batch.{Batch as AnyBatch};
+ghost use Rattle.slate_reads.specs.Run.{Stands};
 ghost use Rattle.slate_reads.specs.Tails.{IsTail, IsEnd};
 ghost use Rattle.slate_reads.specs.Read.{Version as SeenVersion, IsOperator, Reads, read_at, history};
 
-use crate::IndexedTable;
 use crate::reads::{Version, fold, is_base, is_within, tail_of};
+use crate::tables::{Entry, last_place};
+use crate::windows::Window;
+use crate::{IndexedTable, Table};
 use bytes::Bytes;
 use slate_types::{Batch, KeyValue, MergeOperator, NoMemory, ReadFault};
 use std::alloc::Global;
 
-/// Reads a key as `read` does in `older`, followed by the batches of the tables. It takes a look-up in each table, from
-/// the last back to the first with a put or a delete within the bound, and goes over the key's operations since then,
-/// with those above the bound. Only where no table has one it goes over `older`, once.
+/// A table with indexes: one in memory or a stored one.
+pub trait Indexed {
+    /// Its batches.
+    ghost batches: { Self → List AnyBatch };
+
+    /// The table with its indexes.
+    fn as_indexed(&self) -> &IndexedTable
+        ensures { result.now ≡ batches self.now };
+}
+
+impl Indexed for IndexedTable {
+    ghost batches = { λ table. table };
+
+    fn as_indexed(&self) -> &IndexedTable {
+        self
+    }
+}
+
+impl Indexed for Table {
+    ghost batches = { λ table. table };
+
+    fn as_indexed(&self) -> &IndexedTable {
+        self.indexed()
+    }
+}
+
+/// Reads a key as `read` does in `older`, followed by the batches of the stored tables and then of those in memory. It
+/// takes a look-up in each table, from the last back to the first with a put or a delete within the bound, and goes over
+/// the key's operations since then, with those above the bound. Only where no table has one it goes over `older`, once.
+/// It copies the key.
 pub fn read_indexed<M: MergeOperator>(
     alloc: Global,
     older: &[Batch],
-    tables: &[IndexedTable],
+    stored: &[Table],
+    memory: &[IndexedTable],
     bound: Option<u64>,
     key: &[u8],
     operator: Option<&M>,
 ) -> Result<Option<KeyValue>, ReadFault>
     // The answer is the plain read, unless memory ran out, whatever lawful function the operator is.
     ensures plain { (merge : Option Merge) → IsOperator M.may_answer (option_copied operator.entry) merge →
-        Reads (read_at merge (older.now ++ flat_map (λ table. table) tables.now) bound key.now) result }
+        Reads (read_at merge (older.now ++ (flat_map (λ table. table) stored.now ++ flat_map (λ table. table) memory.now)) bound key.now) result }
 {
-    let versions = indexed_tail(alloc, older, tables, bound, key)?;
-    fold(alloc, key, versions.as_slice(), operator)
+    let key = Bytes::copy_from_slice(alloc, key).map_err(NoMemory::from)?;
+    read_key(alloc, older, stored, memory, bound, &key, operator)
+}
+
+/// Reads a key as `read_indexed` does, and copies nothing.
+pub fn read_key<M: MergeOperator>(
+    alloc: Global,
+    older: &[Batch],
+    stored: &[Table],
+    memory: &[IndexedTable],
+    bound: Option<u64>,
+    key: &Bytes,
+    operator: Option<&M>,
+) -> Result<Option<KeyValue>, ReadFault>
+    // The answer is the plain read, unless memory ran out, whatever lawful function the operator is.
+    ensures plain { (merge : Option Merge) → IsOperator M.may_answer (option_copied operator.entry) merge →
+        Reads (read_at merge (older.now ++ (flat_map (λ table. table) stored.now ++ flat_map (λ table. table) memory.now)) bound key.now) result }
+    ensures keyed { IfOk result (λ found. IfSome found (λ row. row.key ≡ key.now)) }
+{
+    let versions = indexed_tail(alloc, older, stored, memory, bound, key)?;
+    fold(alloc, key.as_slice(), versions.as_slice(), operator)
 }
 
 /// The tail of a key in `older`, followed by the batches of the tables.
 fn indexed_tail<'a>(
     alloc: Global,
     older: &'a [Batch],
-    tables: &'a [IndexedTable],
+    stored: &'a [Table],
+    memory: &'a [IndexedTable],
     bound: Option<u64>,
-    key: &[u8],
+    key: &Bytes,
 ) -> Result<Vec<Version<'a>>, NoMemory>
-    ensures { IfOk result (λ versions. IsTail key.now (history (older.now ++ flat_map (λ table. table) tables.now) bound key.now) versions.items) }
+    ensures { IfOk result (λ versions. IsTail key.now (history (older.now ++ (flat_map (λ table. table) stored.now ++ flat_map (λ table. table) memory.now)) bound key.now) versions.items) }
 {
-    let sought = Bytes::copy_from_slice(alloc, key)?;
     let mut newest = Vec::new(alloc);
-    let ended = take_tables(&mut newest, tables, bound, &sought)?;
-    let mut versions = tail_before(alloc, older, bound, key, ended)?;
+    let ended = take_sources(&mut newest, stored, memory, bound, key)?;
+    let mut versions = tail_before(alloc, older, bound, key.as_slice(), ended)?;
     newest.reverse();
     versions.extend_from_slice(newest.as_slice())?;
     Ok(versions)
@@ -65,19 +116,38 @@ fn tail_before<'a>(
     tail_of(alloc, older, bound, key)
 }
 
-/// Takes the versions of a key in tables, newest first, up to a put or a delete, and says whether there is one.
-fn take_tables<'a>(
+/// Takes the versions of a key in the tables in memory and then in the stored ones, newest first, up to a put or a
+/// delete, and says whether there is one.
+fn take_sources<'a>(
     newest: &mut Vec<Version<'a>>,
-    tables: &'a [IndexedTable],
+    stored: &'a [Table],
+    memory: &'a [IndexedTable],
     bound: Option<u64>,
     key: &Bytes,
 ) -> Result<bool, NoMemory>
-    ensures { IfOk result (λ ended. (whole rest : List SeenVersion) → IsEnd key.now whole (rest ++ history (flat_map (λ table. table) tables.now) bound key.now) false newest.old.items →
+    ensures { IfOk result (λ ended. (whole rest : List SeenVersion) →
+        IsEnd key.now whole (rest ++ history (flat_map (λ table. table) stored.now ++ flat_map (λ table. table) memory.now) bound key.now) false newest.old.items →
+        IsEnd key.now whole rest ended newest.new.items) }
+{
+    if take_tables(newest, memory, bound, key)? {
+        return Ok(true);
+    }
+    take_tables(newest, stored, bound, key)
+}
+
+/// Takes the versions of a key in tables, newest first, up to a put or a delete, and says whether there is one.
+fn take_tables<'a, T: Indexed>(
+    newest: &mut Vec<Version<'a>>,
+    tables: &'a [T],
+    bound: Option<u64>,
+    key: &Bytes,
+) -> Result<bool, NoMemory>
+    ensures { IfOk result (λ ended. (whole rest : List SeenVersion) → IsEnd key.now whole (rest ++ history (flat_map T.batches tables.now) bound key.now) false newest.old.items →
         IsEnd key.now whole rest ended newest.new.items) }
 {
     let mut left = tables;
     while let Some((table, earlier)) = left.split_last() {
-        if take_table(newest, table, bound, key)? {
+        if take_table(newest, table.as_indexed(), bound, key)? {
             return Ok(true);
         }
         left = earlier;
@@ -95,10 +165,9 @@ fn take_table<'a>(
     ensures { IfOk result (λ ended. (whole rest : List SeenVersion) → IsEnd key.now whole (rest ++ history table.now bound key.now) false newest.old.items →
         IsEnd key.now whole rest ended newest.new.items) }
 {
-    let mut next = table.latest.get(key).copied();
-    while let Some(place) = next {
-        let entry = table.entries[place];
-        let batch = &table.batches[entry.batch];
+    let mut next = last_place(&table.latest, key);
+    while let Some(entry) = entry_at(&table.entries, next) {
+        let batch = table.batches.at(entry.batch);
         if is_within(bound, batch.number) {
             let key_op = &batch.ops.as_slice()[entry.op];
             newest.push(Version { batch, key_op })?;
@@ -109,4 +178,12 @@ fn take_table<'a>(
         next = entry.previous;
     }
     Ok(false)
+}
+
+/// The entry at a place, unless it was dropped.
+fn entry_at(entries: &Window<Entry>, place: Option<usize>) -> Option<Entry>
+    ensures { MatchOption result (IfSome place (λ p. entries.now.start ≤ p → entries.now.start + length entries.now.items ≤ p))
+        (λ entry. (p : ℕ) × (place ≡ Some p) × Stands entries.now p entry) }
+{
+    entries.get(place?).copied()
 }

@@ -3,8 +3,12 @@
 
 mod indexed_reads;
 mod reads;
+mod shared_tables;
 mod tables;
+mod walks;
+mod windows;
 
-pub use indexed_reads::read_indexed;
+pub use indexed_reads::{Indexed, read_indexed, read_key};
 pub use reads::{Version, fold, is_base, is_within, prepare_max_seq, read};
+pub use shared_tables::Table;
 pub use tables::IndexedTable;

@@ -8,3 +8,4 @@ pub mod Steps
 pub mod Scanned
 pub mod Recent
 pub mod Unique
+pub mod Walks

@@ -96,7 +96,7 @@ left_rows merge order key held h start end front step sorted =
     ∙ ap (λ x. with_found (fold_versions merge key None (since_base (map seen x))) (held_rows merge (drop end held))) (sym step.front-is)
 
 -- ---- the rows
-found-more : (answer found : Result (Option KeyValue) ReadFault) (rows new : List KeyValue) (others : Rows) → Reads answer found → Adds found rows new None →
+pub found-more : (answer found : Result (Option KeyValue) ReadFault) (rows new : List KeyValue) (others : Rows) → Reads answer found → Adds found rows new None →
     after_rows rows (with_found answer others) ≡ after_rows new others
 found-more answer (Ok None) rows new others reads adds = rw (reads, adds.0)
 found-more answer (Ok (Some row)) rows new others reads adds = rw (reads, adds.0) (ap (λ x. record { rows = x; fault = others.fault }) (sym (append_assoc rows (row ∷ []) others.rows)))
@@ -105,7 +105,7 @@ found-more answer (Err MergeOperatorError) rows new others reads adds = absurd (
 found-more answer (Err ChecksumMismatch) rows new others reads adds = absurd (let none = adds.1 in cc)
 found-more answer (Err NoMemory) rows new others reads adds = absurd adds
 
-found-end : (answer found : Result (Option KeyValue) ReadFault) (rows new : List KeyValue) (fault : ReadFault) (others : Rows) → Reads answer found → Adds found rows new (Some fault) →
+pub found-end : (answer found : Result (Option KeyValue) ReadFault) (rows new : List KeyValue) (fault : ReadFault) (others : Rows) → Reads answer found → Adds found rows new (Some fault) →
     after_rows rows (with_found answer others) ≡ record { rows = new; fault = Some fault }
 found-end answer (Ok None) rows new fault others reads adds = absurd (let none = adds.1 in cc)
 found-end answer (Ok (Some row)) rows new fault others reads adds = absurd (let none = adds.1 in cc)
@@ -153,7 +153,7 @@ left_keys order key held h start end front step sorted =
     let left : AreSorted order ((h ∷ step.more) ++ drop end held) = rw step.joined at (AreSorted-drop order held start sorted) in
     ap (λ x. dedup bytes_eq (held_keys x)) step.joined ∙ keys-split key h step.more (drop end held) step.first step.same (off-others order key h step.more (drop end held) left step.first step.past)
 
-order-found : (order : IterationOrder) (key : List ℕ) (found : Result (Option KeyValue) ReadFault) (rows new : List KeyValue) (keys : List (List ℕ)) → IfOk found (λ x. IfSome x (λ row. row.key ≡ key)) → Adds found rows new None →
+pub order-found : (order : IterationOrder) (key : List ℕ) (found : Result (Option KeyValue) ReadFault) (rows new : List KeyValue) (keys : List (List ℕ)) → IfOk found (λ x. IfSome x (λ row. row.key ≡ key)) → Adds found rows new None →
     AreInOrder order (row_keys rows ++ key ∷ keys) → AreInOrder order (row_keys new ++ keys)
 order-found order key (Ok None) rows new keys keyed adds sorted = rw adds.0 (sorted-without order (row_keys rows) key keys sorted)
 order-found order key (Ok (Some row)) rows new keys keyed adds sorted =
@@ -186,17 +186,21 @@ pub order-end : (order : IterationOrder) (keys : List (List ℕ)) (rows : List K
 order-end order keys rows so_far = sorted-front order (row_keys rows) keys so_far
 
 -- ---- and their range
+pub range-found : (range : ByteRange) (key : List ℕ) (found : Result (Option KeyValue) ReadFault) (rows new : List KeyValue) → contains range key ≡ true → IfOk found (λ x. IfSome x (λ row. row.key ≡ key)) → Adds found rows new None →
+    All (λ row. IsTrue (contains range row.key)) rows → All (λ row. IsTrue (contains range row.key)) new
+range-found range key (Ok None) rows new one keyed adds inside = rw adds.0 inside
+range-found range key (Ok (Some row)) rows new one keyed adds inside = rw adds.0 (All-push (λ (r : KeyValue). IsTrue (contains range r.key)) rows row inside (ap (contains range) keyed ∙ one))
+range-found range key (Err MergeOperatorMissing) rows new one keyed adds inside = absurd (let none = adds.1 in cc)
+range-found range key (Err MergeOperatorError) rows new one keyed adds inside = absurd (let none = adds.1 in cc)
+range-found range key (Err ChecksumMismatch) rows new one keyed adds inside = absurd (let none = adds.1 in cc)
+range-found range key (Err NoMemory) rows new one keyed adds inside = absurd adds
+
 pub range-more : (range : ByteRange) (key : List ℕ) (held : List Held) (h : Held) (start : ℕ) (found : Result (Option KeyValue) ReadFault) (rows new : List KeyValue) → start < length held → h ≡ get_or held start h → key ≡ (get_or held start h).key_op.now.key →
     AllByRecursion (λ x. contains range x.key_op.now.key ≡ true) held → IfOk found (λ x. IfSome x (λ row. row.key ≡ key)) → Adds found rows new None →
     All (λ row. IsTrue (contains range row.key)) rows → All (λ row. IsTrue (contains range row.key)) new
-range-more range key held h start (Ok None) rows new lt at is-key all keyed adds inside = rw adds.0 inside
-range-more range key held h start (Ok (Some row)) rows new lt at is-key all keyed adds inside =
+range-more range key held h start found rows new lt at is-key all keyed adds inside =
     let one : contains range (get_or held start h).key_op.now.key ≡ true = All-from_recursion (λ (x : Held). contains range x.key_op.now.key ≡ true) held all start h lt in
-    rw adds.0 (All-push (λ (r : KeyValue). IsTrue (contains range r.key)) rows row inside (ap (contains range) (keyed ∙ is-key) ∙ one))
-range-more range key held h start (Err MergeOperatorMissing) rows new lt at is-key all keyed adds inside = absurd (let none = adds.1 in cc)
-range-more range key held h start (Err MergeOperatorError) rows new lt at is-key all keyed adds inside = absurd (let none = adds.1 in cc)
-range-more range key held h start (Err ChecksumMismatch) rows new lt at is-key all keyed adds inside = absurd (let none = adds.1 in cc)
-range-more range key held h start (Err NoMemory) rows new lt at is-key all keyed adds inside = absurd adds
+    range-found range key found rows new (ap (contains range) is-key ∙ one) keyed adds inside
 
 pub range-fault : (range : ByteRange) (found : Result (Option KeyValue) ReadFault) (rows new : List KeyValue) (fault : ReadFault) → Adds found rows new (Some fault) →
     All (λ row. IsTrue (contains range row.key)) rows → All (λ row. IsTrue (contains range row.key)) new

@@ -7,3 +7,4 @@ pub mod Recency
 pub mod Scan
 pub mod Shared
 pub mod Varint
+pub mod Walked

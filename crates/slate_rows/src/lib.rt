@@ -4,6 +4,7 @@
 
 mod entries;
 mod index_keys;
+mod indexed_scans;
 mod iterators;
 mod recencies;
 mod scan_options;
@@ -13,12 +14,15 @@ mod varints;
 
 pub use entries::{RowEntry, ValueDeletable};
 pub use index_keys::compute_index_key;
+pub use indexed_scans::scan_indexed;
 pub use iterators::DbIterator;
 pub use recencies::{DbRecencyIterator, recency};
 pub use scan_options::{IterationOrder, ScanOptions};
 pub use scans::scan;
 pub use seeks::SeekFault;
-pub use slate_reads::{IndexedTable, prepare_max_seq, read, read_indexed};
+pub use slate_reads::{
+    Indexed, IndexedTable, Table, prepare_max_seq, read, read_indexed, read_key,
+};
 pub use slate_types::{
     Batch, ByteRange, CloseOptions, ConcatOperator, DurabilityLevel, FixedPrefix, FlushOptions,
     FlushType, KeyBound, KeyOp, KeyValue, MergeFault, MergeOperator, MergeOptions, Name, NoMemory,

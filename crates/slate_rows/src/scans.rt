@@ -116,7 +116,7 @@ fn rows_of<M: MergeOperator>(
 }
 
 /// Adds the row that was found, or tells the fault.
-fn add_found(
+pub(crate) fn add_found(
     rows: &mut Vec<KeyValue>,
     found: Result<Option<KeyValue>, ReadFault>,
 ) -> Result<Option<ReadFault>, NoMemory>

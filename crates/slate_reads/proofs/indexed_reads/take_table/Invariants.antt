@@ -7,12 +7,12 @@ use Rattle.slate_reads.proofs.Ends.{within}
 use Rattle.slate_reads.proofs.indexed_reads.take_table.Given as goal
 
 -- the versions that are left, newest first, go before those taken
-abbrev pub invariant-loop-next : goal.invariant-loop-next
-invariant-loop-next l =
+abbrev pub invariant-loop-entry : goal.invariant-loop-entry
+invariant-loop-entry l =
     (left : List Version)
-    × Leads l.table-inside.batches.items l.table-inside.entries.items l.key l.next left
+    × Leads l.table-inside.batches l.table-inside.entries l.key l.next left
     × ((whole rest : List Version) → IsEnd l.key whole (rest ++ history l.table l.bound l.key) false l.initial.newest.items →
     IsEnd l.key whole (rest ++ within l.bound (reverse left)) false l.newest.items)
 
-abbrev pub decreases-loop-next : goal.decreases-loop-next
-decreases-loop-next l = unwrap_or (option_map (λ place. place + 1) l.next) 0
+abbrev pub decreases-loop-entry : goal.decreases-loop-entry
+decreases-loop-entry l = unwrap_or (option_map (λ place. place + 1) l.next) 0

@@ -6,9 +6,9 @@ use Rattle.slate_reads.proofs.indexed_reads.take_tables.Given as goal
 
 -- the tables that are left go before what was taken
 abbrev pub invariant-loop-table : goal.invariant-loop-table
-invariant-loop-table l =
-    (whole rest : List Version) → IsEnd l.key whole (rest ++ history (flat_map (λ table. table) l.tables) l.bound l.key) false l.initial.newest.items →
-    IsEnd l.key whole (rest ++ history (flat_map (λ table. table) l.left) l.bound l.key) false l.newest.items
+invariant-loop-table g l =
+    (whole rest : List Version) → IsEnd l.key whole (rest ++ history (flat_map g.T.Indexed.batches l.tables) l.bound l.key) false l.initial.newest.items →
+    IsEnd l.key whole (rest ++ history (flat_map g.T.Indexed.batches l.left) l.bound l.key) false l.newest.items
 
 abbrev pub decreases-loop-table : goal.decreases-loop-table
-decreases-loop-table l = length l.left
+decreases-loop-table g l = length l.left

@@ -1,0 +1,22 @@
+use Rattle.std.proofs.Common.{◌≡◌, ◌++◌, IsTrue, true, drop, All, Option}
+use Rattle.std.specs.List.{AllByRecursion, flat_map}
+use Rattle.std.specs.Option.{option_copied}
+use Rattle.slate_rows.specs.declared.scan_options.IterationOrder.{IterationOrder}
+use Rattle.slate_types.specs.declared.ranges.ByteRange.{ByteRange}
+use Rattle.slate_types.specs.Operator.{Merge}
+use Rattle.slate_types.specs.Range.{contains}
+use Rattle.slate_reads.specs.Read.{IsOperator, read_at}
+use Rattle.slate_rows.specs.Order.{AreInOrder, row_keys}
+use Rattle.slate_rows.specs.Scan.{rows_of}
+use Rattle.slate_rows.specs.Walked.{key_list}
+use Rattle.slate_rows.proofs.Steps.{after_rows}
+use Rattle.slate_rows.proofs.indexed_scans.read_keys.Given as goal
+
+abbrev pub invariant-loop-key : goal.invariant-loop-key
+invariant-loop-key g l = record {
+  rows : (merge : Option Merge) → IsOperator g.M.MergeOperator.may_answer (option_copied l.operator) merge →
+      rows_of (read_at merge (flat_map (λ table. table) l.stored ++ flat_map (λ table. table) l.memory) l.bound) (key_list l.keys)
+      ≡ after_rows l.rows.items (rows_of (read_at merge (flat_map (λ table. table) l.stored ++ flat_map (λ table. table) l.memory) l.bound) (key_list (drop l.key-index l.keys)));
+  in_order : (order : IterationOrder) → AreInOrder order (key_list l.keys) → AreInOrder order (row_keys l.rows.items ++ key_list (drop l.key-index l.keys));
+  inside : (range : ByteRange) → AllByRecursion (λ key. contains range key ≡ true) (key_list l.keys) → All (λ row. IsTrue (contains range row.key)) l.rows.items;
+}

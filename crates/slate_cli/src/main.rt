@@ -3,7 +3,7 @@
 
 mod streams;
 
-use slate_live::{Finished, session};
+use slate_live::{Finished, Outcome, session};
 use slate_store::MemoryStore;
 use std::process::ExitCode;
 use std::{env, io};
@@ -31,11 +31,12 @@ words refused
 const VERSION: &str = "slate 0.1.0\n";
 
 fn main(rt: HostRuntime) -> ExitCode {
-    let status = match read_arguments(&rt) {
+    let outcome = match read_arguments(&rt) {
         Ok(words) => answer(&rt, words.as_slice()),
-        Err(error) => refuse_arguments(&rt, error.kind()),
+        Err(error) => outcome_of(error.kind()),
     };
-    ExitCode::from(status)
+    report(&rt, outcome);
+    ExitCode::from(outcome.status())
 }
 
 /// The words of the command line, without the program's name.
@@ -44,8 +45,8 @@ fn read_arguments(rt: &HostRuntime) -> io::Result<Vec<String>> {
     Ok(words)
 }
 
-/// What the program does with these words; it answers the exit status.
-fn answer(rt: &HostRuntime, words: &[String]) -> u8 {
+/// What the program does with these words, and how that ended.
+fn answer(rt: &HostRuntime, words: &[String]) -> Outcome {
     if let [word] = words {
         match word.as_str() {
             "--help" => return print(rt, HELP),
@@ -53,9 +54,7 @@ fn answer(rt: &HostRuntime, words: &[String]) -> u8 {
             _ => {}
         }
     }
-    let finished = run_session(rt, words);
-    report(rt, &finished);
-    finished.status
+    run_session(rt, words).outcome()
 }
 
 /// Runs the script from standard input over a fresh store in memory.
@@ -66,31 +65,27 @@ fn run_session(rt: &HostRuntime, words: &[String]) -> Finished {
     session(rt.alloc(), words, &mut source, &mut sink, &mut store)
 }
 
-/// Prints a text, and answers the exit status.
-fn print(rt: &HostRuntime, text: &str) -> u8 {
-    if rt.print(text).is_ok() { 0 } else { 4 }
-}
-
-/// Says on standard error why a session ended with a status other than 0. Nothing more can be done where that fails.
-fn report(rt: &HostRuntime, finished: &Finished) {
-    let _ = match finished.status {
-        0 => Ok(()),
-        2 => eprintln!(rt; "slate: line {} refused", finished.line),
-        3 => rt.eprintln("slate: read fault"),
-        4 => rt.eprintln("slate: write fault"),
-        5 => rt.eprintln("slate: no memory"),
-        6 => rt.eprintln("slate: script too long"),
-        _ => rt.eprintln("slate: words refused"),
-    };
-}
-
-/// Words that can't be read: want of memory, or a word that isn't UTF-8.
-fn refuse_arguments(rt: &HostRuntime, kind: io::ErrorKind) -> u8 {
-    if kind == io::ErrorKind::OutOfMemory {
-        let _ = rt.eprintln("slate: no memory");
-        5
+/// Prints a text.
+fn print(rt: &HostRuntime, text: &str) -> Outcome {
+    if rt.print(text).is_ok() {
+        Outcome::Done
     } else {
-        let _ = rt.eprintln("slate: words refused");
-        64
+        Outcome::WriteFault
+    }
+}
+
+/// Says on standard error how the program ended, unless all is done. Nothing more can be done where that fails.
+fn report(rt: &HostRuntime, outcome: Outcome) {
+    if outcome != Outcome::Done {
+        let _ = eprintln!(rt; "slate: {outcome}");
+    }
+}
+
+/// How the program ends whose words can't be read: for want of memory, or since one isn't UTF-8.
+fn outcome_of(kind: io::ErrorKind) -> Outcome {
+    if kind == io::ErrorKind::OutOfMemory {
+        Outcome::NoMemory
+    } else {
+        Outcome::WordsRefused
     }
 }

@@ -7,7 +7,7 @@ ghost use Rattle.slate_follow.specs.Rebuilding.{FindsView, GiveBatches, IsOfRepl
 use crate::{FollowerState, PollAnswer};
 use slate_errors::{CloseCell, SlateError};
 use slate_reads::IndexedTable;
-use slate_replay::{Replayed, replay};
+use slate_replay::{Replayed, recover};
 use slate_store::{Store, VersionedManifest};
 use std::alloc::Global;
 
@@ -77,10 +77,6 @@ fn replay_logs<S: Store>(
     ensures refusals { IfErr result IsOfReplay }
 {
     let manifest = &view.manifest;
-    let floor = manifest.last_l0_seq;
-    let mark = manifest.replay_after_wal_id;
-    let last = store.last_log(alloc, mark)?;
-    let mut memory = IndexedTable::new(alloc);
-    let replayed = replay(alloc, store, &mut memory, floor, mark, last)?;
-    Ok((memory, replayed))
+    let last = store.last_log(alloc, manifest.replay_after_wal_id)?;
+    Ok(recover(alloc, store, manifest, last)?)
 }

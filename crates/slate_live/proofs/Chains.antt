@@ -9,8 +9,9 @@ use Rattle.slate_model.specs.Known.{Known}
 use Rattle.slate_script.specs.declared.commands.Command.{Command}
 use Rattle.slate_script.specs.declared.options.Options.{Options}
 use Rattle.slate_script.specs.declared.replies.Reply.{Reply}
-use Rattle.slate_live.specs.State.{Live}
-use Rattle.slate_live.specs.Run.{LeadsTo}
+use Rattle.slate_live.specs.State.{Live, State, by_objects}
+use Rattle.slate_live.specs.Commands.{Does}
+use Rattle.slate_live.specs.Run.{DoAll, LeadsTo}
 use Rattle.slate_live.specs.Settings.{Settings}
 use Rattle.slate_live.specs.Represents.{Represents}
 use Rattle.slate_live.specs.Steps.{Chain, Step, last_world}
@@ -100,3 +101,20 @@ leads_all settings commands i replies o faults live store steps all done stands 
       holds = held.3;
       fault_count = stands.faults;
     }
+
+-- commands that are done one after another, and one more
+do-push : (settings : Settings) (s mid last : State (List Batch)) (commands : List Command) (replies : List Reply) (command : Command) (reply : Reply) (made : ℕ) → DoAll settings s commands replies mid → Does (by_objects mid.store.objects) settings made mid command reply last → DoAll settings s (commands ++ command ∷ []) (replies ++ reply ∷ []) last
+do-push settings s mid last [] [] command reply made all does = (made, last, subst (λ x. Does (by_objects x.store.objects) settings made x command reply last) all does, refl)
+do-push settings s mid last (c ∷ commands) (r ∷ replies) command reply made all does =
+    (all.0, all.1, all.2, do-push settings all.1 mid last commands replies command reply made all.3 does)
+do-push settings s mid last [] (r ∷ replies) command reply made all does = absurd all
+do-push settings s mid last (c ∷ commands) [] command reply made all does = absurd all
+
+-- the command at a place of a list, done after those before it
+pub do-next : (merge : Option Merge) (options options' : Options) (s mid last : State (List Batch)) (commands : List Command) (i : ℕ) (command : Command) (replies replies' : List Reply) (reply : Reply) (made : ℕ) → options' ≡ options → i < length commands → command ≡ get_or commands i command → replies' ≡ replies ++ reply ∷ [] → DoAll (record { merge = merge; options = options }) s (take i commands) replies mid → Does (by_objects mid.store.objects) (record { merge = merge; options = options' }) made mid command reply last → DoAll (record { merge = merge; options = options }) s (take (i + 1) commands) replies' last
+do-next merge options options' s mid last commands i command replies replies' reply made same inside item pushed all does =
+    let more : take (i + 1) commands ≡ take i commands ++ command ∷ [] = take_more commands i command inside ∙ ap (λ c. take i commands ++ c ∷ []) (sym item) in
+    subst (λ cs. DoAll (record { merge = merge; options = options }) s cs replies' last) (sym more)
+    (subst (λ rs. DoAll (record { merge = merge; options = options }) s (take i commands ++ command ∷ []) rs last) (sym pushed)
+    (do-push (record { merge = merge; options = options }) s mid last (take i commands) replies command reply made all
+    (subst (λ o. Does (by_objects mid.store.objects) (record { merge = merge; options = o }) made mid command reply last) same does)))

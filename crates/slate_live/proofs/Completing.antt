@@ -20,7 +20,7 @@ use Rattle.slate_model.specs.declared.answers.PollAnswer.{PollAnswer}
 use Rattle.slate_model.specs.declared.answers.Written.{Written}
 use Rattle.slate_model.specs.Flush.{FlushCause, Flushes, Stores}
 use Rattle.slate_model.specs.Follower.{FollowCause, Follower, Rebuilds, built, can_follow}
-use Rattle.slate_model.specs.Handle.{CloseResult, Handle, accepted}
+use Rattle.slate_model.specs.Handle.{CloseResult, Handle, accepted, unstored}
 use Rattle.slate_model.specs.Known.{CountsFaults}
 use Rattle.slate_model.specs.Object.{Object, Handle as AHandle, Follower as AFollower}
 use Rattle.slate_model.specs.Open.{OpenAnswer}
@@ -74,17 +74,17 @@ open-free w faults (Err (errors.ObjectStoreError Unavailable)) answer fault can 
 open-free w faults (Err errors.NoMemory) answer fault can calm = refl
 open-free w faults (Err error) answer fault can calm = absurd answer
 
-still-current : (w : World) (handle : Handle) → FlushCause handle.epoch w.catalogue errors.Fenced → CanStore w handle → ⊥
+still-current : (w : World) (handle : Handle) → FlushCause handle.epoch (unstored handle) w.catalogue errors.Fenced → CanStore w handle → ⊥
 still-current w handle cause can =
     let same : cause.0 ≡ can.1 = same-manifest (latest_manifest w.catalogue) cause.0 can.1 cause.1 can.2 in
     beyond handle.epoch can.1.manifest.writer_epoch (subst (λ m. handle.epoch < m.manifest.writer_epoch) same cause.2) can.3
 
-full-log : (w : World) (handle : Handle) → FlushCause handle.epoch w.catalogue errors.InvalidDBState → CanStore w handle → ⊥
+full-log : (w : World) (handle : Handle) → FlushCause handle.epoch (unstored handle) w.catalogue errors.InvalidDBState → CanStore w handle → ⊥
 full-log w handle cause can =
-    let same : cause.0 ≡ can.1 = same-manifest (latest_manifest w.catalogue) cause.0 can.1 cause.1 can.2 in
-    beyond (last_log can.1.manifest.replay_after_wal_id w.catalogue) last_number can.4 (subst (λ m. last_number ≤ last_log m.manifest.replay_after_wal_id w.catalogue) same cause.2)
+    let same : cause.0 ≡ can.1 = same-manifest (latest_manifest w.catalogue) cause.0 can.1 (cause.1).0 can.2 in
+    beyond (last_log can.1.manifest.replay_after_wal_id w.catalogue) last_number (can.4 cause.2) (subst (λ m. last_number ≤ last_log m.manifest.replay_after_wal_id w.catalogue) same cause.3)
 
-flush-cause : (w : World) (handle : Handle) (faults : ℕ) (error : SlateError) → FlushCause handle.epoch w.catalogue error → CountsFaults {A = Unit {0}} w.faults faults (Err error) → CanStore w handle → (HasRisen w.faults faults → ⊥) → error ≡ errors.NoMemory
+flush-cause : (w : World) (handle : Handle) (faults : ℕ) (error : SlateError) → FlushCause handle.epoch (unstored handle) w.catalogue error → CountsFaults {A = Unit {0}} w.faults faults (Err error) → CanStore w handle → (HasRisen w.faults faults → ⊥) → error ≡ errors.NoMemory
 flush-cause w handle faults errors.Fenced cause fault can calm = absurd (still-current w handle cause can)
 flush-cause w handle faults errors.LatestTransactionalObjectVersionMissing cause fault can calm = absurd (no-manifest w handle cause can)
 flush-cause w handle faults errors.InvalidDBState cause fault can calm = absurd (full-log w handle cause can)

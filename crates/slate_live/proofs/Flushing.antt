@@ -26,13 +26,13 @@ all_stored stored h view line is =
     ap (extended stored) none ∙ (ap (λ bs. record { floor = stored.floor; batches = bs }) (append-nil stored.batches) ∙ is)
 
 -- an error that records nothing is one at which nothing was stored
-unrecorded : {L : Type 0} (epoch : ℕ) (o : ObjectsOf L) (e : SlateError) (all made : ℕ) → FlushCause epoch o e → StoresOnly (Err e) made → recorded e ≡ None → made ≡ 0
-unrecorded epoch o errors.NoMemory all made cause only none = only
-unrecorded epoch o errors.InvalidDBState all made cause only none = only
-unrecorded epoch o errors.Fenced all made cause only none = absurd (cc)
-unrecorded epoch o errors.LatestTransactionalObjectVersionMissing all made cause only none = absurd (cc)
-unrecorded epoch o (errors.ObjectStoreError Unavailable) all made cause only none = absurd (cc)
-unrecorded epoch o e all made cause only none = absurd cause
+unrecorded : {L : Type 0} (epoch : ℕ) (bs : List Batch) (o : ObjectsOf L) (e : SlateError) (all made : ℕ) → FlushCause epoch bs o e → StoresOnly (Err e) made → recorded e ≡ None → made ≡ 0
+unrecorded epoch bs o errors.NoMemory all made cause only none = only
+unrecorded epoch bs o errors.InvalidDBState all made cause only none = only
+unrecorded epoch bs o errors.Fenced all made cause only none = absurd (cc)
+unrecorded epoch bs o errors.LatestTransactionalObjectVersionMissing all made cause only none = absurd (cc)
+unrecorded epoch bs o (errors.ObjectStoreError Unavailable) all made cause only none = absurd (cc)
+unrecorded epoch bs o e all made cause only none = absurd cause
 
 -- what a flush leaves of a line that is stored and of what isn't: nothing is put, and nothing is left to store
 nothing_left : (bs : List Batch) (o : Objects) (latest : VersionedManifest) → latest_manifest o ≡ Some latest → 0 ≡ length (flush_changes (λ xs. xs) bs o) → bs ≡ []
@@ -56,9 +56,9 @@ module _ (stored : Line) (o o' : Objects) (h : Handle) (r : Result (Unit {0}) Sl
   current-one : made ≡ 1 → (r' : Result (Unit {0}) SlateError) → r ≡ r' → (manifest : VersionedManifest) → (flushed h view r').result ≡ None → latest_manifest o ≡ Some manifest → manifest.manifest.writer_epoch ≤ h.epoch → extended (extended stored (unstored h)) (unstored (flushed h view r')) ≡ (flushed h view r').line
   current-one one (Ok x) is manifest live latest current = all_stored (extended stored (unstored h)) h view v.numbered (v.current manifest can.0 latest current)
   current-one one (Err e) is manifest live latest current =
-      let cause = (subst (λ q. FlushAnswer h.epoch o q h.view view) is s.answer).0 in
+      let cause = (subst (λ q. FlushAnswer h.epoch (unstored h) o q h.view view) is s.answer).0 in
       let only = subst (λ q. StoresOnly q made) is s.only in
-      let none : made ≡ 0 = unrecorded h.epoch o e 0 made cause only live in
+      let none : made ≡ 0 = unrecorded h.epoch (unstored h) o e 0 made cause only live in
       absurd (omega arith)
 
   durable-after : (r' : Result (Unit {0}) SlateError) → h.line.floor ≤ (flushed h view r').durable × (flushed h view r').durable ≤ accepted h
@@ -71,7 +71,7 @@ module _ (stored : Line) (o o' : Objects) (h : Handle) (r : Result (Unit {0}) Sl
 
   -- all of the handle's line is stored after a flush that answers Ok
   found : (x : Unit {0}) → r ≡ Ok x → (latest_manifest o ≡ Some view) × (view.manifest.writer_epoch ≤ h.epoch)
-  found x is = subst (λ q. FlushAnswer h.epoch o q h.view view) is s.answer
+  found x is = subst (λ q. FlushAnswer h.epoch (unstored h) o q h.view view) is s.answer
 
   all-confirmed : (line : Line) → line ≡ h.line → IsPrefix (up_to (accepted h) h.line) line
   all-confirmed line is = subst (IsPrefix (up_to (accepted h) h.line)) (sym is) (subst (λ l. IsPrefix l h.line) (sym (up_to-all (accepted h) h.line (omega arith))) (prefix-same h.line))

@@ -1,4 +1,4 @@
-use Rattle.std.specs.Prelude.{◌≡◌, ℕ, List, map, Some}
+use Rattle.std.specs.Prelude.{◌≡◌, ℕ, List, [], ◌∷◌, map, Some}
 use Rattle.slate_store.specs.Objects.{Objects}
 use Rattle.slate_types.specs.declared.batches.Batch.{Batch}
 use Rattle.slate_types.specs.Line.{IsPrefix}
@@ -6,10 +6,19 @@ use Rattle.slate_store.specs.Content.{IsSound, content}
 use Rattle.slate_model.specs.Known.{Known}
 use Rattle.slate_script.specs.declared.commands.Command.{Command}
 use Rattle.slate_script.specs.declared.replies.Reply.{Reply}
+use Rattle.slate_live.specs.Commands.{Does}
+use Rattle.slate_live.specs.State.{State, by_objects}
 use Rattle.slate_live.specs.Steps.{Chain, StayConfirmed, Step, last_world}
 use Rattle.slate_live.specs.Represents.{Holds}
 use Rattle.slate_live.specs.Settings.{Settings}
 use Rattle.slate_live.specs.World.{World, start}
+
+-- Over any store: the commands are done one after another, each with its reply, from a state to another.
+abbrev pub DoAll : Settings → State (List Batch) → List Command → List Reply → State (List Batch) → Type 0
+DoAll settings s [] [] last = last ≡ s
+DoAll settings s (command ∷ commands) (reply ∷ replies) last =
+    (made : ℕ) × (next : State (List Batch)) × Does (by_objects s.store.objects) settings made s command reply next × DoAll settings next commands replies last
+DoAll settings s commands replies last = ⊥
 
 -- The commands lead from the world of these objects, by one step each with its reply, to a world that the store holds
 -- afterwards. What was stored before is stored afterwards, and a write that is reported durable is confirmed for good.

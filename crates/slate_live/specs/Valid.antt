@@ -10,7 +10,7 @@ use Rattle.slate_store.specs.declared.objects.VersionedManifest.{VersionedManife
 use Rattle.slate_store.specs.Objects.{latest_manifest, last_log}
 use Rattle.slate_types.specs.declared.options.FlushType.{FlushType}
 use Rattle.slate_errors.specs.declared.errors.SlateError.TheVariants as errors
-use Rattle.slate_model.specs.Handle.{CloseResult, Handle, accepted}
+use Rattle.slate_model.specs.Handle.{CloseResult, Handle, accepted, unstored}
 use Rattle.slate_model.specs.Follower.{Follower, can_follow, number}
 use Rattle.slate_model.specs.Close.{recorded_fault}
 use Rattle.slate_live.specs.declared.states.Write.{Write}
@@ -49,12 +49,13 @@ abbrev pub CanPut : List ℕ → ℤ → Option ℤ → Handle → Type 0
 CanPut key moment second handle =
     (0 < length key) × (accepted handle < last_number) × (at : ℤ) × (accepted_moment handle.tick moment second ≡ Some at)
 
--- a flush of a handle: it keeps a log, no handle was opened since, and an id for a log file is left
+-- a flush of a handle: it keeps a log, no handle was opened since, and, where it has something to store, an id for a
+-- log file is left
 abbrev pub CanStore : World → Handle → Type 0
 CanStore w handle =
     (handle.keeps_log ≡ true)
     × (latest : VersionedManifest) × (latest_manifest w.catalogue ≡ Some latest) × (latest.manifest.writer_epoch ≤ handle.epoch)
-    × (last_log latest.manifest.replay_after_wal_id w.catalogue < last_number)
+    × (0 < length (unstored handle) → last_log latest.manifest.replay_after_wal_id w.catalogue < last_number)
 
 -- a close of a handle: one that is open, and that can store its batches where it is to flush, or one that an error closed
 abbrev pub CanClose : CloseResult → Option FlushType → World → Handle → Type 0

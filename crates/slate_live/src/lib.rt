@@ -10,7 +10,7 @@ mod sessions;
 mod states;
 
 pub use runs::run;
-pub use sessions::{Finished, session};
+pub use sessions::{Finished, Outcome, session};
 pub use slate_script::{
     Action, Command, LineAnswer, Options, Reply, ScriptFault, print_replies, read_line,
     read_script, script_fields,

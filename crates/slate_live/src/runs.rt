@@ -1,10 +1,12 @@
-ghost use Rattle.std.specs.Prelude.{All, ◌≡◌, ◌≤◌, None, Option, IfOk, OnErr};
+ghost use Rattle.std.specs.Prelude.{All, ◌≡◌, ◌≤◌, [], List, None, Option, IfOk, OnErr};
 ghost use Rattle.std.specs.Option.{option_copied};
 ghost use Rattle.slate_types.specs.Operator.{Merge};
 ghost use Rattle.slate_reads.specs.Read.{IsOperator};
 ghost use Rattle.slate_model.specs.Known.{known};
 ghost use Rattle.slate_script.specs.Built.{IsBuilt};
-ghost use Rattle.slate_live.specs.Run.{IsRun};
+ghost use Rattle.slate_types.specs.declared.batches.Batch.{Batch};
+ghost use Rattle.slate_live.specs.Run.{DoAll, IsRun};
+ghost use Rattle.slate_live.specs.State.{State};
 
 use crate::LiveState;
 use slate_script::{Command, Options, Reply};
@@ -13,6 +15,9 @@ use slate_types::{MergeOperator, NoMemory, PrefixExtractor};
 use std::alloc::Global;
 
 /// Does a list of commands on a store, one after another, and answers a reply to each.
+///
+/// Over any store each command is answered once, in order, and does what `apply` says of it. It takes the time that the
+/// commands take, one after another.
 ///
 /// Over an honest store and with a lawful operator the commands lead through worlds, one link for each command with its
 /// reply, from the world of the store as it was to one that the store holds afterwards. Where memory runs out before
@@ -30,6 +35,10 @@ pub fn run<S: Store, M: MergeOperator, E: PrefixExtractor>(
     requires built { All (λ command. IsBuilt command.action) commands.now }
     ensures faults { S.faults store.old ≤ S.faults store.new }
     ensures nothing { OnErr result (store.new ≡ store.old) }
+    // Over any store each command is done as `apply` says, with its reply, from a state without an object on.
+    ensures does { IfOk result (λ replies. (merge : Option Merge) → IsOperator M.may_answer (option_copied operator.entry) merge →
+        (last : State (List Batch)) × DoAll (record { merge = merge; options = options.now })
+        (record { objects = []; writes = []; store = known S.objects S.faults store.old }) commands.now replies.items last × (last.store ≡ known S.objects S.faults store.new)) }
     ensures leads { IfOk result (λ replies. (merge : Option Merge) → IsOperator M.may_answer (option_copied operator.entry) merge →
         IsRun (record { merge = merge; options = options.now }) commands.now replies.items (known S.objects S.faults store.old) (known S.objects S.faults store.new)) }
 {

@@ -10,23 +10,31 @@ use slate_store::Store;
 use slate_streams::{InputFault, Sink, Source, read_whole, write_whole};
 use slate_types::{ConcatOperator, FixedPrefix, Seq};
 use std::alloc::Global;
+use thiserror::Error;
 
-/// How a session ended.
-#[derive(Clone, Copy, Debug, PartialEq, Eq)]
-pub(crate) enum Outcome {
+/// How a session ended. Its text says so in a few words.
+#[derive(Clone, Copy, Debug, PartialEq, Eq, Error)]
+pub enum Outcome {
     /// The text of all replies was written.
+    #[error("done")]
     Done,
     /// The line with this number is the first that isn't a script line.
+    #[error("line {0} refused")]
     LineRefused(u64),
     /// The source failed.
+    #[error("read fault")]
     ReadFault,
     /// The sink failed.
+    #[error("write fault")]
     WriteFault,
     /// Memory ran out.
+    #[error("no memory")]
     NoMemory,
     /// The script is longer than the limit.
+    #[error("script too long")]
     TooLong,
     /// The words spell no options.
+    #[error("words refused")]
     WordsRefused,
 }
 
@@ -65,8 +73,8 @@ impl From<ScriptFault> for Outcome {
 }
 
 impl Outcome {
-    /// The exit status that says how a session ended.
-    fn status(self) -> u8
+    /// The exit status of a program whose session ended so.
+    pub fn status(self) -> u8
         ensures { result ≡ status_of self }
     {
         match self {
@@ -100,6 +108,23 @@ impl Outcome {
             status: self.status(),
             line: self.line(),
             replies: Seq::of(replies),
+        }
+    }
+}
+
+impl Finished {
+    /// How the session ended.
+    pub fn outcome(&self) -> Outcome
+        ensures { (ending : Outcome) → self.now.status ≡ status_of ending → self.now.line ≡ refused_line ending → result ≡ ending }
+    {
+        match self.status {
+            0 => Outcome::Done,
+            2 => Outcome::LineRefused(self.line),
+            3 => Outcome::ReadFault,
+            4 => Outcome::WriteFault,
+            5 => Outcome::NoMemory,
+            6 => Outcome::TooLong,
+            _ => Outcome::WordsRefused,
         }
     }
 }

@@ -80,23 +80,23 @@ open_changes-known o =
 pub can_open-known : (o : Objects) → can_open (catalogue_of o) ≡ can_open o
 can_open-known o = ap (can_open_by (latest_manifest o)) (last_log-catalogue (mark_of (latest_manifest o)) o)
 
-cause-known : (epoch : ℕ) (o : Objects) (e : SlateError) → FlushCause epoch o e → FlushCause epoch (catalogue_of o) e
-cause-known epoch o errors.LatestTransactionalObjectVersionMissing h = h
-cause-known epoch o errors.Fenced h = h
-cause-known epoch o errors.InvalidDBState h = (h.0, h.1, subst (λ n. last_number ≤ n) (sym (last_log-catalogue h.0.manifest.replay_after_wal_id o)) h.2)
-cause-known epoch o (errors.ObjectStoreError Unavailable) h = tt
-cause-known epoch o errors.NoMemory h = tt
-cause-known epoch o e h = absurd h
+cause-known : (epoch : ℕ) (bs : List Batch) (o : Objects) (e : SlateError) → FlushCause epoch bs o e → FlushCause epoch bs (catalogue_of o) e
+cause-known epoch bs o errors.LatestTransactionalObjectVersionMissing h = h
+cause-known epoch bs o errors.Fenced h = h
+cause-known epoch bs o errors.InvalidDBState h = (h.0, h.1, h.2, subst (λ n. last_number ≤ n) (sym (last_log-catalogue h.0.manifest.replay_after_wal_id o)) h.3)
+cause-known epoch bs o (errors.ObjectStoreError Unavailable) h = tt
+cause-known epoch bs o errors.NoMemory h = tt
+cause-known epoch bs o e h = absurd h
 
-answer-known : (epoch : ℕ) (o : Objects) (r : Result (Unit {0}) SlateError) (view view' : VersionedManifest) → FlushAnswer epoch o r view view' → FlushAnswer epoch (catalogue_of o) r view view'
-answer-known epoch o (Ok x) view view' h = h
-answer-known epoch o (Err e) view view' h = (cause-known epoch o e h.0, h.1)
+answer-known : (epoch : ℕ) (bs : List Batch) (o : Objects) (r : Result (Unit {0}) SlateError) (view view' : VersionedManifest) → FlushAnswer epoch bs o r view view' → FlushAnswer epoch bs (catalogue_of o) r view view'
+answer-known epoch bs o (Ok x) view view' h = h
+answer-known epoch bs o (Err e) view view' h = (cause-known epoch bs o e h.0, h.1)
 
 -- a flush of the objects is a flush of what is known of them
 pub stores-known : {epoch : ℕ} {bs : List Batch} {o : Objects} {r : Result (Unit {0}) SlateError} {view view' : VersionedManifest} {made : ℕ} {o' : Objects} → StoresBatches (λ xs. xs) epoch bs o r view view' made o' → StoresBatches span epoch bs (catalogue_of o) r view view' made (catalogue_of o')
 stores-known {epoch} {bs} {o} {r} {view} {view'} {made} {o'} s =
     record {
-      answer = answer-known epoch o r view view' s.answer;
+      answer = answer-known epoch bs o r view view' s.answer;
       part = subst (λ n. PartMade r n made) (sym (length-map (flush_changes (λ xs. xs) bs o) reduced) ∙ ap length (flush_changes-known bs o)) s.part;
       only = s.only;
       current = s.current;

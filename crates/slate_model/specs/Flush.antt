@@ -46,27 +46,33 @@ flushed handle view (Err error) = record handle { view = view; result = recorded
 abbrev pub CanFlush : Handle → Type 0
 CanFlush handle = (handle.result ≡ None) × (handle.keeps_log ≡ true)
 
--- Why a flush by a handle of this epoch answers an error, over a store that is modelled. Fenced: another handle
--- opened since. Only want of memory, and a fault, which the count of faults shows, have no cause here.
-abbrev pub FlushCause : {L : Type 0} → ℕ → ObjectsOf L → SlateError → Type 0
-FlushCause epoch objects errors.LatestTransactionalObjectVersionMissing = latest_manifest objects ≡ None
-FlushCause epoch objects errors.Fenced =
+-- this is the latest manifest, and a handle of this epoch may write by it
+abbrev pub IsCurrent : {L : Type 0} → ℕ → ObjectsOf L → VersionedManifest → Type 0
+IsCurrent epoch objects latest = (latest_manifest objects ≡ Some latest) × (latest.manifest.writer_epoch ≤ epoch)
+
+-- Why a flush of these batches by a handle of this epoch answers an error, over a store that is modelled. Fenced:
+-- another handle opened since. InvalidDBState: none did, but no id is left for the batches. Only want of memory, and a
+-- fault, which the count of faults shows, have no cause here.
+abbrev pub FlushCause : {L : Type 0} → ℕ → List Batch → ObjectsOf L → SlateError → Type 0
+FlushCause epoch batches objects errors.LatestTransactionalObjectVersionMissing = latest_manifest objects ≡ None
+FlushCause epoch batches objects errors.Fenced =
     (latest : VersionedManifest) × (latest_manifest objects ≡ Some latest) × (epoch < latest.manifest.writer_epoch)
-FlushCause epoch objects errors.InvalidDBState =
-    (latest : VersionedManifest) × (latest_manifest objects ≡ Some latest) × (last_number ≤ last_log latest.manifest.replay_after_wal_id objects)
-FlushCause epoch objects (errors.ObjectStoreError Unavailable) = Unit {0}
-FlushCause epoch objects errors.NoMemory = Unit {0}
-FlushCause epoch objects error = ⊥
+FlushCause epoch batches objects errors.InvalidDBState =
+    (latest : VersionedManifest) × IsCurrent epoch objects latest × (0 < length batches) × (last_number ≤ last_log latest.manifest.replay_after_wal_id objects)
+FlushCause epoch batches objects (errors.ObjectStoreError Unavailable) = Unit {0}
+FlushCause epoch batches objects errors.NoMemory = Unit {0}
+FlushCause epoch batches objects error = ⊥
 
--- the latest manifest, where a handle of this epoch may still write by it; else the cause
+-- the latest manifest, where a handle of this epoch may still write by it; else the cause, which no batches have
 abbrev pub FindsCurrent : {L : Type 0} → ℕ → ObjectsOf L → Result VersionedManifest SlateError → Type 0
-FindsCurrent epoch objects (Ok latest) = (latest_manifest objects ≡ Some latest) × (latest.manifest.writer_epoch ≤ epoch)
-FindsCurrent epoch objects (Err error) = FlushCause epoch objects error
+FindsCurrent epoch objects (Ok latest) = IsCurrent epoch objects latest
+FindsCurrent epoch objects (Err error) = FlushCause epoch [] objects error
 
--- a flush that answers Ok found its epoch current, and goes by the latest manifest from then on
-abbrev pub FlushAnswer : {L : Type 0} → ℕ → ObjectsOf L → Result (Unit {0}) SlateError → VersionedManifest → VersionedManifest → Type 0
-FlushAnswer epoch objects (Ok _) view view' = (latest_manifest objects ≡ Some view') × (view'.manifest.writer_epoch ≤ epoch)
-FlushAnswer epoch objects (Err error) view view' = FlushCause epoch objects error × ((view' ≡ view) ⊎ (latest_manifest objects ≡ Some view'))
+-- A flush that answers Ok found its epoch current, and goes by the latest manifest from then on. One that answers an
+-- error goes by its old view, unless it found its epoch current.
+abbrev pub FlushAnswer : {L : Type 0} → ℕ → List Batch → ObjectsOf L → Result (Unit {0}) SlateError → VersionedManifest → VersionedManifest → Type 0
+FlushAnswer epoch batches objects (Ok _) view view' = IsCurrent epoch objects view'
+FlushAnswer epoch batches objects (Err error) view view' = FlushCause epoch batches objects error × ((view' ≡ view) ⊎ IsCurrent epoch objects view')
 
 -- only at Ok and at a fault may batches have been stored
 abbrev pub StoresOnly : Result (Unit {0}) SlateError → ℕ → Type 0
@@ -76,7 +82,7 @@ StoresOnly result made = Unit {0}
 
 -- A flush of these batches by a handle of this epoch: its answer has its cause, and so many of its changes were made.
 pub record StoresBatches {L : Type 0} (summary : List Batch → L) (epoch : ℕ) (batches : List Batch) (objects : ObjectsOf L) (result : Result (Unit {0}) SlateError) (view view' : VersionedManifest) (made : ℕ) (objects' : ObjectsOf L) : Type 0 where
-  pub answer : FlushAnswer epoch objects result view view'
+  pub answer : FlushAnswer epoch batches objects result view view'
   pub part : PartMade result (length (flush_changes summary batches objects)) made
   pub only : StoresOnly result made
   pub current : 0 < made → (latest : VersionedManifest) × (latest_manifest objects ≡ Some latest) × (latest.manifest.writer_epoch ≤ epoch)

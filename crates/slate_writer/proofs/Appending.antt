@@ -39,7 +39,7 @@ module _ (epoch : ℕ) (b : Batch) (bs : List Batch) (o o' : Objects) (view late
   changes_are : flush_changes (λ xs. xs) (b ∷ bs) o ≡ PutLog (last_log latest.manifest.replay_after_wal_id o + 1) (b ∷ bs) ∷ []
   changes_are = ap (flush_changes_by (λ xs. xs) (b ∷ bs) o) is
 
-  stored : (r : Result (Unit {0}) SlateError) (made : ℕ) → FlushAnswer epoch o r view latest → PartMade r 1 made → StoresOnly r made → o' ≡ after_part made (PutLog (last_log latest.manifest.replay_after_wal_id o + 1) (b ∷ bs) ∷ []) o → Stores epoch (b ∷ bs) o r view latest o'
+  stored : (r : Result (Unit {0}) SlateError) (made : ℕ) → FlushAnswer epoch (b ∷ bs) o r view latest → PartMade r 1 made → StoresOnly r made → o' ≡ after_part made (PutLog (last_log latest.manifest.replay_after_wal_id o + 1) (b ∷ bs) ∷ []) o → Stores epoch (b ∷ bs) o r view latest o'
   stored r made answer part only after = (
     made,
     record {
@@ -54,10 +54,10 @@ module _ (epoch : ℕ) (b : Batch) (bs : List Batch) (o o' : Objects) (view late
   -- to append a log file is to store the batches, where the epoch is current
   stores_appended : (r : Result (Unit {0}) SlateError) → AppendsLog latest.manifest.replay_after_wal_id (b ∷ bs) r o o' → Stores epoch (b ∷ bs) o r view latest o'
   stores_appended (Ok x) h = stored (Ok x) 1 (is, current) refl tt h
-  stores_appended (Err errors.InvalidDBState) h = stored (Err errors.InvalidDBState) 0 ((latest, is, h.0), inr is) (omega arith) refl h.1
-  stores_appended (Err (errors.ObjectStoreError Unavailable)) (inl h) = stored (Err (errors.ObjectStoreError Unavailable)) 0 (tt, inr is) (omega arith) tt h
-  stores_appended (Err (errors.ObjectStoreError Unavailable)) (inr h) = stored (Err (errors.ObjectStoreError Unavailable)) 1 (tt, inr is) (omega arith) tt h
-  stores_appended (Err errors.NoMemory) h = stored (Err errors.NoMemory) 0 (tt, inr is) (omega arith) refl h
+  stores_appended (Err errors.InvalidDBState) h = stored (Err errors.InvalidDBState) 0 ((latest, (is, current), omega arith, h.0), inr (is, current)) (omega arith) refl h.1
+  stores_appended (Err (errors.ObjectStoreError Unavailable)) (inl h) = stored (Err (errors.ObjectStoreError Unavailable)) 0 (tt, inr (is, current)) (omega arith) tt h
+  stores_appended (Err (errors.ObjectStoreError Unavailable)) (inr h) = stored (Err (errors.ObjectStoreError Unavailable)) 1 (tt, inr (is, current)) (omega arith) tt h
+  stores_appended (Err errors.NoMemory) h = stored (Err errors.NoMemory) 0 (tt, inr (is, current)) (omega arith) refl h
   stores_appended (Err e) h = absurd h
 
 -- the same of any batches, where there are some
@@ -75,11 +75,20 @@ only_none errors.NoMemory = refl
 only_none errors.InvalidDBState = refl
 only_none e = tt
 
-pub stores_none : (epoch : ℕ) (batches : List Batch) (o : Objects) (view : VersionedManifest) (e : SlateError) → FlushCause epoch o e → Stores epoch batches o (Err e) view view o
+-- what refuses a flush before it looks for an id has nothing to do with its batches
+cause-of : (epoch : ℕ) (batches : List Batch) (o : Objects) (e : SlateError) → FlushCause epoch [] o e → FlushCause epoch batches o e
+cause-of epoch batches o errors.LatestTransactionalObjectVersionMissing h = h
+cause-of epoch batches o errors.Fenced h = h
+cause-of epoch batches o errors.InvalidDBState h = absurd (let some = h.2 in omega (arith, some))
+cause-of epoch batches o (errors.ObjectStoreError Unavailable) h = tt
+cause-of epoch batches o errors.NoMemory h = tt
+cause-of epoch batches o e h = absurd h
+
+pub stores_none : (epoch : ℕ) (batches : List Batch) (o : Objects) (view : VersionedManifest) (e : SlateError) → FlushCause epoch [] o e → Stores epoch batches o (Err e) view view o
 stores_none epoch batches o view e cause = (
   0,
   record {
-    answer = (cause, inl refl);
+    answer = (cause-of epoch batches o e cause, inl refl);
     part = part_none (breaks_off e) (length (flush_changes (λ xs. xs) batches o)) 0 refl;
     only = only_none e;
     current = λ above. absurd (omega (arith, above));

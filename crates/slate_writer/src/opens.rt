@@ -12,7 +12,7 @@ ghost use Rattle.slate_writer.specs.Opening.{FindsLog, FindsNext, PutsOpening, R
 use crate::WriterState;
 use slate_errors::{CloseCell, SlateError};
 use slate_reads::IndexedTable;
-use slate_replay::{Replayed, replay};
+use slate_replay::Replayed;
 use slate_store::{Manifest, Store, StoreError, VersionedManifest};
 use slate_types::{Batch, PrefixExtractor, Seq};
 use std::alloc::Global;
@@ -218,15 +218,7 @@ fn recover<S: Store>(
     ensures told { IfSome (S.objects store.old) (λ o. Recovers view.now last o result) }
 {
     let manifest = &view.manifest;
-    let mut memory = IndexedTable::new(alloc);
-    let replayed = replay(
-        alloc,
-        store,
-        &mut memory,
-        manifest.last_l0_seq,
-        manifest.replay_after_wal_id,
-        last,
-    )?;
+    let (memory, replayed) = slate_replay::recover(alloc, store, manifest, last)?;
     let Replayed::Torn(id) = replayed else {
         return Ok(memory);
     };

@@ -1,6 +1,9 @@
-use Rattle.std.proofs.Common.{arith, ap, ◌∙◌, ◌++◌, ◌∷◌, []}
-use Rattle.slate_live.specs.State.{Live}
-use Rattle.slate_live.proofs.Chains.{done-next, done_none, leads_all, stands-push, stands_start}
+use Rattle.std.proofs.Common.{arith, ap, refl, sym, subst, ◌∙◌, ◌++◌, ◌∷◌, []}
+use Rattle.std.proofs.lemmas.List.{take_all}
+use Rattle.slate_model.specs.Known.{known}
+use Rattle.slate_live.specs.Run.{DoAll}
+use Rattle.slate_live.specs.State.{Live, running}
+use Rattle.slate_live.proofs.Chains.{do-next, done-next, done_none, leads_all, stands-push, stands_start}
 use Rattle.slate_live.proofs.runs.run.Goals as goal
 
 pub loop-command-init : goal.loop-command-init
@@ -10,6 +13,8 @@ loop-command-init g c =
       count = c.in_ok-replies.ensures.len;
       room = c.in_ok-replies.ensures.capacity;
       options = ap (λ (l : Live). l.options) c.new-live.ensures;
+      does = λ merge lawful.
+          subst (λ rs. DoAll (record { merge = merge; options = c.args.options.now }) _ [] rs (running c.new-live.result _)) (sym c.in_ok-replies.ensures.items) (ap (λ (l : Live). running l _) c.new-live.ensures);
       leads = λ merge lawful before is sound. (
         [],
         done_none (record { merge = merge; options = c.args.options.now }) _ _ c.in_ok-replies.ensures.items,
@@ -24,6 +29,9 @@ loop-command-preserved g c =
       count = omega (arith, c.push_reserved.ensures.len, c.loop-command.invariant.count);
       room = omega (arith, c.push_reserved.ensures.capacity, c.loop-command.invariant.room);
       options = c.apply-reply.ensures.options ∙ c.loop-command.invariant.options;
+      does = λ merge lawful.
+          let d = c.apply-reply.ensures.does merge lawful in
+          do-next merge c.args.options.now _ _ _ _ c.args.commands.now c.loop-command.command-index c.command-item.result _ _ c.apply-reply.result d.0 c.loop-command.invariant.options c.loop-command-test.true c.command-item.is c.push_reserved.ensures.items (c.loop-command.invariant.does merge lawful) d.1;
       leads = λ merge lawful before is sound.
           let prev = c.loop-command.invariant.leads merge lawful before is sound in
           let link = c.apply-reply.ensures.link merge lawful _ prev.2 in (
@@ -32,6 +40,15 @@ loop-command-preserved g c =
             stands-push _ link.0 prev.0 c.command-item.result c.apply-reply.result _ _ link.2,
           );
     }
+
+pub returns-clause-does : goal.returns-clause-does
+returns-clause-does g c merge lawful =
+    let all = c.loop-command.invariant.does merge lawful in
+    (
+      running c.loop-command.live (known g.S.Store.objects g.S.Store.faults c.loop-command.store),
+      subst (λ cs. DoAll (record { merge = merge; options = c.args.options.now }) _ cs c.loop-command.replies.items (running c.loop-command.live (known g.S.Store.objects g.S.Store.faults c.loop-command.store))) (take_all c.loop-command.command-index c.args.commands.now c.loop-command-test.false) all,
+      refl,
+    )
 
 pub returns-clause-leads : goal.returns-clause-leads
 returns-clause-leads g c merge lawful before is sound =

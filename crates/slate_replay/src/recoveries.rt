@@ -1,0 +1,35 @@
+// What a manifest's log files have, in a table of its own.
+ghost use Rattle.std.specs.Prelude.{◌≡◌, ◌≢◌, ◌+◌, ◌<◌, ◌≤◌, ◌^◌, [], Ok, Err, length, IfOk, IfSome};
+ghost use Rattle.slate_types.specs.Counts.{HasRisen};
+ghost use Rattle.slate_types.specs.Line.{AreNumberedFrom};
+ghost use Rattle.slate_replay.specs.Replay.{Replays};
+
+use crate::replays::{Replayed, replay};
+use slate_reads::IndexedTable;
+use slate_store::{Manifest, Store, StoreError};
+use std::alloc::Global;
+
+/// A table of the batches that the log files above a manifest's replay mark have above its last number in tables, up to
+/// the log file `last`, and how the replay ended: where it was torn, the table has what comes before. It takes time
+/// linear in the batches that it reads.
+pub fn recover<S: Store>(
+    alloc: Global,
+    store: &mut S,
+    manifest: &Manifest,
+    last: u64,
+) -> Result<(IndexedTable, Replayed), StoreError>
+    ensures numbered { IfOk result (λ p. AreNumberedFrom manifest.now.last_l0_seq p.0) }
+    ensures fits { IfOk result (λ p. manifest.now.last_l0_seq + length p.0 < 2 ^ 64) }
+    ensures kept { S.objects store.new ≡ S.objects store.old }
+    ensures count { S.faults store.old ≤ S.faults store.new }
+    ensures failed { result ≡ Err StoreError.Failed → HasRisen (S.faults store.old) (S.faults store.new) }
+    ensures none_missing { result ≢ Err StoreError.NotFound }
+    ensures none_exists { result ≢ Err StoreError.Exists }
+    ensures told { IfOk result (λ p. IfSome (S.objects store.old) (λ o. Replays manifest.now.replay_after_wal_id last manifest.now.last_l0_seq [] p.0 o (Ok p.1))) }
+{
+    let floor = manifest.last_l0_seq;
+    let mark = manifest.replay_after_wal_id;
+    let mut memory = IndexedTable::new(alloc);
+    let replayed = replay(alloc, store, &mut memory, floor, mark, last)?;
+    Ok((memory, replayed))
+}

@@ -1,4 +1,4 @@
--- The table allows each step of a seat, since each is one of the kinds of step; and what the step tells the seat.
+-- The table allows each step of a seat, since each is one of the kinds of step; and what the step shows the seat.
 use Rattle.std.proofs.Common.{◌≡◌, ℕ, ◌<◌, ◌≤◌, max, Bool, true, false, ◌==◌, if◌then◌else◌, List, [], ◌∷◌, ◌++◌, ◌∙◌, slice_index, slice_set, refl, sym, subst, arith}
 use mathlib.Core.Option.{none, some}
 use lib.ListN.{get_elem?}
@@ -11,14 +11,14 @@ use Rattle.slate_board.specs.Views.{IsAtMost, first_code}
 use Rattle.slate_board.specs.Words.{numbers_of, with_word}
 use Rattle.slate_board.specs.Rule.{Standing, IsRuled, IsRuledState}
 use Rattle.slate_board.specs.Steps.{view_with, follower_of, union_of, spent_view, Writes, IsStep, loads, ticks, advances, closes, splits, joins}
-use Rattle.slate_board.specs.Tells.{Tells, Looks, Raises, Exchanges}
+use Rattle.slate_board.specs.Shows.{Shows, Looks, Raises, Exchanges}
 use Rattle.slate_board.proofs.Numbers.{IsAtMost-with_word, with_word-forward, with_word-same, numbers_of-set, code_within}
 use Rattle.slate_board.proofs.Stepping.{step_kept}
 
-told : (before : Standing) (place word id : ℕ) (v : SeatView) → place < 3 → IsRuled before → get_elem? before.views id ≡ some v
+shown : (before : Standing) (place word id : ℕ) (v : SeatView) → place < 3 → IsRuled before → get_elem? before.views id ≡ some v
     → IsAtMost (numbers_of before.words) (with_word place word (numbers_of before.words)) → (with_word place word (numbers_of before.words)).close ≤ 3
-    → Tells place (slice_index before.words place) word v (view_with place word v)
-told before place word id v low kept at forward code =
+    → Shows place (slice_index before.words place) word v (view_with place word v)
+shown before place word id v low kept at forward code =
     let now : BoardView = numbers_of before.words in
     let below : IsAtMost v.seen now = kept.none_ahead id v at in
     let after : IsAtMost (with_word place word v.seen) (with_word place word now) = IsAtMost-with_word place word v.seen now below in
@@ -34,7 +34,7 @@ abbrev IsStepBy : ℕ → (ℕ → ℕ) → ℕ → SeatView → Type 0
 IsStepBy place f id v = (before after : Standing) → Writes place (f (slice_index before.words place)) id v before after → IsStep before after
 
 pub allowed : (slots id place : ℕ) (me : Me (Unit {0}) SeatView) (f : ℕ → ℕ) → place < 3 → IsStepBy place f id me.0
-    → Allows IsRuledState slots id me place f (λ found after. Tells place found (f found) me.0 after.0 × (after.1 ≡ me.1))
+    → Allows IsRuledState slots id me place f (λ found after. Shows place found (f found) me.0 after.0 × (after.1 ≡ me.1))
 allowed slots id place me f low is_step state kept _ at _ =
     let before : Standing = record { words = state.words; views = state.views } in
     let word : ℕ = f (slice_index state.words place) in
@@ -44,7 +44,7 @@ allowed slots id place me f low is_step state kept _ at _ =
     let is : numbers_of after.words ≡ with_word place word (numbers_of before.words) = numbers_of-set before.words place word kept.three low in
     let forward : IsAtMost (numbers_of before.words) (with_word place word (numbers_of before.words)) = subst (λ (z : BoardView). IsAtMost (numbers_of before.words) z) is kept'.1 in
     let code : (with_word place word (numbers_of before.words)).close ≤ 3 = subst (λ (z : BoardView). z.close ≤ 3) is kept'.0.code in
-    (view_with place word me.0, keeps, tt, kept'.0, (told before place word id me.0 low kept at forward code, refl))
+    (view_with place word me.0, keeps, tt, kept'.0, (shown before place word id me.0 low kept at forward code, refl))
 
 pub looks : (slots id place : ℕ) (me : Me (Unit {0}) SeatView) → place < 3 → Allows IsRuledState slots id me place (λ n. n) (Looks (step slots place 0 0 none) me)
 looks slots id place me low = allowed slots id place me (λ n. n) low (λ before after writes. loads place id me.0 low writes)

@@ -1,6 +1,6 @@
 pub mod Rule
 pub mod Seat
 pub mod Steps
-pub mod Tells
+pub mod Shows
 pub mod Views
 pub mod Words

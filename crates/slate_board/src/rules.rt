@@ -1,7 +1,7 @@
-// The rule that each step on a board's words keeps, and what the steps tell.
+// The rule that each step on a board's words keeps, and what the steps show.
 ghost use Rattle.slate_board.specs.Rule.{IsRuledState, lead_with};
 ghost use Rattle.slate_board.specs.Steps.{follower_of, union_of, spent_view};
-ghost use Rattle.slate_board.specs.Tells.{Looks, Raises, Exchanges};
+ghost use Rattle.slate_board.specs.Shows.{Looks, Raises, Exchanges};
 
 use crate::BoardView;
 use atomic_table::{Join, Play, Split, TableRule};

@@ -1,12 +1,12 @@
 ghost use Rattle.std.specs.Prelude.{◌≡◌, ◌≤◌, None, length};
 ghost use Rattle.slate_types.specs.Counts.{HasRisen};
-ghost use Rattle.slate_types.specs.Telling.{Told};
+ghost use Rattle.slate_types.specs.Modelled.{WhereModelled};
 ghost use Rattle.slate_streams.specs.Streams.{Fits, Reads, Takes, Writes};
 
 use slate_live::{ReadAnswer, Sink, Source, WriteAnswer};
 use std::io;
 
-/// A reader as a source, or a writer as a sink. It counts its failures, and tells no bytes.
+/// A reader as a source, or a writer as a sink. It counts its failures, and its bytes aren't modelled.
 #[derive(Debug, Drop)]
 pub struct Counted<T> {
     inner: T,
@@ -37,7 +37,7 @@ impl<T: io::Read> Source for Counted<T> {
         ensures faults { self.old.faults ≤ self.new.faults }
         ensures failed { result ≡ ReadAnswer.Failed → HasRisen self.old.faults self.new.faults }
         ensures fits { Fits (length buf.old) result }
-        ensures told { Told (Reads result buf.new) None None }
+        ensures where_modelled { WhereModelled (Reads result buf.new) None None }
     {
         match self.inner.read(buf) {
             Ok(0) => ReadAnswer::End,
@@ -59,7 +59,7 @@ impl<T: io::Write> Sink for Counted<T> {
         ensures faults { self.old.faults ≤ self.new.faults }
         ensures failed { result ≡ WriteAnswer.Failed → HasRisen self.old.faults self.new.faults }
         ensures takes { Takes (length piece.now) result }
-        ensures told { Told (Writes result piece.now) None None }
+        ensures where_modelled { WhereModelled (Writes result piece.now) None None }
     {
         match self.inner.write(piece) {
             Ok(count) if count > 0 || piece.is_empty() => WriteAnswer::Took(count),

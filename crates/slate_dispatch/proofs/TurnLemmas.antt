@@ -81,22 +81,22 @@ takes_first steps ready old mid new message i same step within below here =
     subst (λ (found : Option ℕ). TakesReady steps found old message new) (sym found) (subst (λ h. steps h (Notify i message) new) same step)
 
 -- what a dispatcher that is cancelled does
-pub acts-cancelled : {H M : Type 0} (steps : H → HandlerCall M → H → Type 0) (tickers : H → List TickerDef) (ready : H → List Bool) (tells : H → Option (Result (Unit {0}) CloseFault)) (moment : ℤ) (random : ℕ) (is_cancelled : Bool) (old new : Dispatching H M) (answer : TurnAnswer)
+pub acts-cancelled : {H M : Type 0} (steps : H → HandlerCall M → H → Type 0) (tickers : H → List TickerDef) (ready : H → List Bool) (reports : H → Option (Result (Unit {0}) CloseFault)) (moment : ℤ) (random : ℕ) (is_cancelled : Bool) (old new : Dispatching H M) (answer : TurnAnswer)
     → is_cancelled ≡ true
     → answer ≡ Cancelled
     → new ≡ old
-    → Acts steps tickers ready tells moment random is_cancelled old answer new
-acts-cancelled steps tickers ready tells moment random is_cancelled old new answer cancelled says same =
-    subst (λ (b : Bool). Acts steps tickers ready tells moment random b old answer new) (sym cancelled) (says, same)
+    → Acts steps tickers ready reports moment random is_cancelled old answer new
+acts-cancelled steps tickers ready reports moment random is_cancelled old new answer cancelled says same =
+    subst (λ (b : Bool). Acts steps tickers ready reports moment random b old answer new) (sym cancelled) (says, same)
 
 -- and one that isn't
-pub acts-live : {H M : Type 0} (steps : H → HandlerCall M → H → Type 0) (tickers : H → List TickerDef) (ready : H → List Bool) (tells : H → Option (Result (Unit {0}) CloseFault)) (moment moment' : ℤ) (random : ℕ) (is_cancelled : Bool) (old old' new new' : Dispatching H M) (answer answer' : TurnAnswer)
+pub acts-live : {H M : Type 0} (steps : H → HandlerCall M → H → Type 0) (tickers : H → List TickerDef) (ready : H → List Bool) (reports : H → Option (Result (Unit {0}) CloseFault)) (moment moment' : ℤ) (random : ℕ) (is_cancelled : Bool) (old old' new new' : Dispatching H M) (answer answer' : TurnAnswer)
     → is_cancelled ≡ false
     → moment' ≡ moment
     → old' ≡ old
     → new' ≡ new
     → answer' ≡ answer
-    → Acts steps tickers ready tells moment' random false old' answer' new'
-    → Acts steps tickers ready tells moment random is_cancelled old answer new
-acts-live steps tickers ready tells moment moment' random is_cancelled old old' new new' answer answer' live m o n a acts =
+    → Acts steps tickers ready reports moment' random false old' answer' new'
+    → Acts steps tickers ready reports moment random is_cancelled old answer new
+acts-live steps tickers ready reports moment moment' random is_cancelled old old' new new' answer answer' live m o n a acts =
     rw (live, ← m, ← o, ← n, ← a) acts

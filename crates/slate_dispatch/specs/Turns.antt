@@ -67,41 +67,41 @@ abbrev pub answer_of : Result (Unit {0}) CloseFault → TurnAnswer
 answer_of (Ok _) = Handled
 answer_of (Err fault) = Failed fault
 
--- the handler handles a message, and tells how that went
-pub record Handles {H M : Type 0} (steps : H → HandlerCall M → H → Type 0) (tells : H → Option (Result (Unit {0}) CloseFault)) (message : M) (result : Result (Unit {0}) CloseFault) (old new : H) : Type 0 where
+-- the handler handles a message, and reports how that went
+pub record Handles {H M : Type 0} (steps : H → HandlerCall M → H → Type 0) (reports : H → Option (Result (Unit {0}) CloseFault)) (message : M) (result : Result (Unit {0}) CloseFault) (old new : H) : Type 0 where
   pub step : steps old (Handle message result) new
-  pub told : tells new ≡ Some result
+  pub reported : reports new ≡ Some result
 
 -- what becomes of the next message, where there is one
 abbrev pub Treats : {H M : Type 0} → (H → HandlerCall M → H → Type 0) → (H → Option (Result (Unit {0}) CloseFault)) → Option M → Dispatching H M → TurnAnswer → Dispatching H M → Type 0
-Treats steps tells (Some message) old answer new =
+Treats steps reports (Some message) old answer new =
     (result : Result (Unit {0}) CloseFault)
-    × Handles steps tells message result old.handler new.handler
+    × Handles steps reports message result old.handler new.handler
     × (answer ≡ answer_of result)
     × (new ≡ record old { handler = new.handler })
-Treats steps tells None old answer new = (answer ≡ Idle) × (new ≡ old)
+Treats steps reports None old answer new = (answer ≡ Idle) × (new ≡ old)
 
 -- A dispatcher that is cancelled does nothing. Any other one takes the next message, where there is one, and handles it.
 abbrev pub Acts : {H M : Type 0} → (H → HandlerCall M → H → Type 0) → (H → List TickerDef) → (H → List Bool) → (H → Option (Result (Unit {0}) CloseFault)) → ℤ → ℕ → (is_cancelled : Bool) → Dispatching H M → TurnAnswer → Dispatching H M → Type 0
-Acts steps tickers ready tells moment random true old answer new = (answer ≡ Cancelled) × (new ≡ old)
-Acts {H} {M} steps tickers ready tells moment random false old answer new =
+Acts steps tickers ready reports moment random true old answer new = (answer ≡ Cancelled) × (new ≡ old)
+Acts {H} {M} steps tickers ready reports moment random false old answer new =
     (message : Option M)
     × (mid : Dispatching H M)
     × Takes steps tickers moment random (origin ready moment old) old message mid
-    × Treats steps tells message mid answer new
+    × Treats steps reports message mid answer new
 
--- a turn of a dispatcher is what it does, and that it tells its answer
+-- a turn of a dispatcher is what it does, and that it reports its answer
 abbrev pub Turns : {H M : Type 0} → (H → HandlerCall M → H → Type 0) → (H → List TickerDef) → (H → List Bool) → (H → Option (Result (Unit {0}) CloseFault)) → ℤ → ℕ → Dispatching H M → TurnAnswer → Dispatching H M → Type 0
-Turns {H} {M} steps tickers ready tells moment random old answer new =
+Turns {H} {M} steps tickers ready reports moment random old answer new =
     (mid : Dispatching H M)
-    × Acts steps tickers ready tells moment random old.is_cancelled old answer mid
+    × Acts steps tickers ready reports moment random old.is_cancelled old answer mid
     × (new ≡ record mid { last_answer = Some answer })
 
 -- what a call of a dispatcher makes of it
 abbrev pub DispatcherSteps : {H M : Type 0} → (H → HandlerCall M → H → Type 0) → (H → List TickerDef) → (H → List Bool) → (H → Option (Result (Unit {0}) CloseFault)) → Dispatching H M → TaskCall → Dispatching H M → Type 0
-DispatcherSteps steps tickers ready tells old (Turn moment random answer) new = Turns steps tickers ready tells moment random old answer new
-DispatcherSteps steps tickers ready tells old Cancel new = new ≡ record old { is_cancelled = true }
+DispatcherSteps steps tickers ready reports old (Turn moment random answer) new = Turns steps tickers ready reports moment random old answer new
+DispatcherSteps steps tickers ready reports old Cancel new = new ≡ record old { is_cancelled = true }
 -- the queue is closed, and all that is in it is offered once, in order
-DispatcherSteps steps tickers ready tells old (Finish outcome) new =
+DispatcherSteps steps tickers ready reports old (Finish outcome) new =
     steps old.handler (Cleanup old.queue outcome) new.handler
     × (new ≡ record old { handler = new.handler; queue = []; is_closed = true; finished = Some outcome })

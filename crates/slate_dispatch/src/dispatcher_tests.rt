@@ -10,13 +10,13 @@ use std::collections::VecDeque;
 use std::rc::Rc;
 use std::test::Fail;
 
-/// A handler of numbers, which fails with each number but 0 that it handles, so that the answer of a turn tells it. The
+/// A handler of numbers, which fails with each number but 0 that it handles, so that the answer of a turn shows it. The
 /// message of ticker `i` is `10 + i`, and that of notifier `i` is `20 + i`.
 #[derive(Drop)]
 struct Teller {
     tickers: [TickerDef; 2],
     ready: [bool; 2],
-    told: Option<Result<(), CloseFault>>,
+    reported: Option<Result<(), CloseFault>>,
     /// The first two messages that were offered to it at the end.
     offered: Rc<Cell<[u64; 2]>>,
 }
@@ -28,7 +28,7 @@ impl MessageHandler for Teller {
 
     ghost ready = { λ t. t.ready };
 
-    ghost last_answer = { λ t. t.told };
+    ghost last_answer = { λ t. t.reported };
 
     ghost steps = { λ _ _ _. Unit {0} };
 
@@ -57,14 +57,14 @@ impl MessageHandler for Teller {
             0 => Ok(()),
             _ => Err(CloseFault::Custom(message)),
         };
-        self.told = Some(answer);
+        self.reported = Some(answer);
         answer
     }
 
     fn cleanup(&mut self, mut messages: VecDeque<u64>, _outcome: Result<(), CloseFault>)
         ensures tickers { self.new.tickers ≡ self.old.tickers }
         ensures notifiers { length self.new.ready ≡ length self.old.ready }
-        ensures answer { self.new.told ≡ self.old.told }
+        ensures answer { self.new.reported ≡ self.old.reported }
     {
         let first = messages.pop_front().unwrap_or(0);
         let second = messages.pop_front().unwrap_or(0);
@@ -84,7 +84,7 @@ fn dispatcher_of(
     let teller = Teller {
         tickers,
         ready: [false, true],
-        told: None,
+        reported: None,
         offered,
     };
     Dispatcher::new(alloc, teller, moment)

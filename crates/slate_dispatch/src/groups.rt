@@ -63,7 +63,7 @@ impl<T: Task> Member<T> {
 }
 
 /// Gives each member its turn, in order. Those that come after a failure are cancelled first. `result` becomes the
-/// first error, and `has_failed` tells of every one.
+/// first error, and `has_failed` knows of every one.
 fn turn_members<T: Task>(
     members: &mut [Member<T>],
     cell: &mut CloseCell,

@@ -1,4 +1,4 @@
--- The kind of each error, the words of a kind, and the reason for closing that it tells.
+-- The kind of each error, the words of a kind, and the reason for closing that it names.
 use Rattle.std.specs.Prelude.{ℕ, List, Option, Some, None, codes}
 use Rattle.slate_types.specs.declared.store_errors.StoreFault.TheVariants.{NotFound, Unavailable}
 use Rattle.slate_errors.specs.declared.closing.CloseReason.{CloseReason}
@@ -50,7 +50,7 @@ kind_of (errors.Custom number) = kinds.Closed reasons.Panic
 kind_of (errors.Backpressure unflushed limit) = kinds.Unavailable
 kind_of errors.NoMemory = kinds.Memory
 
--- the reason for closing that a kind of error tells
+-- the reason for closing that a kind of error names
 abbrev pub reason_of : ErrorKind → CloseReason
 reason_of (kinds.Closed reason) = reason
 reason_of other = reasons.Panic

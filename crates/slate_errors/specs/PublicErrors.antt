@@ -4,7 +4,7 @@ use Rattle.std.specs.Option.{option_or}
 use Rattle.slate_errors.specs.declared.kinds.ErrorKind.{ErrorKind}
 use Rattle.slate_errors.specs.declared.errors.SlateError.{SlateError}
 use Rattle.slate_errors.specs.declared.public_errors.Origin.{Origin}
-use Rattle.slate_errors.specs.declared.public_errors.Origin.TheVariants.{Cause, Told}
+use Rattle.slate_errors.specs.declared.public_errors.Origin.TheVariants.{Cause, Stated}
 use Rattle.slate_errors.specs.Kinds.{kind_of, kind_words}
 use Rattle.slate_errors.specs.Texts.{message_of, source_of, source_text}
 
@@ -19,12 +19,12 @@ abbrev pub caused_by : SlateError → PublicError
 caused_by error = record { kind = kind_of error; cause = Some error; message = message_of error; source = source_of error }
 
 -- an error that a caller makes, with its message
-abbrev pub told : ErrorKind → List ℕ → PublicError
-told kind message = record { kind = kind; cause = None; message = message; source = None }
+abbrev pub stated : ErrorKind → List ℕ → PublicError
+stated kind message = record { kind = kind; cause = None; message = message; source = None }
 
 abbrev pub from_origin : Origin → PublicError
 from_origin (Cause error) = caused_by error
-from_origin (Told kind message) = told kind message
+from_origin (Stated kind message) = stated kind message
 
 -- the same with another source, where one is given
 abbrev pub with_source : Option (List ℕ) → PublicError → PublicError

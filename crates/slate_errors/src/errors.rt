@@ -28,7 +28,7 @@ pub enum SlateError {
     },
     /// The database is in a state that it can't go on from, or a number is at the end of its type.
     InvalidDBState,
-    /// A log file that was to be replayed isn't there, or goes on with a number past the next. It tells the file's id.
+    /// A log file that was to be replayed isn't there, or goes on with a number past the next. It names the file's id.
     WalTruncated(u64),
     /// The segment prefix of a key begins another one that is known, or begins with it.
     InvalidSegmentPrefix {

@@ -25,7 +25,7 @@ pub enum ErrorKind {
 }
 
 impl ErrorKind {
-    /// The words of the kind. They don't tell the reason of `Closed`. It takes no memory.
+    /// The words of the kind. They don't name the reason of `Closed`. It takes no memory.
     pub fn as_str(self) -> &'static str
         ensures { result.now ≡ kind_words self }
     {
@@ -49,7 +49,7 @@ impl fmt::Display for ErrorKind {
     }
 }
 
-/// The reason that a `Closed` kind tells, and `Panic` for every other kind. It takes no memory.
+/// The reason that a `Closed` kind names, and `Panic` for every other kind. It takes no memory.
 impl From<ErrorKind> for CloseReason {
     ghost from_gives = { λ kind reason. reason ≡ reason_of kind };
 

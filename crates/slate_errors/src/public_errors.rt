@@ -14,7 +14,7 @@ enum Origin {
     /// An error that a call answered.
     Cause(SlateError),
     /// A message of this kind.
-    Told(ErrorKind, Name),
+    Stated(ErrorKind, Name),
 }
 
 /// An error as a caller sees it: its kind, its message, and its source where it has one. SlateDB's `Error`. A contract
@@ -35,55 +35,55 @@ impl Model for Error {
 }
 
 impl Error {
-    ghost use Rattle.slate_errors.specs.PublicErrors.{told, public_text};
+    ghost use Rattle.slate_errors.specs.PublicErrors.{stated, public_text};
 
     /// An error of a transaction, with this message. It takes no memory.
     pub fn transaction(msg: Name) -> Error
-        ensures { result ≡ told ErrorKind.Transaction msg }
+        ensures { result ≡ stated ErrorKind.Transaction msg }
     {
-        Error::told(ErrorKind::Transaction, msg)
+        Error::stated(ErrorKind::Transaction, msg)
     }
 
     /// An error of what is closed for this reason, with this message. It takes no memory.
     pub fn closed(msg: Name, reason: CloseReason) -> Error
-        ensures { result ≡ told (ErrorKind.Closed reason) msg }
+        ensures { result ≡ stated (ErrorKind.Closed reason) msg }
     {
-        Error::told(ErrorKind::Closed(reason), msg)
+        Error::stated(ErrorKind::Closed(reason), msg)
     }
 
     /// An error of what isn't there now, with this message. It takes no memory.
     pub fn unavailable(msg: Name) -> Error
-        ensures { result ≡ told ErrorKind.Unavailable msg }
+        ensures { result ≡ stated ErrorKind.Unavailable msg }
     {
-        Error::told(ErrorKind::Unavailable, msg)
+        Error::stated(ErrorKind::Unavailable, msg)
     }
 
     /// An error of a call that may not be made, with this message. It takes no memory.
     pub fn invalid(msg: Name) -> Error
-        ensures { result ≡ told ErrorKind.Invalid msg }
+        ensures { result ≡ stated ErrorKind.Invalid msg }
     {
-        Error::told(ErrorKind::Invalid, msg)
+        Error::stated(ErrorKind::Invalid, msg)
     }
 
     /// An error of damaged data, with this message. It takes no memory.
     pub fn data(msg: Name) -> Error
-        ensures { result ≡ told ErrorKind.Data msg }
+        ensures { result ≡ stated ErrorKind.Data msg }
     {
-        Error::told(ErrorKind::Data, msg)
+        Error::stated(ErrorKind::Data, msg)
     }
 
     /// An error of the program itself, with this message. It takes no memory.
     pub fn internal(msg: Name) -> Error
-        ensures { result ≡ told ErrorKind.Internal msg }
+        ensures { result ≡ stated ErrorKind.Internal msg }
     {
-        Error::told(ErrorKind::Internal, msg)
+        Error::stated(ErrorKind::Internal, msg)
     }
 
-    fn told(kind: ErrorKind, message: Name) -> Error
-        ensures { result ≡ told kind message }
+    fn stated(kind: ErrorKind, message: Name) -> Error
+        ensures { result ≡ stated kind message }
     {
         Error {
-            origin: Origin::Told(kind, message),
+            origin: Origin::Stated(kind, message),
             source: None,
         }
     }
@@ -105,7 +105,7 @@ impl Error {
     {
         match &self.origin {
             Origin::Cause(error) => error.kind(),
-            Origin::Told(kind, _) => *kind,
+            Origin::Stated(kind, _) => *kind,
         }
     }
 
@@ -115,7 +115,7 @@ impl Error {
     {
         match &self.origin {
             Origin::Cause(error) => Some(error),
-            Origin::Told(..) => None,
+            Origin::Stated(..) => None,
         }
     }
 
@@ -125,7 +125,7 @@ impl Error {
         match (&self.source, &self.origin) {
             (Some(source), _) => Some(source.as_str()),
             (None, Origin::Cause(error)) => source_of(error),
-            (None, Origin::Told(..)) => None,
+            (None, Origin::Stated(..)) => None,
         }
     }
 
@@ -135,7 +135,7 @@ impl Error {
     {
         match &self.origin {
             Origin::Cause(error) => write_message(out, error),
-            Origin::Told(_, message) => write_text(out, message.as_str()),
+            Origin::Stated(_, message) => write_text(out, message.as_str()),
         }
     }
 

@@ -19,7 +19,7 @@ use Rattle.slate_follow.specs.Rebuilding.{FindsView, GiveBatches, HasLogs, Repla
 -- how a poll answers its replay
 abbrev pub answer_of : Replayed → ℕ → PollAnswer
 answer_of replays.Whole at = Whole at
-answer_of (replays.Torn id) at = Truncated at
+answer_of (replays.Truncated id) at = Truncated at
 
 module _ (opening : Bool) (view : VersionedManifest) (batches : List Batch) where
   abbrev pub line : Line
@@ -30,7 +30,7 @@ module _ (opening : Bool) (view : VersionedManifest) (batches : List Batch) wher
 
   has_logs : (found : Replayed) (o : Objects) → GiveBatches o view.manifest batches found → HasLogs o follower (answer_of found (end line))
   has_logs replays.Whole o given = given
-  has_logs (replays.Torn id) o given = (id, given)
+  has_logs (replays.Truncated id) o given = (id, given)
 
   abbrev Given : Objects → List Batch → Replayed → Type 0
   Given o all found = (batches ≡ all) × (found ≡ replays.Whole)
@@ -42,7 +42,7 @@ module _ (opening : Bool) (view : VersionedManifest) (batches : List Batch) wher
       let last = last_log m.replay_after_wal_id o in
       let same : m.last_l0_seq ≡ m.last_l0_seq + 0 = omega arith in
       (given.appended (subst (λ n. IsReplayable m.replay_after_wal_id last n o) same can) ∙ ap (λ n. replayed m.replay_after_wal_id last n o) (sym same), refl)
-  whole (replays.Torn id) o can given =
+  whole (replays.Truncated id) o can given =
       let m = view.manifest in
       let last = last_log m.replay_after_wal_id o in
       let same : m.last_l0_seq ≡ m.last_l0_seq + 0 = omega arith in

@@ -3,7 +3,7 @@ use Rattle.slate_types.specs.Line.{AreNumberedFrom}
 use Rattle.slate_model.specs.Follower.{Follower}
 use Rattle.slate_follow.specs.declared.states.FollowerState.TheInside.{Inside}
 
--- the follower that the fields stand for
+-- the follower that the fields represent
 abbrev pub kept_follower : Inside → Follower
 kept_follower a = record { view = a.view; line = record { floor = a.floor; batches = a.memory }; result = a.closed }
 

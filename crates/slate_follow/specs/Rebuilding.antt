@@ -22,10 +22,10 @@ GiveBatches objects m batches found =
 abbrev pub HasLogs : Objects → Follower → PollAnswer → Type 0
 HasLogs objects follower (Whole at) = GiveBatches objects follower.view.manifest follower.line.batches replays.Whole
 HasLogs objects follower (Truncated at) =
-    (id : ℕ) × GiveBatches objects follower.view.manifest follower.line.batches (replays.Torn id)
+    (id : ℕ) × GiveBatches objects follower.view.manifest follower.line.batches (replays.Truncated id)
 
 -- What a follower replayed of objects, sound or not: it can go by their latest manifest, and the log files of that are
--- whole, or torn at one of them.
+-- whole, or truncated at one of them.
 pub record ReplaysLatest (opening : Bool) (objects : Objects) (follower : Follower) (answer : PollAnswer) : Type 0 where
   pub latest : latest_manifest objects ≡ Some follower.view
   pub can : can_follow opening follower.view ≡ true

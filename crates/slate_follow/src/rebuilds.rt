@@ -31,7 +31,7 @@ pub(crate) fn rebuild<S: Store>(
     let at = follower.number();
     let answer = match replayed {
         Replayed::Whole => PollAnswer::Whole { at },
-        Replayed::Torn(_) => PollAnswer::Truncated { at },
+        Replayed::Truncated(_) => PollAnswer::Truncated { at },
     };
     Ok((follower, answer))
 }
@@ -44,7 +44,7 @@ fn find_view<S: Store>(
 ) -> Result<VersionedManifest, SlateError>
     ensures faults { CountsFaults (S.faults store.old) (S.faults store.new) result }
     ensures kept { S.objects store.new ≡ S.objects store.old }
-    ensures told { IfSome (S.objects store.old) (λ o. FindsView opening o result) }
+    ensures where_modelled { IfSome (S.objects store.old) (λ o. FindsView opening o result) }
 {
     let Some(latest) = store.latest_manifest(alloc)? else {
         return Err(SlateError::LatestTransactionalObjectVersionMissing);
@@ -73,7 +73,7 @@ fn replay_logs<S: Store>(
     ensures kept { S.objects store.new ≡ S.objects store.old }
     ensures numbered { IfOk result (λ p. AreNumberedFrom view.now.manifest.last_l0_seq p.0) }
     ensures fits { IfOk result (λ p. view.now.manifest.last_l0_seq + length p.0 < 2 ^ 64) }
-    ensures told { IfOk result (λ p. IfSome (S.objects store.old) (λ o. GiveBatches o view.now.manifest p.0 p.1)) }
+    ensures where_modelled { IfOk result (λ p. IfSome (S.objects store.old) (λ o. GiveBatches o view.now.manifest p.0 p.1)) }
     ensures refusals { IfErr result IsOfReplay }
 {
     let manifest = &view.manifest;

@@ -20,7 +20,7 @@ use Rattle.slate_live.specs.World.{World, start}
 use Rattle.slate_live.proofs.Prefixes.{prefix-same, prefix-then}
 use Rattle.slate_live.proofs.Staying.{stay_confirmed}
 
--- no object yet, over sound objects, stands for the world of their start
+-- no object yet, over sound objects, represents the world of their start
 pub stands_start : (o : Objects) (store : Known (List Batch)) (live : Live) → live.objects ≡ [] → live.writes ≡ [] → store.objects ≡ Some o → IsSound o → Represents live store (start o store.faults)
 stands_start o store live no_object no_write is sound =
     record {

@@ -27,7 +27,7 @@ opens-nothing keeps_log limit store = record {
   handle = tt;
 }
 
-caused : (told : Option Objects) → IfSome told (λ o. FollowCause true o errors.NoMemory)
+caused : (objects : Option Objects) → IfSome objects (λ o. FollowCause true o errors.NoMemory)
 caused None = tt
 caused (Some o) = tt
 

@@ -248,7 +248,7 @@ leads settings live live' store store' w command made reply r d =
     ∙ (ap (λ x. record { objects = w.objects; writes = w.writes; store = record { objects = x; faults = store.faults } }) (r.held).1
     ∙ ap (λ x. record { objects = w.objects; writes = w.writes; store = record { objects = Some o; faults = x } }) r.faults)) in
     let by_held : Does (by_objects (Some o)) settings made (record { objects = w.objects; writes = w.writes; store = holding o w.faults }) command reply (running live' store') =
-    subst (λ told. Does (by_objects told) settings made (record { objects = w.objects; writes = w.writes; store = holding o w.faults }) command reply (running live' store')) (r.held).1
+    subst (λ objects. Does (by_objects objects) settings made (record { objects = w.objects; writes = w.writes; store = holding o w.faults }) command reply (running live' store')) (r.held).1
     (subst (λ x. Does (by_objects store.objects) settings made x command reply (running live' store')) state d) in
     let l = led-by settings w o (r.held).2 (r.held).3 r.valid command made reply live'.objects live'.writes store' command.action refl by_held in (
       world settings w o (r.held).2 (r.held).3 r.valid command made reply live'.objects live'.writes store' l.after,

@@ -63,7 +63,7 @@ open-sees batch w w' made limit (Ok h) opens is stands =
     )
 open-sees batch w w' made limit (Err e) opens is stands = sees-refusal batch actions.Open e w'
 
--- a follower that is opened or polled tells a number at or above its own
+-- a follower that is opened or polled answers a number at or above its own
 follow-sees : (batch : Batch) (action : Action) (w w' : World) (n : ℕ) (opening : Bool) (r : Result (Follower × PollAnswer) SlateError) → Rebuilds (λ line. line ≡ w.stored) opening (state_of w).store r (state_of w').store → Sees batch action (replies.Follower n true (end w.stored)) w' → Sees batch action (reply_to (λ (b : Follower × PollAnswer). followed_reply n b.1) r) w'
 follow-sees batch action w w' n opening (Ok b) built sees =
     let all = built.sees w.catalogue w.stored refl refl in

@@ -1,4 +1,4 @@
--- A write that is told to be durable is confirmed for good.
+-- A write that is reported durable is confirmed for good.
 use Rattle.std.proofs.Common.{◌≡◌, ◌≤◌, ◌<◌, ◌-◌, ℕ, zero, suc, take, List, [], ◌∷◌, Some, sym, subst, ap, ◌∙◌, arith}
 use Rattle.std.specs.List.{slice_get}
 use Rattle.slate_types.specs.declared.batches.Batch.{Batch}
@@ -28,7 +28,7 @@ stands-front batch line number low s =
     let is = s.2 in
     (s.0, get-take line.batches (number - line.floor) s.0 batch (omega (arith, low, is)) s.1, s.2)
 
--- the batch of a write that is told to be durable is stored
+-- the batch of a write that is reported durable is stored
 pub record Confirms (w : World) (n : ℕ) : Type 0 where
   pub batch : Batch
   pub of_write : IsBatchOf w n batch
@@ -89,52 +89,52 @@ write-later settings w (s ∷ steps) chain n write there (suc j) step at =
     write-later settings s.world steps chain.1 n write ((kept settings w s chain.0).stays n write there) j step at
 
 -- the number that a write was answered is that of its batch
-number-told : (settings : Settings) (w : World) (s : Step) (steps : List Step) (i n k : ℕ) (told : Step) (batch : Batch) → Link settings w s.command s.reply s.world → Chain settings s.world steps → slice_get steps i ≡ Some told → IsBatchOf told.world n batch → s.reply ≡ replies.Written n k → batch.number ≡ k
-number-told settings w s steps i n k told batch link chain at of_write reply =
+number-reported : (settings : Settings) (w : World) (s : Step) (steps : List Step) (i n k : ℕ) (reported : Step) (batch : Batch) → Link settings w s.command s.reply s.world → Chain settings s.world steps → slice_get steps i ≡ Some reported → IsBatchOf reported.world n batch → s.reply ≡ replies.Written n k → batch.number ≡ k
+number-reported settings w s steps i n k reported batch link chain at of_write reply =
     let answered : Numbers (s.world).writes (replies.Written n k) = subst (Numbers (s.world).writes) reply (kept settings w s link).numbers in
-    let there = write-later settings s.world steps chain n answered.0 answered.1 i told at in
+    let there = write-later settings s.world steps chain n answered.0 answered.1 i reported at in
     let here = of_write.is_write in
     let same : of_write.write ≡ answered.0 = cc in
     of_write.number ∙ (ap (λ (x : Write). x.number) same ∙ answered.2)
 
-number-later : (settings : Settings) (w : World) (steps : List Step) (i n : ℕ) (told : Step) (batch : Batch) → Chain settings w steps → slice_get steps i ≡ Some told → IsBatchOf told.world n batch → (h k : ℕ) (write : Step) → h < i → slice_get steps h ≡ Some write → write.reply ≡ replies.Written n k → batch.number ≡ k
-number-later settings w [] i n told batch chain at of_write h k write low at_h reply = absurd (cc)
-number-later settings w (s ∷ steps) zero n told batch chain at of_write h k write low at_h reply = absurd (omega (arith, low))
-number-later settings w (s ∷ steps) (suc i) n told batch chain at of_write zero k write low at_h reply =
+number-later : (settings : Settings) (w : World) (steps : List Step) (i n : ℕ) (reported : Step) (batch : Batch) → Chain settings w steps → slice_get steps i ≡ Some reported → IsBatchOf reported.world n batch → (h k : ℕ) (write : Step) → h < i → slice_get steps h ≡ Some write → write.reply ≡ replies.Written n k → batch.number ≡ k
+number-later settings w [] i n reported batch chain at of_write h k write low at_h reply = absurd (cc)
+number-later settings w (s ∷ steps) zero n reported batch chain at of_write h k write low at_h reply = absurd (omega (arith, low))
+number-later settings w (s ∷ steps) (suc i) n reported batch chain at of_write zero k write low at_h reply =
     let is : s ≡ write = cc in
-    number-told settings w s steps i n k told batch chain.0 chain.1 at of_write (ap (λ (x : Step). x.reply) is ∙ reply)
-number-later settings w (s ∷ steps) (suc i) n told batch chain at of_write (suc h) k write low at_h reply =
-    number-later settings s.world steps i n told batch chain.1 at of_write h k write (omega (arith, low)) at_h reply
+    number-reported settings w s steps i n k reported batch chain.0 chain.1 at of_write (ap (λ (x : Step). x.reply) is ∙ reply)
+number-later settings w (s ∷ steps) (suc i) n reported batch chain at of_write (suc h) k write low at_h reply =
+    number-later settings s.world steps i n reported batch chain.1 at of_write h k write (omega (arith, low)) at_h reply
 
 -- steps after one: their places are those of the rest
-stored-after : (settings : Settings) (batch : Batch) (steps : List Step) (i : ℕ) (told : Step) (w : World) → Chain settings w steps → slice_get steps i ≡ Some told → StandsIn batch (told.world).stored → (j : ℕ) (step : Step) → i < j → slice_get steps j ≡ Some step → StandsIn batch (step.world).stored × Sees batch (step.command).action step.reply step.world
-stored-after settings batch [] i told w chain at stands j step low at_j = absurd (cc)
-stored-after settings batch (s ∷ steps) i told w chain at stands zero step low at_j = absurd (omega (arith, low))
-stored-after settings batch (s ∷ steps) zero told w chain at stands (suc j) step low at_j =
-    let is : told ≡ s = cc in
+stored-after : (settings : Settings) (batch : Batch) (steps : List Step) (i : ℕ) (reported : Step) (w : World) → Chain settings w steps → slice_get steps i ≡ Some reported → StandsIn batch (reported.world).stored → (j : ℕ) (step : Step) → i < j → slice_get steps j ≡ Some step → StandsIn batch (step.world).stored × Sees batch (step.command).action step.reply step.world
+stored-after settings batch [] i reported w chain at stands j step low at_j = absurd (cc)
+stored-after settings batch (s ∷ steps) i reported w chain at stands zero step low at_j = absurd (omega (arith, low))
+stored-after settings batch (s ∷ steps) zero reported w chain at stands (suc j) step low at_j =
+    let is : reported ≡ s = cc in
     let here : StandsIn batch (s.world).stored = subst (λ (x : Step). StandsIn batch (x.world).stored) is stands in
     (stored-later settings batch s.world steps chain.1 here j step at_j, seen-later settings batch s.world steps chain.1 here j step at_j)
-stored-after settings batch (s ∷ steps) (suc i) told w chain at stands (suc j) step low at_j =
-    stored-after settings batch steps i told s.world chain.1 at stands j step (omega (arith, low)) at_j
+stored-after settings batch (s ∷ steps) (suc i) reported w chain at stands (suc j) step low at_j =
+    stored-after settings batch steps i reported s.world chain.1 at stands j step (omega (arith, low)) at_j
 
-confirms-at : (settings : Settings) (w : World) (steps : List Step) → Chain settings w steps → AreWritten w.objects w.writes → (i n : ℕ) (told : Step) → slice_get steps i ≡ Some told → told.command.action ≡ actions.Await n → told.reply ≡ replies.Durable → Confirms told.world n
-confirms-at settings w [] chain written i n told at is durable = absurd (cc)
-confirms-at settings w (s ∷ steps) chain written zero n told at is durable =
-    let same : s ≡ told = cc in
+confirms-at : (settings : Settings) (w : World) (steps : List Step) → Chain settings w steps → AreWritten w.objects w.writes → (i n : ℕ) (reported : Step) → slice_get steps i ≡ Some reported → reported.command.action ≡ actions.Await n → reported.reply ≡ replies.Durable → Confirms reported.world n
+confirms-at settings w [] chain written i n reported at is durable = absurd (cc)
+confirms-at settings w (s ∷ steps) chain written zero n reported at is durable =
+    let same : s ≡ reported = cc in
     subst (λ (x : Step). Confirms x.world n) same
     (confirms-step settings w n s written chain.0 (ap (λ (x : Step). (x.command).action) same ∙ is) (ap (λ (x : Step). x.reply) same ∙ durable))
-confirms-at settings w (s ∷ steps) chain written (suc i) n told at is durable =
-    confirms-at settings s.world steps chain.1 ((kept settings w s chain.0).written written) i n told at is durable
+confirms-at settings w (s ∷ steps) chain written (suc i) n reported at is durable =
+    confirms-at settings s.world steps chain.1 ((kept settings w s chain.0).written written) i n reported at is durable
 
--- from a world without a write on, each write that is told to be durable is confirmed for good
+-- from a world without a write on, each write that is reported durable is confirmed for good
 pub stay_confirmed : (settings : Settings) (w : World) (steps : List Step) → w.writes ≡ [] → Chain settings w steps → StayConfirmed steps
-stay_confirmed settings w steps none chain i n told at is durable =
-    let c = confirms-at settings w steps chain (λ m write there. absurd (cc)) i n told at is durable in
+stay_confirmed settings w steps none chain i n reported at is durable =
+    let c = confirms-at settings w steps chain (λ m write there. absurd (cc)) i n reported at is durable in
     record {
       batch = c.batch;
       of_write = c.of_write;
-      number = number-later settings w steps i n told c.batch chain at c.of_write;
+      number = number-later settings w steps i n reported c.batch chain at c.of_write;
       stored = c.stored;
-      later = λ j step low at_j. (stored-after settings c.batch steps i told w chain at c.stored j step low at_j).0;
-      seen = λ j step low at_j. (stored-after settings c.batch steps i told w chain at c.stored j step low at_j).1;
+      later = λ j step low at_j. (stored-after settings c.batch steps i reported w chain at c.stored j step low at_j).0;
+      seen = λ j step low at_j. (stored-after settings c.batch steps i reported w chain at c.stored j step low at_j).1;
     }

@@ -16,7 +16,7 @@ abbrev pub StandsIn : Batch → Line → Type 0
 StandsIn batch line = (k : ℕ) × (slice_get line.batches k ≡ Some batch) × (batch.number ≡ line.floor + k + 1)
 
 -- What an opening or a poll answers and leaves that begins after this batch was stored: a handle that is opened has it
--- in its line, and a reader that is opened or polled tells a number at or above its own.
+-- in its line, and a reader that is opened or polled answers a number at or above its own.
 abbrev pub Sees : Batch → Action → Reply → World → Type 0
 Sees batch actions.Open (replies.Handle n) w = (handle : Handle) × IsHandleAt w.objects n handle × StandsIn batch handle.line
 Sees batch (actions.Follow mode managed skip) (replies.Follower n true at) w = batch.number ≤ at

@@ -2,7 +2,7 @@
 use Rattle.std.specs.Prelude.{◌≡◌, ℕ, ◌<◌, ◌≤◌, ◌⊎◌, List, [], ◌++◌, length, take, Option, Some, None, Result, Ok, Err}
 use Rattle.std.specs.Global.{Vec}
 use Rattle.slate_types.specs.Counts.{HasRisen}
-use Rattle.slate_types.specs.Telling.{Told}
+use Rattle.slate_types.specs.Modelled.{WhereModelled}
 use Rattle.slate_types.specs.declared.batches.Batch.{Batch}
 use Rattle.slate_model.specs.Known.{Known, known}
 use Rattle.slate_store.specs.Objects.{Objects}
@@ -66,13 +66,13 @@ sides left source_faults written sink_faults objects faults source sink store =
 -- the source was read to its end: it had these bytes left, within the limit
 pub record WasRead (bytes : List ℕ) (left left' : Option (List ℕ)) : Type 0 where
   pub limit : length bytes ≤ MAX_SCRIPT
-  pub told : Told (λ old new. (old ≡ bytes) × (new ≡ [])) left left'
+  pub where_modelled : WhereModelled (λ old new. (old ≡ bytes) × (new ≡ [])) left left'
 
 -- why no script came of a source
 abbrev pub StopsReading : Outcome → (left left' : Option (List ℕ)) → (faults faults' : ℕ) → Type 0
 StopsReading (LineRefused number) left left' faults faults' = (bytes : List ℕ) × WasRead bytes left left' × (script_of bytes ≡ Err number)
 StopsReading ReadFault left left' faults faults' = HasRisen faults faults'
-StopsReading TooLong left left' faults faults' = Told (λ old new. (taken : List ℕ) × (old ≡ taken ++ new) × (MAX_SCRIPT < length taken)) left left'
+StopsReading TooLong left left' faults faults' = WhereModelled (λ old new. (taken : List ℕ) × (old ≡ taken ++ new) × (MAX_SCRIPT < length taken)) left left'
 StopsReading NoMemory left left' faults faults' = Unit {0}
 StopsReading Done left left' faults faults' = ⊥
 StopsReading WriteFault left left' faults faults' = ⊥
@@ -85,16 +85,16 @@ ReadsScript (Err ending) left left' faults faults' = StopsReading ending left le
 
 -- how writing a text ends: all of it is written, or a part of it, or none
 abbrev pub EndsWriting : Outcome → List ℕ → (written written' : Option (List ℕ)) → (faults faults' : ℕ) → Type 0
-EndsWriting Done text written written' faults faults' = Told (λ old new. new ≡ old ++ text) written written'
+EndsWriting Done text written written' faults faults' = WhereModelled (λ old new. new ≡ old ++ text) written written'
 EndsWriting WriteFault text written written' faults faults' =
-    HasRisen faults faults' × Told (λ old new. (count : ℕ) × (count < length text) × (new ≡ old ++ take count text)) written written'
+    HasRisen faults faults' × WhereModelled (λ old new. (count : ℕ) × (count < length text) × (new ≡ old ++ take count text)) written written'
 EndsWriting NoMemory text written written' faults faults' = (written' ≡ written) × (faults' ≡ faults)
 EndsWriting (LineRefused number) text written written' faults faults' = ⊥
 EndsWriting ReadFault text written written' faults faults' = ⊥
 EndsWriting TooLong text written written' faults faults' = ⊥
 EndsWriting WordsRefused text written written' faults faults' = ⊥
 
--- what a sink tells and a store tells stays
+-- the sink and the store stay as they are
 pub record KeepsOutput (s s' : Sides) : Type 0 where
   pub written : s'.written ≡ s.written
   pub sink_faults : s'.sink_faults ≡ s.sink_faults

@@ -26,17 +26,17 @@ abbrev pub last_world : World → List Step → World
 last_world w [] = w
 last_world w (step ∷ steps) = last_world step.world steps
 
--- After step i told that the write n is durable: the batch of the write, whose number the write was answered, is
+-- After step i reported the write n durable: the batch of the write, whose number the write was answered, is
 -- stored, stays stored, and is seen by each opening and each poll from then on.
-pub record StaysConfirmed (steps : List Step) (i n : ℕ) (told : Step) : Type 0 where
+pub record StaysConfirmed (steps : List Step) (i n : ℕ) (reported : Step) : Type 0 where
   pub batch : Batch
-  pub of_write : IsBatchOf told.world n batch
+  pub of_write : IsBatchOf reported.world n batch
   pub number : (h k : ℕ) (write : Step) → h < i → slice_get steps h ≡ Some write → write.reply ≡ replies.Written n k → batch.number ≡ k
-  pub stored : StandsIn batch told.world.stored
+  pub stored : StandsIn batch reported.world.stored
   pub later : (j : ℕ) (step : Step) → i < j → slice_get steps j ≡ Some step → StandsIn batch step.world.stored
   pub seen : (j : ℕ) (step : Step) → i < j → slice_get steps j ≡ Some step → Sees batch step.command.action step.reply step.world
 
--- a write that is told to be durable is confirmed for good
+-- a write that is reported durable is confirmed for good
 abbrev pub StayConfirmed : List Step → Type 0
 StayConfirmed steps =
-    (i n : ℕ) (told : Step) → slice_get steps i ≡ Some told → told.command.action ≡ actions.Await n → told.reply ≡ replies.Durable → StaysConfirmed steps i n told
+    (i n : ℕ) (reported : Step) → slice_get steps i ≡ Some reported → reported.command.action ≡ actions.Await n → reported.reply ≡ replies.Durable → StaysConfirmed steps i n reported

@@ -115,7 +115,7 @@ IsConfirmed w n = (write : Write) × (slice_get w.writes n ≡ Some write) × (w
 
 -- The link of a command: its reply and the world that it leads to are such as follow. A valid command that meets no
 -- fault of the store is refused nothing. What is stored stays stored, what a handle knows to
--- be durable is, the number of no follower falls, a write that is told to be durable is stored, and what is stored is
+-- be durable is, the number of no follower falls, a write that is reported durable is stored, and what is stored is
 -- seen by each opening and each poll.
 pub record Link (settings : Settings) (w : World) (command : Command) (reply : Reply) (w' : World) : Type 0 where
   pub next : Next settings w command reply w'

@@ -4,7 +4,7 @@ use Rattle.slate_types.specs.declared.batches.Batch.{Batch}
 use Rattle.slate_store.specs.declared.objects.VersionedManifest.{VersionedManifest}
 use Rattle.slate_store.specs.Objects.{Objects, Change, latest_manifest}
 use Rattle.slate_errors.specs.declared.errors.SlateError.{SlateError}
-use Rattle.slate_model.specs.Changes.{PartMade, after_part, breaks_off}
+use Rattle.slate_model.specs.Changes.{PartMade, after_part, leaves_prefix}
 use Rattle.slate_model.specs.Flush.{StoresBatches, flush_changes, flush_changes_by}
 use Rattle.slate_model.proofs.Sound.{with_log}
 
@@ -15,7 +15,7 @@ match_le false made all h = omega (arith, h)
 -- no more changes are made than there are
 pub part_le : {A : Type 0} (r : Result A SlateError) (all made : ℕ) → PartMade r all made → made ≤ all
 part_le (Ok x) all made h = omega (arith, h)
-part_le (Err e) all made h = match_le (breaks_off e) made all h
+part_le (Err e) all made h = match_le (leaves_prefix e) made all h
 
 -- what a flush did: nothing, or it put the log file, by a current epoch
 pub record PutsLog (epoch : ℕ) (bs : List Batch) (o : Objects) (made : ℕ) (o' : Objects) : Type 0 where

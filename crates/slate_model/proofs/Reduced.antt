@@ -6,7 +6,7 @@ use Rattle.slate_types.specs.declared.batches.Batch.{Batch}
 use Rattle.slate_types.specs.declared.options.FlushType.{FlushType}
 use Rattle.slate_types.specs.Line.{Line}
 use Rattle.slate_types.specs.declared.store_errors.StoreFault.TheVariants.{Unavailable}
-use Rattle.slate_store.specs.Calls.{Told}
+use Rattle.slate_store.specs.Calls.{WhereModelled}
 use Rattle.slate_store.specs.declared.objects.VersionedManifest.{VersionedManifest}
 use Rattle.slate_store.specs.Content.{IsSound, content}
 use Rattle.slate_store.specs.Objects.{Objects, ObjectsOf}
@@ -36,13 +36,13 @@ pub some-same : {A : Type 0} (a b : A) → Some a ≡ Some b → a ≡ b
 some-same a b same = cc
 
 -- one change of objects that are modelled
-pub modelled : {L : Type 0} {P : ObjectsOf L → ObjectsOf L → Type 0} (o o' : ObjectsOf L) → Told P (Some o) (Some o') → P o o'
+pub modelled : {L : Type 0} {P : ObjectsOf L → ObjectsOf L → Type 0} (o o' : ObjectsOf L) → WhereModelled P (Some o) (Some o') → P o o'
 modelled {L} {P} o o' t =
     let n = t.some o refl in
     let same : n.0 ≡ o' = (let e : Some o' ≡ Some n.0 = n.1 in sym (some-same o' n.0 e)) in
     subst (P o) same n.2
 
-pub as_modelled : {L : Type 0} {P : ObjectsOf L → ObjectsOf L → Type 0} (o o' : ObjectsOf L) → P o o' → Told P (Some o) (Some o')
+pub as_modelled : {L : Type 0} {P : ObjectsOf L → ObjectsOf L → Type 0} (o o' : ObjectsOf L) → P o o' → WhereModelled P (Some o) (Some o')
 as_modelled {L} {P} o o' p = record {
   none = λ h. absurd (cc);
   some = λ old is. (o', refl, subst (λ x. P x o') (some-same o old is) p);

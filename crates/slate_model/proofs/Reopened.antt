@@ -8,7 +8,7 @@ use Rattle.slate_types.specs.Line.{AreNumberedFrom, IsLine, Line, batches_above}
 use Rattle.slate_types.proofs.Lines.{above-all}
 use Rattle.slate_store.specs.declared.objects.Manifest.{Manifest}
 use Rattle.slate_store.specs.declared.objects.VersionedManifest.{VersionedManifest}
-use Rattle.slate_store.specs.Objects.{Objects, PutManifest, PutLog, changed, empty, greatest, is_taken, last, last_log, latest_manifest, versioned}
+use Rattle.slate_store.specs.Objects.{Objects, PutManifest, PutLog, changed, empty, greatest, is_present, last, last_log, latest_manifest, versioned}
 use Rattle.slate_store.specs.Content.{AreGapless, AreRising, HasItsLogs, HasItsTables, IsSound, content, content_by, logged, logs_above, number_before, table_batches}
 use Rattle.slate_store.specs.Logs.{IsReplayable, replayed}
 use Rattle.slate_errors.specs.declared.errors.SlateError.{SlateError}
@@ -166,7 +166,7 @@ opened o (suc (suc zero)) sound some few =
 opened o (suc (suc (suc made))) sound some few = absurd (omega arith)
 
 -- the id of the manifest of an opening is free
-free-by : (o : Objects) (latest : Option VersionedManifest) (last : ℕ) → IsSound o → latest_manifest o ≡ latest → is_taken (PutManifest (next_manifest latest last).id (next_manifest latest last).manifest) o ≡ false
+free-by : (o : Objects) (latest : Option VersionedManifest) (last : ℕ) → IsSound o → latest_manifest o ≡ latest → is_present (PutManifest (next_manifest latest last).id (next_manifest latest last).manifest) o ≡ false
 free-by o None last sound is = rw (nothing_there o sound is) refl
 free-by o (Some latest) last sound is =
     let top = all-greatest latest.id 0 (map (λ e. e.0) o.manifests) (below o latest sound is) in

@@ -3,7 +3,7 @@ use Rattle.slate_types.specs.declared.batches.Batch.{Batch}
 use Rattle.slate_store.specs.declared.objects.VersionedManifest.{VersionedManifest}
 use Rattle.slate_types.specs.declared.store_errors.StoreFault.TheVariants.{Unavailable}
 use Rattle.slate_store.specs.Objects.{ObjectsOf, ChangeOf, PutLog, latest_manifest, last_log}
-use Rattle.slate_store.specs.Calls.{Told}
+use Rattle.slate_store.specs.Calls.{WhereModelled}
 use Rattle.slate_errors.specs.declared.closing.CloseFault.TheVariants as faults
 use Rattle.slate_errors.specs.declared.errors.SlateError.{SlateError}
 use Rattle.slate_errors.specs.declared.errors.SlateError.TheVariants as errors
@@ -91,7 +91,7 @@ pub record StoresBatches {L : Type 0} (summary : List Batch → L) (epoch : ℕ)
 -- The batches of a handle that aren't stored go to the store, and the handle goes by this view from then on.
 pub record Stores {L : Type 0} (summary : List Batch → L) (made : ℕ) (handle : Handle) (view : VersionedManifest) (before : Known L) (result : Result (Unit {0}) SlateError) (after : Known L) : Type 0 where
   pub faults : CountsFaults before.faults after.faults result
-  pub objects : Told (λ o o'. StoresBatches summary handle.epoch (unstored handle) o result handle.view view made o') before.objects after.objects
+  pub objects : WhereModelled (λ o o'. StoresBatches summary handle.epoch (unstored handle) o result handle.view view made o') before.objects after.objects
 
 -- A flush of the log by a handle. A closed handle answers what closed it, and one that keeps no log WalDisabled, and
 -- nothing changes; else the batches that aren't stored go to the store, and what the flush answers leaves the handle.

@@ -4,8 +4,8 @@ use Rattle.slate_types.specs.Line.{Line, end, batches_above}
 use Rattle.slate_store.specs.declared.objects.Manifest.{Manifest}
 use Rattle.slate_store.specs.declared.objects.VersionedManifest.{VersionedManifest}
 use Rattle.slate_types.specs.declared.store_errors.StoreFault.TheVariants.{Unavailable}
-use Rattle.slate_store.specs.Objects.{Objects, ObjectsOf, ChangeOf, PutManifest, PutLog, is_taken, latest_manifest, last_log}
-use Rattle.slate_store.specs.Calls.{Told}
+use Rattle.slate_store.specs.Objects.{Objects, ObjectsOf, ChangeOf, PutManifest, PutLog, is_present, latest_manifest, last_log}
+use Rattle.slate_store.specs.Calls.{WhereModelled}
 use Rattle.slate_store.specs.Logs.{IsReplayable}
 use Rattle.slate_errors.specs.declared.errors.SlateError.{SlateError}
 use Rattle.slate_errors.specs.declared.errors.SlateError.TheVariants as errors
@@ -100,14 +100,14 @@ opened_handle keeps_log limit view stored =
       result = None;
     }
 
--- What only objects bring about that aren't sound: an error that the replay is torn, where log files or batches are
+-- What only objects bring about that aren't sound: an error that the replay is truncated, where log files or batches are
 -- missing, or that an object is there already.
 abbrev pub OpenFault : Objects → SlateError → Type 0
 OpenFault objects (errors.WalTruncated id) =
     let m = (opened_manifest objects).manifest in
     IsReplayable m.replay_after_wal_id (found_log objects) m.last_l0_seq objects → ⊥
 OpenFault objects errors.TransactionalObjectVersionExists =
-    is_taken (PutManifest (opened_manifest objects).id (opened_manifest objects).manifest) objects ≡ true
+    is_present (PutManifest (opened_manifest objects).id (opened_manifest objects).manifest) objects ≡ true
 OpenFault objects error = ⊥
 
 -- Why an opening answers an error, over a store that is modelled. `unsound` says it of the errors that only
@@ -140,7 +140,7 @@ pub record Opens {A L : Type 0} (summary : List Batch → L) (unsound : SlateErr
 -- An opening of a database by a handle. `unsound` says which objects bring about an error that sound ones don't, and
 -- `is_stored` which line is stored, where that is known: the handle of an opening that answers Ok sees it.
 pub record OpensHandle {L : Type 0} (summary : List Batch → L) (unsound : ObjectsOf L → SlateError → Type 0) (is_stored : Line → Type 0) (made : ℕ) (keeps_log : Bool) (limit : ℕ) (before : Known L) (result : Result Handle SlateError) (after : Known L) : Type 0 where
-  pub opens : Told (λ o o'. Opens summary (unsound o) o result made o') before.objects after.objects
+  pub opens : WhereModelled (λ o o'. Opens summary (unsound o) o result made o') before.objects after.objects
   pub faults : CountsFaults before.faults after.faults result
   pub fresh : IfOk result (λ handle. (handle.keeps_log ≡ keeps_log) × (handle.limit ≡ limit) × (handle.result ≡ None))
   pub handle : IfOk result (λ handle. (o : ObjectsOf L) (line : Line) → before.objects ≡ Some o → is_stored line →

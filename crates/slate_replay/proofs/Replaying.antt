@@ -11,7 +11,7 @@ use Rattle.slate_types.specs.Line.{AreNumberedFrom, batches_above}
 use Rattle.slate_store.specs.Objects.{Objects, entry_at, log_at}
 use Rattle.slate_store.specs.Content.{logs_above}
 use Rattle.slate_store.specs.Logs.{IsReplayable, replayed}
-use Rattle.slate_replay.specs.Replay.{EndBy, IsWhole, IsTornAt, ComeNext, AppendsNext, IsFront}
+use Rattle.slate_replay.specs.Replay.{EndBy, IsWhole, IsTruncatedAt, ComeNext, AppendsNext, IsFront}
 use Rattle.slate_replay.proofs.Logs.{numbered-parts, above-same, entry-above, gapless-stored, gapless-next}
 
 -- the batches of the log files above a mark, up to an id
@@ -98,14 +98,14 @@ stored-more end more (Some log) low h = λ k d less. let it = h k d less in omeg
 
 module _ (mark before floor : ℕ) (old m : List Batch) (o : Objects) (low : mark ≤ before) (so_far : IsWhole mark before floor old m o) where
   -- a log file that isn't stored
-  pub missing-torn : (last : ℕ) → before < last → log_at (before + 1) o ≡ None → IsTornAt (before + 1) mark last floor old m o
-  missing-torn last less none =
+  pub missing-truncated : (last : ℕ) → before < last → log_at (before + 1) o ≡ None → IsTruncatedAt (before + 1) mark last floor old m o
+  missing-truncated last less none =
       let n = floor + length old in
       record {
         above = omega arith;
         within = omega arith;
         earlier = λ id over within. so_far.stored id over (omega arith);
-        torn = rw none tt;
+        truncated = rw none tt;
         missing = λ is. is-stored mark before n o low (replayable-front mark (before + 1) last n o (omega arith) (omega arith) is) none;
       }
 
@@ -143,13 +143,13 @@ module _ (mark before floor : ℕ) (old m : List Batch) (o : Objects) (low : mar
         front-later mark (before + 1) last n old m' o (omega arith) (omega arith) (subst (IsFront m') (all-next is) (front (come-next is)))
 
     module _ (m' : List Batch) (longer : length m ≤ length m') where
-      pub gap-torn : (last : ℕ) → before < last → AppendsNext floor m m' log (Ok false) → IsTornAt (before + 1) mark last floor old m' o
-      gap-torn last less gap =
+      pub gap-truncated : (last : ℕ) → before < last → AppendsNext floor m m' log (Ok false) → IsTruncatedAt (before + 1) mark last floor old m' o
+      gap-truncated last less gap =
           record {
             above = omega arith;
             within = omega arith;
             earlier = λ id over within. stored-more (floor + length m) (floor + length m') (log_at id o) (omega arith) (so_far.stored id over (omega arith));
-            torn = rw found gap.0;
+            truncated = rw found gap.0;
             missing = λ all. gap.1 (come-next (replayable-front mark (before + 1) last (floor + length old) o (omega arith) (omega arith) all));
           }
 
@@ -184,7 +184,7 @@ whole-end mark before last floor old m o within done whole =
           ∙ ap (λ xs. old ++ xs) same;
     }
 
--- what is known of objects that are told
+-- what is known of objects that are modelled
 pub known : {X : Type 0} {P Q R : X → Type 0} (a b : Option X) → b ≡ a → IfSome a P → IfSome b Q → ((x : X) → P x → Q x → R x) → IfSome a R
 known None b same p q f = tt
 known {X} {P} {Q} {R} (Some x) b same p q f = f x p (subst (λ c. IfSome c Q) same q)

@@ -7,7 +7,7 @@ use Rattle.slate_store.specs.Logs.{IsReplayable, replayed}
 use Rattle.slate_types.specs.declared.store_errors.StoreError.{StoreError}
 use Rattle.slate_types.specs.declared.store_errors.StoreError.TheVariants.{NoMemory}
 use Rattle.slate_replay.specs.declared.replays.Replayed.{Replayed}
-use Rattle.slate_replay.specs.declared.replays.Replayed.TheVariants.{Whole, Torn}
+use Rattle.slate_replay.specs.declared.replays.Replayed.TheVariants.{Whole, Truncated}
 
 -- no batch is past this number
 abbrev pub EndBy : ℕ → List Batch → Type 0
@@ -29,11 +29,11 @@ pub record IsWhole (mark last floor : ℕ) (old new : List Batch) (objects : Obj
 
 -- The log file with this id is the first that isn't stored, or that has a batch past the next number. That comes only
 -- where log files or batches are missing.
-pub record IsTornAt (id mark last floor : ℕ) (old new : List Batch) (objects : Objects) : Type 0 where
+pub record IsTruncatedAt (id mark last floor : ℕ) (old new : List Batch) (objects : Objects) : Type 0 where
   pub above : mark < id
   pub within : id ≤ last
   pub earlier : AreStoredBy mark (id - 1) (floor + length new) objects
-  pub torn : MatchOption (log_at id objects) (Unit {0}) (HaveGapAfter (floor + length new))
+  pub truncated : MatchOption (log_at id objects) (Unit {0}) (HaveGapAfter (floor + length new))
   pub missing : IsReplayable mark last (floor + length old) objects → ⊥
 
 -- one list of batches begins another
@@ -43,7 +43,7 @@ IsFront front batches = (rest : List Batch) × (batches ≡ front ++ rest)
 -- what a replay leaves of the batches that it found; one that fails leaves the first of those that it was to leave
 abbrev pub Replays : (mark last floor : ℕ) → (old new : List Batch) → Objects → Result Replayed StoreError → Type 0
 Replays mark last floor old new objects (Ok Whole) = IsWhole mark last floor old new objects
-Replays mark last floor old new objects (Ok (Torn id)) = IsTornAt id mark last floor old new objects
+Replays mark last floor old new objects (Ok (Truncated id)) = IsTruncatedAt id mark last floor old new objects
 Replays mark last floor old new objects (Err error) =
     IsReplayable mark last (floor + length old) objects → IsFront new (old ++ replayed mark last (floor + length old) objects)
 

@@ -10,7 +10,7 @@ use slate_store::{Manifest, Store, StoreError};
 use std::alloc::Global;
 
 /// A table of the batches that the log files above a manifest's replay mark have above its last number in tables, up to
-/// the log file `last`, and how the replay ended: where it was torn, the table has what comes before. It takes time
+/// the log file `last`, and how the replay ended: where it was truncated, the table has what comes before. It takes time
 /// linear in the batches that it reads.
 pub fn recover<S: Store>(
     alloc: Global,
@@ -25,7 +25,7 @@ pub fn recover<S: Store>(
     ensures failed { result ≡ Err StoreError.Failed → HasRisen (S.faults store.old) (S.faults store.new) }
     ensures none_missing { result ≢ Err StoreError.NotFound }
     ensures none_exists { result ≢ Err StoreError.Exists }
-    ensures told { IfOk result (λ p. IfSome (S.objects store.old) (λ o. Replays manifest.now.replay_after_wal_id last manifest.now.last_l0_seq [] p.0 o (Ok p.1))) }
+    ensures where_modelled { IfOk result (λ p. IfSome (S.objects store.old) (λ o. Replays manifest.now.replay_after_wal_id last manifest.now.last_l0_seq [] p.0 o (Ok p.1))) }
 {
     let floor = manifest.last_l0_seq;
     let mark = manifest.replay_after_wal_id;

@@ -15,7 +15,7 @@ pub enum Replayed {
     /// All log files were there, and their batches come one after another.
     Whole,
     /// The log file with this id isn't stored, or has a batch past the next number: one before it is missing.
-    Torn(u64),
+    Truncated(u64),
 }
 
 /// Appends to `memory` the batches of the log files above `mark` up to `last`, in order, and passes those that it has
@@ -42,17 +42,17 @@ pub fn replay<S: Store>(
     ensures failed { result ≡ Err StoreError.Failed → HasRisen (S.faults store.old) (S.faults store.new) }
     ensures none_missing { result ≢ Err StoreError.NotFound }
     ensures none_exists { result ≢ Err StoreError.Exists }
-    ensures told { IfSome (S.objects store.old) (λ o. Replays mark last floor memory.old memory.new o result) }
+    ensures where_modelled { IfSome (S.objects store.old) (λ o. Replays mark last floor memory.old memory.new o result) }
 {
     for before in mark..last {
         let id = before + 1;
         let log = match store.read_log(alloc, id) {
             Ok(log) => log,
-            Err(StoreError::NotFound) => return Ok(Replayed::Torn(id)),
+            Err(StoreError::NotFound) => return Ok(Replayed::Truncated(id)),
             Err(error) => return Err(error),
         };
         if !append_next(memory, floor, log.into_vec())? {
-            return Ok(Replayed::Torn(id));
+            return Ok(Replayed::Truncated(id));
         }
     }
     Ok(Replayed::Whole)

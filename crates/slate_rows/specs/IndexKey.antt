@@ -10,7 +10,7 @@ pub record IsShortestAbove (previous key front : List ℕ) : Type 0 where
   pub shortest : (n : ℕ) → n < length front → is_lt (key_cmp previous (take n key)) ≡ false
 
 -- What the index of a table says of a block whose first key this is: nothing at the first block. At others, the least
--- that tells it from the key before, or the whole key where that is the same.
+-- that parts it from the key before, or the whole key where that is the same.
 abbrev pub IsIndexKey : Option (List ℕ) → List ℕ → List ℕ → Type 0
 IsIndexKey None key answer = answer ≡ []
 IsIndexKey (Some previous) key answer =

@@ -115,7 +115,7 @@ fn rows_of<M: MergeOperator>(
     Ok((rows, None))
 }
 
-/// Adds the row that was found, or tells the fault.
+/// Adds the row that was found, or answers the fault.
 pub(crate) fn add_found(
     rows: &mut Vec<KeyValue>,
     found: Result<Option<KeyValue>, ReadFault>,

@@ -17,10 +17,10 @@ use slate_types::NoMemory;
 use std::alloc::Global;
 use std::marker::Model;
 
-/// How many pairs a tracker keeps unless it is told otherwise.
+/// How many pairs a tracker keeps unless it is asked otherwise.
 const DEFAULT_CAPACITY: u32 = 8192;
 
-/// How many seconds lie between recorded pairs unless the tracker is told otherwise.
+/// How many seconds lie between recorded pairs unless the tracker is asked otherwise.
 const DEFAULT_INTERVAL_SECS: u64 = 60;
 
 /// Pairs of a sequence number and the time of its write, at most one an interval and in bounded room: where there are

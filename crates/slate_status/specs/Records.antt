@@ -24,7 +24,7 @@ abbrev pub reason_for : Result (Unit {0}) CloseFault → CloseReason
 reason_for (Ok _) = Clean
 reason_for (Err fault) = reason_of (kind_of (error_of_fault fault))
 
--- the status that a record tells
+-- the status that a record reports
 abbrev pub status_of : Record → DbStatus
 status_of r =
     record {

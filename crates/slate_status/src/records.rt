@@ -85,7 +85,7 @@ impl StatusRecord {
     {
         self.durable = durable;
         self.manifest = manifest;
-        self.tell(true)
+        self.report(true)
     }
 
     /// Reports that the batches up to this number are durable. A number that isn't above the present one changes
@@ -97,7 +97,7 @@ impl StatusRecord {
             return false;
         }
         self.durable = number;
-        self.tell(true)
+        self.report(true)
     }
 
     /// Reports a manifest. One with a lower id than the present one, or that equals it, changes nothing. It takes no
@@ -106,7 +106,7 @@ impl StatusRecord {
         ensures { Reports self.old (with_manifest manifest self.old) self.new result }
     {
         let changed = self.take_manifest(manifest);
-        self.tell(changed)
+        self.report(changed)
     }
 
     /// Reports the prefixes of the segments that batches outside of tables are in, rising, each once. Prefixes that
@@ -116,7 +116,7 @@ impl StatusRecord {
         ensures { Reports self.old (with_segments prefixes self.old) self.new result }
     {
         let changed = self.take_segments(prefixes);
-        self.tell(changed)
+        self.report(changed)
     }
 
     /// Reports a manifest and prefixes together, each as its own report takes it, as one change. It takes no memory.
@@ -130,7 +130,7 @@ impl StatusRecord {
     {
         let manifest_changed = self.take_manifest(manifest);
         let segments_changed = self.take_segments(prefixes);
-        self.tell(manifest_changed || segments_changed)
+        self.report(manifest_changed || segments_changed)
     }
 
     /// Adds prefixes of segments, in any order, to the present ones. Where each is there already it changes nothing and
@@ -158,7 +158,7 @@ impl StatusRecord {
         ensures { Reports self.old (with_result outcome self.old) self.new result }
     {
         let first = self.closed.write(outcome);
-        self.tell(first)
+        self.report(first)
     }
 
     /// What the wait for a number is answered: `Durable` exactly where the durable number reaches it; else `Pending`
@@ -199,7 +199,7 @@ impl StatusRecord {
     }
 
     // Raises the version where the status changed.
-    fn tell(&mut self, changed: bool) -> bool
+    fn report(&mut self, changed: bool) -> bool
         ensures answer { result ≡ changed }
         ensures version { self.new ≡ (if changed then risen self.old else self.old) }
     {

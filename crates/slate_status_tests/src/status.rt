@@ -418,7 +418,7 @@ fn clones(rt: HostRuntime) -> Result<(), Fail> {
     Ok(())
 }
 
-// The rising prefixes that a record of these tells.
+// The rising prefixes that a record of these reports.
 fn rising(alloc: Global, segments: &[u8]) -> Result<Seq<Bytes>, NoMemory>
     ensures { IfOk result AreRising }
 {
@@ -463,7 +463,7 @@ fn older_manifest(rt: HostRuntime) -> Result<(), NoMemory> {
     Ok(())
 }
 
-// What the report of an opening, which is told twice, and one of segments, told twice too, answer; then the version, the
+// What the report of an opening, made twice, and one of segments, made twice too, answer; then the version, the
 // durable number, the id of the manifest and the segments.
 fn report_opening(alloc: Global) -> Result<([bool; 4], [u64; 3], Vec<u8>), NoMemory> {
     let mut record = record(alloc, 5, b"")?;

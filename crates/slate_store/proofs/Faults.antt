@@ -1,9 +1,9 @@
 use Rattle.std.proofs.Common.{◌≡◌, refl, inl, Option, Err}
-use Rattle.slate_types.proofs.Telling.{told_kept}
+use Rattle.slate_types.proofs.Modelled.{modelled_kept}
 use Rattle.slate_types.specs.declared.store_errors.StoreError.TheVariants.{Failed}
 use Rattle.slate_store.specs.Objects.{Objects, Change}
-use Rattle.slate_store.specs.Calls.{Puts, Told}
+use Rattle.slate_store.specs.Calls.{Puts, WhereModelled}
 
 -- a put that fails may have left the objects as they were
-pub lost_put : (change : Change) (a b : Option Objects) → b ≡ a → Told (Puts change (Err Failed)) a b
-lost_put change a b kept = told_kept (Puts change (Err Failed)) kept (λ objects. inl refl)
+pub lost_put : (change : Change) (a b : Option Objects) → b ≡ a → WhereModelled (Puts change (Err Failed)) a b
+lost_put change a b kept = modelled_kept (Puts change (Err Failed)) kept (λ objects. inl refl)

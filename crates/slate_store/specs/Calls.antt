@@ -1,11 +1,11 @@
 use Rattle.std.specs.Prelude.{◌≡◌, ℕ, ◌≤◌, ◌⊎◌, true, false, Option, Some, None, Result, Ok, Err, IsErrOf}
 pub use Rattle.slate_types.specs.Counts.{count_end, one_more, HasRisen}
-pub use Rattle.slate_types.specs.Telling.{Told}
+pub use Rattle.slate_types.specs.Modelled.{WhereModelled}
 use Rattle.slate_types.specs.declared.store_errors.StoreError.{StoreError}
 use Rattle.slate_types.specs.declared.store_errors.StoreError.TheVariants.{NotFound, Exists, Failed, NoMemory}
-use Rattle.slate_store.specs.Objects.{Objects, Change, is_taken, changed}
+use Rattle.slate_store.specs.Objects.{Objects, Change, is_present, changed}
 
--- what every call says of the two counts: a failure is told only where the count of faults has risen
+-- what every call says of the two counts: a failure is answered only where the count of faults has risen
 pub record IsCall {A : Type 0} (faults faults' calls calls' : ℕ) (result : Result A StoreError) : Type 0 where
   pub fault_count : faults ≤ faults'
   pub call_count : calls' ≡ one_more calls
@@ -22,9 +22,9 @@ Finds stored (Err NoMemory) = Unit {0}
 -- What a put leaves. At Ok nothing was stored under the id and now the object is; Exists says that something was;
 -- Failed leaves the put done or not done.
 abbrev pub Puts : Change → Result (Unit {0}) StoreError → Objects → Objects → Type 0
-Puts change (Ok _) old new = (is_taken change old ≡ false) × (new ≡ changed change old)
-Puts change (Err Exists) old new = (is_taken change old ≡ true) × (new ≡ old)
-Puts change (Err Failed) old new = (new ≡ old) ⊎ ((is_taken change old ≡ false) × (new ≡ changed change old))
+Puts change (Ok _) old new = (is_present change old ≡ false) × (new ≡ changed change old)
+Puts change (Err Exists) old new = (is_present change old ≡ true) × (new ≡ old)
+Puts change (Err Failed) old new = (new ≡ old) ⊎ ((is_present change old ≡ false) × (new ≡ changed change old))
 Puts change (Err NotFound) old new = ⊥
 Puts change (Err NoMemory) old new = new ≡ old
 

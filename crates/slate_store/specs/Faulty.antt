@@ -41,12 +41,12 @@ answer_of Landed answer = Err Failed
 answer_of Lost answer = Err Failed
 
 -- Whether a call of the store inside was made, by the count of its calls; one that isn't answered fails.
-abbrev pub Befalls : {A : Type 0} → Fate → ℕ → ℕ → Result A StoreError → Type 0
-Befalls Answered made made' result = made' ≡ one_more made
-Befalls Landed made made' result = (made' ≡ one_more made) × (result ≡ Err Failed)
-Befalls Lost made made' result = (made' ≡ made) × (result ≡ Err Failed)
+abbrev pub ComesOf : {A : Type 0} → Fate → ℕ → ℕ → Result A StoreError → Type 0
+ComesOf Answered made made' result = made' ≡ one_more made
+ComesOf Landed made made' result = (made' ≡ one_more made) × (result ≡ Err Failed)
+ComesOf Lost made made' result = (made' ≡ made) × (result ≡ Err Failed)
 
 -- a call is counted and meets its fate; the two numbers are the calls of the store inside
 pub record IsFated {S A : Type 0} (old new : Faulty S) (made made' : ℕ) (result : Result A StoreError) : Type 0 where
   pub counted : new ≡ record (called old) { inner = new.inner }
-  pub fate : Befalls (fate old) made made' result
+  pub fate : ComesOf (fate old) made made' result

@@ -7,7 +7,7 @@ use Rattle.slate_store.specs.declared.objects.Manifest.{Manifest}
 use Rattle.slate_store.specs.declared.objects.TableId.{TableId}
 use Rattle.slate_store.specs.declared.objects.VersionedManifest.{VersionedManifest}
 
--- What a store holds: three finite maps, each the list of its entries in the order of their ids. L is what is told
+-- What a store holds: three finite maps, each the list of its entries in the order of their ids. L is what is known
 -- of a log file and of a table.
 pub record ObjectsOf (L : Type 0) : Type 0 where
   pub manifests : List (ℕ × Manifest)
@@ -57,9 +57,9 @@ abbrev pub Change : Type 0
 Change = ChangeOf (List Batch)
 
 -- whether an object is stored under the id that a change puts
-abbrev pub is_taken : {L : Type 0} → ChangeOf L → ObjectsOf L → Bool
-is_taken (PutManifest id manifest) objects = is_some (entry_at id objects.manifests)
-is_taken (PutLog id log) objects = is_some (entry_at id objects.logs)
+abbrev pub is_present : {L : Type 0} → ChangeOf L → ObjectsOf L → Bool
+is_present (PutManifest id manifest) objects = is_some (entry_at id objects.manifests)
+is_present (PutLog id log) objects = is_some (entry_at id objects.logs)
 
 -- the objects after a change
 abbrev pub changed : {L : Type 0} → ChangeOf L → ObjectsOf L → ObjectsOf L

@@ -29,7 +29,7 @@ impl Fate {
     ghost use Rattle.slate_store.specs.Faulty.{answer_of};
 
     /// What a call answers where the store inside gave this answer.
-    fn tell<A: Drop>(self, answer: Result<A, StoreError>) -> Result<A, StoreError>
+    fn answer_with<A: Drop>(self, answer: Result<A, StoreError>) -> Result<A, StoreError>
         ensures { result ≡ answer_of self answer }
     {
         match self {
@@ -120,7 +120,7 @@ fn find_call(failing: &[FailingCall], call: u64) -> Option<FailingCall>
 impl<S: Store> Store for FaultyStore<S> {
     ghost use Rattle.std.specs.Prelude.{◌≡◌, ◌+◌, IfSome, IfOk, IfErr};
     ghost use Rattle.slate_store.specs.Objects.{PutManifest, PutLog, latest_manifest, last_log, log_at};
-    ghost use Rattle.slate_store.specs.Calls.{IsCall, Told, Finds, Puts, IsOfList, IsOfRead, IsOfPut};
+    ghost use Rattle.slate_store.specs.Calls.{IsCall, WhereModelled, Finds, Puts, IsOfList, IsOfRead, IsOfPut};
     ghost use Rattle.slate_store.specs.Faulty.{IsFated};
 
     ghost objects = { λ s. S.objects s.inner };
@@ -142,7 +142,7 @@ impl<S: Store> Store for FaultyStore<S> {
         if fate == Fate::Lost {
             return Err(StoreError::Failed);
         }
-        fate.tell(self.inner.latest_manifest(alloc))
+        fate.answer_with(self.inner.latest_manifest(alloc))
     }
 
     fn put_manifest(
@@ -153,7 +153,7 @@ impl<S: Store> Store for FaultyStore<S> {
     ) -> Result<(), StoreError>
         ensures counts { IsCall (S.faults self.old.inner + self.old.faults)
             (S.faults self.new.inner + self.new.faults) self.old.calls self.new.calls result }
-        ensures put { Told (Puts (PutManifest id manifest.now) result) (S.objects self.old.inner) (S.objects self.new.inner) }
+        ensures put { WhereModelled (Puts (PutManifest id manifest.now) result) (S.objects self.old.inner) (S.objects self.new.inner) }
         ensures refusals { IfErr result IsOfPut }
         ensures fated { IsFated self.old self.new
             (S.calls self.old.inner) (S.calls self.new.inner) result }
@@ -162,7 +162,7 @@ impl<S: Store> Store for FaultyStore<S> {
         if fate == Fate::Lost {
             return Err(StoreError::Failed);
         }
-        fate.tell(self.inner.put_manifest(alloc, id, manifest))
+        fate.answer_with(self.inner.put_manifest(alloc, id, manifest))
     }
 
     fn last_log(&mut self, alloc: Global, after: u64) -> Result<u64, StoreError>
@@ -178,7 +178,7 @@ impl<S: Store> Store for FaultyStore<S> {
         if fate == Fate::Lost {
             return Err(StoreError::Failed);
         }
-        fate.tell(self.inner.last_log(alloc, after))
+        fate.answer_with(self.inner.last_log(alloc, after))
     }
 
     fn read_log(&mut self, alloc: Global, id: u64) -> Result<Seq<Batch>, StoreError>
@@ -194,13 +194,13 @@ impl<S: Store> Store for FaultyStore<S> {
         if fate == Fate::Lost {
             return Err(StoreError::Failed);
         }
-        fate.tell(self.inner.read_log(alloc, id))
+        fate.answer_with(self.inner.read_log(alloc, id))
     }
 
     fn put_log(&mut self, alloc: Global, id: u64, batches: &[Batch]) -> Result<(), StoreError>
         ensures counts { IsCall (S.faults self.old.inner + self.old.faults)
             (S.faults self.new.inner + self.new.faults) self.old.calls self.new.calls result }
-        ensures put { Told (Puts (PutLog id batches.now) result) (S.objects self.old.inner) (S.objects self.new.inner) }
+        ensures put { WhereModelled (Puts (PutLog id batches.now) result) (S.objects self.old.inner) (S.objects self.new.inner) }
         ensures refusals { IfErr result IsOfPut }
         ensures fated { IsFated self.old self.new
             (S.calls self.old.inner) (S.calls self.new.inner) result }
@@ -209,6 +209,6 @@ impl<S: Store> Store for FaultyStore<S> {
         if fate == Fate::Lost {
             return Err(StoreError::Failed);
         }
-        fate.tell(self.inner.put_log(alloc, id, batches))
+        fate.answer_with(self.inner.put_log(alloc, id, batches))
     }
 }

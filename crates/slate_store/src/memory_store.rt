@@ -7,7 +7,7 @@ use slate_types::{Batch, NoMemory, Seq, StoreError};
 use std::alloc::Global;
 use std::collections::BTreeMap;
 
-/// A store in memory. It never fails: it answers `NoMemory`, or what is asked. It tells what it holds, and that is sound
+/// A store in memory. It never fails: it answers `NoMemory`, or what is asked. It is modelled, and what it holds is sound
 /// as long as only handles change it.
 ///
 /// A call takes a look-up, logarithmic in the objects. One that puts or gives a log file copies its batches and their

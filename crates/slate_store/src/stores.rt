@@ -1,6 +1,6 @@
 ghost use Rattle.std.specs.Prelude.{◌≡◌, ℕ, Option, IfSome, IfOk, IfErr};
 ghost use Rattle.slate_store.specs.Objects.{Objects, PutManifest, PutLog, latest_manifest, last_log, log_at};
-ghost use Rattle.slate_store.specs.Calls.{IsCall, Told, Finds, Puts, IsOfList, IsOfRead, IsOfPut};
+ghost use Rattle.slate_store.specs.Calls.{IsCall, WhereModelled, Finds, Puts, IsOfList, IsOfRead, IsOfPut};
 
 use crate::{Manifest, VersionedManifest};
 use slate_types::{Batch, Seq, StoreError};
@@ -11,7 +11,7 @@ use std::alloc::Global;
 /// Every call may answer `Failed`, where the store's count of faults has risen, and `NoMemory`. A put that answers
 /// `Failed` may have taken place; a call that answers anything else but Ok did nothing.
 pub trait Store {
-    /// The objects that it holds, where it tells them.
+    /// The objects that it holds, where it is modelled.
     ghost objects: { Self → Option Objects };
 
     /// How often it has failed. The count never falls.
@@ -35,7 +35,7 @@ pub trait Store {
         manifest: &Manifest,
     ) -> Result<(), StoreError>
         ensures counts { IsCall (faults self.old) (faults self.new) (calls self.old) (calls self.new) result }
-        ensures put { Told (Puts (PutManifest id manifest.now) result) (objects self.old) (objects self.new) }
+        ensures put { WhereModelled (Puts (PutManifest id manifest.now) result) (objects self.old) (objects self.new) }
         ensures refusals { IfErr result IsOfPut };
 
     /// The greatest id of a stored log file above `after`, or `after` where there is none.
@@ -55,6 +55,6 @@ pub trait Store {
     /// Stores batches as a log file under an id. It answers `Exists` where one is stored under it.
     fn put_log(&mut self, alloc: Global, id: u64, batches: &[Batch]) -> Result<(), StoreError>
         ensures counts { IsCall (faults self.old) (faults self.new) (calls self.old) (calls self.new) result }
-        ensures put { Told (Puts (PutLog id batches.now) result) (objects self.old) (objects self.new) }
+        ensures put { WhereModelled (Puts (PutLog id batches.now) result) (objects self.old) (objects self.new) }
         ensures refusals { IfErr result IsOfPut };
 }

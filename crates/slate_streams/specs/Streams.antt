@@ -16,7 +16,7 @@ Fits room End = Unit {0}
 Fits room Failed = Unit {0}
 
 -- What a read hands over of the bytes that are left: the first ones, which stand at the front of the buffer after it.
--- It tells the end where no byte is left, and a failure takes none.
+-- It answers the end where no byte is left, and a failure takes none.
 abbrev pub Reads : ReadAnswer → List ℕ → List ℕ → List ℕ → Type 0
 Reads (Got count) buffer left left' = left ≡ take count buffer ++ left'
 Reads End buffer left left' = (left ≡ []) × (left' ≡ [])

@@ -1,6 +1,6 @@
 ghost use Rattle.std.specs.Prelude.{◌≡◌, ℕ, ◌≤◌, List, length, Option};
 ghost use Rattle.slate_types.specs.Counts.{HasRisen};
-ghost use Rattle.slate_types.specs.Telling.{Told};
+ghost use Rattle.slate_types.specs.Modelled.{WhereModelled};
 ghost use Rattle.slate_streams.specs.Streams.{Takes, Writes};
 
 /// What a write to a sink answered.
@@ -14,7 +14,7 @@ pub enum WriteAnswer {
 
 /// Where bytes go, in pieces.
 pub trait Sink {
-    /// The bytes that are written, where it tells them.
+    /// The bytes that are written, where it is modelled.
     ghost written: { Self → Option (List ℕ) };
 
     /// How often it has failed. The count never falls.
@@ -26,5 +26,5 @@ pub trait Sink {
         ensures faults { faults self.old ≤ faults self.new }
         ensures failed { result ≡ WriteAnswer.Failed → HasRisen (faults self.old) (faults self.new) }
         ensures takes { Takes (length piece.now) result }
-        ensures told { Told (Writes result piece.now) (written self.old) (written self.new) };
+        ensures where_modelled { WhereModelled (Writes result piece.now) (written self.old) (written self.new) };
 }

@@ -5,7 +5,7 @@ use crate::{ReadAnswer, Source};
 use slate_types::Seq;
 use std::marker::Model;
 
-/// A source in memory. It hands over at most so many bytes per call, and some of its calls fail, as it was told.
+/// A source in memory. It hands over at most so many bytes per call, and some of its calls fail, as it was made.
 #[derive(Debug, Drop)]
 pub struct SliceSource {
     bytes: Vec<u8>,
@@ -45,7 +45,7 @@ impl SliceSource {
 impl Source for SliceSource {
     ghost use Rattle.std.specs.Prelude.{◌≡◌, ◌≤◌, length, Some};
     ghost use Rattle.slate_types.specs.Counts.{HasRisen};
-    ghost use Rattle.slate_types.specs.Telling.{Told};
+    ghost use Rattle.slate_types.specs.Modelled.{WhereModelled};
     ghost use Rattle.slate_streams.specs.Streams.{Fits, Reads};
     ghost use Rattle.slate_streams.specs.InMemory.{AnswersRead};
 
@@ -57,7 +57,7 @@ impl Source for SliceSource {
         ensures faults { self.old.calls.faults ≤ self.new.calls.faults }
         ensures failed { result ≡ ReadAnswer.Failed → HasRisen self.old.calls.faults self.new.calls.faults }
         ensures fits { Fits (length buf.old) result }
-        ensures told { Told (Reads result buf.new) (Some self.old.left) (Some self.new.left) }
+        ensures where_modelled { WhereModelled (Reads result buf.new) (Some self.old.left) (Some self.new.left) }
         ensures answers { AnswersRead self.old (length buf.old) result self.new.calls }
         ensures piece { self.new.piece ≡ self.old.piece }
     {

@@ -1,6 +1,6 @@
 ghost use Rattle.std.specs.Prelude.{◌≡◌, ℕ, ◌≤◌, List, length, Option};
 ghost use Rattle.slate_types.specs.Counts.{HasRisen};
-ghost use Rattle.slate_types.specs.Telling.{Told};
+ghost use Rattle.slate_types.specs.Modelled.{WhereModelled};
 ghost use Rattle.slate_streams.specs.Streams.{Fits, Reads};
 
 /// What a read of a source answered.
@@ -16,7 +16,7 @@ pub enum ReadAnswer {
 
 /// Where bytes come from, in pieces.
 pub trait Source {
-    /// The bytes that are left, where it tells them.
+    /// The bytes that are left, where it is modelled.
     ghost left: { Self → Option (List ℕ) };
 
     /// How often it has failed. The count never falls.
@@ -29,5 +29,5 @@ pub trait Source {
         ensures faults { faults self.old ≤ faults self.new }
         ensures failed { result ≡ ReadAnswer.Failed → HasRisen (faults self.old) (faults self.new) }
         ensures fits { Fits (length buf.old) result }
-        ensures told { Told (Reads result buf.new) (left self.old) (left self.new) };
+        ensures where_modelled { WhereModelled (Reads result buf.new) (left self.old) (left self.new) };
 }

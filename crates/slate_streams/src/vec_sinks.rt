@@ -6,7 +6,7 @@ use slate_types::Seq;
 use std::alloc::Global;
 use std::marker::Model;
 
-/// A sink in memory. It takes at most so many bytes per call, and some of its calls fail, as it was told. Where it
+/// A sink in memory. It takes at most so many bytes per call, and some of its calls fail, as it was made. Where it
 /// finds no memory for a piece it fails too.
 #[derive(Debug, Drop)]
 pub struct VecSink {
@@ -51,7 +51,7 @@ impl VecSink {
 impl Sink for VecSink {
     ghost use Rattle.std.specs.Prelude.{◌≡◌, ◌≤◌, length, Some};
     ghost use Rattle.slate_types.specs.Counts.{HasRisen};
-    ghost use Rattle.slate_types.specs.Telling.{Told};
+    ghost use Rattle.slate_types.specs.Modelled.{WhereModelled};
     ghost use Rattle.slate_streams.specs.Streams.{Takes, Writes};
     ghost use Rattle.slate_streams.specs.InMemory.{AnswersWrite};
 
@@ -63,7 +63,7 @@ impl Sink for VecSink {
         ensures faults { self.old.calls.faults ≤ self.new.calls.faults }
         ensures failed { result ≡ WriteAnswer.Failed → HasRisen self.old.calls.faults self.new.calls.faults }
         ensures takes { Takes (length piece.now) result }
-        ensures told { Told (Writes result piece.now) (Some self.old.written) (Some self.new.written) }
+        ensures where_modelled { WhereModelled (Writes result piece.now) (Some self.old.written) (Some self.new.written) }
         ensures answers { AnswersWrite self.old (length piece.now) result self.new.calls }
         ensures piece { self.new.piece ≡ self.old.piece }
     {

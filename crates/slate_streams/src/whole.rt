@@ -1,6 +1,6 @@
 ghost use Rattle.std.specs.Prelude.{◌≡◌, ◌<◌, ◌≤◌, false, IsErrOf, IfOk, vec_len};
 ghost use Rattle.slate_types.specs.Counts.{HasRisen};
-ghost use Rattle.slate_types.specs.Telling.{Told};
+ghost use Rattle.slate_types.specs.Modelled.{WhereModelled};
 ghost use Rattle.slate_streams.specs.declared.whole.InputFault.TheVariants.{NoMemory as OutOfMemory};
 ghost use Rattle.slate_streams.specs.Whole.{ReadsWhole, WritesWhole};
 
@@ -40,7 +40,7 @@ pub fn read_whole<I: Source>(alloc: Global, source: &mut I) -> Result<Vec<u8>, I
     ensures faults { I.faults source.old ≤ I.faults source.new }
     ensures failed { IsErrOf result InputFault.Failed → HasRisen (I.faults source.old) (I.faults source.new) }
     ensures limit { IfOk result (λ bytes. vec_len bytes ≤ MAX_SCRIPT) }
-    ensures told { Told (ReadsWhole result) (I.left source.old) (I.left source.new) }
+    ensures where_modelled { WhereModelled (ReadsWhole result) (I.left source.old) (I.left source.new) }
 {
     let mut room = make_room(alloc)?;
     let room = room.as_mut_slice();
@@ -72,7 +72,7 @@ fn make_room(alloc: Global) -> Result<Vec<u8>, AllocError>
 pub fn write_whole<O: Sink>(sink: &mut O, text: &[u8]) -> bool
     ensures faults { O.faults sink.old ≤ O.faults sink.new }
     ensures failed { result ≡ false → HasRisen (O.faults sink.old) (O.faults sink.new) }
-    ensures told { Told (WritesWhole result text.now) (O.written sink.old) (O.written sink.new) }
+    ensures where_modelled { WhereModelled (WritesWhole result text.now) (O.written sink.old) (O.written sink.new) }
 {
     let mut count = 0;
     while count < text.len() {

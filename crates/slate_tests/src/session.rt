@@ -28,7 +28,7 @@ fn play(alloc: Global, read: u64, write: u64) -> Result<(u8, Vec<u8>, Left), Fai
     Ok((finished.status, text, left_in(alloc, &mut store)?))
 }
 
-// Where a read fails, the one that would tell the end too, nothing is run or written. Where a write fails, the run is
+// Where a read fails, the one that would show the end too, nothing is run or written. Where a write fails, the run is
 // whole, and the text before that write is written.
 #[test]
 fn failing_streams(rt: HostRuntime) -> Result<(), Fail> {

@@ -52,7 +52,7 @@ fn read_twice(alloc: Global, failing: u64) -> Result<(Option<InputFault>, Vec<u8
     Ok((fault, read_whole(alloc, &mut source)?))
 }
 
-// Each read fails in turn, the one that would tell the end too. What came before it is lost, and what is left comes.
+// Each read fails in turn, the one that would show the end too. What came before it is lost, and what is left comes.
 #[test]
 fn failing_reads(rt: HostRuntime) -> Result<(), Fail> {
     let failed = Some(InputFault::Failed);

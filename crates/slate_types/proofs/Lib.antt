@@ -1,4 +1,4 @@
 pub mod Copies
 pub mod Lines
 pub mod Prefixes
-pub mod Telling
+pub mod Modelled

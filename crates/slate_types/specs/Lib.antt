@@ -3,5 +3,5 @@ pub mod Line
 pub mod Operator
 pub mod Prefix
 pub mod Range
-pub mod Telling
+pub mod Modelled
 pub mod Written

@@ -6,16 +6,16 @@ use Rattle.slate_types.specs.declared.store_errors.StoreError.{StoreError}
 use Rattle.slate_types.specs.declared.store_errors.StoreError.TheVariants as refusals
 use Rattle.slate_store.specs.Calls.{Puts}
 use Rattle.slate_errors.specs.Errors.{error_of_store}
-use Rattle.slate_store.specs.Objects.{Objects, Change, PutLog, is_taken, latest_manifest, last_log}
+use Rattle.slate_store.specs.Objects.{Objects, Change, PutLog, is_present, latest_manifest, last_log}
 use Rattle.slate_errors.specs.declared.errors.SlateError.{SlateError}
 use Rattle.slate_errors.specs.declared.errors.SlateError.TheVariants as errors
-use Rattle.slate_model.specs.Changes.{PartMade, after_part, breaks_off}
+use Rattle.slate_model.specs.Changes.{PartMade, after_part, leaves_prefix}
 use Rattle.slate_model.specs.Flush.{FindsCurrent, FlushAnswer, FlushCause, StoresBatches, StoresOnly, flush_changes, flush_changes_by}
 use Rattle.slate_model.proofs.Entries.{absent}
 use Rattle.slate_writer.specs.Appends.{AppendsLog}
 
 -- nothing is stored under the id after the last log file
-pub next_log_free : (mark : ℕ) (bs : List Batch) (o : Objects) → is_taken (PutLog (last_log mark o + 1) bs) o ≡ false
+pub next_log_free : (mark : ℕ) (bs : List Batch) (o : Objects) → is_present (PutLog (last_log mark o + 1) bs) o ≡ false
 next_log_free mark bs o = rw (absent (last_log mark o + 1) mark o.logs (omega arith)) refl
 
 -- a put of the next log file that was refused
@@ -30,7 +30,7 @@ pub appends_refused : (mark id last : ℕ) (bs : List Batch) (o o' : Objects) (e
 appends_refused mark id last bs o o' e at next h =
     puts_at mark bs o o' e (subst (λ n. Puts (PutLog n bs) (Err e) o o') (next ∙ ap (λ n. n + 1) at) h)
 
--- a flush that stores batches told as they are
+-- a flush, where a log file is its batches
 abbrev pub Stores : ℕ → List Batch → Objects → Result (Unit {0}) SlateError → VersionedManifest → VersionedManifest → Objects → Type 0
 Stores epoch batches o r view view' o' = (made : ℕ) × StoresBatches (λ bs. bs) epoch batches o r view view' made o'
 
@@ -89,7 +89,7 @@ stores_none epoch batches o view e cause = (
   0,
   record {
     answer = (cause-of epoch batches o e cause, inl refl);
-    part = part_none (breaks_off e) (length (flush_changes (λ xs. xs) batches o)) 0 refl;
+    part = part_none (leaves_prefix e) (length (flush_changes (λ xs. xs) batches o)) 0 refl;
     only = only_none e;
     current = λ above. absurd (omega (arith, above));
     after = refl;

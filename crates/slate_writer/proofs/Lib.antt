@@ -1,4 +1,4 @@
 pub mod Appending
 pub mod Flushing
 pub mod Openings
-pub mod Telling
+pub mod Modelled

@@ -6,9 +6,9 @@ use Rattle.slate_store.specs.declared.objects.VersionedManifest.{VersionedManife
 use Rattle.slate_types.specs.declared.store_errors.StoreError.{StoreError}
 use Rattle.slate_types.specs.declared.store_errors.StoreError.TheVariants as refusals
 use Rattle.slate_types.specs.declared.store_errors.StoreFault.TheVariants.{Unavailable}
-use Rattle.slate_store.specs.Calls.{Puts, Told}
+use Rattle.slate_store.specs.Calls.{Puts, WhereModelled}
 use Rattle.slate_store.specs.Content.{IsSound, content}
-use Rattle.slate_store.specs.Objects.{Objects, Change, PutManifest, PutLog, is_taken}
+use Rattle.slate_store.specs.Objects.{Objects, Change, PutManifest, PutLog, is_present}
 use Rattle.slate_errors.specs.Errors.{error_of_store}
 use Rattle.slate_errors.specs.declared.errors.SlateError.{SlateError}
 use Rattle.slate_errors.specs.declared.errors.SlateError.TheVariants as errors
@@ -21,25 +21,25 @@ use Rattle.slate_model.proofs.Reopened.{opening-replays, recovered, recovered-is
 use Rattle.slate_model.specs.Handle.{Handle}
 use Rattle.slate_model.specs.Known.{CountsFaults, IsContent, Known}
 use Rattle.slate_model.proofs.Reduced.{some-same}
-use Rattle.slate_writer.proofs.Telling.{made_once, told_from, told_kept}
+use Rattle.slate_writer.proofs.Modelled.{made_once, modelled_from, modelled_kept}
 use Rattle.slate_writer.specs.Opening.{FindsNext, PutsOpening, Recovers, opening_puts}
 
 -- a put of the fence that was refused, after that of the manifest
 pub puts_fence : (view : VersionedManifest) (fence : ℕ) (o o1 o2 : Objects) (e : StoreError) → o1 ≡ changed (PutManifest view.id view.manifest) o → Puts (PutLog fence []) (Err e) o1 o2 → PutsOpening view fence (Err (error_of_store e)) o o2
 puts_fence view fence o o1 o2 refusals.Exists first h =
-    inr (subst (λ x. is_taken (PutLog fence []) x ≡ true) first h.0, h.1 ∙ first)
+    inr (subst (λ x. is_present (PutLog fence []) x ≡ true) first h.0, h.1 ∙ first)
 puts_fence view fence o o1 o2 refusals.Failed first (inl h) = (1, omega arith, h ∙ first)
 puts_fence view fence o o1 o2 refusals.Failed first (inr h) = (2, omega arith, h.1 ∙ ap (changed (PutLog fence [])) first)
 puts_fence view fence o o1 o2 refusals.NotFound first h = absurd h
 puts_fence view fence o o1 o2 refusals.NoMemory first h = (1, omega arith, h ∙ first)
 
 -- nothing stands under the id after the last log file
-fence_free : (o : Objects) → is_taken (PutLog (found_log o + 1) []) o ≡ false
+fence_free : (o : Objects) → is_present (PutLog (found_log o + 1) []) o ≡ false
 fence_free o = rw (absent (found_log o + 1) (mark_of (latest_manifest o)) o.logs (omega arith)) refl
 
--- an opening over a store whose log files are told by their batches
-abbrev pub OpensTold : {A : Type 0} → Objects → Result A SlateError → Objects → Type 0
-OpensTold o r o' = (made : ℕ) × Opens (λ batches. batches) (OpenFault o) o r made o'
+-- an opening, where a log file is its batches
+abbrev pub OpensModelled : {A : Type 0} → Objects → Result A SlateError → Objects → Type 0
+OpensModelled o r o' = (made : ℕ) × Opens (λ batches. batches) (OpenFault o) o r made o'
 
 module _ (o : Objects) (view : VersionedManifest) (last : ℕ) (found : FindsNext o (Ok (view, last))) where
   changes-are : opening_puts view (last + 1) ≡ open_changes (λ xs. xs) o
@@ -49,12 +49,12 @@ module _ (o : Objects) (view : VersionedManifest) (last : ℕ) (found : FindsNex
   after-are made = ap (λ (cs : List Change). after_part made cs o) changes-are
 
   -- an opening that broke off in its puts
-  pub opens_by_puts : {A : Type 0} (o' : Objects) (e : SlateError) → PutsOpening view (last + 1) (Err e) o o' → OpensTold {A = A} o (Err e) o'
+  pub opens_by_puts : {A : Type 0} (o' : Objects) (e : SlateError) → PutsOpening view (last + 1) (Err e) o o' → OpensModelled {A = A} o (Err e) o'
   opens_by_puts o' errors.TransactionalObjectVersionExists (inl taken) =
-      (0, record { answer = subst (λ (v : VersionedManifest). is_taken (PutManifest v.id v.manifest) o ≡ true) found.1 taken.0; part = omega arith; only = tt; can = λ _. found.0; after = taken.1 })
+      (0, record { answer = subst (λ (v : VersionedManifest). is_present (PutManifest v.id v.manifest) o ≡ true) found.1 taken.0; part = omega arith; only = tt; can = λ _. found.0; after = taken.1 })
   opens_by_puts o' errors.TransactionalObjectVersionExists (inr taken) =
       let free = fence_free o in
-      let taken_at : is_taken (PutLog (found_log o + 1) []) o ≡ true = subst (λ n. is_taken (PutLog (n + 1) []) o ≡ true) found.2 taken.0 in
+      let taken_at : is_present (PutLog (found_log o + 1) []) o ≡ true = subst (λ n. is_present (PutLog (n + 1) []) o ≡ true) found.2 taken.0 in
       absurd (cc)
   opens_by_puts o' (errors.ObjectStoreError Unavailable) part =
       (part.0, record { answer = tt; part = part.1; only = tt; can = λ _. found.0; after = part.2 ∙ after-are part.0 })
@@ -73,7 +73,7 @@ module _ (o : Objects) (view : VersionedManifest) (last : ℕ) (found : FindsNex
         (subst (λ n. Recovers (opened_manifest o) n o1 r) found.2 (subst (λ v. Recovers v last o1 r) found.1 h))
 
     -- an opening that broke off in its replay
-    pub opens_by_recovery : {A : Type 0} (e : SlateError) → Recovers view last o1 (Err e) → OpensTold {A = A} o (Err e) o1
+    pub opens_by_recovery : {A : Type 0} (e : SlateError) → Recovers view last o1 (Err e) → OpensModelled {A = A} o (Err e) o1
     opens_by_recovery (errors.WalTruncated id) h =
         let gone = recovers-after (Err (errors.WalTruncated id)) h in
         (2, record { answer = λ can. gone (opening-replays o can).replayable; part = omega arith; only = refl; can = λ _. found.0; after = both })
@@ -97,25 +97,25 @@ module _ (o : Objects) (view : VersionedManifest) (last : ℕ) (found : FindsNex
         ap (λ v. recovered keeps_log limit v batches) found.1
         ∙ (ap (recovered keeps_log limit (opened_manifest o)) (all ∙ same.batches) ∙ recovered-is keeps_log limit o sound found.0)
 
--- the same of what the calls of an opening tell, one after the other
-pub puts_told : {A : Type 0} {t t0 t1 : Option Objects} (view : VersionedManifest) (last : ℕ) (e : SlateError) → IfSome t (λ o. FindsNext o (Ok (view, last))) → t0 ≡ t → Told (PutsOpening view (last + 1) (Err e)) t0 t1 → Told (λ o o'. OpensTold {A = A} o (Err e) o') t t1
-puts_told view last e found kept puts =
-    told_from kept puts (λ o o' is h. opens_by_puts o view last (subst (λ x. IfSome x (λ o. FindsNext o (Ok (view, last)))) is found) o' e h)
+-- the same of the calls of an opening, one after the other
+pub puts_modelled : {A : Type 0} {t t0 t1 : Option Objects} (view : VersionedManifest) (last : ℕ) (e : SlateError) → IfSome t (λ o. FindsNext o (Ok (view, last))) → t0 ≡ t → WhereModelled (PutsOpening view (last + 1) (Err e)) t0 t1 → WhereModelled (λ o o'. OpensModelled {A = A} o (Err e) o') t t1
+puts_modelled view last e found kept puts =
+    modelled_from kept puts (λ o o' is h. opens_by_puts o view last (subst (λ x. IfSome x (λ o. FindsNext o (Ok (view, last)))) is found) o' e h)
 
-module _ {t t0 t1 : Option Objects} (view : VersionedManifest) (last : ℕ) (found : IfSome t (λ o. FindsNext o (Ok (view, last)))) (kept : t0 ≡ t) (puts : Told (PutsOpening view (last + 1) (Ok tt)) t0 t1) where
+module _ {t t0 t1 : Option Objects} (view : VersionedManifest) (last : ℕ) (found : IfSome t (λ o. FindsNext o (Ok (view, last)))) (kept : t0 ≡ t) (puts : WhereModelled (PutsOpening view (last + 1) (Ok tt)) t0 t1) where
   found_at : (o : Objects) → t ≡ Some o → FindsNext o (Ok (view, last))
   found_at o is = subst (λ x. IfSome x (λ o. FindsNext o (Ok (view, last)))) is found
 
-  pub recovery_told : {A : Type 0} {t2 : Option Objects} (e : SlateError) → t2 ≡ t1 → IfSome t1 (λ o. Recovers view last o (Err e)) → Told (λ o o'. OpensTold {A = A} o (Err e) o') t t2
-  recovery_told e kept2 recovers = record {
+  pub recovery_modelled : {A : Type 0} {t2 : Option Objects} (e : SlateError) → t2 ≡ t1 → IfSome t1 (λ o. Recovers view last o (Err e)) → WhereModelled (λ o o'. OpensModelled {A = A} o (Err e) o') t t2
+  recovery_modelled e kept2 recovers = record {
     none = λ h. kept2 ∙ puts.none (kept ∙ h);
     some = λ o is.
         let p = puts.some o (kept ∙ is) in
         (p.0, kept2 ∙ p.1, opens_by_recovery o view last (found_at o is) p.0 p.2 e (subst (λ x. IfSome x (λ o. Recovers view last o (Err e))) p.1 recovers));
   }
 
-  pub recovered_told : (keeps_log : Bool) (limit : ℕ) (batches : List Batch) → IfSome t1 (λ o. Recovers view last o (Ok batches)) → (o : Objects) → t ≡ Some o → IsSound o → recovered keeps_log limit view batches ≡ opened_handle keeps_log limit (opened_manifest o) (content o)
-  recovered_told keeps_log limit batches recovers o is sound =
+  pub recovered_modelled : (keeps_log : Bool) (limit : ℕ) (batches : List Batch) → IfSome t1 (λ o. Recovers view last o (Ok batches)) → (o : Objects) → t ≡ Some o → IsSound o → recovered keeps_log limit view batches ≡ opened_handle keeps_log limit (opened_manifest o) (content o)
+  recovered_modelled keeps_log limit batches recovers o is sound =
       let p = puts.some o (kept ∙ is) in
       opened_by_recovery o view last (found_at o is) p.0 p.2 keeps_log limit batches (subst (λ x. IfSome x (λ o. Recovers view last o (Ok batches))) p.1 recovers) sound
 
@@ -124,24 +124,24 @@ pub recovered_at : (keeps_log : Bool) (limit : ℕ) (view : VersionedManifest) (
 recovered_at keeps_log limit view batches bs tick same is = rw (same, is) refl
 
 -- an opening that can't go on before it puts anything
-opens_none : {A : Type 0} (o : Objects) (e : SlateError) → FindsNext o (Err e) → OpensTold {A = A} o (Err e) o
+opens_none : {A : Type 0} (o : Objects) (e : SlateError) → FindsNext o (Err e) → OpensModelled {A = A} o (Err e) o
 opens_none o errors.InvalidDBState cause = (0, record { answer = cause; part = omega arith; only = refl; can = λ some. absurd (omega (arith, some)); after = refl })
 opens_none o (errors.ObjectStoreError Unavailable) cause = (0, record { answer = tt; part = omega arith; only = tt; can = λ some. absurd (omega (arith, some)); after = refl })
 opens_none o errors.NoMemory cause = (0, record { answer = tt; part = omega arith; only = tt; can = λ some. absurd (omega (arith, some)); after = refl })
 opens_none o e cause = absurd cause
 
-pub none_told : {A : Type 0} {t t' : Option Objects} (e : SlateError) → t' ≡ t → IfSome t (λ o. FindsNext o (Err e)) → Told (λ o o'. OpensTold {A = A} o (Err e) o') t t'
-none_told e kept found = told_kept kept (λ o is. opens_none o e (subst (λ x. IfSome x (λ o. FindsNext o (Err e))) is found))
+pub none_modelled : {A : Type 0} {t t' : Option Objects} (e : SlateError) → t' ≡ t → IfSome t (λ o. FindsNext o (Err e)) → WhereModelled (λ o o'. OpensModelled {A = A} o (Err e) o') t t'
+none_modelled e kept found = modelled_kept kept (λ o is. opens_none o e (subst (λ x. IfSome x (λ o. FindsNext o (Err e))) is found))
 
 -- an opening that answers an error, and one that answers a handle
-pub opens_err : {is_stored : Line → Type 0} (keeps_log : Bool) (limit : ℕ) (before after : Known (List Batch)) (e : SlateError) → CountsFaults {A = Handle} before.faults after.faults (Err e) → Told (λ o o'. OpensTold {A = Handle} o (Err e) o') before.objects after.objects → (made : ℕ) × OpensHandle (λ xs. xs) OpenFault is_stored made keeps_log limit before (Err e) after
-opens_err keeps_log limit before after e fault told =
-    let m = made_once before.objects after.objects told in
+pub opens_err : {is_stored : Line → Type 0} (keeps_log : Bool) (limit : ℕ) (before after : Known (List Batch)) (e : SlateError) → CountsFaults {A = Handle} before.faults after.faults (Err e) → WhereModelled (λ o o'. OpensModelled {A = Handle} o (Err e) o') before.objects after.objects → (made : ℕ) × OpensHandle (λ xs. xs) OpenFault is_stored made keeps_log limit before (Err e) after
+opens_err keeps_log limit before after e fault answered =
+    let m = made_once before.objects after.objects answered in
     (m.0, record { opens = m.1; faults = fault; fresh = tt; handle = tt })
 
-pub opens_ok : (keeps_log : Bool) (limit : ℕ) (before after : Known (List Batch)) (h : Handle) → CountsFaults before.faults after.faults (Ok h) → Told (λ o o'. OpensTold o (Ok h) o') before.objects after.objects → (h.keeps_log ≡ keeps_log) × (h.limit ≡ limit) × (h.result ≡ None) → ((o : Objects) → before.objects ≡ Some o → IsSound o → h ≡ opened_handle keeps_log limit (opened_manifest o) (content o)) → (made : ℕ) × OpensHandle (λ xs. xs) OpenFault (IsContent before.objects) made keeps_log limit before (Ok h) after
-opens_ok keeps_log limit before after h fault told fresh sees =
-    let m = made_once before.objects after.objects told in (
+pub opens_ok : (keeps_log : Bool) (limit : ℕ) (before after : Known (List Batch)) (h : Handle) → CountsFaults before.faults after.faults (Ok h) → WhereModelled (λ o o'. OpensModelled o (Ok h) o') before.objects after.objects → (h.keeps_log ≡ keeps_log) × (h.limit ≡ limit) × (h.result ≡ None) → ((o : Objects) → before.objects ≡ Some o → IsSound o → h ≡ opened_handle keeps_log limit (opened_manifest o) (content o)) → (made : ℕ) × OpensHandle (λ xs. xs) OpenFault (IsContent before.objects) made keeps_log limit before (Ok h) after
+opens_ok keeps_log limit before after h fault answered fresh sees =
+    let m = made_once before.objects after.objects answered in (
       m.0,
       record {
         opens = m.1;
@@ -154,8 +154,8 @@ opens_ok keeps_log limit before after h fault told fresh sees =
     )
 
 -- the puts of an opening, and the replay after them
-pub opened_told : {t t0 t1 t2 : Option Objects} (view : VersionedManifest) (last : ℕ) (h : Handle) → IfSome t (λ o. FindsNext o (Ok (view, last))) → t0 ≡ t → Told (PutsOpening view (last + 1) (Ok tt)) t0 t1 → t2 ≡ t1 → Told (λ o o'. OpensTold o (Ok h) o') t t2
-opened_told {t} view last h found kept puts kept2 = record {
+pub opened_modelled : {t t0 t1 t2 : Option Objects} (view : VersionedManifest) (last : ℕ) (h : Handle) → IfSome t (λ o. FindsNext o (Ok (view, last))) → t0 ≡ t → WhereModelled (PutsOpening view (last + 1) (Ok tt)) t0 t1 → t2 ≡ t1 → WhereModelled (λ o o'. OpensModelled o (Ok h) o') t t2
+opened_modelled {t} view last h found kept puts kept2 = record {
   none = λ is. kept2 ∙ puts.none (kept ∙ is);
   some = λ o is.
       let p = puts.some o (kept ∙ is) in

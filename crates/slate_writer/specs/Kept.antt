@@ -3,7 +3,7 @@ use Rattle.slate_types.specs.Line.{AreNumberedFrom}
 use Rattle.slate_model.specs.Handle.{Handle}
 use Rattle.slate_writer.specs.declared.states.WriterState.TheInside.{Inside}
 
--- the handle that the fields stand for
+-- the handle that the fields represent
 abbrev pub kept_handle : Inside → Handle
 kept_handle a =
     record {

@@ -2,7 +2,7 @@ use Rattle.std.specs.Prelude.{◌≡◌, ℕ, ◌≤◌, ◌<◌, ◌⊎◌, Lis
 use Rattle.slate_types.specs.declared.batches.Batch.{Batch}
 use Rattle.slate_store.specs.declared.objects.VersionedManifest.{VersionedManifest}
 use Rattle.slate_types.specs.declared.store_errors.StoreFault.TheVariants.{Unavailable}
-use Rattle.slate_store.specs.Objects.{Objects, Change, PutManifest, PutLog, is_taken, latest_manifest}
+use Rattle.slate_store.specs.Objects.{Objects, Change, PutManifest, PutLog, is_present, latest_manifest}
 use Rattle.slate_store.specs.Logs.{IsReplayable, replayed}
 use Rattle.slate_errors.specs.declared.errors.SlateError.{SlateError}
 use Rattle.slate_errors.specs.declared.errors.SlateError.TheVariants as errors
@@ -27,8 +27,8 @@ opening_puts view fence = PutManifest view.id view.manifest ∷ PutLog fence [] 
 abbrev pub PutsOpening : VersionedManifest → ℕ → Result (Unit {0}) SlateError → Objects → Objects → Type 0
 PutsOpening view fence (Ok _) old new = new ≡ after_part 2 (opening_puts view fence) old
 PutsOpening view fence (Err errors.TransactionalObjectVersionExists) old new =
-    ((is_taken (PutManifest view.id view.manifest) old ≡ true) × (new ≡ old))
-    ⊎ ((is_taken (PutLog fence []) old ≡ true) × (new ≡ after_part 1 (opening_puts view fence) old))
+    ((is_present (PutManifest view.id view.manifest) old ≡ true) × (new ≡ old))
+    ⊎ ((is_present (PutLog fence []) old ≡ true) × (new ≡ after_part 1 (opening_puts view fence) old))
 PutsOpening view fence (Err (errors.ObjectStoreError Unavailable)) old new =
     (made : ℕ) × (made ≤ 2) × (new ≡ after_part made (opening_puts view fence) old)
 PutsOpening view fence (Err errors.NoMemory) old new =

@@ -1,5 +1,5 @@
 ghost use Rattle.std.specs.Prelude.{◌≡◌, ◌≤◌, ℕ, IfSome};
-ghost use Rattle.slate_store.specs.Calls.{Told};
+ghost use Rattle.slate_store.specs.Calls.{WhereModelled};
 ghost use Rattle.slate_model.specs.Flush.{CanFlush, FindsCurrent, Flushes, Stores, StoresBatches, flushed, recorded};
 ghost use Rattle.slate_model.specs.Known.{CountsFaults, known};
 ghost use Rattle.slate_writer.specs.Appends.{AppendsLog};
@@ -76,7 +76,7 @@ fn store_batches<S: Store>(
     view: &mut VersionedManifest,
 ) -> Result<(), SlateError>
     ensures faults { CountsFaults (S.faults store.old) (S.faults store.new) result }
-    ensures told { Told (λ o o'. (made : ℕ) × StoresBatches (λ batches. batches) epoch batches.now o result view.old view.new made o') (S.objects store.old) (S.objects store.new) }
+    ensures where_modelled { WhereModelled (λ o o'. (made : ℕ) × StoresBatches (λ batches. batches) epoch batches.now o result view.old view.new made o') (S.objects store.old) (S.objects store.new) }
 {
     *view = current_manifest(alloc, store, epoch)?;
     if batches.is_empty() {
@@ -93,7 +93,7 @@ pub(crate) fn current_manifest<S: Store>(
 ) -> Result<VersionedManifest, SlateError>
     ensures faults { CountsFaults (S.faults store.old) (S.faults store.new) result }
     ensures kept { S.objects store.new ≡ S.objects store.old }
-    ensures told { IfSome (S.objects store.old) (λ o. FindsCurrent epoch o result) }
+    ensures where_modelled { IfSome (S.objects store.old) (λ o. FindsCurrent epoch o result) }
 {
     let Some(latest) = store.latest_manifest(alloc)? else {
         return Err(SlateError::LatestTransactionalObjectVersionMissing);
@@ -112,7 +112,7 @@ fn append_log<S: Store>(
     batches: &[Batch],
 ) -> Result<(), SlateError>
     ensures faults { CountsFaults (S.faults store.old) (S.faults store.new) result }
-    ensures told { Told (AppendsLog mark batches.now result) (S.objects store.old) (S.objects store.new) }
+    ensures where_modelled { WhereModelled (AppendsLog mark batches.now result) (S.objects store.old) (S.objects store.new) }
 {
     let last = store.last_log(alloc, mark)?;
     let Some(id) = last.checked_add(1) else {

@@ -1,7 +1,7 @@
 ghost use Rattle.std.specs.Prelude.{◌≡◌, ℕ, ◌+◌, ◌<◌, ◌^◌, true, None, Some, Ok, length, IfErr, IfOk, IfSome};
 ghost use Rattle.std.specs.Option.{option_copied};
 ghost use Rattle.slate_types.specs.Line.{AreNumberedFrom};
-ghost use Rattle.slate_store.specs.Calls.{IsCall, IsOfList, Told};
+ghost use Rattle.slate_store.specs.Calls.{IsCall, IsOfList, WhereModelled};
 ghost use Rattle.slate_store.specs.declared.objects.VersionedManifest.{VersionedManifest};
 ghost use Rattle.slate_store.specs.Objects.{latest_manifest};
 ghost use Rattle.slate_model.specs.Known.{CountsFaults, IsContent, known};
@@ -150,7 +150,7 @@ fn find_log<S: Store>(
     ensures kept { S.objects store.new ≡ S.objects store.old }
     ensures can { IfOk result (λ last. can_open_by (option_copied latest.entry) last ≡ true) }
     ensures below { IfOk result (λ last. last < last_number) }
-    ensures told { IfSome (S.objects store.old) (λ o. option_copied latest.entry ≡ latest_manifest o → FindsLog o result) }
+    ensures where_modelled { IfSome (S.objects store.old) (λ o. option_copied latest.entry ≡ latest_manifest o → FindsLog o result) }
 {
     let mark = match latest {
         Some(latest) if !can_reopen(latest) => return Err(SlateError::InvalidDBState),
@@ -168,7 +168,7 @@ fn find_log<S: Store>(
 fn find_next<S: Store>(alloc: Global, store: &mut S) -> Result<(VersionedManifest, u64), SlateError>
     ensures faults { CountsFaults (S.faults store.old) (S.faults store.new) result }
     ensures kept { S.objects store.new ≡ S.objects store.old }
-    ensures told { IfSome (S.objects store.old) (λ o. FindsNext o result) }
+    ensures where_modelled { IfSome (S.objects store.old) (λ o. FindsNext o result) }
     ensures below { IfOk result (λ found. found.1 < last_number) }
 {
     let latest = store.latest_manifest(alloc)?;
@@ -184,7 +184,7 @@ fn put_opening<S: Store>(
     fence: u64,
 ) -> Result<(), SlateError>
     ensures faults { CountsFaults (S.faults store.old) (S.faults store.new) result }
-    ensures told { Told (PutsOpening view.now fence result) (S.objects store.old) (S.objects store.new) }
+    ensures where_modelled { WhereModelled (PutsOpening view.now fence result) (S.objects store.old) (S.objects store.new) }
 {
     store.put_manifest(alloc, view.id, &view.manifest)?;
     Ok(store.put_log(alloc, fence, &[])?)
@@ -195,7 +195,7 @@ fn is_fenced<S: Store>(alloc: Global, store: &mut S, epoch: u64) -> Result<bool,
     ensures counts { IsCall (S.faults store.old) (S.faults store.new) (S.calls store.old) (S.calls store.new) result }
     ensures kept { S.objects store.new ≡ S.objects store.old }
     ensures refusals { IfErr result IsOfList }
-    ensures told { IfSome (S.objects store.old) (λ o. result ≡ Ok true →
+    ensures where_modelled { IfSome (S.objects store.old) (λ o. result ≡ Ok true →
         (latest : VersionedManifest) × (latest_manifest o ≡ Some latest) × (epoch < latest.manifest.writer_epoch)) }
 {
     match store.latest_manifest(alloc)? {
@@ -215,11 +215,11 @@ fn recover<S: Store>(
     ensures kept { S.objects store.new ≡ S.objects store.old }
     ensures numbered { IfOk result (λ batches. AreNumberedFrom view.now.manifest.last_l0_seq batches) }
     ensures fits { IfOk result (λ batches. view.now.manifest.last_l0_seq + length batches < 2 ^ 64) }
-    ensures told { IfSome (S.objects store.old) (λ o. Recovers view.now last o result) }
+    ensures where_modelled { IfSome (S.objects store.old) (λ o. Recovers view.now last o result) }
 {
     let manifest = &view.manifest;
     let (memory, replayed) = slate_replay::recover(alloc, store, manifest, last)?;
-    let Replayed::Torn(id) = replayed else {
+    let Replayed::Truncated(id) = replayed else {
         return Ok(memory);
     };
     if is_fenced(alloc, store, manifest.writer_epoch)? {

@@ -13,7 +13,7 @@ use Rattle.slate_live.specs.World.{start}
 use Rattle.slate_live.proofs.Chains.{Done}
 use Rattle.slate_live.proofs.runs.run.Given as goal
 
--- the commands so far led to a world that state and store stand for, and there is room for the replies to the others
+-- the commands so far led to a world that state and store represent, and there is room for the replies to the others
 abbrev pub invariant-loop-command : goal.invariant-loop-command
 invariant-loop-command g l =
     record {

@@ -1,21 +1,21 @@
 use Rattle.std.proofs.Common.{◌++◌, length, refl, ap, ◌∙◌, arith, length-append, append_assoc}
 use Rattle.std.proofs.lemmas.Result.{err_from_is_err_and}
-use Rattle.slate_replay.proofs.Replaying.{missing-torn, failed-front, unfinished-front, gap-torn, whole-next, whole-end, known}
+use Rattle.slate_replay.proofs.Replaying.{missing-truncated, failed-front, unfinished-front, gap-truncated, whole-next, whole-end, known}
 use Rattle.slate_replay.proofs.replays.replay.Goals as goal
 
-pub returns-in-Err-NotFound-clause-told : goal.returns-in-Err-NotFound-clause-told
-returns-in-Err-NotFound-clause-told g c =
+pub returns-in-Err-NotFound-clause-where_modelled : goal.returns-in-Err-NotFound-clause-where_modelled
+returns-in-Err-NotFound-clause-where_modelled g c =
     let i = c.loop-before.invariant in
     known _ _ i.kept i.whole c.in-Err-NotFound.ensures.found
-    (λ o whole found. missing-torn c.args.mark c.loop-before.before c.args.floor c.args.memory.now c.loop-before.memory o (omega arith) whole c.args.last (omega arith) (rw c.in-Err-NotFound.field-0-is at found))
+    (λ o whole found. missing-truncated c.args.mark c.loop-before.before c.args.floor c.args.memory.now c.loop-before.memory o (omega arith) whole c.args.last (omega arith) (rw c.in-Err-NotFound.field-0-is at found))
 
-pub returns-then-not-branch-clause-told : goal.returns-then-not-branch-clause-told
-returns-then-not-branch-clause-told g c =
+pub returns-then-not-branch-clause-where_modelled : goal.returns-then-not-branch-clause-where_modelled
+returns-then-not-branch-clause-where_modelled g c =
     let i = c.loop-before.invariant in
     let grows = c.in_ok-append_next.ensures.grows in
     let l = ap length grows.1 ∙ length-append c.loop-before.memory grows.0 in
     known _ _ i.kept i.whole c.in-Ok.ensures.found
-    (λ o whole found. gap-torn c.args.mark c.loop-before.before c.args.floor c.args.memory.now c.loop-before.memory o (omega arith) whole c.in-Ok.log found c.append_next.new.memory (omega (arith, l)) c.args.last (omega arith) (rw (c.if-not-branch.true, c.into_vec.ensures) at c.in_ok-append_next.ensures.appended))
+    (λ o whole found. gap-truncated c.args.mark c.loop-before.before c.args.floor c.args.memory.now c.loop-before.memory o (omega arith) whole c.in-Ok.log found c.append_next.new.memory (omega (arith, l)) c.args.last (omega arith) (rw (c.if-not-branch.true, c.into_vec.ensures) at c.in_ok-append_next.ensures.appended))
 
 pub loop-before-preserved : goal.loop-before-preserved
 loop-before-preserved g c =
@@ -33,20 +33,20 @@ loop-before-preserved g c =
           (λ o whole found. whole-next c.args.mark c.loop-before.before c.args.floor c.args.memory.now c.loop-before.memory o (omega arith) whole c.in-Ok.log found c.append_next.new.memory (omega (arith, l)) (rw (c.if-not-branch.false, c.into_vec.ensures) at e.appended));
     }
 
-pub returns-clause-told : goal.returns-clause-told
-returns-clause-told g c =
+pub returns-clause-where_modelled : goal.returns-clause-where_modelled
+returns-clause-where_modelled g c =
     let i = c.loop-before.invariant in
     known _ _ refl i.whole i.whole
     (λ o whole again. whole-end c.args.mark c.loop-before.before c.args.last c.args.floor c.args.memory.now c.loop-before.memory o (omega arith) (omega arith) whole)
 
-pub returns-in-Err-clause-told : goal.returns-in-Err-clause-told
-returns-in-Err-clause-told g c =
+pub returns-in-Err-clause-where_modelled : goal.returns-in-Err-clause-where_modelled
+returns-in-Err-clause-where_modelled g c =
     let i = c.loop-before.invariant in
     known _ _ refl i.whole i.whole
     (λ o whole again. failed-front c.args.mark c.loop-before.before c.args.floor c.args.memory.now c.loop-before.memory o (omega arith) whole c.args.last (omega arith))
 
-pub returns-in_err-append_next-clause-told : goal.returns-in_err-append_next-clause-told
-returns-in_err-append_next-clause-told g c =
+pub returns-in_err-append_next-clause-where_modelled : goal.returns-in_err-append_next-clause-where_modelled
+returns-in_err-append_next-clause-where_modelled g c =
     let i = c.loop-before.invariant in
     let p = err_from_is_err_and c.from_residual.result c.from_residual.ensures.1 in
     rw p.1

@@ -1,5 +1,5 @@
 use Rattle.std.proofs.Common.{◌≡◌, ◌-◌, ◌<◌, ◌≤◌, ◌++◌, length, vec_len}
-use Rattle.slate_types.specs.Telling.{Told}
+use Rattle.slate_types.specs.Modelled.{WhereModelled}
 use Rattle.slate_streams.specs.declared.whole.TheConstants.{MAX_SCRIPT}
 use Rattle.slate_streams.proofs.whole.read_whole.Given as goal
 
@@ -8,7 +8,7 @@ invariant-loop-count g l = record {
   room : 0 < length l.room;
   limit : vec_len l.bytes ≤ MAX_SCRIPT;
   faults : g.I.Source.faults l.fn.source ≤ g.I.Source.faults l.source;
-  told : Told (λ left left'. left ≡ l.bytes.items ++ left') (g.I.Source.left l.fn.source) (g.I.Source.left l.source);
+  where_modelled : WhereModelled (λ left left'. left ≡ l.bytes.items ++ left') (g.I.Source.left l.fn.source) (g.I.Source.left l.source);
 }
 
 abbrev pub decreases-loop-count : goal.decreases-loop-count

@@ -20,5 +20,5 @@ returns-clause-acts g c =
       Some c.in-Some.message,
       _,
       rw (moment_back, ← c.self.view_is) at c.in-Some.ensures.takes,
-      (c.handle.result, record { step = c.handle.ensures.step; told = c.handle.ensures.answer }, answer, refl),
+      (c.handle.result, record { step = c.handle.ensures.step; reported = c.handle.ensures.answer }, answer, refl),
     )

@@ -1,31 +1,31 @@
 use Rattle.std.proofs.Common.{◌∙◌, ap, rules}
 use Rattle.std.proofs.lemmas.Result.{err_from_is_err_and}
 use Rattle.slate_model.specs.Open.{latest_tick}
-use Rattle.slate_writer.proofs.Openings.{none_told, opened_told, opens_err, opens_ok, puts_told, recovered_at, recovered_told, recovery_told}
+use Rattle.slate_writer.proofs.Openings.{none_modelled, opened_modelled, opens_err, opens_ok, puts_modelled, recovered_at, recovered_modelled, recovery_modelled}
 use Rattle.slate_writer.proofs.states.WriterState.open.Goals as goal
 
 pub returns-in_err-view : goal.returns-in_err-view
 returns-in_err-view g c =
     let p = err_from_is_err_and c.from_residual.result c.from_residual.ensures.1 in
-    rw (p.1, p.2) (opens_err c.args.options.now.wal_enabled c.args.options.now.max_unflushed_bytes _ _ _ (search rules) (none_told _ c.in_err-view.ensures.kept c.in_err-view.ensures.told))
+    rw (p.1, p.2) (opens_err c.args.options.now.wal_enabled c.args.options.now.max_unflushed_bytes _ _ _ (search rules) (none_modelled _ c.in_err-view.ensures.kept c.in_err-view.ensures.where_modelled))
 
 pub returns-in_err-put_opening : goal.returns-in_err-put_opening
 returns-in_err-put_opening g c =
     let p = err_from_is_err_and c.from_residual-in_err-put_opening.result c.from_residual-in_err-put_opening.ensures.1 in
     rw (p.1, p.2) (opens_err c.args.options.now.wal_enabled c.args.options.now.max_unflushed_bytes _ _ _ (search rules)
-    (puts_told c.in_ok-view.view c.in_ok-view.last _ c.in_ok-view.ensures.told c.in_ok-view.ensures.kept c.in_err-put_opening.ensures.told))
+    (puts_modelled c.in_ok-view.view c.in_ok-view.last _ c.in_ok-view.ensures.where_modelled c.in_ok-view.ensures.kept c.in_err-put_opening.ensures.where_modelled))
 
 pub returns-in_err-memory : goal.returns-in_err-memory
 returns-in_err-memory g c =
     let p = err_from_is_err_and c.from_residual-in_err-memory.result c.from_residual-in_err-memory.ensures.1 in
     rw (p.1, p.2) (opens_err c.args.options.now.wal_enabled c.args.options.now.max_unflushed_bytes _ _ _ (search rules)
-    (recovery_told c.in_ok-view.view c.in_ok-view.last c.in_ok-view.ensures.told c.in_ok-view.ensures.kept c.in_ok-put_opening.ensures.told _ c.in_err-memory.ensures.kept c.in_err-memory.ensures.told))
+    (recovery_modelled c.in_ok-view.view c.in_ok-view.last c.in_ok-view.ensures.where_modelled c.in_ok-view.ensures.kept c.in_ok-put_opening.ensures.where_modelled _ c.in_err-memory.ensures.kept c.in_err-memory.ensures.where_modelled))
 
 pub returns : goal.returns
 returns g c =
     let fresh = c.new.ensures in
     rw c.new.ensures (opens_ok c.args.options.now.wal_enabled c.args.options.now.max_unflushed_bytes _ _ _ (search rules)
-    (opened_told c.in_ok-view.view c.in_ok-view.last _ c.in_ok-view.ensures.told c.in_ok-view.ensures.kept c.in_ok-put_opening.ensures.told c.in_ok-memory.ensures.kept)
+    (opened_modelled c.in_ok-view.view c.in_ok-view.last _ c.in_ok-view.ensures.where_modelled c.in_ok-view.ensures.kept c.in_ok-put_opening.ensures.where_modelled c.in_ok-memory.ensures.kept)
     (search rules)
     (λ o is sound. recovered_at c.args.options.now.wal_enabled c.args.options.now.max_unflushed_bytes c.in_ok-view.view c.in_ok-memory.memory c.batches.result.now _ c.batches.ensures (search rules ∙ (c.latest_tick.ensures ∙ (ap (latest_tick _) c.batches-2.ensures ∙ ap (λ t. latest_tick t c.in_ok-memory.memory) (search rules))))
-    ∙ recovered_told c.in_ok-view.view c.in_ok-view.last c.in_ok-view.ensures.told c.in_ok-view.ensures.kept c.in_ok-put_opening.ensures.told c.args.options.now.wal_enabled c.args.options.now.max_unflushed_bytes c.in_ok-memory.memory c.in_ok-memory.ensures.told o is sound))
+    ∙ recovered_modelled c.in_ok-view.view c.in_ok-view.last c.in_ok-view.ensures.where_modelled c.in_ok-view.ensures.kept c.in_ok-put_opening.ensures.where_modelled c.args.options.now.wal_enabled c.args.options.now.max_unflushed_bytes c.in_ok-memory.memory c.in_ok-memory.ensures.where_modelled o is sound))

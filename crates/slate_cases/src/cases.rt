@@ -1,7 +1,7 @@
 use crate::failures::Failure;
 use slate_live::read_number;
 use slate_store::FailingCall;
-use std::alloc::Global;
+use std::alloc::{AllocError, Global};
 use std::str;
 
 /// A script, how it is run, and what comes of it.
@@ -33,51 +33,49 @@ impl Case {
         let mut number = 0u64;
         for line in settings.split_inclusive(is_newline) {
             number = number.saturating_add(1);
-            case.set(alloc, without_newline(line), Failure::Setting(number))?;
+            if !case.set(alloc, without_newline(line))? {
+                return Err(Failure::Setting(number));
+            }
         }
         Ok(case)
     }
 
-    /// Takes what a line before the script sets, or answers `refusal` where it sets nothing.
-    fn set(&mut self, alloc: Global, line: &[u8], refusal: Failure) -> Result<(), Failure> {
+    /// Takes what a line before the script sets, and answers whether it sets something.
+    fn set(&mut self, alloc: Global, line: &[u8]) -> Result<bool, AllocError> {
         let fields: Vec<&[u8]> = line.split(|byte| *byte == b' ').collect(alloc)?;
         match fields.as_slice() {
-            [b"words", words @ ..] => self.add_words(alloc, words, refusal),
-            [b"fails", number, b"lost"] => self.add_failing(number, false, refusal),
-            [b"fails", number, b"landed"] => self.add_failing(number, true, refusal),
-            [b"status", number] => {
-                let number = read_number(number).and_then(|number| u8::try_from(number).ok());
-                self.status = number.ok_or(refusal)?;
-                Ok(())
-            }
-            _ => Err(refusal),
+            [b"words", words @ ..] => self.add_words(alloc, words),
+            [b"fails", number, b"lost"] => self.add_failing(number, false),
+            [b"fails", number, b"landed"] => self.add_failing(number, true),
+            [b"status", number] => Ok(self.set_status(number)),
+            _ => Ok(false),
         }
     }
 
-    fn add_words(
-        &mut self,
-        alloc: Global,
-        words: &[&[u8]],
-        refusal: Failure,
-    ) -> Result<(), Failure> {
+    fn add_words(&mut self, alloc: Global, words: &[&[u8]]) -> Result<bool, AllocError> {
         for word in words {
             let Ok(word) = str::from_utf8(word) else {
-                return Err(refusal);
+                return Ok(false);
             };
             self.words.push(String::from_str(alloc, word)?)?;
         }
-        Ok(())
+        Ok(true)
     }
 
-    fn add_failing(
-        &mut self,
-        number: &[u8],
-        landed: bool,
-        refusal: Failure,
-    ) -> Result<(), Failure> {
-        let at = read_number(number).ok_or(refusal)?;
+    fn add_failing(&mut self, number: &[u8], landed: bool) -> Result<bool, AllocError> {
+        let Some(at) = read_number(number) else {
+            return Ok(false);
+        };
         self.failing.push(FailingCall { at, landed })?;
-        Ok(())
+        Ok(true)
+    }
+
+    fn set_status(&mut self, number: &[u8]) -> bool {
+        let Some(status) = read_number(number).and_then(|number| u8::try_from(number).ok()) else {
+            return false;
+        };
+        self.status = status;
+        true
     }
 }
 

@@ -16,5 +16,5 @@ returns-in_err-memory-clause-told g c =
 
 pub returns-clause-handle : goal.returns-clause-handle
 returns-clause-handle g c o is sound =
-    rw c.new.ensures (recovered_at c.args.options.now.wal_enabled c.args.options.now.max_unflushed_bytes c.in_ok-view.view c.in_ok-memory.memory c.batches.result.now _ c.batches.ensures (search rules ∙ (c.latest_tick.ensures ∙ (ap (latest_tick _) c.batches-2.ensures ∙ ap (λ t. latest_tick t c.in_ok-memory.memory) (search rules))))
+    rw c.new.ensures (recovered_at c.args.options.now.wal_enabled c.args.options.now.max_unflushed_bytes c.in_ok-view.view c.in_ok-memory.memory c.batches.result.now _ c.batches.ensures.value (search rules ∙ (c.latest_tick.ensures ∙ (ap (latest_tick _) c.batches-2.ensures.value ∙ ap (λ t. latest_tick t c.in_ok-memory.memory) (search rules))))
     ∙ recovered_told c.in_ok-view.view c.in_ok-view.last c.in_ok-view.ensures.told c.in_ok-view.ensures.kept c.in_ok-put_opening.ensures.told c.args.options.now.wal_enabled c.args.options.now.max_unflushed_bytes c.in_ok-memory.memory c.in_ok-memory.ensures.told o is sound)

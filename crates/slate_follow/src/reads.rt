@@ -36,8 +36,8 @@ impl FollowerState {
         if let Some(result) = self.closed.read() {
             return Err(SlateError::of_closed(result));
         }
-        let tables = std::slice::from_ref(&self.memory);
+        let memory = std::slice::from_ref(&self.memory);
         let bound = Some(self.number());
-        Ok(read_indexed(alloc, &[], tables, bound, key, operator)?)
+        Ok(read_indexed(alloc, &[], &[], memory, bound, key, operator)?)
     }
 }

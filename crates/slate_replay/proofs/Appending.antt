@@ -5,6 +5,7 @@ use Rattle.std.proofs.lemmas.List.Elements.{All-append, All-from_recursion, filt
 use Rattle.slate_types.specs.declared.batches.Batch.{Batch}
 use Rattle.slate_types.specs.Line.{AreNumberedFrom, batches_above}
 use Rattle.slate_types.proofs.Lines.{above-push}
+use Rattle.slate_reads.specs.Index.{IsAboveLast}
 use Rattle.slate_replay.specs.Replay.{EndBy, ComeNext, AppendsNext, IsFront}
 use Rattle.slate_replay.proofs.Logs.{numbered-parts}
 
@@ -70,6 +71,12 @@ module _ (floor : ℕ) (old m xs : List Batch) (b : Batch) (so_far : AppendsNext
             let next = next-is (omega arith) (front-next n (xs ++ b ∷ []) rest (subst (ComeNext n) (sym is) h)) in
             omega arith,
       )
+
+-- a number past the end of a line is above that of its last batch
+pub numbered-last : (floor n : ℕ) (batches : List Batch) → AreNumberedFrom floor batches → floor + length batches < n → IsAboveLast n batches
+numbered-last floor n [] h less = tt
+numbered-last floor n (b ∷ []) h less = omega (arith, h.0)
+numbered-last floor n (b ∷ x ∷ batches) h less = numbered-last (floor + 1) n (x ∷ batches) h.1 (omega arith)
 
 -- what was appended so far is a front of what is appended in all
 pub unfinished : (floor : ℕ) (old m xs all : List Batch) → AppendsNext floor old m xs (Ok true) → xs ≡ take (length xs) all → ComeNext (floor + length old) all → IsFront m (old ++ batches_above (floor + length old) all)

@@ -1,12 +1,13 @@
-ghost use Rattle.std.specs.Prelude.{◌≡◌, ◌≢◌, ◌+◌, ◌<◌, ◌≤◌, ◌^◌, ◌++◌, ℕ, List, Err, length, IfSome};
+ghost use Rattle.std.specs.Prelude.{◌≡◌, ◌≢◌, ◌+◌, ◌<◌, ◌≤◌, ◌^◌, ◌++◌, [], ◌∷◌, ℕ, List, Err, OnOk, OnErr, length, IfSome};
 ghost use Rattle.slate_types.specs.Counts.{HasRisen};
 ghost use Rattle.slate_types.specs.Line.{AreNumberedFrom};
 ghost use Rattle.slate_types.specs.declared.batches.Batch.{Batch};
+ghost use Rattle.slate_reads.specs.Index.{IsAboveLast};
 ghost use Rattle.slate_replay.specs.Replay.{Replays, AppendsNext};
 
 use slate_reads::IndexedTable;
 use slate_store::Store;
-use slate_types::{Batch, StoreError};
+use slate_types::{Batch, NoMemory, StoreError};
 use std::alloc::Global;
 
 /// How a replay ended.
@@ -23,7 +24,8 @@ pub enum Replayed {
 ///
 /// It ends at the first log file that isn't stored, or that has a batch past the next number. It answers `Failed`,
 /// where a read of the store failed, and `NoMemory`; `memory` has the first of the batches then, and another replay
-/// goes on after them. It takes time linear in the batches that it reads, and copies none.
+/// goes on after them. It takes time linear in the batches that it reads, and copies the lists of operations of those that
+/// it appends, and no key and no value.
 pub fn replay<S: Store>(
     alloc: Global,
     store: &mut S,
@@ -51,7 +53,7 @@ pub fn replay<S: Store>(
             Err(StoreError::NotFound) => return Ok(Replayed::Truncated(id)),
             Err(error) => return Err(error),
         };
-        if !append_next(memory, floor, log.into_vec())? {
+        if !append_next(memory, floor, log.batches())? {
             return Ok(Replayed::Truncated(id));
         }
     }
@@ -60,17 +62,13 @@ pub fn replay<S: Store>(
 
 /// Appends the batches of a log file that come next, in order, and passes those that are there already. It answers
 /// whether all did: it ends at one past the next number.
-fn append_next(
-    memory: &mut IndexedTable,
-    floor: u64,
-    batches: Vec<Batch>,
-) -> Result<bool, StoreError>
+fn append_next(memory: &mut IndexedTable, floor: u64, batches: &[Batch]) -> Result<bool, StoreError>
     requires numbered { AreNumberedFrom floor memory.old }
     requires fits { floor + length memory.old < 2 ^ 64 }
     ensures numbered { AreNumberedFrom floor memory.new }
     ensures fits { floor + length memory.new < 2 ^ 64 }
     ensures grows { (added : List Batch) × (memory.new ≡ memory.old ++ added) }
-    ensures appended { AppendsNext floor memory.old memory.new batches.items result }
+    ensures appended { AppendsNext floor memory.old memory.new batches.now result }
 {
     for batch in batches {
         let end = floor + memory.batches().len() as u64;
@@ -80,9 +78,21 @@ fn append_next(
         if batch.number - 1 != end {
             return Ok(false);
         }
-        if memory.push(batch).is_err() {
+        if push_copy(memory, batch).is_err() {
             return Err(StoreError::NoMemory);
         }
     }
     Ok(true)
+}
+
+/// Adds a copy of a batch, which shares its keys and values.
+fn push_copy(memory: &mut IndexedTable, batch: &Batch) -> Result<(), NoMemory>
+    requires { IsAboveLast batch.now.number memory.old }
+    ensures ok { OnOk result (memory.new ≡ memory.old ++ batch.now ∷ []) }
+    ensures err { OnErr result (memory.new ≡ memory.old) }
+{
+    match memory.push(batch.clone()?) {
+        Ok(()) => Ok(()),
+        Err(_batch) => Err(NoMemory),
+    }
 }

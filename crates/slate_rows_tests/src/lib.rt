@@ -5,3 +5,5 @@
 mod lists;
 #[cfg(test)]
 mod rows;
+#[cfg(test)]
+mod tables;

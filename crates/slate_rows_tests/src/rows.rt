@@ -242,7 +242,15 @@ fn indexed_reads(rt: HostRuntime) -> Result<(), Fail> {
         (b"c", Some(2), Some(b"2".as_slice())),
         (b"d", None, Some(b"9".as_slice())),
     ] {
-        let row = read_indexed(alloc, &older, &tables, bound, key, Some(&ConcatOperator))?;
+        let row = read_indexed(
+            alloc,
+            &older,
+            &[],
+            &tables,
+            bound,
+            key,
+            Some(&ConcatOperator),
+        )?;
         assert_eq!(rt; row.as_ref().map(|row| row.value.as_slice()), want);
     }
     Ok(())

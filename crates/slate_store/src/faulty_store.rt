@@ -1,6 +1,6 @@
 ghost use Rattle.std.specs.Prelude.{◌≡◌, ◌≤◌, ◌==◌, find};
 
-use crate::{Manifest, Store, VersionedManifest};
+use crate::{LogFile, Manifest, Store, VersionedManifest};
 use slate_types::{Batch, Seq, StoreError};
 use std::alloc::Global;
 use std::marker::Model;
@@ -181,7 +181,7 @@ impl<S: Store> Store for FaultyStore<S> {
         fate.answer_with(self.inner.last_log(alloc, after))
     }
 
-    fn read_log(&mut self, alloc: Global, id: u64) -> Result<Seq<Batch>, StoreError>
+    fn read_log(&mut self, alloc: Global, id: u64) -> Result<LogFile, StoreError>
         ensures counts { IsCall (S.faults self.old.inner + self.old.faults)
             (S.faults self.new.inner + self.new.faults) self.old.calls self.new.calls result }
         ensures kept { S.objects self.new.inner ≡ S.objects self.old.inner }

@@ -2,12 +2,14 @@
 #![tactic(auto)]
 
 mod faulty_store;
+mod log_files;
 mod memory_store;
 mod objects;
 mod reader_modes;
 mod stores;
 
 pub use faulty_store::{FailingCall, FaultyStore};
+pub use log_files::LogFile;
 pub use memory_store::MemoryStore;
 pub use objects::{Checkpoint, Manifest, TableId, VersionedManifest};
 pub use reader_modes::DbReaderMode;

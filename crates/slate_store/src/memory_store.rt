@@ -2,8 +2,8 @@ ghost use Rattle.std.specs.Prelude.{◌≡◌, Some, []};
 ghost use Rattle.slate_types.specs.Counts.{one_more};
 ghost use Rattle.slate_store.specs.Objects.{empty};
 
-use crate::{Manifest, Store, VersionedManifest};
-use slate_types::{Batch, NoMemory, Seq, StoreError};
+use crate::{LogFile, Manifest, Store, VersionedManifest};
+use slate_types::{Batch, NoMemory, StoreError};
 use std::alloc::Global;
 use std::collections::BTreeMap;
 
@@ -15,7 +15,7 @@ use std::collections::BTreeMap;
 #[derive(Drop)]
 pub struct MemoryStore {
     manifests: BTreeMap<u64, Manifest>,
-    logs: BTreeMap<u64, Seq<Batch>>,
+    logs: BTreeMap<u64, LogFile>,
     calls: u64,
 }
 
@@ -82,11 +82,11 @@ impl Store for MemoryStore {
         }
     }
 
-    fn read_log(&mut self, alloc: Global, id: u64) -> Result<Seq<Batch>, StoreError> {
+    fn read_log(&mut self, alloc: Global, id: u64) -> Result<LogFile, StoreError> {
         self.count_call();
         match self.logs.get(&id) {
             None => Err(StoreError::NotFound),
-            Some(batches) => Ok(Batch::copies(alloc, batches.as_slice())?),
+            Some(log) => Ok(log.clone().map_err(NoMemory::from)?),
         }
     }
 
@@ -95,8 +95,8 @@ impl Store for MemoryStore {
         if self.logs.contains_key(&id) {
             return Err(StoreError::Exists);
         }
-        let batches = Batch::copies(alloc, batches)?;
-        self.logs.insert(id, batches).map_err(NoMemory::from)?;
+        let log = LogFile::new(alloc, Batch::copies(alloc, batches)?)?;
+        self.logs.insert(id, log).map_err(NoMemory::from)?;
         Ok(())
     }
 }

@@ -2,8 +2,8 @@ ghost use Rattle.std.specs.Prelude.{◌≡◌, ℕ, Option, IfSome, IfOk, IfErr}
 ghost use Rattle.slate_store.specs.Objects.{Objects, PutManifest, PutLog, latest_manifest, last_log, log_at};
 ghost use Rattle.slate_store.specs.Calls.{IsCall, WhereModelled, Finds, Puts, IsOfList, IsOfRead, IsOfPut};
 
-use crate::{Manifest, VersionedManifest};
-use slate_types::{Batch, Seq, StoreError};
+use crate::{LogFile, Manifest, VersionedManifest};
+use slate_types::{Batch, StoreError};
 use std::alloc::Global;
 
 /// An object store: manifests and log files, each under an id. An object is put once, and never changed.
@@ -45,8 +45,8 @@ pub trait Store {
         ensures found { IfSome (objects self.old) (λ o. IfOk result (λ last. last ≡ last_log after o)) }
         ensures refusals { IfErr result IsOfList };
 
-    /// The batches of a log file. It answers `NotFound` where none is stored under the id.
-    fn read_log(&mut self, alloc: Global, id: u64) -> Result<Seq<Batch>, StoreError>
+    /// A log file, with its batches shared. It answers `NotFound` where none is stored under the id.
+    fn read_log(&mut self, alloc: Global, id: u64) -> Result<LogFile, StoreError>
         ensures counts { IsCall (faults self.old) (faults self.new) (calls self.old) (calls self.new) result }
         ensures kept { objects self.new ≡ objects self.old }
         ensures found { IfSome (objects self.old) (λ o. Finds (log_at id o) result) }

@@ -26,7 +26,7 @@ pub(crate) fn left_in<S: Store>(alloc: Global, store: &mut S) -> Result<Left, St
     let last = store.last_log(alloc, 0)?;
     let batches = match store.read_log(alloc, last) {
         Err(StoreError::NotFound) => 0,
-        log => log?.as_slice().len(),
+        log => log?.batches().len(),
     };
     Ok((manifest, last, batches))
 }

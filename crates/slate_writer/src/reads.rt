@@ -47,7 +47,7 @@ impl WriterState {
             options.durability_filter,
             options.dirty,
         );
-        let tables = std::slice::from_ref(&self.memory);
-        Ok(read_indexed(alloc, &[], tables, bound, key, operator)?)
+        let memory = std::slice::from_ref(&self.memory);
+        Ok(read_indexed(alloc, &[], &[], memory, bound, key, operator)?)
     }
 }

@@ -1,56 +1,65 @@
-use Rattle.std.proofs.Common.{◌≡◌, ◌+◌, ◌<◌, ◌++◌, [], ◌∷◌, length, refl, ap, sym, ◌∙◌, arith, length-append, append_assoc}
-use Rattle.std.proofs.lemmas.List.{map-id}
-use Rattle.std.proofs.lemmas.List.Elements.{All-from_recursion}
-use Rattle.std.proofs.lemmas.Iterator.Adapters.{YieldsList-from_vec}
-use Rattle.std.proofs.lemmas.Iterator.Consumers.{YieldsList-turn, YieldsList-so_far}
-use Rattle.slate_types.proofs.Lines.{numbered-below, numbered-push}
-use Rattle.slate_replay.proofs.Appending.{passed, pushed, gap, unfinished}
+use Rattle.std.proofs.Common.{◌≡◌, ◌+◌, ◌++◌, [], ◌∷◌, length, take, get_or, Ok, true, refl, ap, sym, subst, ◌∙◌, arith, length-append, append_assoc}
+use Rattle.std.proofs.lemmas.List.{take_more, length-take-le}
+use Rattle.slate_types.proofs.Lines.{numbered-push}
+use Rattle.slate_replay.specs.Replay.{AppendsNext}
+use Rattle.slate_replay.proofs.Appending.{passed, pushed, gap, unfinished, numbered-last}
 use Rattle.slate_replay.proofs.replays.append_next.Goals as goal
 
 pub loop-batch-preserved-then-batch-end : goal.loop-batch-preserved-then-batch-end
 loop-batch-preserved-then-batch-end c =
     let i = c.loop-batch.invariant in
     let l = ap length i.grows.1 ∙ length-append c.args.memory.now i.grows.0 in
+    let all = c.args.batches.now in
+    let so_far = take c.loop-batch.batch-index all in
+    let b = c.batch-item.result in
+    let more : take (c.loop-batch.batch-index + 1) all ≡ so_far ++ b ∷ [] = take_more all c.loop-batch.batch-index b c.loop-batch-test.true ∙ ap (λ x. so_far ++ x ∷ []) (sym c.batch-item.is) in
     record {
       numbered = i.numbered;
       fits = i.fits;
       grows = i.grows;
-      appended = passed c.args.floor c.args.memory.now c.loop-batch.memory c.loop-batch.yielded c.in-Some.batch i.appended (omega (arith, l)) (omega (arith, ap length c.batches.ensures));
+      appended = subst (λ xs. AppendsNext c.args.floor c.args.memory.now c.loop-batch.memory xs (Ok true)) (sym more)
+          (passed c.args.floor c.args.memory.now c.loop-batch.memory so_far b i.appended (omega (arith, l)) (omega (arith, ap length c.batches.ensures.value)));
     }
 
 pub returns-then-batch-end-2-clause-appended : goal.returns-then-batch-end-2-clause-appended
 returns-then-batch-end-2-clause-appended c =
     let i = c.loop-batch.invariant in
     let l = ap length i.grows.1 ∙ length-append c.args.memory.now i.grows.0 in
-    let given = c.into_iter-batch-iterator.ensures.into_iter_gives in
-    let all = YieldsList-from_vec c.args.batches.items given.0 (given.1 ∙ c.args.batches.ok.0) in
-    let front = sym (map-id c.loop-batch.yielded) ∙ YieldsList-so_far all c.loop-batch.yielded c.loop-batch.batch-iterator c.loop-batch.yielded_by in
-    let turn = YieldsList-turn all c.loop-batch.yielded c.loop-batch.batch-iterator c.loop-batch.yielded_by c.next.result c.next.new.self c.in-Some.batch c.in-Some.is c.next.ensures.steps in
-    gap c.args.floor c.args.memory.now c.loop-batch.memory c.loop-batch.yielded c.in-Some.batch i.appended (omega (arith, l)) c.args.batches.items (omega (arith, ap length c.batches.ensures)) front turn
+    let all = c.args.batches.now in
+    let so_far = take c.loop-batch.batch-index all in
+    let b = c.batch-item.result in
+    let len : length so_far ≡ c.loop-batch.batch-index = length-take-le c.loop-batch.batch-index all (omega arith) in
+    let front = ap (λ n. take n all) (sym len) in
+    gap c.args.floor c.args.memory.now c.loop-batch.memory so_far b i.appended (omega (arith, l)) all (omega (arith, ap length c.batches.ensures.value)) front
+    (omega (arith, len), c.batch-item.is ∙ ap (λ n. get_or all n b) (sym len))
 
-pub push-requires : goal.push-requires
-push-requires c =
+pub push_copy-requires : goal.push_copy-requires
+push_copy-requires c =
     let i = c.loop-batch.invariant in
-    All-from_recursion (λ b. b.number < c.in-Some.batch.number) c.loop-batch.memory (numbered-below c.args.floor c.in-Some.batch.number c.loop-batch.memory i.numbered (omega (arith, ap length c.batches.ensures)))
+    numbered-last c.args.floor c.batch-item.result.number c.loop-batch.memory i.numbered (omega (arith, ap length c.batches.ensures.value))
 
 pub loop-batch-preserved : goal.loop-batch-preserved
 loop-batch-preserved c =
     let i = c.loop-batch.invariant in
-    let is : c.push.new.self ≡ c.loop-batch.memory ++ c.in-Some.batch ∷ [] = grind arith in
+    let all = c.args.batches.now in
+    let so_far = take c.loop-batch.batch-index all in
+    let b = c.batch-item.result in
+    let is : c.push_copy.new.memory ≡ c.loop-batch.memory ++ b ∷ [] = grind arith in
     let l = ap length i.grows.1 ∙ length-append c.args.memory.now i.grows.0 in
-    let next : c.in-Some.batch.number ≡ c.args.floor + length c.loop-batch.memory + 1 = omega (arith, ap length c.batches.ensures) in
+    let next : b.number ≡ c.args.floor + length c.loop-batch.memory + 1 = omega (arith, ap length c.batches.ensures.value) in
+    let more : take (c.loop-batch.batch-index + 1) all ≡ so_far ++ b ∷ [] = take_more all c.loop-batch.batch-index b c.loop-batch-test.true ∙ ap (λ x. so_far ++ x ∷ []) (sym c.batch-item.is) in
     rw is (record {
-      numbered = numbered-push c.args.floor c.loop-batch.memory c.in-Some.batch i.numbered next;
+      numbered = numbered-push c.args.floor c.loop-batch.memory b i.numbered next;
       fits = simp length-append (omega (arith, next));
-      grows = (i.grows.0 ++ c.in-Some.batch ∷ [], ap (λ xs. xs ++ c.in-Some.batch ∷ []) i.grows.1 ∙ append_assoc c.args.memory.now i.grows.0 (c.in-Some.batch ∷ []));
-      appended = pushed c.args.floor c.args.memory.now c.loop-batch.memory c.loop-batch.yielded c.in-Some.batch i.appended (omega (arith, l)) next;
+      grows = (i.grows.0 ++ b ∷ [], ap (λ xs. xs ++ b ∷ []) i.grows.1 ∙ append_assoc c.args.memory.now i.grows.0 (b ∷ []));
+      appended = subst (λ xs. AppendsNext c.args.floor c.args.memory.now (c.loop-batch.memory ++ b ∷ []) xs (Ok true)) (sym more) (pushed c.args.floor c.args.memory.now c.loop-batch.memory so_far b i.appended (omega (arith, l)) next);
     })
 
 pub returns-then-is_err-clause-appended : goal.returns-then-is_err-clause-appended
 returns-then-is_err-clause-appended c =
     let i = c.loop-batch.invariant in
-    let kept : c.push.new.self ≡ c.loop-batch.memory = grind arith in
-    let given = c.into_iter-batch-iterator.ensures.into_iter_gives in
-    let all = YieldsList-from_vec c.args.batches.items given.0 (given.1 ∙ c.args.batches.ok.0) in
-    let front = sym (map-id c.loop-batch.yielded) ∙ YieldsList-so_far all c.loop-batch.yielded c.loop-batch.batch-iterator c.loop-batch.yielded_by in
-    (refl, λ next. rw kept (unfinished c.args.floor c.args.memory.now c.loop-batch.memory c.loop-batch.yielded c.args.batches.items i.appended front next))
+    let kept : c.push_copy.new.memory ≡ c.loop-batch.memory = grind arith in
+    let all = c.args.batches.now in
+    let so_far = take c.loop-batch.batch-index all in
+    let len : length so_far ≡ c.loop-batch.batch-index = length-take-le c.loop-batch.batch-index all (omega arith) in
+    (refl, λ next. rw kept (unfinished c.args.floor c.args.memory.now c.loop-batch.memory so_far all i.appended (ap (λ n. take n all) (sym len)) next))

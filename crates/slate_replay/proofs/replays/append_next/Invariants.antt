@@ -1,4 +1,4 @@
-use Rattle.std.proofs.Common.{◌≡◌, ◌+◌, ◌<◌, ◌^◌, ◌++◌, List, Ok, true, length}
+use Rattle.std.proofs.Common.{◌≡◌, ◌+◌, ◌<◌, ◌^◌, ◌++◌, List, Ok, true, length, take}
 use Rattle.slate_types.specs.Line.{AreNumberedFrom}
 use Rattle.slate_types.specs.declared.batches.Batch.{Batch}
 use Rattle.slate_replay.specs.Replay.{AppendsNext}
@@ -9,5 +9,5 @@ invariant-loop-batch l = record {
   numbered : AreNumberedFrom l.floor l.memory;
   fits : l.floor + length l.memory < 2 ^ 64;
   grows : (added : List Batch) × (l.memory ≡ l.fn.memory ++ added);
-  appended : AppendsNext l.floor l.fn.memory l.memory l.yielded (Ok true);
+  appended : AppendsNext l.floor l.fn.memory l.memory (take l.batch-index l.batches) (Ok true);
 }

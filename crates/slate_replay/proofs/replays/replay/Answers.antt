@@ -15,7 +15,7 @@ returns-then-not-branch-clause-where_modelled g c =
     let grows = c.in_ok-append_next.ensures.grows in
     let l = ap length grows.1 ∙ length-append c.loop-before.memory grows.0 in
     known _ _ i.kept i.whole c.in-Ok.ensures.found
-    (λ o whole found. gap-truncated c.args.mark c.loop-before.before c.args.floor c.args.memory.now c.loop-before.memory o (omega arith) whole c.in-Ok.log found c.append_next.new.memory (omega (arith, l)) c.args.last (omega arith) (rw (c.if-not-branch.true, c.into_vec.ensures) at c.in_ok-append_next.ensures.appended))
+    (λ o whole found. gap-truncated c.args.mark c.loop-before.before c.args.floor c.args.memory.now c.loop-before.memory o (omega arith) whole c.in-Ok.log found c.append_next.new.memory (omega (arith, l)) c.args.last (omega arith) (rw (c.if-not-branch.true, c.batches.ensures) at c.in_ok-append_next.ensures.appended))
 
 pub loop-before-preserved : goal.loop-before-preserved
 loop-before-preserved g c =
@@ -30,7 +30,7 @@ loop-before-preserved g c =
       count = let n = c.read_log.ensures.counts.fault_count in omega (arith, n, i.count);
       within = omega arith;
       whole = known _ _ i.kept i.whole c.in-Ok.ensures.found
-          (λ o whole found. whole-next c.args.mark c.loop-before.before c.args.floor c.args.memory.now c.loop-before.memory o (omega arith) whole c.in-Ok.log found c.append_next.new.memory (omega (arith, l)) (rw (c.if-not-branch.false, c.into_vec.ensures) at e.appended));
+          (λ o whole found. whole-next c.args.mark c.loop-before.before c.args.floor c.args.memory.now c.loop-before.memory o (omega arith) whole c.in-Ok.log found c.append_next.new.memory (omega (arith, l)) (rw (c.if-not-branch.false, c.batches.ensures) at e.appended));
     }
 
 pub returns-clause-where_modelled : goal.returns-clause-where_modelled
@@ -51,4 +51,4 @@ returns-in_err-append_next-clause-where_modelled g c =
     let p = err_from_is_err_and c.from_residual.result c.from_residual.ensures.1 in
     rw p.1
     (known _ _ i.kept i.whole c.in-Ok.ensures.found
-    (λ o whole found. unfinished-front c.args.mark c.loop-before.before c.args.floor c.args.memory.now c.loop-before.memory o (omega arith) whole c.in-Ok.log found c.append_next.new.memory c.args.last (omega arith) (rw c.into_vec.ensures at c.in_err-append_next.ensures.appended.1)))
+    (λ o whole found. unfinished-front c.args.mark c.loop-before.before c.args.floor c.args.memory.now c.loop-before.memory o (omega arith) whole c.in-Ok.log found c.append_next.new.memory c.args.last (omega arith) (rw c.batches.ensures at c.in_err-append_next.ensures.appended.1)))

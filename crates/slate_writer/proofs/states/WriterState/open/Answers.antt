@@ -27,5 +27,5 @@ returns g c =
     rw c.new.ensures (opens_ok c.args.options.now.wal_enabled c.args.options.now.max_unflushed_bytes _ _ _ (search rules)
     (opened_modelled c.in_ok-view.view c.in_ok-view.last _ c.in_ok-view.ensures.where_modelled c.in_ok-view.ensures.kept c.in_ok-put_opening.ensures.where_modelled c.in_ok-memory.ensures.kept)
     (search rules)
-    (λ o is sound. recovered_at c.args.options.now.wal_enabled c.args.options.now.max_unflushed_bytes c.in_ok-view.view c.in_ok-memory.memory c.batches.result.now _ c.batches.ensures (search rules ∙ (c.latest_tick.ensures ∙ (ap (latest_tick _) c.batches-2.ensures ∙ ap (λ t. latest_tick t c.in_ok-memory.memory) (search rules))))
+    (λ o is sound. recovered_at c.args.options.now.wal_enabled c.args.options.now.max_unflushed_bytes c.in_ok-view.view c.in_ok-memory.memory c.batches.result.now _ c.batches.ensures.value (search rules ∙ (c.latest_tick.ensures ∙ (ap (latest_tick _) c.batches-2.ensures.value ∙ ap (λ t. latest_tick t c.in_ok-memory.memory) (search rules))))
     ∙ recovered_modelled c.in_ok-view.view c.in_ok-view.last c.in_ok-view.ensures.where_modelled c.in_ok-view.ensures.kept c.in_ok-put_opening.ensures.where_modelled c.args.options.now.wal_enabled c.args.options.now.max_unflushed_bytes c.in_ok-memory.memory c.in_ok-memory.ensures.where_modelled o is sound))

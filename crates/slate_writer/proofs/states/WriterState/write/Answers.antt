@@ -1,7 +1,7 @@
 use Rattle.std.proofs.Common.{◌≡◌, ◌+◌, ◌<◌, ◌^◌, length, length-append, arith, ap, sym, ◌∙◌}
-use Rattle.std.proofs.lemmas.List.Elements.{All-from_recursion}
 use Rattle.slate_model.specs.Handle.{accepted}
-use Rattle.slate_types.proofs.Lines.{numbered-below, numbered-push}
+use Rattle.slate_types.proofs.Lines.{numbered-push}
+use Rattle.slate_replay.proofs.Appending.{numbered-last}
 use Rattle.slate_writer.proofs.states.WriterState.write.Goals as goal
 
 pub push-requires : goal.push-requires
@@ -10,7 +10,7 @@ push-requires g c =
     let number = c.in-Ok.written.number in
     let admitted = rw c.in-Ok.is at c.admit.ensures.admitted in
     let next : number ≡ c.self.inside.floor + length memory + 1 = admitted.2 ∙ ap (λ h. accepted h + 1) (sym c.self.view_is) in
-    All-from_recursion (λ b. b.number < number) memory (numbered-below c.self.inside.floor number memory c.self.invariant.numbered (omega arith))
+    numbered-last c.self.inside.floor number memory c.self.invariant.numbered (omega arith)
 
 pub invariant_of-self-2 : goal.invariant_of-self-2
 invariant_of-self-2 g c =

@@ -1,3 +1,4 @@
+// A board, whose three words any thread reads without a lock and its lead alone changes, and its seats.
 ghost use Rattle.std.specs.Prelude.{◌≡◌, ◌≤◌, ◌≤ℤ◌, ◌<ℤ◌, ◌↔◌, max, true, false, IsTrue, IsFalse, IfOk, IfErr};
 ghost use Rattle.std.specs.Int.{int_max};
 ghost use Rattle.slate_board.specs.Views.{IsAtMost, first_code, greater_of};

@@ -1,3 +1,4 @@
+// What holds of a board after any steps of its seats, and of the words of ticks.
 ghost use Rattle.std.specs.Prelude.{◌≡◌, ℕ, ◌≤◌, ◌≤ℤ◌, ◌↔◌, List};
 ghost use mathlib.Core.Option.{some};
 ghost use lib.ListN.{get_elem?};

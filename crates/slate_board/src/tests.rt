@@ -1,3 +1,4 @@
+// Tests of a board: its numbers one by one, and loads beside a lead that changes them.
 ghost use Rattle.std.specs.Prelude.{◌≡◌, IsTrue};
 
 use crate::{Board, BoardSeat, BoardView, ClockFault};

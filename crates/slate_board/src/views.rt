@@ -1,3 +1,4 @@
+// The numbers that are loaded from a board, and the fault of a clock that went back.
 use thiserror::Error;
 
 /// The three numbers of a board.

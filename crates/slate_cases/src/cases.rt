@@ -1,3 +1,4 @@
+// Reading a case file: what its lines set, its script, and the replies that are wanted.
 use crate::failures::Failure;
 use slate_live::read_number;
 use slate_store::FailingCall;

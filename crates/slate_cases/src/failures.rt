@@ -1,3 +1,4 @@
+// Why a case fails, and the words for it.
 use std::alloc::AllocError;
 use std::io;
 use thiserror::Error;

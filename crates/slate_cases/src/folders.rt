@@ -1,3 +1,4 @@
+// Reading the case files of a folder: their names, and the bytes of one.
 use std::{fs, io};
 
 /// The names of the case files in a folder, in order.

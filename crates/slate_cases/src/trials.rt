@@ -1,3 +1,4 @@
+// Running a case over a fresh store, and comparing what came of it.
 use crate::cases::Case;
 use crate::failures::Failure;
 use slate_live::{SliceSource, VecSink, session};

@@ -1,3 +1,4 @@
+// Readers as sources and writers as sinks, which count their failures.
 ghost use Rattle.std.specs.Prelude.{◌≡◌, ◌≤◌, None, length};
 ghost use Rattle.slate_types.specs.Counts.{HasRisen};
 ghost use Rattle.slate_types.specs.Modelled.{WhereModelled};

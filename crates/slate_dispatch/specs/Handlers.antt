@@ -1,3 +1,4 @@
+-- The calls of a message handler, with what they are given and answer.
 use Rattle.std.specs.Prelude.{ℕ, List, Result}
 use Rattle.slate_errors.specs.declared.closing.CloseFault.{CloseFault}
 

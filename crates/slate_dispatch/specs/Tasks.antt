@@ -1,3 +1,4 @@
+-- The calls of a task, and the turns that end it.
 use Rattle.std.specs.Prelude.{ℕ, ℤ, Option, Some, None, Result, Ok, Err}
 use Rattle.slate_errors.specs.declared.closing.CloseFault.{CloseFault}
 use Rattle.slate_dispatch.specs.declared.tasks.TurnAnswer.{TurnAnswer}

@@ -1,3 +1,4 @@
+-- How long tickers wait, and when they are due first.
 use Rattle.std.specs.Prelude.{ℕ, ℤ, pos, ◌+◌, ◌-◌, ◌*◌, ◌/◌, ◌%◌, ◌≤◌, ◌+ℤ◌, List, map}
 use Rattle.slate_dispatch.specs.declared.tickers.TickerDef.{TickerDef}
 

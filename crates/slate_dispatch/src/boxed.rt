@@ -1,3 +1,4 @@
+// Tasks in boxes, so that one executor runs tasks of several types.
 use crate::{Task, TurnAnswer};
 use slate_errors::CloseFault;
 

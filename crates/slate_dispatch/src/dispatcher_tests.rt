@@ -1,3 +1,4 @@
+// Tests of a dispatcher: which message is next, when tickers are due, and what is left at the end.
 ghost use Rattle.std.specs.Prelude.{◌≡◌, All, length};
 ghost use Rattle.slate_dispatch.specs.Tickers.{IsTicker};
 

@@ -1,3 +1,4 @@
+// Sending messages to a dispatcher, and handing the next one to its handler in each turn.
 ghost use Rattle.std.specs.Prelude.{◌≡◌, ◌≢◌, All, false, None, IfOk, IfSome, IfNone};
 ghost use Rattle.slate_dispatch.specs.Origins.{first_ready, due_at, TakesReady};
 ghost use Rattle.slate_dispatch.specs.Tickers.{IsTicker};

@@ -1,3 +1,4 @@
+// Tests of an executor: groups that are refused, errors that cancel, and the results of groups.
 ghost use Rattle.std.specs.Prelude.{◌≡◌, IfOk, IsTrue};
 
 use crate::{BoxedTask, Executor, ExecutorRefusal, Task, TurnAnswer};

@@ -1,3 +1,4 @@
+// Registering groups of tasks, and giving each task its turns until it ends or is cancelled.
 ghost use Rattle.std.specs.Prelude.{◌≡◌, ◌<◌, ◌≤◌, ◌∷◌, ◌++◌, [], true, false, IsTrue, map, Ok, Err, if◌then◌else◌, vec_capacity, vec_len};
 ghost use Rattle.std.specs.List.{AllZip};
 ghost use Rattle.slate_errors.specs.declared.errors.SlateError.TheVariants.{BackgroundTaskExecutorStarted as Started};

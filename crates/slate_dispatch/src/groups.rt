@@ -1,3 +1,4 @@
+// The tasks of one group: their turns, their cancelling, and the group's result.
 ghost use Rattle.std.specs.Prelude.{◌≡◌, ◌∷◌, false, IsTrue};
 ghost use Rattle.std.specs.List.{AllZip};
 ghost use Rattle.std.specs.Option.{option_to_list};

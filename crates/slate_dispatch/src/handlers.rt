@@ -1,3 +1,4 @@
+// The calls of a message handler, and what each may change.
 ghost use Rattle.std.specs.Prelude.{◌≡◌, ◌↔◌, ◌<◌, Bool, false, List, length, slice_get, Option, Some, Result, IsNone, IfSome, IfNone};
 ghost use Rattle.slate_errors.specs.declared.closing.CloseFault.{CloseFault};
 ghost use Rattle.slate_dispatch.specs.declared.tickers.TickerDef.{TickerDef};

@@ -1,3 +1,4 @@
+// What becomes of each message that is sent to a dispatcher.
 ghost use Rattle.std.specs.Prelude.{List};
 ghost use Rattle.slate_dispatch.specs.Runs.{Event, Runs, GivesOnce};
 ghost use Rattle.slate_dispatch.specs.Turns.{Dispatching};

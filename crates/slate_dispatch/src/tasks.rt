@@ -1,3 +1,4 @@
+// The calls of a task: its turns, its cancelling and its finish.
 ghost use Rattle.std.specs.Prelude.{◌≡◌, ◌↔◌, Bool, Option, Some, Result, IsTrue};
 ghost use Rattle.slate_errors.specs.declared.closing.CloseFault.{CloseFault};
 ghost use Rattle.slate_dispatch.specs.declared.tasks.TurnAnswer.{TurnAnswer};

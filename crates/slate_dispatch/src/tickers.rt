@@ -1,3 +1,4 @@
+// Tickers: how long each waits, with jitter, and when it is due.
 ghost use Rattle.std.specs.Prelude.{◌≡◌, ◌<◌, ◌^◌, ◌+ℤ◌, pos, IfOk};
 ghost use Rattle.slate_dispatch.specs.Tickers.{wait_of, first_dues, IsTicker};
 

@@ -1,3 +1,4 @@
+-- A text of several parts that fails midway keeps what stood before them.
 use Rattle.std.proofs.Common.{◌≡◌, ℕ, List, ◌++◌, length, take, Result, Ok, Err}
 use Rattle.std.specs.Result.{OnErr}
 use Rattle.slate_text.proofs.AppendLemmas.{kept_front}

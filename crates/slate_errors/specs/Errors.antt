@@ -1,3 +1,4 @@
+-- The error that each fault of a read, a store or a close is answered with.
 use Rattle.std.specs.Prelude.{Result, Ok, Err}
 use Rattle.slate_types.specs.declared.read_faults.ReadFault.{ReadFault}
 use Rattle.slate_types.specs.declared.read_faults.ReadFault.TheVariants as reads

@@ -1,3 +1,4 @@
+// Why something closed, and the cell that keeps the first result.
 ghost use Rattle.std.specs.Prelude.{◌≡◌, None, Some, is_none, unwrap_or};
 
 use slate_types::StoreFault;

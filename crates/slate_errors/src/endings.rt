@@ -1,3 +1,4 @@
+// What a close answers: its error, and the names of the tasks that it ended.
 ghost use Rattle.std.specs.Prelude.{◌≡◌, ◌<◌, [], ◌∷◌, ◌++◌, length};
 
 use crate::SlateError;

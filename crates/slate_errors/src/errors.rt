@@ -1,3 +1,4 @@
+// The errors of the product, what kind each is, and the error of a fault of a read, a store or a close.
 ghost use Rattle.std.specs.Prelude.{◌≡◌, ◌↔◌, IsTrue};
 ghost use Rattle.slate_types.specs.declared.store_errors.StoreFault.TheVariants.{NotFound};
 ghost use Rattle.slate_errors.specs.declared.errors.SlateError.TheVariants.{NoMemory as OutOfMemory};

@@ -1,3 +1,4 @@
+// What kind an error may have, and the words of each.
 ghost use Rattle.std.specs.Prelude.{◌≡◌, Some};
 ghost use Rattle.slate_errors.specs.Kinds.{kind_words, reason_of};
 

@@ -1,3 +1,4 @@
+// Errors as a caller sees them: made, read and printed.
 ghost use Rattle.std.specs.Prelude.{◌≡◌, ◌++◌, length, take, Some, OnOk, OnErr};
 ghost use Rattle.std.specs.Option.{option_copied};
 ghost use Rattle.slate_errors.specs.Kinds.{kind_of};

@@ -1,3 +1,4 @@
+// Writing the values that the messages of errors show.
 ghost use Rattle.std.specs.Prelude.{◌≡◌, ℕ, List, ◌++◌, length, take, codes, decimal, OnOk, OnErr};
 ghost use Rattle.std.specs.Fmt.{signed_decimal};
 ghost use Rattle.uuid.specs.Text.{hyphenated_text, lower};

@@ -1,3 +1,4 @@
+// The messages of errors, and their public texts.
 ghost use Rattle.std.specs.Prelude.{◌≡◌, ◌++◌, length, take, Some, OnOk, OnErr};
 ghost use Rattle.std.specs.Option.{option_copied};
 ghost use Rattle.slate_errors.specs.Texts.{fixed_message, shown_message, message_of, fault_words, source_of, source_text, error_text};

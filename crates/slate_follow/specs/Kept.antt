@@ -1,3 +1,4 @@
+-- What a reader keeps in memory, and the follower that it represents.
 use Rattle.std.specs.Prelude.{◌+◌, ◌<◌, ◌^◌, length}
 use Rattle.slate_types.specs.Line.{AreNumberedFrom}
 use Rattle.slate_model.specs.Follower.{Follower}

@@ -1,3 +1,4 @@
+-- What a follower finds of the latest manifest and its log files.
 use Rattle.std.specs.Prelude.{◌≡◌, ℕ, Bool, List, [], true, Some, Result, Ok, Err}
 use Rattle.slate_types.specs.declared.batches.Batch.{Batch}
 use Rattle.slate_store.specs.declared.objects.Manifest.{Manifest}

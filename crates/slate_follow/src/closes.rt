@@ -1,3 +1,4 @@
+// Closing a reader that follows a database.
 ghost use Rattle.std.specs.Prelude.{◌≡◌};
 ghost use Rattle.slate_model.specs.Close.{closed_follower, ended, recorded_fault};
 

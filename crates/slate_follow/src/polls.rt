@@ -1,3 +1,4 @@
+// Opening a reader that follows a database, and polling it.
 ghost use Rattle.std.specs.Prelude.{◌≡◌, ◌≢◌, ◌≤◌, true, false, None, IfOk, IfSome};
 ghost use Rattle.slate_model.specs.Follower.{Polls, Rebuilds};
 ghost use Rattle.slate_model.specs.Known.{IsContent, known};

@@ -1,3 +1,4 @@
+// Reading a key from the batches that a reader has in memory.
 ghost use Rattle.std.specs.Prelude.{◌≡◌, None, Some, Err, Option, IfSome};
 ghost use Rattle.std.specs.Option.{option_copied};
 ghost use Rattle.slate_types.specs.Operator.{Merge};

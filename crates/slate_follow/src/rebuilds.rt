@@ -1,3 +1,4 @@
+// Building a follower from the latest manifest and its log files.
 ghost use Rattle.std.specs.Prelude.{◌≡◌, ◌+◌, ◌<◌, ◌^◌, length, IfOk, IfErr, IfSome};
 ghost use Rattle.slate_types.specs.Line.{AreNumberedFrom};
 ghost use Rattle.slate_model.specs.Follower.{Rebuilds, can_follow};

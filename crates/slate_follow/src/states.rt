@@ -1,3 +1,4 @@
+// What a reader that follows a database keeps.
 ghost use Rattle.std.specs.Prelude.{◌≡◌};
 ghost use Rattle.slate_model.specs.Follower.{number};
 

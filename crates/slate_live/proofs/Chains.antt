@@ -1,3 +1,4 @@
+-- Commands that are done one after another lead through a chain of worlds.
 use Rattle.std.proofs.Common.{◌≡◌, ◌≤◌, ◌<◌, ◌+◌, ℕ, length, take, map, get_or, List, [], ◌∷◌, ◌++◌, Option, Some, refl, sym, subst, ap, ◌∙◌}
 use Rattle.std.proofs.lemmas.List.{map-append, take_all, take_more}
 use Rattle.slate_types.specs.declared.batches.Batch.{Batch}
@@ -9,7 +10,7 @@ use Rattle.slate_model.specs.Known.{Known}
 use Rattle.slate_script.specs.declared.commands.Command.{Command}
 use Rattle.slate_script.specs.declared.options.Options.{Options}
 use Rattle.slate_script.specs.declared.replies.Reply.{Reply}
-use Rattle.slate_live.specs.State.{Live, State, by_objects}
+use Rattle.slate_live.specs.State.{Live, State, by_objects, running}
 use Rattle.slate_live.specs.Commands.{Does}
 use Rattle.slate_live.specs.Run.{DoAll, LeadsTo}
 use Rattle.slate_live.specs.Settings.{Settings}
@@ -109,6 +110,16 @@ do-push settings s mid last (c ∷ commands) (r ∷ replies) command reply made 
     (all.0, all.1, all.2, do-push settings all.1 mid last commands replies command reply made all.3 does)
 do-push settings s mid last [] (r ∷ replies) command reply made all does = absurd all
 do-push settings s mid last (c ∷ commands) [] command reply made all does = absurd all
+
+-- no command was done yet
+pub do-none : (settings : Settings) (options : Options) (live : Live) (store : Known (List Batch)) (replies : List Reply) → replies ≡ [] → live ≡ record { options = options; objects = []; writes = [] } → DoAll settings (record { objects = []; writes = []; store = store }) [] replies (running live store)
+do-none settings options live store replies none fresh =
+    subst (λ rs. DoAll settings (record { objects = []; writes = []; store = store }) [] rs (running live store)) (sym none)
+    (ap (λ (l : Live). running l store) fresh)
+
+-- all commands were done
+pub do-all : (settings : Settings) (s last : State (List Batch)) (commands : List Command) (i : ℕ) (replies : List Reply) → length commands ≤ i → DoAll settings s (take i commands) replies last → DoAll settings s commands replies last
+do-all settings s last commands i replies behind all = subst (λ cs. DoAll settings s cs replies last) (take_all i commands behind) all
 
 -- the command at a place of a list, done after those before it
 pub do-next : (merge : Option Merge) (options options' : Options) (s mid last : State (List Batch)) (commands : List Command) (i : ℕ) (command : Command) (replies replies' : List Reply) (reply : Reply) (made : ℕ) → options' ≡ options → i < length commands → command ≡ get_or commands i command → replies' ≡ replies ++ reply ∷ [] → DoAll (record { merge = merge; options = options }) s (take i commands) replies mid → Does (by_objects mid.store.objects) (record { merge = merge; options = options' }) made mid command reply last → DoAll (record { merge = merge; options = options }) s (take (i + 1) commands) replies' last

@@ -1,3 +1,4 @@
+-- Two ways in which a session ends before anything is run.
 use Rattle.std.proofs.Common.{◌≡◌, inl, inr, List, [], Option, Some, None, refl}
 use Rattle.slate_script.specs.declared.options.Options.{Options}
 use Rattle.slate_script.specs.declared.replies.Reply.{Reply}

@@ -1,3 +1,4 @@
+-- A handle that flushes stays valid, whether its log file was put or not.
 use Rattle.std.proofs.Common.{◌≡◌, ℕ, ◌≤◌, List, [], ◌∷◌, length, Some, None, Result, Ok, Err, refl, sym, subst, ap, ◌∙◌, arith}
 use Rattle.std.proofs.lemmas.List.{append-nil}
 use Rattle.slate_types.specs.declared.batches.Batch.{Batch}

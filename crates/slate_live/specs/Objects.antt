@@ -1,3 +1,4 @@
+-- Live objects, as the model has them.
 use Rattle.slate_model.specs.Object.{Object as AnObject, Handle, Follower}
 use Rattle.slate_live.specs.declared.objects.Object.{Object}
 use Rattle.slate_live.specs.declared.objects.Object.TheVariants as objects

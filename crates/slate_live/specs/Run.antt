@@ -1,3 +1,4 @@
+-- What a run of commands does to a store, and to the world that it holds.
 use Rattle.std.specs.Prelude.{◌≡◌, ℕ, List, [], ◌∷◌, map, Some}
 use Rattle.slate_store.specs.Objects.{Objects}
 use Rattle.slate_types.specs.declared.batches.Batch.{Batch}

@@ -1,3 +1,4 @@
+-- What a run is given for all its commands.
 use Rattle.std.specs.Prelude.{Option}
 use Rattle.slate_types.specs.Operator.{Merge}
 use Rattle.slate_script.specs.declared.options.Options.{Options}

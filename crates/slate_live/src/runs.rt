@@ -1,3 +1,4 @@
+// Running a list of commands over a store, with a reply to each.
 ghost use Rattle.std.specs.Prelude.{All, ◌≡◌, ◌≤◌, [], List, None, Option, IfOk, OnErr};
 ghost use Rattle.std.specs.Option.{option_copied};
 ghost use Rattle.slate_types.specs.Operator.{Merge};

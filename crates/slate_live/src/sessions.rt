@@ -1,3 +1,4 @@
+// A whole session: a script is read from a source and run, and its replies are written to a sink.
 ghost use Rattle.std.specs.Prelude.{All, IfOk, ◌≡◌, ◌≤◌, ◌⊎◌, map, string_bytes};
 ghost use Rattle.slate_script.specs.Built.{IsBuilt};
 ghost use Rattle.slate_script.specs.Options.{options_of};

@@ -1,3 +1,4 @@
+-- Flushes and openings change a store's catalogue as they change its objects.
 use Rattle.std.proofs.Common.{◌≡◌, ℕ, ◌+◌, List, [], ◌∷◌, length, map, Option, Some, None, Result, Ok, Err, ◌≤◌, refl, sym, subst, ap, ◌∙◌, zero, suc}
 use Rattle.std.proofs.lemmas.List.{length-map}
 use Rattle.std.specs.Ordering.{nat_cmp}

@@ -1,3 +1,4 @@
+-- An opening keeps the content of sound objects, and its replay gives the handle all of it.
 use Rattle.std.proofs.Common.{◌≡◌, ℕ, zero, suc, ◌+◌, ◌-◌, ◌<◌, ◌≤◌, List, [], ◌∷◌, ◌++◌, length, map, take, max, Bool, true, false, Option, Some, None, refl, sym, subst, ap, ◌∙◌, arith, sub-one, length-append, ◌&&◌, ◌==◌, ltb}
 use Rattle.std.proofs.Math.Dec.{eqb-suc-zero}
 use Rattle.std.specs.List.{AllByRecursion, filter, flat_map}

@@ -1,3 +1,4 @@
+-- Objects stay sound when a log file is stored that goes on from their content.
 use Rattle.std.proofs.Common.{◌≡◌, ℕ, ◌+◌, ◌<◌, ◌≤◌, inl, inr, List, [], ◌∷◌, ◌++◌, length, map, max, Some, true, false, sym, subst, ap, ◌∙◌, arith, length-append, append_assoc, ltb, cond}
 use Rattle.std.proofs.lemmas.List.{append-nil, length-map}
 use Rattle.std.specs.List.{filter, flat_map}

@@ -1,3 +1,4 @@
+-- The catalogue of a store: its manifests, and the spans of its log files and tables.
 use Rattle.std.specs.Prelude.{ℕ, List, [], ◌∷◌, map, Option, Some, None}
 use Rattle.slate_types.specs.declared.batches.Batch.{Batch}
 use Rattle.slate_store.specs.Objects.{ObjectsOf, Objects}

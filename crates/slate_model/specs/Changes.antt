@@ -1,3 +1,4 @@
+-- How many of an operation's changes are made, by what it answers.
 use Rattle.std.specs.Prelude.{◌≡◌, ℕ, ◌≤◌, Bool, true, false, MatchBool, List, take, Result, Ok, Err}
 use Rattle.slate_store.specs.Objects.{ObjectsOf, ChangeOf, changed_all}
 use Rattle.slate_errors.specs.declared.errors.SlateError.{SlateError}

@@ -1,3 +1,4 @@
+-- What a follower sees, and what opening and polling it answers.
 use Rattle.std.specs.Prelude.{◌≡◌, ℕ, ◌==◌, ◌&&◌, ◌||◌, ◌⊎◌, Bool, false, length, not, Some, None, Result, Ok, Err, IfOk, IfErr, IfSome}
 use Rattle.slate_types.specs.Line.{Line, end}
 use Rattle.slate_store.specs.declared.objects.VersionedManifest.{VersionedManifest}

@@ -1,3 +1,4 @@
+-- The objects of a world: handles and followers.
 use Rattle.slate_model.specs.Follower.{Follower as AFollower}
 use Rattle.slate_model.specs.Handle.{Handle as AHandle}
 

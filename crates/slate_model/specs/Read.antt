@@ -1,3 +1,4 @@
+-- What a read answers, of an open object and of a closed one.
 use Rattle.std.specs.Prelude.{◌≡◌, None, Result, Ok, Err, IfSome}
 use Rattle.slate_errors.specs.Errors.{closed_error}
 use Rattle.slate_types.specs.declared.read_faults.ReadFault.{ReadFault}

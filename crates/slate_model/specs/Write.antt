@@ -1,3 +1,4 @@
+-- What a write adds to a handle, and what refuses it.
 use Rattle.std.specs.Prelude.{◌≡◌, ℕ, ℤ, ◌+◌, ◌⊎◌, ◌==◌, Bool, if◌then◌else◌, nat_lt, int_lt, List, [], ◌∷◌, length, Option, Some, None, unwrap_or, Result, IfOk, IfErr}
 use Rattle.std.specs.List.{list_any}
 use Rattle.std.specs.Option.{option_or}

@@ -1,3 +1,4 @@
+-- What follows from results that are Ok.
 use Rattle.std.proofs.Common.{Result, Ok, Err}
 use Rattle.std.specs.Prelude.{IfOk, OnOk}
 

@@ -1,3 +1,4 @@
+// CRC-32 of bytes, bit by bit.
 ghost use Rattle.std.specs.Prelude.{◌≡◌};
 ghost use Rattle.slate_objects.specs.Checksum.{crc_bit, crc_byte, crc32};
 

@@ -1,3 +1,4 @@
+// Why bytes aren't decoded as an object.
 ghost use Rattle.std.specs.Prelude.{◌≡◌};
 ghost use Rattle.slate_objects.specs.declared.faults.DecodeError.TheVariants.{NoMemory as OutOfMemory};
 

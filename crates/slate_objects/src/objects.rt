@@ -1,3 +1,4 @@
+// Manifests, log files and tables as bytes, and back.
 ghost use Rattle.std.specs.Prelude.{◌≡◌, Ok, IfOk};
 ghost use Rattle.slate_objects.specs.Batches.{batch_at, batch_of};
 ghost use Rattle.slate_objects.specs.Objects.{log_bytes, log_in, manifest_bytes, manifest_in, table_bytes, table_in};

@@ -1,3 +1,4 @@
+// Tests of readers whose log files are whole or have gaps, and of closed readers.
 use crate::replay::{Logs, store_of};
 use slate_errors::SlateError;
 use slate_follow::{DbReaderMode, DbReaderOptions, FollowerState, PollAnswer};

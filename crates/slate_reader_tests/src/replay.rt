@@ -1,3 +1,4 @@
+// Tests of replays: how each ends, and how many batches it appends.
 use slate_reads::IndexedTable;
 use slate_replay::{Replayed, replay};
 use slate_store::{MemoryStore, Store};

@@ -1,3 +1,4 @@
+-- Batches still rise as one is added, and an index stays one as the first is dropped.
 use Rattle.std.proofs.Common.{◌≡◌, ltb, inl, inr, ◌⊎◌, refl, sym, ◌∙◌, ap, subst, ℕ, ◌+◌, ◌-◌, ◌<◌, ◌≤◌, suc, zero, true, false, List, [], ◌∷◌, ◌++◌, length, get_or, drop, filter, map, replicate, reverse, Option, Some, None, IfSome, arith, length-append}
 use Rattle.std.specs.List.{AllByRecursion, flat_map}
 use Rattle.std.specs.Str.{bytes_eq}

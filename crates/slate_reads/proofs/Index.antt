@@ -1,3 +1,4 @@
+-- An index stays one as a batch's operations are added, and leads back over a key's versions.
 use Rattle.std.proofs.Common.{◌≡◌, refl, sym, ◌∙◌, ap, subst, ℕ, ◌+◌, ◌-◌, ◌<◌, ◌≤◌, suc, Bool, true, false, cond, List, [], ◌∷◌, ◌++◌, length, get_or, take, map, replicate, reverse, Option, Some, None, IfSome, arith, length-append}
 use Rattle.std.specs.List.{flat_map}
 use Rattle.std.specs.Option.{unwrap_or, option_map}

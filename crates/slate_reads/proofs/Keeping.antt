@@ -1,3 +1,4 @@
+-- A table keeps its indexes as a batch is added and as the first one is dropped.
 use Rattle.std.proofs.Common.{◌≡◌, refl, sym, ◌∙◌, ap, subst, ℕ, ◌+◌, ◌-◌, ◌≤◌, List, [], ◌∷◌, ◌++◌, length, drop, map, replicate, reverse, Option, arith, length-append}
 use Rattle.std.specs.List.{flat_map}
 use Rattle.std.specs.HashMap.{HashMap}

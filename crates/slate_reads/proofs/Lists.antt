@@ -1,3 +1,4 @@
+-- What holds of each item of a list, of two lists together, and of a list reversed.
 use Rattle.std.proofs.Common.{List, [], ◌∷◌, ◌++◌, reverse}
 use Rattle.std.proofs.lemmas.List.{reverse-append}
 use Rattle.std.specs.List.{AllByRecursion}

@@ -1,3 +1,4 @@
+-- A walk over an ordered set finds each key of a range that has versions, and no key outside.
 use Rattle.std.proofs.Common.{◌≡◌, ◌≢◌, refl, sym, ◌∙◌, ap, ℕ, suc, zero, Bool, true, false, cond, not, ◌&&◌, List, [], ◌∷◌, Contains, length, reverse, Option, Some, None, IsSome, arith}
 use Rattle.std.specs.List.{AllByRecursion, filter, flat_map}
 use Rattle.std.specs.Option.{unwrap_or}

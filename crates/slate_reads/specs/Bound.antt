@@ -1,3 +1,4 @@
+-- Up to which number a read sees batches.
 use Rattle.std.specs.Prelude.{ℕ, min, Bool, true, false, Option, Some, None}
 use Rattle.slate_types.specs.declared.options.DurabilityLevel.{DurabilityLevel}
 use Rattle.slate_types.specs.declared.options.DurabilityLevel.TheVariants.{Memory, Remote}

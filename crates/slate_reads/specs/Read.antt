@@ -1,3 +1,4 @@
+-- The plain read of a key: its versions up to a bound, and the row that they make.
 use Rattle.std.specs.Prelude.{◌≡◌, ℕ, ℤ, Bool, true, false, if◌then◌else◌, nat_le, List, [], ◌∷◌, filter, map, Option, Some, None, Result, Ok, Err, option_map}
 use Rattle.std.specs.List.{flat_map, list_any}
 use Rattle.std.specs.Str.{bytes_eq}

@@ -1,3 +1,4 @@
+-- Lists whose items stand at places, whatever was dropped before them.
 use Rattle.std.specs.Prelude.{◌≡◌, ℕ, ◌+◌, ◌-◌, ◌^◌, ◌<◌, ◌≤◌, List, length, get_or}
 
 -- the list has this at an index

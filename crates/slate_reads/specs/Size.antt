@@ -1,3 +1,4 @@
+-- How many bytes of keys and values batches have.
 use Rattle.std.specs.Prelude.{ℕ, ◌+◌, List, length}
 use Rattle.std.specs.List.{sum_by}
 use Rattle.slate_types.specs.declared.batches.Batch.{Batch}

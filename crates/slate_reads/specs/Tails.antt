@@ -1,3 +1,4 @@
+-- The versions that a read holds while it looks for a key's tail.
 use Rattle.std.specs.Prelude.{◌≡◌, ℕ, Bool, List, [], ◌++◌, map, reverse, if◌then◌else◌}
 use Rattle.std.specs.List.{AllByRecursion}
 use Rattle.slate_reads.specs.declared.reads.Version.{Version as Held}

@@ -1,3 +1,4 @@
+-- The bounds of a range, which may cross, and as an ordered set takes them.
 use Rattle.std.specs.Prelude.{ℕ, Bool, false, List}
 use Rattle.std.specs.declared.ops.Bound.{Bound}
 use Rattle.std.specs.declared.ops.Bound.TheVariants.{Included as From, Excluded as Past, Unbounded as Open}

@@ -1,3 +1,4 @@
+// Reading a key in stored tables and those in memory by their indexes.
 ghost use Rattle.std.specs.Prelude.{◌≡◌, ◌++◌, ◌+◌, ◌≤◌, [], ℕ, Bool, false, List, Option, Some, IfOk, IfSome, MatchOption, if◌then◌else◌, length};
 ghost use Rattle.std.specs.List.{flat_map};
 ghost use Rattle.std.specs.Option.{option_copied};

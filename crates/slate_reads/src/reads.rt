@@ -1,3 +1,4 @@
+// Plain reads: up to which number they see batches, and the row that a key's versions make.
 ghost use Rattle.std.specs.Prelude.{◌≡◌, ◌++◌, [], ◌∷◌, ◌↔◌, None, Option, List, IsTrue, IfOk, IfSome, OnOk, OnErr, map};
 ghost use Rattle.std.specs.List.{AllByRecursion};
 ghost use Rattle.std.specs.Option.{option_copied};

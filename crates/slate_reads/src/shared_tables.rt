@@ -1,3 +1,4 @@
+// Stored tables, whose copies share their batches and indexes.
 ghost use Rattle.std.specs.Prelude.{◌≡◌, IfOk, IfErr};
 ghost use Rattle.slate_reads.specs.Index.{AreRising};
 

@@ -1,3 +1,4 @@
+// Tables in memory: adding batches, dropping the first ones, and keeping the indexes.
 ghost use Rattle.std.specs.Prelude.{◌↔◌, IsTrue, ◌≡◌, ◌+◌, ◌<◌, ◌≤◌, ◌^◌, ◌++◌, [], ◌∷◌, ℕ, All, IsSome, List, OnOk, IfErr, IfSome, Some, None, drop, if◌then◌else◌, length, map, min, true};
 ghost use Rattle.std.specs.Str.{bytes_eq};
 ghost use Rattle.std.specs.HashMap.{get};

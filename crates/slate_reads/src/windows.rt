@@ -1,3 +1,4 @@
+// Lists whose front is dropped while the items that stay keep their places.
 ghost use Rattle.std.specs.Prelude.{◌≡◌, ◌+◌, ◌-◌, ◌<◌, ◌≤◌, ◌^◌, [], ◌∷◌, ◌++◌, drop, length, MatchOption, OnOk};
 ghost use Rattle.slate_reads.specs.Run.{Stands, IsSame, HasRoom};
 

@@ -1,3 +1,4 @@
+-- Appending a log file's batches one by one leaves what a replay is to leave of them.
 use Rattle.std.proofs.Common.{◌≡◌, ℕ, ◌+◌, ◌<◌, ◌≤◌, inl, inr, List, [], ◌∷◌, ◌++◌, length, take, drop, get_or, true, false, Ok, sym, subst, ap, ◌∙◌, arith, length-append, append_assoc, ltb, cond}
 use Rattle.std.proofs.lemmas.Bool.{le-ltb, cases_lt}
 use Rattle.std.proofs.lemmas.List.{append-nil, take_more, take-append-drop}

@@ -1,3 +1,4 @@
+-- What stands in the log files above a mark, and which of their batches are above a number.
 use Rattle.std.proofs.Common.{◌≡◌, ℕ, zero, suc, ◌+◌, ◌<◌, ◌≤◌, inl, inr, List, [], ◌∷◌, ◌++◌, length, map, take, Some, None, true, false, refl, sym, subst, ap, ◌∙◌, arith, append_assoc, ltb, eqb-true}
 use Rattle.std.proofs.lemmas.List.{append-nil}
 use Rattle.std.specs.List.{filter, flat_map}

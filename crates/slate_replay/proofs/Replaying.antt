@@ -1,3 +1,4 @@
+-- Replaying log files one by one leaves what a replay of all of them leaves.
 use Rattle.std.proofs.Common.{◌≡◌, ℕ, ◌+◌, ◌-◌, ◌<◌, ◌≤◌, inl, inr, List, [], ◌++◌, length, max, take, drop, Option, Some, None, Ok, true, false, sym, subst, ap, ◌∙◌, arith, add-one, length-append, append_assoc, ltb}
 use Rattle.std.proofs.Math.Seq.{take-add}
 use Rattle.std.proofs.lemmas.Bool.{cases_lt}

@@ -1,3 +1,4 @@
+-- What a replay of log files appends, and how it ends.
 use Rattle.std.specs.Prelude.{◌≡◌, ℕ, ◌+◌, ◌-◌, ◌<◌, ◌≤◌, Bool, true, false, All, List, ◌++◌, length, MatchOption, Result, Ok, Err}
 use Rattle.std.specs.List.{Any}
 use Rattle.slate_types.specs.declared.batches.Batch.{Batch}

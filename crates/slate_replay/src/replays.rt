@@ -1,3 +1,4 @@
+// Appending the batches of log files to those in memory.
 ghost use Rattle.std.specs.Prelude.{◌≡◌, ◌≢◌, ◌+◌, ◌<◌, ◌≤◌, ◌^◌, ◌++◌, [], ◌∷◌, ℕ, List, Err, OnOk, OnErr, length, IfSome};
 ghost use Rattle.slate_types.specs.Counts.{HasRisen};
 ghost use Rattle.slate_types.specs.Line.{AreNumberedFrom};

@@ -1,3 +1,4 @@
+-- The shortest front of a key above another is one byte longer than what they share.
 use Rattle.std.proofs.Common.{◌≡◌, ◌≢◌, Some, refl, ap, ◌∙◌, add-one, ℕ, ◌+◌, ◌-◌, ◌<◌, ◌≤◌, zero, suc, inl, inr, true, false, cond, ◌==◌, List, [], ◌∷◌, length, take, take_while, arith}
 use Rattle.std.specs.List.{zip, prefix_len}
 use Rattle.std.proofs.lemmas.List.Folds.{length-prefix_len}

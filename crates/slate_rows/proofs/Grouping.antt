@@ -1,3 +1,4 @@
+-- Versions sorted by key: those of the first key, their tail, and what a stable sort keeps.
 use Rattle.std.proofs.Common.{◌≡◌, refl, sym, ◌∙◌, ap, ℕ, ◌+◌, ◌<◌, ◌≤◌, zero, suc, Bool, true, false, not, cond, ◌&&◌, List, [], ◌∷◌, ◌++◌, length, get_or, take, drop, map, take_while, arith}
 use Rattle.std.specs.List.{AllByRecursion, filter, prefix_len}
 use Rattle.std.specs.List.Sorted.{IsPermutation, IsSortedBy, IsStableBy, ties}

@@ -1,3 +1,4 @@
+-- Numbers in LEB128 are read as they were written, in as many bytes as were counted.
 use Rattle.std.proofs.Common.{◌≡◌, ◌≢◌, refl, sym, ◌∙◌, ap, ℕ, ◌+◌, ◌-◌, ◌*◌, ◌/◌, ◌%◌, ◌^◌, ◌<◌, ◌≤◌, zero, suc, false, nat_lt, List, [], ◌∷◌, ◌++◌, length, Ok, lit≤, lit<, arith}
 use Rattle.std.proofs.lemmas.Bool.{lt-ltb, le-ltb}
 use Rattle.std.proofs.lemmas.Grind.{pow_more}

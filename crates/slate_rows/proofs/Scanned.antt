@@ -1,3 +1,4 @@
+-- The rows of a range's gathered versions, sorted, are the plain scan.
 use Rattle.std.proofs.Common.{◌≡◌, ◌≢◌, IsTrue, refl, sym, ◌∙◌, ap, ℕ, zero, suc, Bool, true, false, cond, List, [], ◌∷◌, map, Contains, Option, None, arith}
 use Rattle.std.specs.List.{AllByRecursion, dedup}
 use Rattle.std.specs.List.Sorted.{IsPermutation}

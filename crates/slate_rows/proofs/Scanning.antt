@@ -1,3 +1,4 @@
+-- The rows of sorted versions are the row of the first key and the rows of the others.
 use Rattle.std.proofs.Common.{◌≡◌, refl, sym, ◌∙◌, ap, ℕ, Bool, true, false, cond, List, [], ◌∷◌, ◌++◌, map, Option, None, Result}
 use Rattle.std.specs.List.{AllByRecursion, dedup, dedup_from}
 use Rattle.std.specs.Str.{bytes_eq}

@@ -1,3 +1,4 @@
+-- Each step over sorted versions adds one key's row, in the order and within the range.
 use Rattle.std.proofs.Common.{◌≡◌, IsTrue, refl, sym, ◌∙◌, ap, ℕ, ◌+◌, ◌-◌, ◌<◌, ◌≤◌, zero, suc, true, List, [], ◌∷◌, ◌++◌, length, get_or, take, drop, map, All, Option, Some, None, IfSome, IfOk, Result, Ok, Err, arith, take_while}
 use Rattle.std.specs.List.{AllByRecursion, dedup}
 use Rattle.std.specs.List.Sorted.{IsSorted, IsStrictlySortedBy}

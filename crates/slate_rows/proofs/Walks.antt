@@ -1,3 +1,4 @@
+-- The rows of the keys that a walk finds, in order and each once, are the plain scan.
 use Rattle.std.proofs.Common.{◌≡◌, ◌≢◌, ◌↔◌, refl, sym, ◌∙◌, ap, subst, ℕ, ◌+◌, ◌<◌, zero, suc, Bool, true, false, cond, List, [], ◌∷◌, ◌++◌, Contains, length, get_or, drop, Option, None, Result, Ok, arith}
 use Rattle.std.specs.List.{AllByRecursion, filter, flat_map, dedup, dedup_from}
 use Rattle.std.specs.Borrow.{Bor}

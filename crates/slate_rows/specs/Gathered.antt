@@ -1,3 +1,4 @@
+-- The versions that a scan gathers and sorts, and the rows that they make.
 use Rattle.std.specs.Prelude.{◌≡◌, ℕ, true, false, List, [], ◌∷◌, ◌++◌, map, filter, Option, Some, None, Result, Ok, Err}
 use Rattle.std.specs.List.{AllByRecursion, dedup}
 use Rattle.std.specs.Str.{bytes_eq}

@@ -1,3 +1,4 @@
+-- What an iterator has left, and what its next row and a seek answer.
 use Rattle.std.specs.Prelude.{ℕ, Bool, true, false, not, List, [], ◌∷◌, filter, Option, Some, None, Result, Ok, Err}
 use Rattle.std.specs.Ordering.{is_le}
 use Rattle.slate_types.specs.declared.batches.KeyValue.{KeyValue}

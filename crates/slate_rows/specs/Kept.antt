@@ -1,3 +1,4 @@
+-- The rows that an iterator keeps, with copies of their keys.
 use Rattle.std.specs.Prelude.{◌≡◌, ℕ, List, map}
 use Rattle.std.specs.List.{AllByRecursion}
 use Rattle.slate_types.specs.declared.batches.KeyValue.{KeyValue}

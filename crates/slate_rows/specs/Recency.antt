@@ -1,3 +1,4 @@
+-- The entries of operations on a prefix, and their order by recency.
 use Rattle.std.specs.Prelude.{◌≡◌, ℕ, ℤ, nat_eq, List, [], ◌∷◌, ◌++◌, map, filter, reverse, Option, None}
 use Rattle.std.specs.List.{flat_map, starts_with}
 use Rattle.std.specs.List.Sorted.{IsPermutation, IsSorted, IsStable}

@@ -1,3 +1,4 @@
+-- The front that two lists share.
 use Rattle.std.specs.Prelude.{ℕ, suc, ◌==◌, if◌then◌else◌, List, [], ◌∷◌}
 
 -- how many numbers two lists share at the front

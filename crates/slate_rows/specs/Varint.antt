@@ -1,3 +1,4 @@
+-- Numbers in LEB128, and how they are read.
 use Rattle.std.specs.Prelude.{◌≡◌, ℕ, ◌+◌, ◌-◌, ◌*◌, ◌/◌, ◌%◌, ◌^◌, ◌<◌, ◌≤◌, zero, suc, if◌then◌else◌, nat_lt, List, [], ◌∷◌, Result, Ok, Err}
 use Rattle.slate_rows.specs.declared.varints.VarintFault.{VarintFault}
 use Rattle.slate_rows.specs.declared.varints.VarintFault.TheVariants.{Short, TooLong}

@@ -1,3 +1,4 @@
+// Rows as they are stored: one operation each, not folded.
 use bytes::Bytes;
 
 /// What an operation leaves at its key. SlateDB's `ValueDeletable`.

@@ -1,3 +1,4 @@
+// The short keys that a table's index keeps for its blocks.
 ghost use Rattle.std.specs.Prelude.{◌≡◌, ◌≢◌, [], length, IfOk, false, map, ◌==◌, take_while};
 ghost use Rattle.std.specs.List.{zip};
 ghost use Rattle.std.specs.Option.{option_copied, ForSome};

@@ -1,3 +1,4 @@
+// Scanning a range in stored tables and those in memory by their indexes.
 ghost use Rattle.std.specs.Prelude.{◌≡◌, ◌↔◌, ◌++◌, ℕ, List, Contains, All, IsTrue, IfOk, OnOk, true, Option};
 ghost use Rattle.std.specs.List.{AllByRecursion, flat_map};
 ghost use Rattle.std.specs.Option.{option_copied};

@@ -1,3 +1,4 @@
+// Iterators over the rows of a range, with seeks and the fault that ends them.
 ghost use Rattle.std.specs.Prelude.{◌≡◌, ◌<◌, ◌∷◌, List, map, not, filter, All, IsTrue, IfOk, OnOk, IfErr, Some, None};
 ghost use Rattle.std.specs.VecDeque.{deque_len};
 ghost use Rattle.slate_rows.specs.declared.iterators.Kept.{Kept};

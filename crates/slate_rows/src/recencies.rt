@@ -1,3 +1,4 @@
+// Operations on the keys with a prefix, newest source first.
 ghost use Rattle.std.specs.Prelude.{◌≡◌, [], ◌∷◌, ◌++◌, map, IfOk, OnOk, MatchOption};
 ghost use Rattle.std.specs.List.Sorted.{IsPermutation, IsSorted, IsStable};
 ghost use Rattle.slate_rows.specs.Recency.{AreNewestFirst, IsRecency, entry_of, batch_entries, source_entries, recency_cmp};

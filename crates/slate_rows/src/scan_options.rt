@@ -1,3 +1,4 @@
+// The options of a scan, and the order of its keys.
 ghost use Rattle.std.specs.Prelude.{◌≡◌, false};
 
 use slate_types::DurabilityLevel;

@@ -1,3 +1,4 @@
+// Scanning a range in a list of batches.
 ghost use Rattle.std.specs.Prelude.{◌≡◌, ◌<◌, ◌≤◌, ℕ, List, [], ◌∷◌, ◌++◌, drop, map, length, take_while, All, IsTrue, IfOk, IfSome, OnOk, true, None, Option};
 ghost use Rattle.std.specs.List.{AllByRecursion};
 ghost use Rattle.std.specs.List.Sorted.{IsPermutation};

@@ -1,3 +1,4 @@
+// The refusals of a seek.
 use slate_types::ReadFault;
 use thiserror::Error;
 

@@ -1,3 +1,4 @@
+// Numbers of 32 bits in LEB128: written, measured and read.
 ghost use Rattle.std.specs.Prelude.{◌≡◌, ℕ, ◌^◌, ◌*◌, ◌<◌, ◌≤◌, List, ◌++◌, length, Ok, Err, OnOk, OnErr, IfOk, MatchResult};
 ghost use Rattle.slate_rows.specs.Varint.{IsLeb128, number_at_front, varint};
 

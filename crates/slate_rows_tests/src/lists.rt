@@ -1,3 +1,4 @@
+// Tests of ranges behind a prefix, scans with merges and deletes, and operations by recency.
 use crate::rows::{NONE, bytes, left_rows, newer_merges, older_merges, table};
 use slate_rows::{
     Batch, ByteRange, ConcatOperator, DbRecencyIterator, IterationOrder, KeyBound, NoMemory,

@@ -1,3 +1,4 @@
+// Tests of batches, reads, scans and seeks, and of varints, index keys and prefixes.
 ghost use Rattle.std.specs.Prelude.{◌≡◌, None};
 
 use bytes::Bytes;

@@ -1,3 +1,4 @@
+// Tests of reads and scans by the index, and of tables whose batches are dropped or shared.
 use bytes::Bytes;
 use slate_rows::{
     Batch, ByteRange, ConcatOperator, DbIterator, IndexedTable, IterationOrder, KeyBound, NoMemory,

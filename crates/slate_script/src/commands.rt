@@ -1,3 +1,4 @@
+// The commands of a script, what a line of one is, and why a script isn't read.
 ghost use Rattle.std.specs.Prelude.{◌≡◌};
 ghost use Rattle.slate_script.specs.declared.commands.ScriptFault.TheVariants.{NoMemory as OutOfMemory};
 

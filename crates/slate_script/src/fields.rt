@@ -1,3 +1,4 @@
+// Cutting a script into lines, and a line into fields.
 ghost use Rattle.std.specs.Prelude.{◌≡◌, ◌∷◌, ◌<◌, ◌≤◌, length, map, IfOk, OnOk};
 ghost use Rattle.slate_script.specs.Lines.{fields_of, lines_of, is_newline};
 ghost use Rattle.std.specs.List.{position_or_len};

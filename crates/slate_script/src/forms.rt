@@ -1,3 +1,4 @@
+// Reading a script line as the command that its fields spell.
 ghost use Rattle.std.specs.Prelude.{◌≡◌, true, IfOk, IfSome};
 ghost use Rattle.slate_text.specs.Words.{word_of};
 ghost use Rattle.slate_script.specs.Built.{IsBuilt, puts_no_table};

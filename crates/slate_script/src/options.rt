@@ -1,3 +1,4 @@
+// The options of a run, as the words of the command line spell them.
 ghost use Rattle.std.specs.Prelude.{◌≡◌, map, string_bytes};
 ghost use Rattle.slate_script.specs.Options.{options_of};
 

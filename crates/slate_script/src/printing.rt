@@ -1,3 +1,4 @@
+// Writing replies as text.
 ghost use Rattle.std.specs.Prelude.{◌≡◌, ◌++◌, ◌∷◌, length, take, decimal, OnOk, OnErr};
 ghost use Rattle.slate_script.specs.Replies.{expiry_text, fault_text, poll_text, stamp_text, task_text, tasks_text, reply_words, reply_text, replies_text};
 

@@ -1,3 +1,4 @@
+// The replies to commands.
 use slate_errors::{Ending, SlateError};
 use slate_types::KeyValue;
 

@@ -1,3 +1,4 @@
+// Reading the commands of a whole script.
 ghost use Rattle.std.specs.Prelude.{◌≡◌, All, IfOk};
 ghost use Rattle.slate_script.specs.Built.{IsBuilt};
 ghost use Rattle.slate_script.specs.Scripts.{Reads, script_of};

@@ -1,3 +1,4 @@
+// Tests of script lines, of whole scripts, and of the text of replies.
 use bytes::Bytes;
 use slate_errors::{Ending, SlateError, TaskName};
 use slate_script::{

@@ -1,3 +1,4 @@
+// Tests of byte words, numbers and moments, read and printed.
 use bytes::Bytes;
 use slate_text::{
     read_byte_word, read_moment, read_number, read_shared_word, write_byte_word, write_number,

@@ -1,3 +1,4 @@
+-- Moving every other element to the front halves a list.
 use Rattle.std.proofs.Common.{◌≡◌, refl, sym, ◌∙◌, ℕ, ◌+◌, ◌*◌, ◌<◌, ◌≤◌, zero, suc, List, [], ◌∷◌, length, get_or, take, arith}
 use Rattle.std.proofs.lemmas.List.{same_lists, get_or-take, length-take}
 use Rattle.slate_seqtrack.specs.Thinning.{evens}

@@ -1,3 +1,4 @@
+// Writing bits to bytes, reading them back, and extending signs.
 ghost use Rattle.std.specs.Prelude.{◌≡◌, ℕ, ◌+◌, ◌*◌, ◌/◌, ◌%◌, ◌^◌, ◌<◌, ◌≤◌, ◌∷◌, [], ◌++◌, length, OnOk, OnErr, IfOk, MatchOption};
 ghost use Rattle.std.specs.Vec.{vec_len, vec_capacity};
 ghost use Rattle.slate_seqtrack.specs.Bits.{low_bits, signed, bits_of, IsPadded};

@@ -1,3 +1,4 @@
+// Tests of bits, of blocks of numbers, and of the bytes that a tracker refuses.
 use crate::{
     BitReader, BitWriter, SequenceTracker, TrackerFault, decode_gorilla_i64_with_length,
     encode_gorilla_i64, sign_extend,

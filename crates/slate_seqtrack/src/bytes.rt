@@ -1,3 +1,4 @@
+// The lists of a tracker as bytes, and back.
 ghost use Rattle.std.specs.Prelude.{◌≡◌, ◌<◌, ◌^◌, ◌&&◌, Bool, true, false, map, length, Ok, IfOk, MatchResult};
 ghost use Rattle.std.specs.Ordering.{nat_cmp, int_cmp};
 ghost use Rattle.slate_seqtrack.specs.Block.{is_encodable};

@@ -1,3 +1,4 @@
+// Reading a block of numbers.
 ghost use Rattle.std.specs.Prelude.{◌≡◌, ◌<◌, ◌≤◌, ◌^◌, ◌++◌, ◌+ℤ◌, ◌-ℤ◌, Bool, List, ℕ, ℤ, pos, true, false, length, Ok, None, Some, IfOk, IfSome, MatchOption, MatchResult};
 ghost use Rattle.std.specs.List.{AllByRecursion};
 ghost use Rattle.slate_seqtrack.specs.declared.faults.TrackerFault.TheVariants.{NoMemory};

@@ -1,3 +1,4 @@
+// Writing a block of numbers.
 ghost use Rattle.std.specs.Prelude.{◌≡◌, ◌<◌, ◌≤◌, ◌^◌, ◌++◌, Bool, List, ℤ, pos, ◌-ℤ◌, true, false, length, OnOk, OnErr, MatchOption, MatchResult};
 ghost use Rattle.std.specs.Int.{w32, cast_unsigned};
 ghost use Rattle.slate_seqtrack.specs.Bits.{low_bits};

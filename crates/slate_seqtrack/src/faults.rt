@@ -1,3 +1,4 @@
+// The refusals of a tracker and of its bytes.
 ghost use Rattle.std.specs.Prelude.{◌≡◌};
 
 use slate_types::NoMemory;

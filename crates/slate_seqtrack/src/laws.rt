@@ -1,3 +1,4 @@
+// The bytes of a tracker give back its lists.
 ghost use Rattle.std.specs.Prelude.{◌≡◌, ℕ, ℤ, List, ◌++◌, Ok};
 ghost use Rattle.slate_seqtrack.specs.Writing.{IsWrittenBlock};
 ghost use Rattle.slate_seqtrack.specs.Bytes.{AreLists, AreTrackerBytes, lists_at};

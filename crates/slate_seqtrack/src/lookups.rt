@@ -1,3 +1,4 @@
+// Looking up a key's partner in two lists by binary search.
 ghost use Rattle.std.specs.Prelude.{◌≡◌, ◌<◌, ◌≤◌, length, true, false, MatchOption, slice_index_or};
 ghost use Rattle.std.specs.Ordering.{is_lt, is_le};
 ghost use Rattle.std.specs.List.Sorted.{IsSorted, IsPartitionPoint};

@@ -1,3 +1,4 @@
+// Tests of a tracker: its insertions, its look-ups and its bytes.
 use crate::FindOption::{RoundDown, RoundUp};
 use crate::{FindOption, SequenceTracker, TrackedSeq, TrackerFault};
 use std::alloc::Global;

@@ -1,3 +1,4 @@
+// Thinning a list that is past its capacity.
 ghost use Rattle.std.specs.Prelude.{◌≡◌, ◌<◌, ◌∷◌, [], ◌++◌};
 ghost use Rattle.std.specs.Vec.{vec_len, vec_capacity};
 ghost use Rattle.slate_seqtrack.specs.Thinning.{evens, thinned};

@@ -1,3 +1,4 @@
+// A tracker of sequence numbers and times: insertions, look-ups, and its bytes.
 ghost use Rattle.std.specs.Prelude.{◌≡◌, ℕ, ℤ, List, ◌&&◌, true, ◌<◌, ◌≤◌, false, None, Some, Ok, Err, IfOk, IfSome, MatchResult, length, slice_index_or};
 ghost use Rattle.std.specs.Ordering.{nat_cmp, int_cmp};
 ghost use Rattle.std.specs.Vec.{vec_len, vec_capacity};

@@ -1,3 +1,4 @@
+-- Prefixes that are joined are a union, and adding those that are there adds nothing.
 use Rattle.std.proofs.Common.{◌≡◌, ℕ, ◌+◌, ◌<◌, ◌⊎◌, inl, inr, false, true, List, [], ◌∷◌, ◌++◌, length, take, get_or, map, Result, Ok, Err, refl, ap, subst, sym}
 use Rattle.std.specs.Prelude.{All, Contains, IfOk, is_ok}
 use Rattle.std.specs.List.{HoldsAt}

@@ -1,3 +1,4 @@
+// Recording reports of a database's status, and answering waits for durable numbers.
 ghost use Rattle.std.specs.Prelude.{◌≡◌, ◌↔◌, ℕ, List, true, None, [], if◌then◌else◌, IsTrue, IfOk, OnErr, All, Contains};
 ghost use Rattle.slate_status.specs.Records.{reason_for};
 

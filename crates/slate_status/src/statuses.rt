@@ -1,3 +1,4 @@
+// The status of a database, its segments, and the answers to a wait.
 ghost use Rattle.std.specs.Prelude.{◌≡◌, IfOk, map};
 ghost use Rattle.slate_status.specs.Segments.{IsUnion};
 

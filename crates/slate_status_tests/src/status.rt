@@ -1,3 +1,4 @@
+// Tests of errors with their texts and kinds, of close cells, and of status records.
 ghost use Rattle.std.specs.Prelude.{IfOk};
 ghost use Rattle.slate_status.specs.Segments.{AreRising};
 

@@ -1,3 +1,4 @@
+-- A put that isn't made may answer `Failed`.
 use Rattle.std.proofs.Common.{◌≡◌, refl, inl, Option, Err}
 use Rattle.slate_types.proofs.Modelled.{modelled_kept}
 use Rattle.slate_types.specs.declared.store_errors.StoreError.TheVariants.{Failed}

@@ -1,3 +1,4 @@
+-- The greatest key of a map gives the last log file above a number.
 use Rattle.std.proofs.Common.{◌≡◌, ℕ, zero, suc, ◌≤◌, List, [], ◌∷◌, Some, max, false, arith}
 use Rattle.std.specs.List.{All, AllByRecursion, slice_get}
 use Rattle.std.specs.Ordering.{nat_cmp, is_lt}

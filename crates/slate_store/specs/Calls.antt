@@ -1,3 +1,4 @@
+-- What the calls of a store may answer and change.
 use Rattle.std.specs.Prelude.{◌≡◌, ℕ, ◌≤◌, ◌⊎◌, true, false, Option, Some, None, Result, Ok, Err, IsErrOf}
 pub use Rattle.slate_types.specs.Counts.{count_end, one_more, HasRisen}
 pub use Rattle.slate_types.specs.Modelled.{WhereModelled}

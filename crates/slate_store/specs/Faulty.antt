@@ -1,3 +1,4 @@
+-- A store whose calls fail by a list, and what becomes of each.
 use Rattle.std.specs.Prelude.{◌≡◌, ℕ, ◌+◌, ◌==◌, nat_lt, if◌then◌else◌, List, find, Option, Some, None, Result, Err}
 use Rattle.slate_types.specs.Counts.{count_end, one_more}
 use Rattle.slate_types.specs.declared.store_errors.StoreError.{StoreError}

@@ -1,3 +1,4 @@
+-- The objects of a store, and what puts make of them.
 use Rattle.std.specs.Prelude.{ℕ, ◌-◌, Bool, max, List, [], ◌∷◌, length, map, slice_get, is_some, Option, option_map}
 use Rattle.std.specs.Ordering.{nat_cmp}
 use Rattle.std.specs.Map.{lookup}

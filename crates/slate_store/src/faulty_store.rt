@@ -1,3 +1,4 @@
+// Letting calls of a store fail by their numbers, made or not made.
 ghost use Rattle.std.specs.Prelude.{◌≡◌, ◌≤◌, ◌==◌, find};
 
 use crate::{LogFile, Manifest, Store, VersionedManifest};

@@ -1,3 +1,4 @@
+// Stored log files, whose copies share their batches.
 ghost use Rattle.std.specs.Prelude.{◌≡◌, IfOk};
 
 use slate_types::{Batch, NoMemory, Seq};

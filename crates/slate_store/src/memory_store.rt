@@ -1,3 +1,4 @@
+// Keeping manifests and log files in memory.
 ghost use Rattle.std.specs.Prelude.{◌≡◌, Some, []};
 ghost use Rattle.slate_types.specs.Counts.{one_more};
 ghost use Rattle.slate_store.specs.Objects.{empty};

@@ -1,3 +1,4 @@
+// Manifests, with the table ids and checkpoints in them.
 ghost use Rattle.std.specs.Prelude.{◌≡◌, IfOk};
 
 use bytes::Bytes;

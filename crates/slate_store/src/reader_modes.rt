@@ -1,3 +1,4 @@
+// The modes in which a reader follows a database.
 use uuid::Uuid;
 
 /// Which state of a database a reader follows. SlateDB's enum of this name.

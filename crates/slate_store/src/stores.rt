@@ -1,3 +1,4 @@
+// The calls of a store, and what each answers and changes.
 ghost use Rattle.std.specs.Prelude.{◌≡◌, ℕ, Option, IfSome, IfOk, IfErr};
 ghost use Rattle.slate_store.specs.Objects.{Objects, PutManifest, PutLog, latest_manifest, last_log, log_at};
 ghost use Rattle.slate_store.specs.Calls.{IsCall, WhereModelled, Finds, Puts, IsOfList, IsOfRead, IsOfPut};

@@ -1,3 +1,4 @@
+-- Pieces that are taken one after another make one front.
 use Rattle.std.proofs.Common.{◌≡◌, ℕ, ◌+◌, ◌-◌, List, ◌++◌, length, take, drop, sym, append_assoc}
 use Rattle.std.proofs.lemmas.List.{drop-drop, take-append-drop, take_rest}
 use Rattle.std.proofs.Math.Seq.{take-append_seam, take-add}

@@ -1,3 +1,4 @@
+-- Sources and sinks in memory: which calls fail, and what the others answer.
 use Rattle.std.specs.Prelude.{◌≡◌, ℕ, ◌+◌, ◌==◌, min, Bool, true, false, ◌&&◌, nat_lt, List, length}
 use Rattle.std.specs.List.{list_any}
 use Rattle.slate_types.specs.Counts.{count_end, one_more}

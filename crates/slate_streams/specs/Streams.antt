@@ -1,3 +1,4 @@
+-- What a read takes from a source, and what a write adds to a sink.
 use Rattle.std.specs.Prelude.{◌≡◌, ℕ, ◌<◌, ◌≤◌, List, [], ◌++◌, take}
 use Rattle.slate_streams.specs.declared.sources.ReadAnswer.{ReadAnswer}
 use Rattle.slate_streams.specs.declared.sources.ReadAnswer.TheVariants.{Got, End, Failed}

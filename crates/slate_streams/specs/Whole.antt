@@ -1,3 +1,4 @@
+-- What reading to the end takes, and what writing a whole text adds.
 use Rattle.std.specs.Prelude.{◌≡◌, ℕ, ◌<◌, ◌≤◌, Bool, true, false, List, [], ◌++◌, length, take, Result, Ok, Err}
 use Rattle.std.specs.Global.{Vec}
 use Rattle.slate_streams.specs.declared.whole.TheConstants.{MAX_SCRIPT}

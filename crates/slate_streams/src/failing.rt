@@ -1,3 +1,4 @@
+// Counting calls of streams in memory, and failing some by their numbers.
 ghost use Rattle.std.specs.Prelude.{◌≡◌, ◌≤◌};
 ghost use Rattle.slate_types.specs.Counts.{one_more};
 ghost use Rattle.slate_streams.specs.InMemory.{called, fails_next};

@@ -1,3 +1,4 @@
+// Writing to bytes in memory, a piece per call.
 ghost use Rattle.std.specs.Prelude.{◌≡◌, ◌≤◌, []};
 
 use crate::failing::CallCount;

@@ -1,3 +1,4 @@
+// Tests of sessions over failing streams, and of commands that are done one by one.
 ghost use Rattle.std.specs.Prelude.{IfOk};
 ghost use Rattle.slate_script.specs.Built.{IsBuilt};
 

@@ -1,3 +1,4 @@
+// Tests of runs over a store whose calls fail.
 use slate_errors::SlateError;
 use slate_store::{FailingCall, FaultyStore, MemoryStore, Store};
 use slate_types::{FixedPrefix, FlushType, Seq, StoreError, StoreFault, WriteBatch};

@@ -1,3 +1,4 @@
+// Tests of sources and sinks: pieces, failures, and the limit of a script.
 ghost use Rattle.std.specs.Prelude.{◌≤◌};
 
 use slate_streams::{

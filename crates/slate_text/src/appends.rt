@@ -1,3 +1,4 @@
+// Writing at the end of a text, and cutting back what isn't whole.
 ghost use Rattle.std.specs.Prelude.{◌≡◌, ◌++◌, take, OnOk, OnErr};
 
 use slate_types::NoMemory;

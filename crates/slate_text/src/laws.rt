@@ -1,3 +1,4 @@
+// The texts of bytes, numbers and moments give back what was printed.
 ghost use Rattle.std.specs.Prelude.{◌≡◌, ◌<◌, ◌^◌, ℕ, List, All, Some, None, pos, decimal};
 ghost use Rattle.slate_text.specs.Numbers.{number_of, moment_of};
 ghost use Rattle.slate_text.specs.Words.{word_of, word_text};

@@ -1,3 +1,4 @@
+// Reading and writing numbers and moments.
 ghost use Rattle.std.specs.Prelude.{◌≡◌, ◌++◌, OnOk, OnErr, decimal};
 ghost use Rattle.std.specs.Fmt.{signed_decimal};
 ghost use Rattle.slate_text.specs.Numbers.{number_of, time_of, two_times, moment_of};

@@ -1,3 +1,4 @@
+-- What is modelled stays modelled by one call and by two.
 use Rattle.std.proofs.Common.{◌≡◌, Option, Some, ◌∙◌, refl}
 use Rattle.slate_types.specs.Modelled.{WhereModelled}
 

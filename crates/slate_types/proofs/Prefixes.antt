@@ -1,3 +1,4 @@
+-- A range behind a prefix holds the prefix with each suffix in the range, and no other key.
 use Rattle.std.proofs.Common.{◌≡◌, ◌≢◌, refl, sym, ◌∙◌, ap, ℕ, ◌+◌, ◌<◌, inl, inr, Bool, true, false, cond, nat_lt, ◌==◌, ◌&&◌, ◌↔◌, IsTrue, List, [], ◌∷◌, ◌++◌, Option, Some, None, arith}
 use Rattle.std.specs.List.{AllByRecursion}
 use Rattle.std.specs.declared.cmp.Ordering.{Ordering}

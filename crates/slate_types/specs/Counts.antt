@@ -1,3 +1,4 @@
+-- Counts that stay at the greatest u64.
 use Rattle.std.specs.Prelude.{ℕ, ◌+◌, ◌<◌, ◌≤◌, ◌⊎◌, min}
 
 -- the greatest u64, at which a count stays

@@ -1,3 +1,4 @@
+-- Batches that are numbered one after another.
 use Rattle.std.specs.Prelude.{◌≡◌, ℕ, ◌+◌, List, [], ◌∷◌, ◌++◌, length, filter, nat_lt}
 use Rattle.slate_types.specs.declared.batches.Batch.{Batch}
 

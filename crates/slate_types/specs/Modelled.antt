@@ -1,3 +1,4 @@
+-- Calls on what may be modelled or not.
 use Rattle.std.specs.Prelude.{◌≡◌, Option, Some, None}
 
 -- What a call leaves of something that is modelled or isn't. What is modelled before a call is modelled after it, and P

@@ -1,3 +1,4 @@
+-- What merge operators answer, and which are lawful.
 use Rattle.std.specs.Prelude.{◌≡◌, ℕ, List, ◌++◌, Option, Some, None, Result, Ok, Err}
 use Rattle.slate_types.specs.declared.operators.MergeFault.{MergeFault}
 use Rattle.slate_types.specs.declared.operators.MergeFault.TheVariants.{Refused, NoMemory}

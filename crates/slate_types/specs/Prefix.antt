@@ -1,3 +1,4 @@
+-- Prefixes of a fixed length.
 use Rattle.std.specs.Prelude.{ℕ, nat_le, List, length, take, Option, Some, None, if◌then◌else◌}
 
 -- the first bytes of a key that has so many

@@ -1,3 +1,4 @@
+-- What adding an operation makes of a batch.
 use Rattle.std.specs.Prelude.{List, [], ◌∷◌, ◌++◌, filter, not}
 use Rattle.std.specs.Str.{bytes_eq}
 use Rattle.slate_types.specs.declared.batches.KeyOp.{KeyOp}

@@ -1,3 +1,4 @@
+// Operations on keys, batches of them, and the row that a read finds.
 ghost use Rattle.std.specs.Prelude.{◌≡◌, [], None, IfOk, OnOk, OnErr, length};
 
 use crate::{MergeOptions, NoMemory, PutOptions, Seq};

@@ -1,3 +1,4 @@
+// The error for want of memory.
 ghost use Rattle.std.specs.Prelude.{◌≡◌};
 
 use std::alloc::{AllocError, AllocFailed};

@@ -1,3 +1,4 @@
+// Merge operators and prefix extractors, with one of each.
 ghost use Rattle.std.specs.Prelude.{◌≡◌, ℕ, List, ◌++◌, Option, IfOk, codes};
 ghost use Rattle.std.specs.Fmt.{decimal};
 ghost use Rattle.slate_types.specs.Operator.{Merges, concat};

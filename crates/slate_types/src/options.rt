@@ -1,3 +1,4 @@
+// The options of reads, writes, flushes and closes.
 ghost use Rattle.std.specs.Prelude.{◌≡◌, None, Some, false};
 
 /// From where a read takes its rows.

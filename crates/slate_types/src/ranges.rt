@@ -1,3 +1,4 @@
+// Ranges of keys: their bounds, and ranges behind a prefix.
 ghost use Rattle.std.specs.Prelude.{◌≡◌, ℕ, ◌↔◌, List, ◌++◌, IsTrue, IfOk, true};
 ghost use Rattle.slate_types.specs.Range.{contains, is_above, is_below, end_of_prefix, below, low_with_prefix, high_with_prefix, with_prefix, AreBytes};
 

@@ -1,3 +1,4 @@
+// The faults of a read.
 use crate::NoMemory;
 use thiserror::Error;
 

@@ -1,3 +1,4 @@
+// Lists and texts, as records hold them.
 ghost use Rattle.std.specs.Prelude.{◌≡◌, length, string_bytes, nat_eq};
 ghost use Rattle.std.specs.List.{AllZip};
 ghost use Rattle.std.specs.Cmp.{partial_equiv_from_equiv};

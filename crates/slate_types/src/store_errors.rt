@@ -1,3 +1,4 @@
+// The refusals of a store's calls, and the faults of a store that errors name.
 ghost use Rattle.std.specs.Prelude.{◌≡◌};
 ghost use Rattle.slate_types.specs.declared.store_errors.StoreError.TheVariants.{NoMemory as OutOfMemory};
 

@@ -1,3 +1,4 @@
+-- Storing the end of a handle's memory flushes what isn't stored.
 use Rattle.std.proofs.Common.{◌≡◌, ◌-◌, length, take, drop, Result, sym, subst, arith, ap, ◌∙◌, List}
 use Rattle.std.proofs.lemmas.List.{take_rest}
 use Rattle.slate_types.specs.declared.batches.Batch.{Batch}

@@ -1,3 +1,4 @@
+-- What calls in a row leave of objects that are modelled.
 use Rattle.std.proofs.Common.{◌≡◌, ℕ, Option, Some, None, refl, subst, ◌∙◌}
 use Rattle.slate_store.specs.Objects.{Objects}
 use Rattle.slate_store.specs.Calls.{WhereModelled}

@@ -1,3 +1,4 @@
+-- What a handle keeps in memory, and the handle of the model that it represents.
 use Rattle.std.specs.Prelude.{◌+◌, ◌<◌, ◌≤◌, ◌^◌, length}
 use Rattle.slate_types.specs.Line.{AreNumberedFrom}
 use Rattle.slate_model.specs.Handle.{Handle}

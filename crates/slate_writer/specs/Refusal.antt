@@ -1,3 +1,4 @@
+-- The answer of a write, as the model has it.
 use Rattle.std.specs.Prelude.{Result, Ok, Err}
 use Rattle.slate_errors.specs.declared.errors.SlateError.{SlateError}
 use Rattle.slate_model.specs.declared.answers.Written.{Written}

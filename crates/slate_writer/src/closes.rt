@@ -1,3 +1,4 @@
+// Closing a handle, with the flush that is asked for.
 ghost use Rattle.std.specs.Prelude.{◌≡◌, ◌≢◌, ◌≤◌, ℕ, [], Some, None};
 ghost use Rattle.slate_model.specs.Close.{Closes, ended};
 ghost use Rattle.slate_model.specs.Flush.{CanFlush};

@@ -1,3 +1,4 @@
+// Flushing a handle's batches to a log file.
 ghost use Rattle.std.specs.Prelude.{◌≡◌, ◌≤◌, ℕ, IfSome};
 ghost use Rattle.slate_store.specs.Calls.{WhereModelled};
 ghost use Rattle.slate_model.specs.Flush.{CanFlush, FindsCurrent, Flushes, Stores, StoresBatches, flushed, recorded};

@@ -1,3 +1,4 @@
+// Opening a database: its manifest, the fence, and the replay of its log files.
 ghost use Rattle.std.specs.Prelude.{◌≡◌, ℕ, ◌+◌, ◌<◌, ◌^◌, true, None, Some, Ok, length, IfErr, IfOk, IfSome};
 ghost use Rattle.std.specs.Option.{option_copied};
 ghost use Rattle.slate_types.specs.Line.{AreNumberedFrom};

@@ -1,3 +1,4 @@
+// What a handle that writes keeps.
 ghost use Rattle.std.specs.Prelude.{◌≡◌};
 ghost use Rattle.slate_model.specs.Handle.{accepted};
 

@@ -1,3 +1,4 @@
+// Writing a batch to a handle, and what refuses it.
 ghost use Rattle.std.specs.Prelude.{◌≡◌, ◌+◌, ◌<◌, ◌^◌, Option, Some, None, Err, IfOk, IfErr};
 ghost use Rattle.slate_model.specs.Handle.{accepted};
 ghost use Rattle.slate_errors.specs.Errors.{closed_error};

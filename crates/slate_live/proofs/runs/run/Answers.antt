@@ -1,9 +1,7 @@
-use Rattle.std.proofs.Common.{arith, ap, refl, sym, subst, ◌∙◌, ◌++◌, ◌∷◌, []}
-use Rattle.std.proofs.lemmas.List.{take_all}
+use Rattle.std.proofs.Common.{arith, ap, refl, ◌∙◌, ◌++◌, ◌∷◌, []}
 use Rattle.slate_model.specs.Known.{known}
-use Rattle.slate_live.specs.Run.{DoAll}
 use Rattle.slate_live.specs.State.{Live, running}
-use Rattle.slate_live.proofs.Chains.{do-next, done-next, done_none, leads_all, stands-push, stands_start}
+use Rattle.slate_live.proofs.Chains.{do-all, do-next, do-none, done-next, done_none, leads_all, stands-push, stands_start}
 use Rattle.slate_live.proofs.runs.run.Goals as goal
 
 pub loop-command-init : goal.loop-command-init
@@ -14,7 +12,7 @@ loop-command-init g c =
       room = c.in_ok-replies.ensures.capacity;
       options = ap (λ (l : Live). l.options) c.new-live.ensures;
       does = λ merge lawful.
-          subst (λ rs. DoAll (record { merge = merge; options = c.args.options.now }) _ [] rs (running c.new-live.result _)) (sym c.in_ok-replies.ensures.items) (ap (λ (l : Live). running l _) c.new-live.ensures);
+          do-none (record { merge = merge; options = c.args.options.now }) c.args.options.now c.new-live.result (known g.S.Store.objects g.S.Store.faults c.args.store.now) c.in_ok-replies.replies.items c.in_ok-replies.ensures.items c.new-live.ensures;
       leads = λ merge lawful before is sound. (
         [],
         done_none (record { merge = merge; options = c.args.options.now }) _ _ c.in_ok-replies.ensures.items,
@@ -46,7 +44,8 @@ returns-clause-does g c merge lawful =
     let all = c.loop-command.invariant.does merge lawful in
     (
       running c.loop-command.live (known g.S.Store.objects g.S.Store.faults c.loop-command.store),
-      subst (λ cs. DoAll (record { merge = merge; options = c.args.options.now }) _ cs c.loop-command.replies.items (running c.loop-command.live (known g.S.Store.objects g.S.Store.faults c.loop-command.store))) (take_all c.loop-command.command-index c.args.commands.now c.loop-command-test.false) all,
+      do-all (record { merge = merge; options = c.args.options.now }) (record { objects = []; writes = []; store = known g.S.Store.objects g.S.Store.faults c.args.store.now })
+      (running c.loop-command.live (known g.S.Store.objects g.S.Store.faults c.loop-command.store)) c.args.commands.now c.loop-command.command-index c.loop-command.replies.items c.loop-command-test.false all,
       refl,
     )
 

@@ -6,7 +6,7 @@ use Rattle.slate_types.specs.Modelled.{WhereModelled}
 use Rattle.slate_types.specs.declared.batches.Batch.{Batch}
 use Rattle.slate_model.specs.Known.{Known, known}
 use Rattle.slate_store.specs.Objects.{Objects}
-use Rattle.slate_streams.specs.declared.whole.TheConstants.{MAX_SCRIPT}
+use Rattle.slate_script.specs.declared.scripts.TheConstants.{MAX_SCRIPT}
 use Rattle.slate_streams.specs.declared.whole.InputFault.{InputFault}
 use Rattle.slate_streams.specs.declared.whole.InputFault.TheVariants as inputs
 use Rattle.slate_script.specs.declared.commands.ScriptFault.{ScriptFault}

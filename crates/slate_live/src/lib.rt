@@ -12,12 +12,12 @@ mod states;
 pub use runs::run;
 pub use sessions::{Finished, Outcome, session};
 pub use slate_script::{
-    Action, Command, LineAnswer, Options, Reply, ScriptFault, print_replies, read_line,
+    Action, Command, LineAnswer, MAX_SCRIPT, Options, Reply, ScriptFault, print_replies, read_line,
     read_script, script_fields,
 };
 pub use slate_streams::{
-    InputFault, MAX_SCRIPT, ReadAnswer, Sink, SliceSource, Source, VecSink, WriteAnswer,
-    read_whole, write_whole,
+    InputFault, ReadAnswer, Sink, SliceSource, Source, VecSink, WriteAnswer, read_whole,
+    write_whole,
 };
 pub use slate_text::{read_byte_word, read_moment, read_number, write_byte_word};
 pub use states::LiveState;

@@ -6,7 +6,7 @@ ghost use Rattle.slate_script.specs.Replies.{replies_text};
 ghost use Rattle.slate_live.specs.Session.{Ends, EndsWriting, IsGiven, ReadsScript, input_ending, refused_line, script_ending, sides, status_of};
 
 use crate::run;
-use slate_script::{Command, Reply, ScriptFault, print_replies, read_script, read_words};
+use slate_script::{Command, MAX_SCRIPT, Reply, ScriptFault, print_replies, read_script, read_words};
 use slate_store::Store;
 use slate_streams::{InputFault, Sink, Source, read_whole, write_whole};
 use slate_types::{ConcatOperator, FixedPrefix, Seq};
@@ -136,7 +136,7 @@ fn read_commands<I: Source>(alloc: Global, source: &mut I) -> Result<Vec<Command
     ensures built { IfOk result (λ commands. All (λ command. IsBuilt command.action) commands.items) }
     ensures reads { ReadsScript result (I.left source.old) (I.left source.new) (I.faults source.old) (I.faults source.new) }
 {
-    let bytes = read_whole(alloc, source)?;
+    let bytes = read_whole(alloc, source, MAX_SCRIPT)?;
     let commands = read_script(alloc, bytes.as_slice())?;
     Ok(commands)
 }

@@ -15,4 +15,4 @@ pub use forms::read_line;
 pub use options::{Options, read_words};
 pub use printing::print_replies;
 pub use replies::Reply;
-pub use scripts::read_script;
+pub use scripts::{MAX_SCRIPT, read_script};

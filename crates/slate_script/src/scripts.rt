@@ -9,6 +9,9 @@ use crate::{Command, LineAnswer, ScriptFault};
 use bytes::Bytes;
 use std::alloc::Global;
 
+/// The most bytes that a script of a session may have.
+pub const MAX_SCRIPT: usize = 67_108_864;
+
 /// The commands of a script, in order, or the number of the first line that isn't a script line. It copies the script
 /// once; keys and values share that copy, except those that are spelled with `%`. It takes time in proportion to the
 /// script.

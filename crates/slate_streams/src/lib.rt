@@ -12,4 +12,4 @@ pub use sinks::{Sink, WriteAnswer};
 pub use slice_sources::SliceSource;
 pub use sources::{ReadAnswer, Source};
 pub use vec_sinks::VecSink;
-pub use whole::{InputFault, MAX_SCRIPT, read_whole, write_whole};
+pub use whole::{InputFault, read_whole, write_whole};

@@ -8,9 +8,6 @@ ghost use Rattle.slate_streams.specs.Whole.{ReadsWhole, WritesWhole};
 use crate::{ReadAnswer, Sink, Source, WriteAnswer};
 use std::alloc::{AllocError, Global};
 
-/// The most bytes that a script may have.
-pub const MAX_SCRIPT: usize = 67_108_864;
-
 /// How many bytes a read has room for.
 const ROOM: usize = 65_536;
 
@@ -19,7 +16,7 @@ const ROOM: usize = 65_536;
 pub enum InputFault {
     /// The source failed.
     Failed,
-    /// More than `MAX_SCRIPT` bytes came.
+    /// More bytes than the limit came.
     TooLong,
     /// Memory ran out.
     NoMemory,
@@ -35,13 +32,17 @@ impl From<AllocError> for InputFault {
 
 /// Reads a source to its end, and answers all bytes that it had left. It takes time linear in them.
 ///
-/// It answers `Failed` only where the source failed in this call, and `TooLong` exactly where more than `MAX_SCRIPT`
-/// bytes came. After a fault the source has lost the bytes that came.
-pub fn read_whole<I: Source>(alloc: Global, source: &mut I) -> Result<Vec<u8>, InputFault>
+/// It answers `Failed` only where the source failed in this call, and `TooLong` exactly where more than `limit` bytes
+/// came. After a fault the source has lost the bytes that came.
+pub fn read_whole<I: Source>(
+    alloc: Global,
+    source: &mut I,
+    limit: usize,
+) -> Result<Vec<u8>, InputFault>
     ensures faults { I.faults source.old ≤ I.faults source.new }
     ensures failed { IsErrOf result InputFault.Failed → HasRisen (I.faults source.old) (I.faults source.new) }
-    ensures limit { IfOk result (λ bytes. vec_len bytes ≤ MAX_SCRIPT) }
-    ensures where_modelled { WhereModelled (ReadsWhole result) (I.left source.old) (I.left source.new) }
+    ensures limit { IfOk result (λ bytes. vec_len bytes ≤ limit) }
+    ensures where_modelled { WhereModelled (ReadsWhole limit result) (I.left source.old) (I.left source.new) }
 {
     let mut room = make_room(alloc)?;
     let room = room.as_mut_slice();
@@ -49,7 +50,7 @@ pub fn read_whole<I: Source>(alloc: Global, source: &mut I) -> Result<Vec<u8>, I
     loop {
         match source.read(room) {
             ReadAnswer::Got(count) => {
-                if count > MAX_SCRIPT - bytes.len() {
+                if count > limit - bytes.len() {
                     return Err(InputFault::TooLong);
                 }
                 bytes.extend_from_slice(&room[..count])?;

@@ -2,8 +2,9 @@
 ghost use Rattle.std.specs.Prelude.{◌≤◌};
 
 use slate_streams::{
-    InputFault, MAX_SCRIPT, ReadAnswer, SliceSource, Source, VecSink, read_whole, write_whole,
+    InputFault, ReadAnswer, SliceSource, Source, VecSink, read_whole, write_whole,
 };
+use slate_script::MAX_SCRIPT;
 use slate_types::Seq;
 use std::alloc::{AllocError, Global};
 use std::test::Fail;
@@ -31,7 +32,7 @@ pub(crate) fn sink(alloc: Global, piece: usize, failing: &[u64]) -> Result<VecSi
 fn passes(alloc: Global, text: &[u8], piece: usize) -> Result<bool, Fail>
     requires { 1 ≤ piece }
 {
-    let bytes = read_whole(alloc, &mut source(alloc, text, piece, &[])?)?;
+    let bytes = read_whole(alloc, &mut source(alloc, text, piece, &[])?, text.len())?;
     let mut sink = sink(alloc, piece, &[])?;
     Ok(write_whole(&mut sink, bytes.as_slice()) && sink.written() == text)
 }
@@ -49,8 +50,8 @@ fn pieces(rt: HostRuntime) -> Result<(), Fail> {
 // The fault of a read to the end of three pieces, and what another read gives.
 fn read_twice(alloc: Global, failing: u64) -> Result<(Option<InputFault>, Vec<u8>), Fail> {
     let mut source = source(alloc, b"abcdefgh", 3, &[failing])?;
-    let fault = read_whole(alloc, &mut source).err();
-    Ok((fault, read_whole(alloc, &mut source)?))
+    let fault = read_whole(alloc, &mut source, MAX_SCRIPT).err();
+    Ok((fault, read_whole(alloc, &mut source, MAX_SCRIPT)?))
 }
 
 // Each read fails in turn, the one that would show the end too. What came before it is lost, and what is left comes.
@@ -128,7 +129,7 @@ fn limit(rt: HostRuntime) -> Result<(), Fail> {
         (MAX_SCRIPT, Ok(MAX_SCRIPT)),
         (MAX_SCRIPT + 1, Err(InputFault::TooLong)),
     ] {
-        let bytes = read_whole(alloc, &mut Unheld { left });
+        let bytes = read_whole(alloc, &mut Unheld { left }, MAX_SCRIPT);
         assert_eq!(rt; bytes.map(|bytes| bytes.len()), want);
     }
     Ok(())

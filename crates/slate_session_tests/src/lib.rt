@@ -1,4 +1,4 @@
-//! Tests of stores, streams and sessions, from outside.
+//! Tests of sessions, and of the stores and streams that they run over, from outside.
 #![tactic(auto)]
 
 #[cfg(test)]

@@ -85,7 +85,7 @@ impl<T: Task> Executor<T> {
         Ok(())
     }
 
-    /// Starts the tasks. It answers `BackgroundTaskExecutorStarted` from the second time on.
+    /// Lets the tasks have turns from now on. It answers `BackgroundTaskExecutorStarted` from the second time on.
     pub fn start(&mut self) -> Result<(), SlateError>
         ensures answer { result ≡ (if self.old.is_started then Err Started else Ok tt) }
         ensures started { self.new ≡ record self.old { is_started = true } }

@@ -14,8 +14,8 @@ use std::alloc::Global;
 impl FollowerState {
     /// Opens a reader of a database: it reads the latest manifest and all log files above the manifest's replay mark,
     /// and sees the batches that these have. It puts nothing. Of the modes, `FollowLatest` can be opened today, with
-    /// log files and without an extractor; in this mode `moment` isn't looked at. It takes time linear in the batches
-    /// of the log files. SlateDB's `DbReader::open`.
+    /// log files and without an extractor; in this mode `moment` isn't looked at. It takes time linear in the operations
+    /// of the log files, and for each key a logarithm of the keys. SlateDB's `DbReader::open`.
     ///
     /// It answers `Truncated` where a log file or a batch is missing, and the reader has the batches before it; that
     /// never comes over a store that only handles wrote. It answers `LatestTransactionalObjectVersionMissing` where
@@ -40,7 +40,7 @@ impl FollowerState {
 
     /// Takes all that is stored by now: from then on the reader sees the batches of the log files above the latest
     /// manifest's replay mark, and answers from them until the next poll. `moment` isn't looked at. It rebuilds what it
-    /// sees at each poll, which takes time linear in the batches of the log files.
+    /// sees at each poll, which takes the time of an opening.
     ///
     /// It answers `Truncated` where a log file or a batch is missing, and the reader has the batches before it then;
     /// that never comes over a store that only handles wrote. A poll that answers an error leaves the reader as it was,

@@ -27,8 +27,8 @@ abbrev pub up_to : ℕ → Line → Line
 up_to number line = record { floor = line.floor; batches = take (number - line.floor) line.batches }
 
 -- A handle of a world in which this line is stored under this manifest: its line is one, its batches up to its durable
--- number begin what is stored, and its epoch isn't above that of the manifest. While it is open and its epoch is current, what is stored and
--- then what isn't stored yet is its line.
+-- number begin what is stored, and its epoch isn't above that of the manifest. While it is open and its epoch is
+-- current, what is stored and then what isn't stored yet is its line.
 pub record IsValidHandle (stored : Line) (latest : Option VersionedManifest) (handle : Handle) : Type 0 where
   pub numbered : IsLine handle.line
   pub floor : handle.line.floor ≤ handle.durable
@@ -41,8 +41,8 @@ pub record IsValidHandle (stored : Line) (latest : Option VersionedManifest) (ha
 abbrev pub IsFollowerAt : List Object → ℕ → Follower → Type 0
 IsFollowerAt live n follower = slice_get live n ≡ Some (AFollower follower)
 
--- what holds of every world that commands lead to: a line is stored, its handles are valid, no two have the same epoch, and what a follower
--- sees begins what is stored
+-- what holds of every world that commands lead to: a line is stored, its handles are valid, no two have the same epoch,
+-- and what a follower sees begins what is stored
 pub record IsValid (w : World) : Type 0 where
   pub line : IsLine w.stored
   pub followers : (n : ℕ) (follower : Follower) → IsFollowerAt w.objects n follower → IsPrefix follower.line w.stored

@@ -57,7 +57,8 @@ CanStore w handle =
     × (latest : VersionedManifest) × (latest_manifest w.catalogue ≡ Some latest) × (latest.manifest.writer_epoch ≤ handle.epoch)
     × (0 < length (unstored handle) → last_log latest.manifest.replay_after_wal_id w.catalogue < last_number)
 
--- a close of a handle: one that is open, and that can store its batches where it is to flush, or one that an error closed
+-- a close of a handle: one that is open, and that can store its batches where it is to flush, or one that an error
+-- closed
 abbrev pub CanClose : CloseResult → Option FlushType → World → Handle → Type 0
 CanClose (Some (Ok _)) flush_type w handle = ⊥
 CanClose (Some (Err fault)) flush_type w handle = Unit {0}

@@ -17,13 +17,12 @@ use std::alloc::Global;
 
 /// Does a list of commands on a store, one after another, and answers a reply to each.
 ///
-/// Over any store each command is answered once, in order, and does what `apply` says of it. It takes the time that the
-/// commands take, one after another.
+/// Over any store each command is answered once, in order, and does what `apply` says of it.
 ///
 /// Over an honest store and with a lawful operator the commands lead through worlds, one link for each command with its
 /// reply, from the world of the store as it was to one that the store holds afterwards. Where memory runs out before
 /// the first command, nothing was done; a command that finds no memory has a reply of its own. It takes room for all
-/// replies first, and then the time of each command by `LiveState::apply`.
+/// replies first, and then the time of each command.
 pub fn run<S: Store, M: MergeOperator, E: PrefixExtractor>(
     alloc: Global,
     store: &mut S,

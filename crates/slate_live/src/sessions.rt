@@ -6,7 +6,9 @@ ghost use Rattle.slate_script.specs.Replies.{replies_text};
 ghost use Rattle.slate_live.specs.Session.{Ends, EndsWriting, IsGiven, ReadsScript, input_ending, refused_line, script_ending, sides, status_of};
 
 use crate::run;
-use slate_script::{Command, MAX_SCRIPT, Reply, ScriptFault, print_replies, read_script, read_words};
+use slate_script::{
+    Command, MAX_SCRIPT, Reply, ScriptFault, print_replies, read_script, read_words,
+};
 use slate_store::Store;
 use slate_streams::{InputFault, Sink, Source, read_whole, write_whole};
 use slate_types::{ConcatOperator, FixedPrefix, Seq};

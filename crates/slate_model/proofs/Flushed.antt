@@ -47,7 +47,3 @@ flush_cases {bs = bs} {o = o} {r = r} {made = suc made} {o' = o'} s =
     inr (puts_log bs now.0 now.1 now.2 (omega arith)
     (subst (λ (cs : List Change). suc made ≤ length cs) same le)
     (s.after ∙ ap (λ (cs : List Change). after_part (suc made) cs o) same))
-
--- a flush of nothing that answers Ok stored nothing, and one of something stored it
-pub nothing_stored : (b : Batch) (bs : List Batch) (o : Objects) (latest : VersionedManifest) → latest_manifest o ≡ Some latest → length (flush_changes (λ xs. xs) (b ∷ bs) o) ≡ 1
-nothing_stored b bs o latest is = ap (λ m. length (flush_changes_by (λ xs. xs) (b ∷ bs) o m)) is

@@ -56,13 +56,14 @@ last-insert : {X : Type 0} (k : ℕ) (x : X) (es : List (ℕ × X)) → IsLastOf
 last-insert k x [] = record { entry = (k, x); is = refl; which = inl refl }
 last-insert k x (e ∷ es) = chosen (nat_cmp k e.0) k x e es (insert_entry nat_cmp es k x) (last-insert k x es)
 
--- after the changes of an opening no manifest that is the latest has a greater epoch than the opening's
+-- the next manifest has no lower epoch than the latest
 next-epoch : (found : Option VersionedManifest) (old : VersionedManifest) (last : ℕ) → found ≡ Some old → old.manifest.writer_epoch ≤ (next_manifest found last).manifest.writer_epoch
 next-epoch None old last h = absurd (cc)
 next-epoch (Some latest) old last h =
     let same : latest ≡ old = cc in
     subst (λ (o : VersionedManifest). o.manifest.writer_epoch ≤ latest.manifest.writer_epoch + 1) same (omega arith)
 
+-- after the changes of an opening the latest manifest has no greater epoch than the opening's
 pub newest : (o : Objects) (latest : VersionedManifest) → latest_manifest (after_part 2 (open_changes (λ xs. xs) o) o) ≡ Some latest → latest.manifest.writer_epoch ≤ (opened_manifest o).manifest.writer_epoch
 newest o latest is =
     let v = opened_manifest o in

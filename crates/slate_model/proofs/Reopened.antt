@@ -207,7 +207,7 @@ replayable-from : (o : Objects) (latest : Option VersionedManifest) → IsSound 
 replayable-from o None sound is = subst (λ o. IsReplayable 0 (last_log 0 o) 0 o) (sym (nothing_there o sound is)) (record { gapless = tt; stored = omega arith; numbered = tt })
 replayable-from o (Some latest) sound is = replayable-by o latest sound is
 
--- no error of an opening comes of sound objects alone
+-- sound objects bring about none of the errors that only unsound ones do
 pub no-fault : (o : Objects) (e : SlateError) → IsSound o → OpenFault o e → ⊥
 no-fault o (errors.WalTruncated id) sound fault = fault (replayable-from o (latest_manifest o) sound refl)
 no-fault o errors.TransactionalObjectVersionExists sound fault =
@@ -278,7 +278,8 @@ names-none latest can =
 abbrev pub line_from : ℕ → List Batch → Line
 line_from floor bs = record { floor = floor; batches = bs }
 
--- the content of sound objects whose latest manifest names no table is what its log files have above the last number in tables
+-- the content of sound objects whose latest manifest names no table is what its log files have above the last number
+-- in tables
 pub content-logged : (o : Objects) (latest : VersionedManifest) → IsSound o → latest_manifest o ≡ Some latest → latest.manifest.tables ≡ [] → let m = latest.manifest in content_by o (Some latest) ≡ line_from m.last_l0_seq (replayed m.replay_after_wal_id (last_log m.replay_after_wal_id o) m.last_l0_seq o)
 content-logged o latest sound is none =
     let m = latest.manifest in

@@ -9,15 +9,15 @@ use Rattle.slate_errors.specs.declared.closing.CloseFault.{CloseFault}
 abbrev pub CloseResult : Type 0
 CloseResult = Option (Result (Unit {0}) CloseFault)
 
--- A handle that writes. A world has its whole line; the code keeps the end of it.
+-- a handle that writes
 pub record Handle : Type 0 where
   pub keeps_log : Bool
-  pub limit : ℕ  -- from how many bytes that aren't stored a write is held up
+  pub limit : ℕ  -- from how many bytes that aren't stored a write is to be held up; none is yet
   pub line : Line  -- the batches that it sees
   pub durable : ℕ  -- its batches up to this number are stored
   pub epoch : ℕ
-  pub tick : ℤ  -- the creation time of its last batch
-  pub view : VersionedManifest  -- the manifest that its reads go by
+  pub tick : ℤ  -- the creation time of its last batch, or that of what it was opened with
+  pub view : VersionedManifest  -- the latest manifest, when it was opened or last found its epoch current
   pub result : CloseResult
 
 -- the number of the last batch that it accepted

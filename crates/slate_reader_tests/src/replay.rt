@@ -22,7 +22,14 @@ const CASES: [(u64, u64, u64, Logs, Replayed, usize); 9] = [
     (1, 0, 3, LOGS, Replayed::Whole, 2),
     (0, 2, 3, LOGS, Replayed::Truncated(3), 0),
     (0, 0, 3, &[(1, &[1]), (3, &[2])], Replayed::Truncated(2), 1),
-    (0, 0, 2, &[(1, &[1]), (2, &[2, 4])], Replayed::Truncated(2), 2),
+    (
+        0,
+        0,
+        2,
+        &[(1, &[1]), (2, &[2, 4])],
+        Replayed::Truncated(2),
+        2,
+    ),
 ];
 
 pub(crate) fn store_of(alloc: Global, logs: Logs) -> Result<MemoryStore, Fail> {

@@ -13,7 +13,8 @@ pub record IsTail (key : List ℕ) (history : List Version) (held : List Held) :
   pub tail : map seen held ≡ since_base history
   pub same_key : AllByRecursion (λ h. h.key_op.now.key ≡ key) held
 
--- The versions held, newest first, end a tail of a key. Unless a put or a delete has ended the search, what goes before them is the tail of the rest.
+-- The versions held, newest first, end a tail of a key. Unless a put or a delete has ended the search, what goes before
+-- them is the tail of the rest.
 pub record IsEnd (key : List ℕ) (whole rest : List Version) (ended : Bool) (held : List Held) : Type 0 where
   pub tail : (if ended then [] else since_base rest) ++ reverse (map seen held) ≡ whole
   pub same_key : AllByRecursion (λ h. h.key_op.now.key ≡ key) held

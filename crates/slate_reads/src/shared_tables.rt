@@ -25,7 +25,8 @@ impl Model for Table {
     ghost view = { λ t. arc_value t.shared };
 }
 
-/// It shares the batches and their indexes, and takes no memory. It fails where there are as many copies as there may be.
+/// It shares the batches and their indexes, and takes no memory. It fails where there are as many copies as there may
+/// be.
 impl Clone for Table {
     ghost is_clone = { λ table copy. copy ≡ table };
 

@@ -98,8 +98,8 @@ impl<T: Drop> Window<T> {
         self.items.push_reserved(item);
     }
 
-    /// Drops items from the front. It takes time for each of them, and moves those that stay once for each time that
-    /// they are half of what there was.
+    /// Drops items from the front. It takes time for each of them, and moves those that stay where more than half
+    /// of the vector was dropped.
     pub(crate) fn skip(&mut self, count: usize)
         requires within { count ≤ length self.old.items }
         requires fits { self.old.start + count < 2 ^ 64 }

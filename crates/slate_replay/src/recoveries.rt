@@ -10,8 +10,8 @@ use slate_store::{Manifest, Store, StoreError};
 use std::alloc::Global;
 
 /// A table of the batches that the log files above a manifest's replay mark have above its last number in tables, up to
-/// the log file `last`, and how the replay ended: where it was truncated, the table has what comes before. It takes time
-/// linear in the batches that it reads.
+/// the log file `last`, and how the replay ended: where it was truncated, the table has what comes before. It takes the
+/// time of `replay`.
 pub fn recover<S: Store>(
     alloc: Global,
     store: &mut S,

@@ -25,8 +25,8 @@ pub enum Replayed {
 ///
 /// It ends at the first log file that isn't stored, or that has a batch past the next number. It answers `Failed`,
 /// where a read of the store failed, and `NoMemory`; `memory` has the first of the batches then, and another replay
-/// goes on after them. It takes time linear in the batches that it reads, and copies the lists of operations of those that
-/// it appends, and no key and no value.
+/// goes on after them. It takes time linear in the operations that it reads, and for each new key a logarithm of the
+/// keys. It copies the lists of operations of the batches that it appends, and no key and no value.
 pub fn replay<S: Store>(
     alloc: Global,
     store: &mut S,

@@ -1,5 +1,5 @@
-//! Rows, batches and reads: plain reads of a key, scans of a range, iterators over what they found, and varints. The types
-//! and the plain reads stand in crates of their own below, and are passed on.
+//! Rows, batches and reads: plain reads of a key, scans of a range, iterators over what they found, and varints. The
+//! types and the plain reads stand in crates of their own below, and are passed on.
 #![tactic(auto)]
 
 mod entries;

@@ -7,7 +7,7 @@ use slate_store::DbReaderMode;
 use slate_types::{CloseOptions, FlushType, NoMemory};
 use std::alloc::{AllocError, AllocFailed};
 
-/// What a command does. Handles, snapshots and followers are the objects of a run.
+/// What a command does. Handles and followers are the objects of a run.
 #[derive(Debug, Drop)]
 pub enum Action {
     /// Opens a handle.
@@ -19,8 +19,8 @@ pub enum Action {
         value: Bytes,
         expire: Option<i64>,
     },
-    /// Makes what a handle wrote durable. Without a type it stores it in a log file where the handle keeps a log, else
-    /// in a table.
+    /// Makes what a handle wrote durable. Without a type it stores it in a log file; until tables are built it stores
+    /// in no table.
     Flush {
         handle: u64,
         flush_type: Option<FlushType>,

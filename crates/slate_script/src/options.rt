@@ -2,10 +2,10 @@
 ghost use Rattle.std.specs.Prelude.{◌≡◌, map, string_bytes};
 ghost use Rattle.slate_script.specs.Options.{options_of};
 
-/// What the words of the command line say of a run. No command looks at these options yet.
+/// What the words of the command line say of a run. None of them has an effect yet.
 #[derive(Clone, Copy, Debug, PartialEq, Eq)]
 pub struct Options {
-    /// From this many unflushed bytes of keys and values on a write is to be refused.
+    /// From this many unflushed bytes of keys and values on a write is to be held up. None is held up yet.
     pub max_unflushed_bytes: u64,
     /// Whether handles are to register a compactor.
     pub compactor: bool,

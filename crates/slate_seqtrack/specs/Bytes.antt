@@ -1,4 +1,4 @@
--- The bytes of a tracker: 1, the length in four bytes with the lowest first, the block of numbers and the block of times.
+-- The bytes of a tracker: 1, the length in four bytes with the lowest first, the block of numbers, that of times.
 use Rattle.std.specs.Prelude.{◌≡◌, ℕ, ◌<◌, ◌-◌, ◌^◌, if◌then◌else◌, nat_eq, nat_lt, ℤ, Bool, true, ◌&&◌, List, [], ◌∷◌, ◌++◌, length, map, take, drop, slice_get, Result, Ok, Err}
 use Rattle.std.specs.List.{AllByRecursion}
 use Rattle.std.specs.Int.{w32, w64, cast_signed, cast_unsigned, to_le_bytes, from_le_bytes}

@@ -7,7 +7,8 @@ use Rattle.slate_seqtrack.specs.declared.faults.TrackerFault.{TrackerFault}
 use Rattle.slate_seqtrack.specs.declared.faults.TrackerFault.TheVariants.{FallingNumber}
 use Rattle.slate_seqtrack.specs.declared.pairs.TrackedSeq.{TrackedSeq}
 
--- interval and times are in seconds; recorded is the time of the last pair that was recorded, which may have been thinned out
+-- interval and times are in seconds; recorded is the time of the last pair that was recorded, which may have been
+-- thinned out
 pub record Tracker : Type 0 where
   pub capacity : ℕ
   pub interval : ℕ

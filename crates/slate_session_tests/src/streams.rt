@@ -1,10 +1,10 @@
 // Tests of sources and sinks: pieces, failures, and the limit of a script.
 ghost use Rattle.std.specs.Prelude.{◌≤◌};
 
+use slate_script::MAX_SCRIPT;
 use slate_streams::{
     InputFault, ReadAnswer, SliceSource, Source, VecSink, read_whole, write_whole,
 };
-use slate_script::MAX_SCRIPT;
 use slate_types::Seq;
 use std::alloc::{AllocError, Global};
 use std::test::Fail;

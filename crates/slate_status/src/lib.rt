@@ -1,5 +1,5 @@
-//! The status of a database and the record of its reports. The errors stand in a crate of their own below, and are passed
-//! on.
+//! The status of a database and the record of its reports. The errors stand in a crate of their own below, and are
+//! passed on.
 #![tactic(auto)]
 
 mod records;

@@ -8,11 +8,12 @@ use slate_types::{Batch, NoMemory, StoreError};
 use std::alloc::Global;
 use std::collections::BTreeMap;
 
-/// A store in memory. It never fails: it answers `NoMemory`, or what is asked. It is modelled, and what it holds is sound
-/// as long as only handles change it.
+/// A store in memory. It never fails: it answers `NoMemory`, or what is asked. It is modelled, and what it holds is
+/// sound as long as only handles change it.
 ///
-/// A call takes a look-up, logarithmic in the objects. One that puts or gives a log file copies its batches and their
-/// lists of operations, and one that puts or gives a manifest copies its lists; bytes of keys and values are shared.
+/// A call takes a look-up, logarithmic in the objects. One that puts a log file copies its batches and their lists of
+/// operations, and one that puts or gives a manifest copies its lists; a log file that is given is shared, and so are
+/// the bytes of keys and values.
 #[derive(Drop)]
 pub struct MemoryStore {
     manifests: BTreeMap<u64, Manifest>,

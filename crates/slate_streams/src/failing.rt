@@ -34,7 +34,7 @@ impl CallCount {
         }
     }
 
-    /// Counts a call, and answers whether it is to fail. It counts that failure. At the greatest count no call is.
+    /// Counts a call, and answers whether it is to fail. It counts that failure. At the greatest count no call fails.
     pub(crate) fn next_fails(&mut self) -> bool
         ensures value { result ≡ fails_next self.old }
         ensures counted { self.new ≡ called result self.old }

@@ -6,7 +6,7 @@ use crate::{ReadAnswer, Source};
 use slate_types::Seq;
 use std::marker::Model;
 
-/// A source in memory. It hands over at most so many bytes per call, and some of its calls fail, as it was made.
+/// A source in memory. It hands over at most so many bytes per call, and those of its calls fail that it was made with.
 #[derive(Debug, Drop)]
 pub struct SliceSource {
     bytes: Vec<u8>,

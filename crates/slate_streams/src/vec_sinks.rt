@@ -7,8 +7,8 @@ use slate_types::Seq;
 use std::alloc::Global;
 use std::marker::Model;
 
-/// A sink in memory. It takes at most so many bytes per call, and some of its calls fail, as it was made. Where it
-/// finds no memory for a piece it fails too.
+/// A sink in memory. It takes at most so many bytes per call, and those of its calls fail that it was made with. Where
+/// it finds no memory for a piece it fails too.
 #[derive(Debug, Drop)]
 pub struct VecSink {
     bytes: Vec<u8>,

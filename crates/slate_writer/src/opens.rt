@@ -54,7 +54,8 @@ impl WriterState {
     /// those of the handles that were opened before, and puts an empty log file: from then on their flushes store
     /// nothing and answer `Fenced`, if nothing else fails first, while their writes and gets go on until then. Then it
     /// replays the log files above the manifest's replay mark. The handle sees all batches that are stored, and all of
-    /// them are durable. It takes time linear in the batches of the log files. SlateDB's `Db::open`.
+    /// them are durable. It takes time linear in the operations of the log files, and for each key a logarithm of the
+    /// keys. SlateDB's `Db::open`.
     ///
     /// It answers `InvalidDBState` where the latest manifest isn't initialised, and where the next manifest, epoch or
     /// log file would pass the greatest number; nothing is put then. Until tables are built it answers so too where

@@ -25,7 +25,8 @@ impl WriterState {
     /// It is refused, in this order, on a closed handle (`Closed` or the error that closed it), without an operation
     /// (`EmptyBatch`), with an empty key (`EmptyKey`), after the greatest number (`InvalidDBState`), and where both
     /// moments are below the creation time of the batch before (`InvalidClockTick`). A refusal changes nothing, and
-    /// hands the batch back. It takes amortised constant time, beside a look at each operation. SlateDB's `write`.
+    /// hands the batch back. It takes time linear in the batch's operations, and for each key that the handle doesn't
+    /// have yet a logarithm of its keys. SlateDB's `write`.
     pub fn write<E: PrefixExtractor>(
         &mut self,
         alloc: Global,

@@ -41,11 +41,10 @@ loop-command-preserved g c =
 
 pub returns-clause-does : goal.returns-clause-does
 returns-clause-does g c merge lawful =
-    let all = c.loop-command.invariant.does merge lawful in
-    (
+    let all = c.loop-command.invariant.does merge lawful in (
       running c.loop-command.live (known g.S.Store.objects g.S.Store.faults c.loop-command.store),
       do-all (record { merge = merge; options = c.args.options.now }) (record { objects = []; writes = []; store = known g.S.Store.objects g.S.Store.faults c.args.store.now })
-      (running c.loop-command.live (known g.S.Store.objects g.S.Store.faults c.loop-command.store)) c.args.commands.now c.loop-command.command-index c.loop-command.replies.items c.loop-command-test.false all,
+          (running c.loop-command.live (known g.S.Store.objects g.S.Store.faults c.loop-command.store)) c.args.commands.now c.loop-command.command-index c.loop-command.replies.items c.loop-command-test.false all,
       refl,
     )
 

@@ -1,12 +1,16 @@
 -- What a write adds to a handle, and what refuses it.
-use Rattle.std.specs.Prelude.{◌≡◌, ℕ, ℤ, ◌+◌, ◌⊎◌, ◌==◌, Bool, if◌then◌else◌, nat_lt, int_lt, List, [], ◌∷◌, length, Option, Some, None, unwrap_or, Result, IfOk, IfErr}
+use Rattle.std.specs.Prelude.{◌≡◌, ℕ, ℤ, ◌+◌, ◌⊎◌, ◌==◌, Bool, if◌then◌else◌, nat_lt, int_lt, List, [], ◌∷◌, ◌++◌, length, Option, Some, None, unwrap_or, Result, IfOk, IfErr}
 use Rattle.std.specs.List.{list_any}
-use Rattle.std.specs.Option.{option_or}
+use Rattle.std.specs.Option.{option_eq, option_or}
+use Rattle.std.specs.Ordering.{int_eq}
+use Rattle.std.specs.Str.{bytes_eq}
 use Rattle.slate_types.specs.declared.batches.Batch.{Batch}
 use Rattle.slate_types.specs.declared.batches.KeyOp.{KeyOp}
+use Rattle.slate_types.specs.declared.batches.Op.{Op}
+use Rattle.slate_types.specs.declared.batches.Op.TheVariants.{Put, Delete, Merge}
 use Rattle.slate_types.specs.Line.{extended}
 use Rattle.slate_errors.specs.declared.errors.SlateError.{SlateError}
-use Rattle.slate_errors.specs.declared.errors.SlateError.TheVariants.{EmptyBatch, EmptyKey, InvalidDBState, InvalidClockTick, NoMemory}
+use Rattle.slate_errors.specs.declared.errors.SlateError.TheVariants.{EmptyBatch, EmptyKey, IncompatibleMergeTtls, InvalidDBState, InvalidClockTick, NoMemory}
 use Rattle.slate_model.specs.declared.answers.Written.{Written}
 use Rattle.slate_model.specs.Handle.{Handle, CloseResult, accepted}
 use Rattle.slate_errors.specs.Errors.{closed_error}
@@ -23,10 +27,35 @@ closed_refusal (Some result) = Some (closed_error result)
 abbrev pub has_empty_key : List KeyOp → Bool
 has_empty_key ops = list_any (λ o. length o.key == 0) ops
 
--- the refusal of a batch without an operation, or with an empty key
+-- the time of expiry of a merge
+abbrev pub merge_expiry : Op → Option (Option ℤ)
+merge_expiry (Merge operand expire) = Some expire
+merge_expiry (Put value expire) = None
+merge_expiry Delete = None
+
+-- the time of expiry of the first merge of a key
+abbrev pub first_expiry : List ℕ → List KeyOp → Option (Option ℤ)
+first_expiry key [] = None
+first_expiry key (op ∷ ops) = option_or (if bytes_eq op.key key then merge_expiry op.op else None) (first_expiry key ops)
+
+-- the refusal of a merge of a key by the time of expiry of the first one, and by its own
+abbrev pub expiry_refusal : List ℕ → Option (Option ℤ) → Option (Option ℤ) → Option SlateError
+expiry_refusal key (Some previous) (Some current) =
+    if option_eq int_eq previous current then None else Some (IncompatibleMergeTtls key previous current)
+expiry_refusal key previous None = None
+expiry_refusal key None current = None
+
+-- the refusal of the first merge of a key that an earlier one, before these operations or among them, merges under
+-- another time of expiry
+abbrev pub merge_refusal : List KeyOp → List KeyOp → Option SlateError
+merge_refusal before [] = None
+merge_refusal before (op ∷ ops) =
+    option_or (expiry_refusal op.key (first_expiry op.key before) (merge_expiry op.op)) (merge_refusal (before ++ op ∷ []) ops)
+
+-- the refusal of a batch without an operation, with an empty key, or with two times of expiry for the merges of a key
 abbrev pub batch_refusal : List KeyOp → Option SlateError
 batch_refusal [] = Some EmptyBatch
-batch_refusal (op ∷ ops) = if has_empty_key (op ∷ ops) then Some EmptyKey else None
+batch_refusal (op ∷ ops) = if has_empty_key (op ∷ ops) then Some EmptyKey else merge_refusal [] (op ∷ ops)
 
 -- the refusal of a write after the greatest number
 abbrev pub number_refusal : ℕ → Option SlateError

@@ -101,7 +101,7 @@ fn lone_deletes(rt: HostRuntime) -> Result<(), Fail> {
     let alloc = rt.alloc();
     assert!(rt; read(alloc, &[lone_delete(alloc)?], None, b"a", NONE)?.is_none());
     let tables = [table(alloc, lone_delete(alloc)?)?];
-    assert!(rt; read_indexed(alloc, &[], &tables, None, b"a", NONE)?.is_none());
+    assert!(rt; read_indexed(alloc, &[], &[], &tables, None, b"a", NONE)?.is_none());
     Ok(())
 }
 

@@ -7,3 +7,5 @@ mod session;
 mod store;
 #[cfg(test)]
 mod streams;
+#[cfg(test)]
+mod writes;

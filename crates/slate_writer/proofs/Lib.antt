@@ -1,4 +1,5 @@
 pub mod Appending
 pub mod Flushing
 pub mod Openings
+pub mod Merging
 pub mod Modelled

@@ -3,6 +3,7 @@
 
 mod closes;
 mod flushes;
+mod merges;
 mod opens;
 mod reads;
 mod states;

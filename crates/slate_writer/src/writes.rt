@@ -1,11 +1,12 @@
 // Writing a batch to a handle, and what refuses it.
-ghost use Rattle.std.specs.Prelude.{◌≡◌, ◌+◌, ◌<◌, ◌^◌, Option, Some, None, Err, IfOk, IfErr};
+ghost use Rattle.std.specs.Prelude.{◌≡◌, ◌+◌, ◌<◌, ◌^◌, ◌⊎◌, Option, Some, None, Err, IfOk, IfErr};
 ghost use Rattle.slate_model.specs.Handle.{accepted};
 ghost use Rattle.slate_errors.specs.Errors.{closed_error};
 ghost use Rattle.slate_model.specs.Write.{Writes, accepted_moment, batch_refusal, has_empty_key, write_refusal};
 ghost use Rattle.slate_writer.specs.Refusal.{answer_of};
 
 use crate::WriterState;
+use crate::merges::merge_refusal;
 use slate_errors::SlateError;
 use slate_model::Written;
 use slate_types::{Batch, KeyOp, NoMemory, PrefixExtractor, WriteBatch};
@@ -23,9 +24,10 @@ impl WriterState {
     /// milliseconds, or `second`, where `moment` is below the creation time of the batch before.
     ///
     /// It is refused, in this order, on a closed handle (`Closed` or the error that closed it), without an operation
-    /// (`EmptyBatch`), with an empty key (`EmptyKey`), after the greatest number (`InvalidDBState`), and where both
-    /// moments are below the creation time of the batch before (`InvalidClockTick`). A refusal changes nothing, and
-    /// hands the batch back. It takes time linear in the batch's operations, and for each key that the handle doesn't
+    /// (`EmptyBatch`), with an empty key (`EmptyKey`), where it merges one key under two times of expiry
+    /// (`IncompatibleMergeTtls`, which names the first such merge), after the greatest number (`InvalidDBState`), and
+    /// where both moments are below the creation time of the batch before (`InvalidClockTick`). A refusal, and want of
+    /// memory (`NoMemory`), changes nothing and hands the batch back. It takes time linear in the batch's operations, and for each key that the handle doesn't
     /// have yet a logarithm of its keys. SlateDB's `write`.
     pub fn write<E: PrefixExtractor>(
         &mut self,
@@ -39,7 +41,7 @@ impl WriterState {
         ensures does { Writes self.old batch.ops moment second (answer_of result) self.new }
         ensures handed_back { IfErr result (λ r. r.batch ≡ batch) }
     {
-        let written = match self.admit(&batch, moment, second) {
+        let written = match self.admit(alloc, &batch, moment, second) {
             Ok(written) => written,
             Err(error) => return refuse(error, batch),
         };
@@ -58,6 +60,7 @@ impl WriterState {
     /// The number and the creation time that a write of a batch gets, or why it is refused.
     fn admit(
         &self,
+        alloc: Global,
         batch: &WriteBatch,
         moment: i64,
         second: Option<i64>,
@@ -65,12 +68,12 @@ impl WriterState {
         ensures admitted { IfOk result (λ w. (write_refusal self.now batch.now.ops moment second ≡ None)
             × (accepted_moment self.now.tick moment second ≡ Some w.create_ts) × (w.number ≡ accepted self.now + 1)) }
         ensures fits { IfOk result (λ w. accepted self.now + 1 < 2 ^ 64) }
-        ensures refused { IfErr result (λ e. write_refusal self.now batch.now.ops moment second ≡ Some e) }
+        ensures refused { IfErr result (λ e. (e ≡ SlateError.NoMemory) ⊎ (write_refusal self.now batch.now.ops moment second ≡ Some e)) }
     {
         if let Some(result) = self.closed.read() {
             return Err(SlateError::of_closed(result));
         }
-        if let Some(error) = batch_refusal(batch) {
+        if let Some(error) = batch_refusal(alloc, batch)? {
             return Err(error);
         }
         let Some(number) = self.accepted().checked_add(1) else {
@@ -92,18 +95,18 @@ fn refuse(error: SlateError, batch: WriteBatch) -> Result<Written, WriteRefusal>
     Err(WriteRefusal { error, batch })
 }
 
-/// The refusal of a batch without an operation, or with an empty key.
-fn batch_refusal(batch: &WriteBatch) -> Option<SlateError>
-    ensures { result ≡ batch_refusal batch.now.ops }
+/// The refusal of a batch without an operation, with an empty key, or with two times of expiry for the merges of a key.
+fn batch_refusal(alloc: Global, batch: &WriteBatch) -> Result<Option<SlateError>, NoMemory>
+    ensures { IfOk result (λ refusal. refusal ≡ batch_refusal batch.now.ops) }
 {
     let ops = batch.ops.as_slice();
     if ops.is_empty() {
-        return Some(SlateError::EmptyBatch);
+        return Ok(Some(SlateError::EmptyBatch));
     }
     if has_empty_key(ops) {
-        return Some(SlateError::EmptyKey);
+        return Ok(Some(SlateError::EmptyKey));
     }
-    None
+    merge_refusal(alloc, ops)
 }
 
 fn has_empty_key(ops: &[KeyOp]) -> bool

@@ -1,15 +1,15 @@
 -- What is found and replayed makes a follower, which sees all that a sound store has.
-use Rattle.std.proofs.Common.{◌≡◌, ℕ, ◌+◌, Bool, List, Option, Some, None, Ok, refl, sym, subst, ap, ◌∙◌, arith}
+use Rattle.std.proofs.Common.{◌≡◌, ℕ, ◌+◌, Bool, true, List, Option, Some, None, Ok, refl, sym, subst, ap, ◌∙◌, arith}
 use Rattle.std.specs.Option.{IfSome}
 use Rattle.slate_types.specs.declared.batches.Batch.{Batch}
 use Rattle.slate_types.specs.Line.{Line, end}
 use Rattle.slate_store.specs.declared.objects.VersionedManifest.{VersionedManifest}
 use Rattle.slate_store.specs.Content.{IsSound, content, content_by}
-use Rattle.slate_store.specs.Objects.{Objects, last_log}
+use Rattle.slate_store.specs.Objects.{Objects, last_log, latest_manifest}
 use Rattle.slate_store.specs.Logs.{IsReplayable, replayed}
 use Rattle.slate_replay.specs.declared.replays.Replayed.{Replayed}
 use Rattle.slate_replay.specs.declared.replays.Replayed.TheVariants as replays
-use Rattle.slate_model.specs.Follower.{Follower, SeesAll, rebuilt}
+use Rattle.slate_model.specs.Follower.{Follower, SeesAll, rebuilt, can_follow}
 use Rattle.slate_model.specs.Known.{IsContent}
 use Rattle.slate_model.proofs.Reduced.{some-same}
 use Rattle.slate_model.proofs.Reopened.{and_right, content-logged, line_from, no-tables, replayable-by}
@@ -83,3 +83,7 @@ module _ (opening : Bool) (view : VersionedManifest) (batches : List Batch) wher
 pub if_some : {X : Type 0} {P : X → Type 0} (t : Option X) → ((x : X) → t ≡ Some x → P x) → IfSome t P
 if_some None f = tt
 if_some (Some x) f = f x refl
+
+-- the manifest that was found is the latest, and the database can be followed by it
+pub found_view : (opening : Bool) (view : VersionedManifest) {t : Option Objects} → IfSome t (λ o. FindsView opening o (Ok view)) → (o : Objects) → t ≡ Some o → (latest_manifest o ≡ Some view) × (can_follow opening view ≡ true)
+found_view opening view found o at = subst (λ x. IfSome x (λ o. FindsView opening o (Ok view))) at found

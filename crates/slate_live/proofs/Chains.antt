@@ -1,11 +1,14 @@
 -- Commands that are done one after another lead through a chain of worlds.
 use Rattle.std.proofs.Common.{◌≡◌, ◌≤◌, ◌<◌, ◌+◌, ℕ, length, take, map, get_or, List, [], ◌∷◌, ◌++◌, Option, Some, refl, sym, subst, ap, ◌∙◌}
+use Rattle.std.specs.List.{All}
 use Rattle.std.proofs.lemmas.List.{map-append, take_all, take_more}
+use Rattle.std.proofs.lemmas.List.Elements.{All-nil, All-push}
 use Rattle.slate_types.specs.declared.batches.Batch.{Batch}
 use Rattle.slate_types.specs.Line.{IsPrefix}
 use Rattle.slate_types.specs.Operator.{Merge}
 use Rattle.slate_store.specs.Objects.{Objects}
-use Rattle.slate_store.specs.Content.{IsSound}
+use Rattle.slate_store.specs.Content.{AreRising, IsSound}
+use Rattle.slate_model.specs.Catalogue.{Catalogue}
 use Rattle.slate_model.specs.Known.{Known}
 use Rattle.slate_script.specs.declared.commands.Command.{Command}
 use Rattle.slate_script.specs.declared.options.Options.{Options}
@@ -14,7 +17,7 @@ use Rattle.slate_live.specs.State.{Live, State, by_objects, running}
 use Rattle.slate_live.specs.Commands.{Does}
 use Rattle.slate_live.specs.Run.{DoAll, LeadsTo}
 use Rattle.slate_live.specs.Settings.{Settings}
-use Rattle.slate_live.specs.Represents.{Represents}
+use Rattle.slate_live.specs.Represents.{IsReached, Represents}
 use Rattle.slate_live.specs.Steps.{Chain, Step, last_world}
 use Rattle.slate_live.specs.Valid.{Link}
 use Rattle.slate_live.specs.World.{World, start}
@@ -50,27 +53,35 @@ pub record Done (settings : Settings) (first : World) (commands : List Command) 
   pub commands_are : map (λ (step : Step). step.command) steps ≡ commands
   pub replies_are : map (λ (step : Step). step.reply) steps ≡ replies
   pub chain : Chain settings first steps
+  pub reached : All (λ step. IsReached step.world) steps
+
+-- a world that is represented may be reached
+pub reached : (live : Live) (store : Known (List Batch)) (w : World) → Represents live store w → IsReached w
+reached live store w stands =
+    let held = stands.held in
+    (stands.valid, subst (λ (c : Catalogue). AreRising (map (λ entry. entry.0) c.manifests)) (held.3).catalogue (held.2).manifests)
 
 -- no command, done
 pub done_none : (settings : Settings) (first : World) (replies : List Reply) → replies ≡ [] → Done settings first [] replies []
-done_none settings first replies none = record { commands_are = refl; replies_are = sym none; chain = tt }
+done_none settings first replies none = record { commands_are = refl; replies_are = sym none; chain = tt; reached = All-nil (λ (step : Step). IsReached step.world) }
 
 -- the command at a place of a list, done after those before it
-done-at : (settings : Settings) (first last : World) (steps : List Step) (commands : List Command) (i : ℕ) (command : Command) (replies replies' : List Reply) (reply : Reply) → i < length commands → command ≡ get_or commands i command → replies' ≡ replies ++ reply ∷ [] → Done settings first (take i commands) replies steps → Link settings (last_world first steps) command reply last → Done settings first (take (i + 1) commands) replies' (steps ++ record { command = command; reply = reply; world = last } ∷ [])
-done-at settings first last steps commands i command replies replies' reply inside item pushed done link =
+done-at : (settings : Settings) (first last : World) (steps : List Step) (commands : List Command) (i : ℕ) (command : Command) (replies replies' : List Reply) (reply : Reply) → i < length commands → command ≡ get_or commands i command → replies' ≡ replies ++ reply ∷ [] → Done settings first (take i commands) replies steps → Link settings (last_world first steps) command reply last → IsReached last → Done settings first (take (i + 1) commands) replies' (steps ++ record { command = command; reply = reply; world = last } ∷ [])
+done-at settings first last steps commands i command replies replies' reply inside item pushed done link valid =
     let step : Step = record { command = command; reply = reply; world = last } in
     let more : take (i + 1) commands ≡ take i commands ++ command ∷ [] = take_more commands i command inside ∙ ap (λ c. take i commands ++ c ∷ []) (sym item) in
     record {
       commands_are = map-append (λ (s : Step). s.command) steps (step ∷ []) ∙ ap (λ cs. cs ++ command ∷ []) done.commands_are ∙ sym more;
       replies_are = map-append (λ (s : Step). s.reply) steps (step ∷ []) ∙ ap (λ rs. rs ++ reply ∷ []) done.replies_are ∙ sym pushed;
       chain = chain-push settings first steps step done.chain link;
+      reached = All-push (λ (s : Step). IsReached s.world) steps step done.reached valid;
     }
 
 -- the same, where the link is one with options that are these
-pub done-next : (merge : Option Merge) (options options' : Options) (first last : World) (steps : List Step) (commands : List Command) (i : ℕ) (command : Command) (replies replies' : List Reply) (reply : Reply) → options' ≡ options → i < length commands → command ≡ get_or commands i command → replies' ≡ replies ++ reply ∷ [] → Done (record { merge = merge; options = options }) first (take i commands) replies steps → Link (record { merge = merge; options = options' }) (last_world first steps) command reply last → Done (record { merge = merge; options = options }) first (take (i + 1) commands) replies' (steps ++ record { command = command; reply = reply; world = last } ∷ [])
-done-next merge options options' first last steps commands i command replies replies' reply same inside item pushed done link =
+pub done-next : (merge : Option Merge) (options options' : Options) (first last : World) (steps : List Step) (commands : List Command) (i : ℕ) (command : Command) (replies replies' : List Reply) (reply : Reply) → options' ≡ options → i < length commands → command ≡ get_or commands i command → replies' ≡ replies ++ reply ∷ [] → Done (record { merge = merge; options = options }) first (take i commands) replies steps → Link (record { merge = merge; options = options' }) (last_world first steps) command reply last → IsReached last → Done (record { merge = merge; options = options }) first (take (i + 1) commands) replies' (steps ++ record { command = command; reply = reply; world = last } ∷ [])
+done-next merge options options' first last steps commands i command replies replies' reply same inside item pushed done link valid =
     done-at (record { merge = merge; options = options }) first last steps commands i command replies replies' reply inside item pushed done
-    (subst (λ o. Link (record { merge = merge; options = o }) (last_world first steps) command reply last) same link)
+    (subst (λ o. Link (record { merge = merge; options = o }) (last_world first steps) command reply last) same link) valid
 
 -- the world after the command that was done last
 pub stands-push : (first last : World) (steps : List Step) (command : Command) (reply : Reply) (live : Live) (store : Known (List Batch)) → Represents live store last → Represents live store (last_world first (steps ++ record { command = command; reply = reply; world = last } ∷ []))
@@ -92,6 +103,7 @@ leads_all settings commands i replies o faults live store steps all done stands 
       commands_are = done.commands_are ∙ take_all i commands all;
       replies_are = done.replies_are;
       chain = done.chain;
+      reached = done.reached;
       last = last_world (start o faults) steps;
       is_last = refl;
       grows = chain-grows settings (start o faults) steps done.chain;

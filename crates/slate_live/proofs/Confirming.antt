@@ -1,9 +1,10 @@
 -- A write that is reported durable is among the batches that are stored.
-use Rattle.std.proofs.Common.{◌≡◌, ℕ, ◌-◌, ◌≤◌, Bool, true, false, leb, Option, Some, None, if◌then◌else◌, refl, sym, subst, ap, ◌∙◌, arith}
+use Rattle.std.proofs.Common.{◌≡◌, ℕ, zero, suc, ◌-◌, ◌<◌, ◌≤◌, take, List, [], ◌∷◌, Bool, true, false, leb, Option, Some, None, if◌then◌else◌, refl, sym, subst, ap, ◌∙◌, arith}
 use Rattle.std.specs.List.{slice_get}
 use Rattle.std.proofs.lemmas.Bool.{leb-true}
 use Rattle.std.proofs.lemmas.List.{length-take-le}
-use Rattle.slate_types.specs.Line.{end}
+use Rattle.slate_types.specs.declared.batches.Batch.{Batch}
+use Rattle.slate_types.specs.Line.{Line, end}
 use Rattle.slate_model.specs.Catalogue.{Span}
 use Rattle.slate_model.specs.Handle.{CloseResult, Handle}
 use Rattle.slate_model.specs.Object.{Object, Handle as AHandle, Follower as AFollower}
@@ -12,6 +13,7 @@ use Rattle.slate_script.specs.declared.commands.Command.{Command}
 use Rattle.slate_script.specs.declared.replies.Reply.{Reply}
 use Rattle.slate_script.specs.declared.replies.Reply.TheVariants as replies
 use Rattle.slate_live.specs.declared.states.Write.{Write}
+use Rattle.slate_live.specs.Confirmed.{StandsIn}
 use Rattle.slate_live.specs.Commands.{DoesBy, asked_reply, write_reply}
 use Rattle.slate_live.specs.Handles.{pending_reply}
 use Rattle.slate_live.specs.Represents.{IsHandleAt, IsValid, up_to}
@@ -19,6 +21,7 @@ use Rattle.slate_live.specs.Settings.{Settings}
 use Rattle.slate_live.specs.State.{State}
 use Rattle.slate_live.specs.Valid.{IsConfirmed}
 use Rattle.slate_live.specs.World.{Next, World, by_catalogue, state_of}
+use Rattle.slate_live.proofs.Keeping.{stands-prefix}
 use Rattle.slate_live.proofs.Prefixes.{prefix-end}
 
 not-pending : (r : CloseResult) → replies.Durable ≡ pending_reply r → ⊥
@@ -68,9 +71,34 @@ within-stored w n h valid at =
     let front = prefix-end (up_to h.durable h.line) w.stored v.confirmed in
     omega (arith, floor, low, count, front)
 
+get-take : {X : Type 0} (xs : List X) (m k : ℕ) (x : X) → k < m → slice_get xs k ≡ Some x → slice_get (take m xs) k ≡ Some x
+get-take [] m k x low is = absurd (cc)
+get-take (y ∷ xs) zero k x low is = absurd (omega (arith, low))
+get-take (y ∷ xs) (suc m) zero x low is = is
+get-take (y ∷ xs) (suc m) (suc k) x low is = get-take xs m k x (omega (arith, low)) is
+
+-- what stands in a line stands in its front up to a number that isn't below its own
+pub stands-front : (batch : Batch) (line : Line) (number : ℕ) → batch.number ≤ number → StandsIn batch line → StandsIn batch (up_to number line)
+stands-front batch line number low s =
+    let is = s.2 in
+    (s.0, get-take line.batches (number - line.floor) s.0 batch (omega (arith, low, is)) s.1, s.2)
+
+-- the batch of a write that is reported durable stands in what is stored
 pub confirms : (settings : Settings) (w : World) (command : Command) (reply : Reply) (w' : World) → IsValid w → Next settings w command reply w' → (n : ℕ) → command.action ≡ actions.Await n → reply ≡ replies.Durable → IsConfirmed w n
 confirms settings w command reply w' valid next n is durable =
     let s = reported settings w command reply w' next n is durable in
     let low = s.durable in
     let stored = within-stored w s.write.handle s.handle valid s.is_handle in
-    (s.write, s.is_write, omega (arith, low, stored))
+    record {
+      write = s.write;
+      is_write = s.is_write;
+      number = omega (arith, low, stored);
+      stored = λ batch of_write.
+          let same : of_write.write ≡ s.write = let there = of_write.is_write in let here = s.is_write in cc in
+          let at : IsHandleAt w.objects s.write.handle of_write.handle = subst (λ (x : Write). IsHandleAt w.objects x.handle of_write.handle) same of_write.is_handle in
+          let is_handle : of_write.handle ≡ s.handle = let here = s.is_handle in cc in
+          let number : batch.number ≡ s.write.number = of_write.number ∙ ap (λ (x : Write). x.number) same in
+          let stands : StandsIn batch s.handle.line = subst (λ (x : Handle). StandsIn batch x.line) is_handle of_write.accepted in
+          stands-prefix batch (up_to s.handle.durable s.handle.line) w.stored (valid.handles s.write.handle s.handle s.is_handle).confirmed
+          (stands-front batch s.handle.line s.handle.durable (omega (arith, low, number)) stands);
+    }

@@ -24,6 +24,7 @@ opens-nothing keeps_log limit store = record {
   };
   faults = record { count = omega arith; unavailable = λ h. absurd (cc); none_missing = λ h. absurd (cc) };
   fresh = tt;
+  view = tt;
   handle = tt;
 }
 
@@ -37,6 +38,7 @@ follows-nothing store = record {
   faults = record { count = omega arith; unavailable = λ h. absurd (cc); none_missing = λ h. absurd (cc) };
   cause = caused store.objects;
   answer = tt;
+  can = tt;
   sees = tt;
 }
 

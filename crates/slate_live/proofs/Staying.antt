@@ -1,8 +1,7 @@
 -- A write that is reported durable is confirmed for good.
-use Rattle.std.proofs.Common.{◌≡◌, ◌≤◌, ◌<◌, ◌-◌, ℕ, zero, suc, take, List, [], ◌∷◌, Some, sym, subst, ap, ◌∙◌, arith}
+use Rattle.std.proofs.Common.{◌≡◌, ◌<◌, ℕ, zero, suc, List, [], ◌∷◌, Some, sym, subst, ap, ◌∙◌, arith}
 use Rattle.std.specs.List.{slice_get}
 use Rattle.slate_types.specs.declared.batches.Batch.{Batch}
-use Rattle.slate_types.specs.Line.{Line}
 use Rattle.slate_model.specs.Handle.{Handle}
 use Rattle.slate_script.specs.declared.commands.Action.TheVariants as actions
 use Rattle.slate_script.specs.declared.replies.Reply.TheVariants as replies
@@ -13,20 +12,8 @@ use Rattle.slate_live.specs.Represents.{IsHandleAt, up_to}
 use Rattle.slate_live.specs.Steps.{Chain, StayConfirmed, Step}
 use Rattle.slate_live.specs.Valid.{Link}
 use Rattle.slate_live.specs.World.{World}
-use Rattle.slate_live.proofs.Confirming.{asked-same, reported}
+use Rattle.slate_live.proofs.Confirming.{asked-same, reported, stands-front}
 use Rattle.slate_live.proofs.Keeping.{AreWritten, Keeps, Numbers, keeps, stands-prefix}
-
-get-take : {X : Type 0} (xs : List X) (m k : ℕ) (x : X) → k < m → slice_get xs k ≡ Some x → slice_get (take m xs) k ≡ Some x
-get-take [] m k x low is = absurd (cc)
-get-take (y ∷ xs) zero k x low is = absurd (omega (arith, low))
-get-take (y ∷ xs) (suc m) zero x low is = is
-get-take (y ∷ xs) (suc m) (suc k) x low is = get-take xs m k x (omega (arith, low)) is
-
--- what stands in a line stands in its front up to a number that isn't below its own
-stands-front : (batch : Batch) (line : Line) (number : ℕ) → batch.number ≤ number → StandsIn batch line → StandsIn batch (up_to number line)
-stands-front batch line number low s =
-    let is = s.2 in
-    (s.0, get-take line.batches (number - line.floor) s.0 batch (omega (arith, low, is)) s.1, s.2)
 
 -- the batch of a write that is reported durable is stored
 pub record Confirms (w : World) (n : ℕ) : Type 0 where

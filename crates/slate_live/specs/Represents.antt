@@ -4,7 +4,7 @@ use Rattle.slate_types.specs.declared.batches.Batch.{Batch}
 use Rattle.slate_types.specs.Line.{Line, IsLine, IsPrefix, extended}
 use Rattle.slate_store.specs.declared.objects.VersionedManifest.{VersionedManifest}
 use Rattle.slate_store.specs.Objects.{Objects, latest_manifest}
-use Rattle.slate_store.specs.Content.{IsSound, content}
+use Rattle.slate_store.specs.Content.{AreRising, IsSound, content}
 use Rattle.slate_model.specs.Catalogue.{catalogue_of}
 use Rattle.slate_model.specs.Follower.{Follower}
 use Rattle.slate_model.specs.Handle.{Handle, accepted, unstored}
@@ -48,6 +48,10 @@ pub record IsValid (w : World) : Type 0 where
   pub followers : (n : ℕ) (follower : Follower) → IsFollowerAt w.objects n follower → IsPrefix follower.line w.stored
   pub handles : (n : ℕ) (handle : Handle) → IsHandleAt w.objects n handle → IsValidHandle w.stored (latest_manifest w.catalogue) handle
   pub distinct : (m n : ℕ) (a b : Handle) → IsHandleAt w.objects m a → IsHandleAt w.objects n b → a.epoch ≡ b.epoch → m ≡ n
+
+-- what holds of every world that a run leads to: it is valid, and its manifests have rising ids
+abbrev pub IsReached : World → Type 0
+IsReached w = IsValid w × AreRising (map (λ entry. entry.0) w.catalogue.manifests)
 
 -- a live state, over an honest store that holds these objects and has failed so often, represents a world: its objects
 -- are the world's, each as the code keeps it

@@ -1,5 +1,6 @@
 -- What a run of commands does to a store, and to the world that it holds.
 use Rattle.std.specs.Prelude.{◌≡◌, ℕ, List, [], ◌∷◌, map, Some}
+use Rattle.std.specs.List.{All}
 use Rattle.slate_store.specs.Objects.{Objects}
 use Rattle.slate_types.specs.declared.batches.Batch.{Batch}
 use Rattle.slate_types.specs.Line.{IsPrefix}
@@ -10,7 +11,7 @@ use Rattle.slate_script.specs.declared.replies.Reply.{Reply}
 use Rattle.slate_live.specs.Commands.{Does}
 use Rattle.slate_live.specs.State.{State, by_objects}
 use Rattle.slate_live.specs.Steps.{Chain, StayConfirmed, Step, last_world}
-use Rattle.slate_live.specs.Represents.{Holds}
+use Rattle.slate_live.specs.Represents.{Holds, IsReached}
 use Rattle.slate_live.specs.Settings.{Settings}
 use Rattle.slate_live.specs.World.{World, start}
 
@@ -21,13 +22,14 @@ DoAll settings s (command ∷ commands) (reply ∷ replies) last =
     (made : ℕ) × (next : State (List Batch)) × Does (by_objects s.store.objects) settings made s command reply next × DoAll settings next commands replies last
 DoAll settings s commands replies last = ⊥
 
--- The commands lead from the world of these objects, by one step each with its reply, to a world that the store holds
--- afterwards. What was stored before is stored afterwards, and a write that is reported durable is confirmed for good.
+-- The commands lead from the world of these objects, by one step each with its reply and each to a valid world, to one
+-- that the store holds afterwards. What was stored before is stored afterwards, and a write that is reported durable is confirmed for good.
 pub record LeadsTo (settings : Settings) (commands : List Command) (replies : List Reply) (before : Objects) (faults : ℕ) (store : Known (List Batch)) : Type 0 where
   pub steps : List Step
   pub commands_are : map (λ step. step.command) steps ≡ commands
   pub replies_are : map (λ step. step.reply) steps ≡ replies
   pub chain : Chain settings (start before faults) steps
+  pub reached : All (λ step. IsReached step.world) steps
   pub last : World
   pub is_last : last ≡ last_world (start before faults) steps
   pub grows : IsPrefix (content before) last.stored

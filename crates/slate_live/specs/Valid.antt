@@ -21,7 +21,7 @@ use Rattle.slate_script.specs.declared.commands.Action.TheVariants as actions
 use Rattle.slate_script.specs.declared.commands.Command.{Command}
 use Rattle.slate_script.specs.declared.replies.Reply.{Reply}
 use Rattle.slate_script.specs.declared.replies.Reply.TheVariants as replies
-use Rattle.slate_live.specs.Confirmed.{Sees, StandsIn}
+use Rattle.slate_live.specs.Confirmed.{IsBatchOf, Sees, StandsIn}
 use Rattle.slate_model.specs.Object.{Object, Handle as AHandle, Follower as AFollower}
 use Rattle.slate_live.specs.Handles.{cut, flush_of_close}
 use Rattle.slate_live.specs.Rising.{Rise}
@@ -110,9 +110,12 @@ IsOkOrNoMemory (replies.Follower object false at) = ⊥
 IsOkOrNoMemory (replies.Polled false at) = ⊥
 IsOkOrNoMemory reply = Unit {0}
 
--- the write with this number is among the batches that are stored
-abbrev pub IsConfirmed : World → ℕ → Type 0
-IsConfirmed w n = (write : Write) × (slice_get w.writes n ≡ Some write) × (write.number ≤ end w.stored)
+-- the write with this number is among the batches that are stored: so is the batch that it added to its handle's line
+pub record IsConfirmed (w : World) (n : ℕ) : Type 0 where
+  pub write : Write
+  pub is_write : slice_get w.writes n ≡ Some write
+  pub number : write.number ≤ end w.stored
+  pub stored : (batch : Batch) → IsBatchOf w n batch → StandsIn batch w.stored
 
 -- The link of a command: its reply and the world that it leads to are such as follow. A valid command that meets no
 -- fault of the store is refused nothing. What is stored stays stored, what a handle knows to

@@ -1,5 +1,5 @@
 -- What an operation does to the objects of a store it does to what a world knows of them.
-use Rattle.std.proofs.Common.{◌≡◌, ℕ, Bool, false, List, Option, Some, None, Result, Ok, Err, refl, sym, subst, ap, ◌∙◌}
+use Rattle.std.proofs.Common.{◌≡◌, ℕ, Bool, true, false, List, Option, Some, None, Result, Ok, Err, refl, sym, subst, ap, ◌∙◌}
 use Rattle.std.specs.Option.{IfSome}
 use Rattle.std.specs.Result.{IfOk, IfErr}
 use Rattle.slate_types.specs.declared.batches.Batch.{Batch}
@@ -9,7 +9,7 @@ use Rattle.slate_types.specs.declared.store_errors.StoreFault.TheVariants.{Unava
 use Rattle.slate_store.specs.Calls.{WhereModelled}
 use Rattle.slate_store.specs.declared.objects.VersionedManifest.{VersionedManifest}
 use Rattle.slate_store.specs.Content.{IsSound, content}
-use Rattle.slate_store.specs.Objects.{Objects, ObjectsOf}
+use Rattle.slate_store.specs.Objects.{Objects, ObjectsOf, latest_manifest}
 use Rattle.slate_errors.specs.declared.endings.Ended.{Ended}
 use Rattle.slate_errors.specs.declared.errors.SlateError.{SlateError}
 use Rattle.slate_errors.specs.declared.errors.SlateError.TheVariants as errors
@@ -18,7 +18,7 @@ use Rattle.slate_model.specs.Catalogue.{Span, catalogue_of, span}
 use Rattle.slate_model.specs.declared.answers.PollAnswer.{PollAnswer}
 use Rattle.slate_model.specs.Close.{Closes, ended, fault_again}
 use Rattle.slate_model.specs.Flush.{Flushes, Stores}
-use Rattle.slate_model.specs.Follower.{FollowCause, Follower, Polls, Rebuilds, SeesAll, built}
+use Rattle.slate_model.specs.Follower.{FollowCause, Follower, Polls, Rebuilds, SeesAll, built, can_follow}
 use Rattle.slate_model.specs.Handle.{Handle}
 use Rattle.slate_model.specs.Known.{IsContent, Known, Untouched}
 use Rattle.slate_model.specs.Open.{OpenFault, OpensHandle, opened_handle, opened_manifest}
@@ -92,6 +92,7 @@ opens-reduced stored made keeps_log limit r o o' f f' sound is s = record {
   opens = as_modelled (catalogue_of o) (catalogue_of o') (opens-known (OpenFault o) o r made o' (λ e. no-fault o e sound) (modelled o o' s.opens));
   faults = s.faults;
   fresh = s.fresh;
+  view = if_ok r (λ h same c at. same o refl ∙ sym (opened_manifest-known o) ∙ ap opened_manifest (some-same (catalogue_of o) c at)) s.view;
   handle = if_ok r (λ h same c line at stored_is.
       same o line refl (o, refl, sound, stored_is ∙ sym is)
       ∙ ap (λ m. opened_handle keeps_log limit m line) (sym (opened_manifest-known o) ∙ ap opened_manifest (some-same (catalogue_of o) c at))) s.handle;
@@ -118,6 +119,7 @@ rebuilds-reduced stored opening r o o' f f' sound is s = record {
   faults = s.faults;
   cause = if_err r (follow_cause-known opening o) s.cause;
   answer = s.answer;
+  can = if_ok r (λ b same c at. subst (λ x. (latest_manifest x ≡ Some b.0.view) × (can_follow opening b.0.view ≡ true)) (some-same (catalogue_of o) c at) (same o refl)) s.can;
   sees = if_ok r (λ b same c line at stored_is.
       let all = same o line refl (o, refl, sound, stored_is ∙ sym is) in
       subst (λ x. SeesAll x line b.0 b.1) (some-same (catalogue_of o) c at) all) s.sees;

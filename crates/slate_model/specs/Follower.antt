@@ -1,5 +1,5 @@
 -- What a follower sees, and what opening and polling it answers.
-use Rattle.std.specs.Prelude.{◌≡◌, ℕ, ◌==◌, ◌&&◌, ◌||◌, ◌⊎◌, Bool, false, length, not, Some, None, Result, Ok, Err, IfOk, IfErr, IfSome}
+use Rattle.std.specs.Prelude.{◌≡◌, ℕ, ◌==◌, ◌&&◌, ◌||◌, ◌⊎◌, Bool, false, length, not, Some, None, Result, Ok, Err, IfOk, IfErr, IfSome, true}
 use Rattle.slate_types.specs.Line.{Line, end}
 use Rattle.slate_store.specs.declared.objects.VersionedManifest.{VersionedManifest}
 use Rattle.slate_types.specs.declared.store_errors.StoreFault.TheVariants.{Unavailable}
@@ -50,12 +50,13 @@ SeesAll objects stored follower answer =
     (latest : VersionedManifest) × (latest_manifest objects ≡ Some latest) × (follower ≡ rebuilt latest stored) × (answer ≡ Whole (end stored))
 
 -- An opening of a follower, or a poll, which rebuilds it: from what is stored it gives a follower that sees all of it,
--- or answers why not, and changes nothing in the store. `is_stored` says which line is stored, where that is known.
+-- under the latest manifest, by which the database can be followed, or answers why not, and changes nothing in the store. `is_stored` says which line is stored, where that is known.
 pub record Rebuilds {L : Type 0} (is_stored : Line → Type 0) (opening : Bool) (before : Known L) (result : Result (Follower × PollAnswer) SlateError) (after : Known L) : Type 0 where
   pub kept : after.objects ≡ before.objects
   pub faults : CountsFaults before.faults after.faults result
   pub cause : IfErr result (λ error. IfSome before.objects (λ o. FollowCause opening o error))
   pub answer : IfOk result (λ b. (b.0.result ≡ None) × AnswersAt (number b.0) b.1)
+  pub can : IfOk result (λ b. (o : ObjectsOf L) → before.objects ≡ Some o → (latest_manifest o ≡ Some b.0.view) × (can_follow opening b.0.view ≡ true))
   pub sees : IfOk result (λ b. (o : ObjectsOf L) (line : Line) → before.objects ≡ Some o → is_stored line → SeesAll o line b.0 b.1)
 
 -- what a poll gives: the follower after it, and its answer

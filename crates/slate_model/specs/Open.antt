@@ -11,7 +11,7 @@ use Rattle.slate_store.specs.Logs.{IsReplayable}
 use Rattle.slate_errors.specs.declared.errors.SlateError.{SlateError}
 use Rattle.slate_errors.specs.declared.errors.SlateError.TheVariants as errors
 use Rattle.slate_model.specs.Changes.{PartMade, after_part}
-use Rattle.slate_model.specs.Handle.{Handle}
+use Rattle.slate_model.specs.Handle.{Handle, accepted}
 use Rattle.slate_model.specs.Known.{CountsFaults, Known}
 use Rattle.slate_model.specs.Write.{last_number}
 
@@ -138,11 +138,22 @@ pub record Opens {A L : Type 0} (summary : List Batch → L) (unsound : SlateErr
   pub can : 0 < made → can_open objects ≡ true
   pub after : objects' ≡ after_part made (open_changes summary objects) objects
 
+-- A handle that was just opened: it has the epoch of its view, the batches that it sees come after those in the view's
+-- tables, and all of them are durable.
+pub record IsFresh (keeps_log : Bool) (limit : ℕ) (handle : Handle) : Type 0 where
+  pub keeps : handle.keeps_log ≡ keeps_log
+  pub limit_is : handle.limit ≡ limit
+  pub unclosed : handle.result ≡ None
+  pub epoch : handle.epoch ≡ handle.view.manifest.writer_epoch
+  pub floor : handle.line.floor ≡ handle.view.manifest.last_l0_seq
+  pub durable : handle.durable ≡ accepted handle
+
 -- An opening of a database by a handle. `unsound` says which objects bring about an error that sound ones don't, and
 -- `is_stored` which line is stored, where that is known: the handle of an opening that answers Ok sees it.
 pub record OpensHandle {L : Type 0} (summary : List Batch → L) (unsound : ObjectsOf L → SlateError → Type 0) (is_stored : Line → Type 0) (made : ℕ) (keeps_log : Bool) (limit : ℕ) (before : Known L) (result : Result Handle SlateError) (after : Known L) : Type 0 where
   pub opens : WhereModelled (λ o o'. Opens summary (unsound o) o result made o') before.objects after.objects
   pub faults : CountsFaults before.faults after.faults result
-  pub fresh : IfOk result (λ handle. (handle.keeps_log ≡ keeps_log) × (handle.limit ≡ limit) × (handle.result ≡ None))
+  pub fresh : IfOk result (IsFresh keeps_log limit)
+  pub view : IfOk result (λ handle. (o : ObjectsOf L) → before.objects ≡ Some o → handle.view ≡ opened_manifest o)
   pub handle : IfOk result (λ handle. (o : ObjectsOf L) (line : Line) → before.objects ≡ Some o → is_stored line →
       handle ≡ opened_handle keeps_log limit (opened_manifest o) line)

@@ -3,7 +3,7 @@ use bytes::Bytes;
 use slate_errors::SlateError;
 use slate_store::MemoryStore;
 use slate_types::{FixedPrefix, KeyOp, Op, Seq, WriteBatch};
-use slate_writer::{WriterOptions, WriterState};
+use slate_writer::{WriteRefusal, WriterOptions, WriterState};
 use std::alloc::Global;
 use std::test::Fail;
 
@@ -33,7 +33,8 @@ fn refused(
     let Err(refusal) = writer.write(alloc, batch, 1, None, extractor) else {
         return Ok(None);
     };
-    match refusal.error {
+    let WriteRefusal { error, .. } = refusal;
+    match error {
         SlateError::IncompatibleMergeTtls {
             key,
             previous_expire_ts,

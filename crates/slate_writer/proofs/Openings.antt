@@ -1,5 +1,5 @@
 -- The calls of an opening, one after another, make an opening of the model.
-use Rattle.std.proofs.Common.{◌≡◌, ℕ, ℤ, ◌+◌, Bool, List, [], length, Option, Some, Result, Ok, Err, true, false, None, refl, sym, subst, ap, inl, inr, ◌∙◌, arith}
+use Rattle.std.proofs.Common.{◌≡◌, ℕ, ℤ, ◌+◌, Bool, List, [], length, Option, Some, Result, Ok, Err, true, false, refl, sym, subst, ap, inl, inr, ◌∙◌, arith}
 use Rattle.std.specs.Option.{IfSome}
 use Rattle.slate_types.specs.declared.batches.Batch.{Batch}
 use Rattle.slate_types.specs.Line.{Line}
@@ -14,7 +14,7 @@ use Rattle.slate_errors.specs.Errors.{error_of_store}
 use Rattle.slate_errors.specs.declared.errors.SlateError.{SlateError}
 use Rattle.slate_errors.specs.declared.errors.SlateError.TheVariants as errors
 use Rattle.slate_model.specs.Changes.{after_part}
-use Rattle.slate_model.specs.Open.{OpenFault, Opens, OpensHandle, found_log, mark_of, latest_tick, open_changes, opened_handle, opened_manifest}
+use Rattle.slate_model.specs.Open.{IsFresh, OpenFault, Opens, OpensHandle, found_log, mark_of, latest_tick, open_changes, opened_handle, opened_manifest}
 use Rattle.slate_store.specs.Objects.{changed, latest_manifest}
 use Rattle.slate_model.proofs.Entries.{absent}
 use Rattle.slate_model.proofs.Newest.{newest}
@@ -124,6 +124,10 @@ module _ {t t0 t1 : Option Objects} (view : VersionedManifest) (last : ℕ) (fou
 pub recovered_at : (keeps_log : Bool) (limit : ℕ) (view : VersionedManifest) (batches bs : List Batch) (tick : ℤ) → bs ≡ batches → tick ≡ latest_tick view.manifest.last_tick batches → record (recovered keeps_log limit view batches) { durable = view.manifest.last_l0_seq + length bs; tick = tick } ≡ recovered keeps_log limit view batches
 recovered_at keeps_log limit view batches bs tick same is = rw (same, is) refl
 
+-- the manifest that was found is the one that the opening commits
+pub found_view : {t : Option Objects} (view : VersionedManifest) (last : ℕ) → IfSome t (λ o. FindsNext o (Ok (view, last))) → (o : Objects) → t ≡ Some o → view ≡ opened_manifest o
+found_view view last found o is = let at : FindsNext o (Ok (view, last)) = subst (λ x. IfSome x (λ o. FindsNext o (Ok (view, last)))) is found in at.1
+
 -- an opening that can't go on before it puts anything
 opens_none : {A : Type 0} (o : Objects) (e : SlateError) → FindsNext o (Err e) → OpensModelled {A = A} o (Err e) o
 opens_none o errors.InvalidDBState cause = (0, record { answer = cause; part = omega arith; only = refl; can = λ some. absurd (omega (arith, some)); after = refl })
@@ -138,16 +142,17 @@ none_modelled e kept found = modelled_kept kept (λ o is. opens_none o e (subst 
 pub opens_err : {is_stored : Line → Type 0} (keeps_log : Bool) (limit : ℕ) (before after : Known (List Batch)) (e : SlateError) → CountsFaults {A = Handle} before.faults after.faults (Err e) → WhereModelled (λ o o'. OpensModelled {A = Handle} o (Err e) o') before.objects after.objects → (made : ℕ) × OpensHandle (λ xs. xs) OpenFault is_stored made keeps_log limit before (Err e) after
 opens_err keeps_log limit before after e fault answered =
     let m = made_once before.objects after.objects answered in
-    (m.0, record { opens = m.1; faults = fault; fresh = tt; handle = tt })
+    (m.0, record { opens = m.1; faults = fault; fresh = tt; view = tt; handle = tt })
 
-pub opens_ok : (keeps_log : Bool) (limit : ℕ) (before after : Known (List Batch)) (h : Handle) → CountsFaults before.faults after.faults (Ok h) → WhereModelled (λ o o'. OpensModelled o (Ok h) o') before.objects after.objects → (h.keeps_log ≡ keeps_log) × (h.limit ≡ limit) × (h.result ≡ None) → ((o : Objects) → before.objects ≡ Some o → IsSound o → h ≡ opened_handle keeps_log limit (opened_manifest o) (content o)) → (made : ℕ) × OpensHandle (λ xs. xs) OpenFault (IsContent before.objects) made keeps_log limit before (Ok h) after
-opens_ok keeps_log limit before after h fault answered fresh sees =
+pub opens_ok : (keeps_log : Bool) (limit : ℕ) (before after : Known (List Batch)) (h : Handle) → CountsFaults before.faults after.faults (Ok h) → WhereModelled (λ o o'. OpensModelled o (Ok h) o') before.objects after.objects → IsFresh keeps_log limit h → ((o : Objects) → before.objects ≡ Some o → h.view ≡ opened_manifest o) → ((o : Objects) → before.objects ≡ Some o → IsSound o → h ≡ opened_handle keeps_log limit (opened_manifest o) (content o)) → (made : ℕ) × OpensHandle (λ xs. xs) OpenFault (IsContent before.objects) made keeps_log limit before (Ok h) after
+opens_ok keeps_log limit before after h fault answered fresh view sees =
     let m = made_once before.objects after.objects answered in (
       m.0,
       record {
         opens = m.1;
         faults = fault;
         fresh = fresh;
+        view = view;
         handle = λ o line at stored_is.
             let same : stored_is.0 ≡ o = some-same stored_is.0 o (sym stored_is.1 ∙ at) in
             sees o at (subst IsSound same stored_is.2) ∙ ap (λ l. opened_handle keeps_log limit (opened_manifest o) l) (sym (stored_is.3 ∙ ap content same));

@@ -1,7 +1,7 @@
 use Rattle.std.proofs.Common.{arith, ap, refl, ◌∙◌, ◌++◌, ◌∷◌, []}
 use Rattle.slate_model.specs.Known.{known}
 use Rattle.slate_live.specs.State.{Live, running}
-use Rattle.slate_live.proofs.Chains.{do-all, do-next, do-none, done-next, done_none, leads_all, stands-push, stands_start}
+use Rattle.slate_live.proofs.Chains.{do-all, do-next, do-none, done-next, done_none, leads_all, reached, stands-push, stands_start}
 use Rattle.slate_live.proofs.runs.run.Goals as goal
 
 pub loop-command-init : goal.loop-command-init
@@ -34,7 +34,7 @@ loop-command-preserved g c =
           let prev = c.loop-command.invariant.leads merge lawful before is sound in
           let link = c.apply-reply.ensures.link merge lawful _ prev.2 in (
             prev.0 ++ record { command = c.command-item.result; reply = c.apply-reply.result; world = link.0 } ∷ [],
-            done-next merge c.args.options.now _ _ link.0 prev.0 c.args.commands.now c.loop-command.command-index c.command-item.result _ _ c.apply-reply.result c.loop-command.invariant.options c.loop-command-test.true c.command-item.is c.push_reserved.ensures.items prev.1 link.1,
+            done-next merge c.args.options.now _ _ link.0 prev.0 c.args.commands.now c.loop-command.command-index c.command-item.result _ _ c.apply-reply.result c.loop-command.invariant.options c.loop-command-test.true c.command-item.is c.push_reserved.ensures.items prev.1 link.1 (reached _ _ link.0 link.2),
             stands-push _ link.0 prev.0 c.command-item.result c.apply-reply.result _ _ link.2,
           );
     }

@@ -1,5 +1,5 @@
 -- A valid command that meets no fault is refused nothing.
-use Rattle.std.proofs.Common.{◌≡◌, ◌⊎◌, inl, inr, ℕ, ℤ, ◌<◌, ◌≤◌, Bool, true, false, if◌then◌else◌, ◌||◌, ◌&&◌, ◌==◌, not, List, [], ◌∷◌, length, Option, Some, None, Result, Ok, Err, refl, sym, subst, ap, ◌∙◌, arith}
+use Rattle.std.proofs.Common.{◌≡◌, ◌⊎◌, inl, inr, ℕ, ℤ, ◌<◌, ◌≤◌, Bool, true, false, if◌then◌else◌, ◌||◌, List, [], ◌∷◌, length, Option, Some, None, Result, Ok, Err, refl, sym, subst, ap, ◌∙◌, arith}
 use Rattle.std.specs.List.{slice_get}
 use Rattle.std.proofs.lemmas.Bool.{le-leb, lt-ltb}
 use Rattle.std.proofs.Math.Dec.{eqb-suc-zero}
@@ -36,6 +36,7 @@ use Rattle.slate_live.specs.declared.states.Write.{Write}
 use Rattle.slate_live.specs.Commands.{ActsOn, DoesBy, asked_reply, write_reply}
 use Rattle.slate_live.specs.Handles.{flush_of_close, pending_reply, put_op}
 use Rattle.slate_live.specs.Replies.{closed_reply, ended_reply, follower_ended_reply, followed_reply, found_reply, polled_reply, refusal, reply_to}
+use Rattle.slate_live.specs.Represents.{IsValid}
 use Rattle.slate_live.specs.Settings.{Settings}
 use Rattle.slate_live.specs.Valid.{AtObject, CanClose, CanFollow, CanOpen, CanPut, CanStore, IsOkOrNoMemory, IsValidAction, IsValidCommand}
 use Rattle.slate_live.specs.World.{Next, World, by_catalogue, state_of}
@@ -160,26 +161,22 @@ read-completes : (result : CloseResult) (plain : Result (Option KeyValue) ReadFa
 read-completes result plain found r reply live is reads is_reply =
     subst IsOkOrNoMemory (sym is_reply) (free-reply found_reply r (λ x at. found-free x) (answers-free plain found r is (reads.read live)))
 
-or-and : (a b : Bool) → ((a || not true) && b) ≡ true → ((a || not false) && b) ≡ true
-or-and true b h = h
-or-and false b h = absurd (cc)
+-- the latest manifest of the world is one by which the database can be followed
+abbrev Follows : Bool → World → Type 0
+Follows opening w = (latest : VersionedManifest) × (latest_manifest w.catalogue ≡ Some latest) × (can_follow opening latest ≡ true)
 
-still-follows : (opening : Bool) (latest : VersionedManifest) → can_follow true latest ≡ true → can_follow opening latest ≡ true
-still-follows true latest can = can
-still-follows false latest can = or-and latest.manifest.initialized (length latest.manifest.tables == 0) can
-
-follow-cause : (w : World) (opening : Bool) (faults : ℕ) (error : SlateError) → FollowCause opening w.catalogue error → CountsFaults {A = Follower × PollAnswer} w.faults faults (Err error) → CanFollow w → (HasRisen w.faults faults → ⊥) → error ≡ errors.NoMemory
+follow-cause : (w : World) (opening : Bool) (faults : ℕ) (error : SlateError) → FollowCause opening w.catalogue error → CountsFaults {A = Follower × PollAnswer} w.faults faults (Err error) → Follows opening w → (HasRisen w.faults faults → ⊥) → error ≡ errors.NoMemory
 follow-cause w opening faults errors.LatestTransactionalObjectVersionMissing cause fault can calm = absurd (none-some (latest_manifest w.catalogue) can.0 cause can.1)
 follow-cause w opening faults errors.InvalidDBState cause fault can calm =
     let same : cause.0 ≡ can.0 = same-manifest (latest_manifest w.catalogue) cause.0 can.0 cause.1 can.1 in
     let no : can_follow opening can.0 ≡ false = subst (λ m. can_follow opening m ≡ false) same cause.2 in
-    let yes = still-follows opening can.0 can.2 in
+    let yes = can.2 in
     absurd (cc)
 follow-cause w opening faults (errors.ObjectStoreError Unavailable) cause fault can calm = absurd (calm (fault.unavailable refl))
 follow-cause w opening faults errors.NoMemory cause fault can calm = refl
 follow-cause w opening faults error cause fault can calm = absurd cause
 
-rebuild-free : (w w' : World) (opening : Bool) (r : Result (Follower × PollAnswer) SlateError) → Rebuilds (λ line. line ≡ w.stored) opening (state_of w).store r (state_of w').store → CanFollow w → (HasRisen w.faults w'.faults → ⊥) → IsFree r
+rebuild-free : (w w' : World) (opening : Bool) (r : Result (Follower × PollAnswer) SlateError) → Rebuilds (λ line. line ≡ w.stored) opening (state_of w).store r (state_of w').store → Follows opening w → (HasRisen w.faults w'.faults → ⊥) → IsFree r
 rebuild-free w w' opening (Ok b) built can calm = tt
 rebuild-free w w' opening (Err e) built can calm = follow-cause w opening w'.faults e built.cause built.faults can calm
 
@@ -190,7 +187,7 @@ follow-reply w w' n (Ok b) r can calm =
     subst (λ a. IsOkOrNoMemory (followed_reply n a)) (sym all.3) tt
 follow-reply w w' n (Err e) r can calm = subst (λ x. IsOkOrNoMemory (refusal x)) (sym (rebuild-free w w' true (Err e) r can calm)) tt
 
-poll-reply : (w w' : World) (f : Follower) (r : Result PollAnswer SlateError) → Rebuilds (λ line. line ≡ w.stored) false (state_of w).store (built f r) (state_of w').store → CanFollow w → (HasRisen w.faults w'.faults → ⊥) → IsOkOrNoMemory (reply_to polled_reply r)
+poll-reply : (w w' : World) (f : Follower) (r : Result PollAnswer SlateError) → Rebuilds (λ line. line ≡ w.stored) false (state_of w).store (built f r) (state_of w').store → Follows false w → (HasRisen w.faults w'.faults → ⊥) → IsOkOrNoMemory (reply_to polled_reply r)
 poll-reply w w' f (Ok answer) r can calm =
     let all = r.sees w.catalogue w.stored refl refl in
     subst (λ a. IsOkOrNoMemory (polled_reply a)) (sym all.3) tt
@@ -206,7 +203,7 @@ by-object None of_handle of_follower at f g = absurd at
 by-object (Some (AHandle h)) of_handle of_follower at f g = f h refl at
 by-object (Some (AFollower x)) of_handle of_follower at f g = g x refl at
 
-module _ (settings : Settings) (w w' : World) (command : Command) (made : ℕ) (reply : Reply) (calm : HasRisen w.faults w'.faults → ⊥) where
+module _ (settings : Settings) (w w' : World) (valid : IsValid w) (command : Command) (made : ℕ) (reply : Reply) (calm : HasRisen w.faults w'.faults → ⊥) where
   abbrev On : ℕ → Type 0
   On n = ActsOn (by_catalogue w.stored) settings.merge n command made (slice_get w.objects n) (state_of w) reply (state_of w')
 
@@ -254,10 +251,10 @@ module _ (settings : Settings) (w w' : World) (command : Command) (made : ℕ) (
       closed-follower-reply (recorded_fault f.result) reply none (a.acts).0)
   completes-by (actions.Poll n) is d can =
       by-object (slice_get w.objects n) _ _ can (λ h at never. absurd never)
-      (λ f at can_poll.
+      (λ f at unclosed.
       let a = follower-at n (actions.Poll n) f is at d in
-      subst IsOkOrNoMemory (sym (a.acts).0.replied) (poll-reply w w' a.new (a.acts).0.result (((a.acts).0.does).rebuilds can_poll.0) can_poll.1 calm))
+      subst IsOkOrNoMemory (sym (a.acts).0.replied) (poll-reply w w' a.new (a.acts).0.result (((a.acts).0.does).rebuilds unclosed) (valid.followers n f at).followed calm))
 
 -- a valid command that meets no fault is refused nothing
-pub completes : (settings : Settings) (w : World) (command : Command) (reply : Reply) (w' : World) → Next settings w command reply w' → IsValidCommand settings.merge w command → (HasRisen w.faults w'.faults → ⊥) → IsOkOrNoMemory reply
-completes settings w command reply w' next can calm = completes-by settings w w' command next.made reply calm command.action refl next.does can
+pub completes : (settings : Settings) (w : World) (command : Command) (reply : Reply) (w' : World) → IsValid w → Next settings w command reply w' → IsValidCommand settings.merge w command → (HasRisen w.faults w'.faults → ⊥) → IsOkOrNoMemory reply
+completes settings w command reply w' valid next can calm = completes-by settings w w' valid command next.made reply calm command.action refl next.does can

@@ -28,7 +28,7 @@ use Rattle.slate_script.specs.declared.replies.Reply.{Reply}
 use Rattle.slate_live.specs.declared.states.Write.{Write}
 use Rattle.slate_live.specs.Followers.{FollowerActs}
 use Rattle.slate_live.specs.Handles.{HandleActs}
-use Rattle.slate_live.specs.Represents.{Holds, IsFollowerAt, IsHandleAt, IsValid, IsValidHandle}
+use Rattle.slate_live.specs.Represents.{Holds, IsFollowerAt, IsHandleAt, IsValid, IsValidHandle, IsValidFollower}
 use Rattle.slate_live.specs.World.{World, stored_after}
 use Rattle.slate_live.proofs.Cases.{by-option, close-by, flush-by, some-of}
 use Rattle.slate_live.proofs.Changing.{distinct-set, followers-set, followers-set-handle, handles-set-follower, valid-set, valid-written}
@@ -67,7 +67,7 @@ module _ (w : World) (o : Objects) (is_sound : IsSound o) (holds : Holds o w) (v
     pub sound : IsSound after
     pub content : content after ≡ stored_after made w.stored batches
     pub handles : (m : ℕ) (a : Handle) → IsHandleAt objects m a → IsValidHandle (stored_after made w.stored batches) (latest_manifest after) a
-    pub followers : (m : ℕ) (f : Follower) → IsFollowerAt objects m f → IsPrefix f.line (stored_after made w.stored batches)
+    pub followers : (m : ℕ) (f : Follower) → IsFollowerAt objects m f → IsValidFollower (stored_after made w.stored batches) (latest_manifest after) f
     pub distinct : (m n : ℕ) (a b : Handle) → IsHandleAt objects m a → IsHandleAt objects n b → a.epoch ≡ b.epoch → m ≡ n
 
   module _ (n : ℕ) (h h' : Handle) (there : IsHandleAt w.objects n h) (epoch : h'.epoch ≡ h.epoch) (batches : List Batch) (made : ℕ) (store : Known (List Batch)) where
@@ -82,7 +82,8 @@ module _ (w : World) (o : Objects) (is_sound : IsSound o) (holds : Holds o w) (v
           content = holds.stored ∙ sym same;
           handles = λ m a at. subst (λ l. IsValidHandle l (latest_manifest o) a) (sym same) (subst (λ l. IsValidHandle w.stored l a) latest-known
               (valid-set (IsValidHandle w.stored (latest_manifest w.catalogue)) w.objects n h h' there mine (λ m a other is. valid.handles m a is) m a at));
-          followers = λ m f at. subst (IsPrefix f.line) (sym same) (followers-set-handle (λ g. IsPrefix g.line w.stored) w.objects n (AHandle h) h' there valid.followers m f at);
+          followers = λ m f at. subst (λ l. IsValidFollower l (latest_manifest o) f) (sym same) (subst (λ l. IsValidFollower w.stored l f) latest-known
+              (followers-set-handle (IsValidFollower w.stored (latest_manifest w.catalogue)) w.objects n (AHandle h) h' there valid.followers m f at));
           distinct = distinct-set w.objects n h h' there epoch valid.distinct;
         }
 
@@ -97,8 +98,11 @@ module _ (w : World) (o : Objects) (is_sound : IsSound o) (holds : Holds o w) (v
           sound = a.sound;
           content = a.content ∙ ap (stored_after made w.stored) (sym is);
           handles = λ m x at. subst (λ bs. IsValidHandle (stored_after made w.stored bs) (latest_manifest t.0) x) (sym is) (a.handles m x at);
-          followers = followers-set-handle (λ f. IsPrefix f.line (stored_after made w.stored batches)) w.objects n (AHandle h) h' there
-              (λ m f at. prefix-after f.line w.stored (nat_lt 0 made) batches (valid.followers m f at));
+          followers = followers-set-handle (IsValidFollower (stored_after made w.stored batches) (latest_manifest t.0)) w.objects n (AHandle h) h' there
+              (λ m f at. let v = valid.followers m f at in record {
+                front = prefix-after f.line w.stored (nat_lt 0 made) batches v.front;
+                followed = (v.followed.0, a.latest ∙ v.followed.1, v.followed.2);
+              });
           distinct = distinct-set w.objects n h h' there epoch valid.distinct;
         }
 
@@ -149,12 +153,13 @@ module _ (w : World) (o : Objects) (is_sound : IsSound o) (holds : Holds o w) (v
         sound = is_sound;
         content = holds.stored ∙ sym same;
         handles = λ m a at. subst (λ l. IsValidHandle l (latest_manifest o) a) (sym same) (subst (λ l. IsValidHandle w.stored l a) latest-known (valid.handles m a (before m a at)));
-        followers = λ m g at. subst (IsPrefix g.line) (sym same) (followers-set (λ x. IsPrefix x.line w.stored) w.objects n (AFollower f) f' there front valid.followers m g at);
+        followers = λ m g at. subst (λ l. IsValidFollower l (latest_manifest o) g) (sym same) (subst (λ l. IsValidFollower w.stored l g) latest-known
+            (followers-set (IsValidFollower w.stored (latest_manifest w.catalogue)) w.objects n (AFollower f) f' there (record { front = front; followed = (valid.followers n f there).followed }) valid.followers m g at));
         distinct = λ i j a b at_i at_j epochs. valid.distinct i j a b (before i a at_i) (before j b at_j) epochs;
       }
 
   front-same : (n : ℕ) (f f' : Follower) → IsFollowerAt w.objects n f → f' ≡ f → IsPrefix f'.line w.stored
-  front-same n f f' there same = subst (λ (g : Follower). IsPrefix g.line w.stored) (sym same) (valid.followers n f there)
+  front-same n f f' there same = subst (λ (g : Follower). IsPrefix g.line w.stored) (sym same) (valid.followers n f there).front
 
   polled-front : (n : ℕ) (f f' : Follower) (r : Result PollAnswer SlateError) (store : Known (List Batch)) → IsFollowerAt w.objects n f → f.result ≡ None → Polls (IsContent (Some o)) f (holding o w.faults) r f' store → IsPrefix f'.line w.stored
   polled-front n f f' (Err e) store there live p = front-same n f f' there p.failed
@@ -180,7 +185,7 @@ module _ (w : World) (o : Objects) (is_sound : IsSound o) (holds : Holds o w) (v
   pub follower-leads : (merge : Option Merge) (n : ℕ) (action : Action) (made : ℕ) (f : Follower) (writes : List Write) (reply : Reply) (f' : Follower) (store : Known (List Batch)) (writes' : List Write) (batches : List Batch) → IsFollowerAt w.objects n f → FollowerActs (IsContent (Some o)) (λ g. g.line.batches) merge action made f (holding o w.faults) writes reply f' store writes' → Leads batches made (set w.objects n (AFollower f')) store
   follower-leads merge n (actions.Poll object) made f writes reply f' store writes' batches there a = poll-leads n f f' batches made (a.0).result store there a.1 (a.0).does
   follower-leads merge n (actions.Close object options) made f writes reply f' store writes' batches there a =
-      follower-kept n f f' batches made store there (a.2).0 (kept-objects (a.2).1) (subst (λ (g : Follower). IsPrefix g.line w.stored) (sym a.1) (valid.followers n f there))
+      follower-kept n f f' batches made store there (a.2).0 (kept-objects (a.2).1) (subst (λ (g : Follower). IsPrefix g.line w.stored) (sym a.1) (valid.followers n f there).front)
   follower-leads merge n (actions.Get object key remote) made f writes reply f' store writes' batches there a = follower-kept n f f' batches made store there (a.2).0 (kept-objects (a.2).1) (front-same n f f' there a.1)
   follower-leads merge n actions.Open made f writes reply f' store writes' batches there a = follower-kept n f f' batches made store there (a.2).0 (kept-objects (a.2).1) (front-same n f f' there a.1)
   follower-leads merge n (actions.Put object key value expire) made f writes reply f' store writes' batches there a = follower-kept n f f' batches made store there (a.2).0 (kept-objects (a.2).1) (front-same n f f' there a.1)

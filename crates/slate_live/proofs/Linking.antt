@@ -34,7 +34,7 @@ linked settings command live live' store store' made reply does w r =
       l.0,
       record {
         next = l.1;
-        completes = completes settings w command reply l.0 l.1;
+        completes = completes settings w command reply l.0 r.valid l.1;
         grows = grows settings w command reply l.0 l.1;
         durable = λ n handle at. (l.2.valid.handles n handle at).confirmed;
         rises = rises settings w command reply l.0 r.valid l.1;

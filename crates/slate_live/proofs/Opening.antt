@@ -1,5 +1,5 @@
 -- What a store and the handles are after an opening.
-use Rattle.std.proofs.Common.{◌≡◌, ℕ, zero, suc, ◌+◌, ◌<◌, ◌≤◌, inl, inr, [], ◌∷◌, ◌++◌, Option, Some, true, sym, subst, ap, ◌∙◌, arith}
+use Rattle.std.proofs.Common.{◌≡◌, ℕ, zero, suc, ◌+◌, ◌<◌, ◌≤◌, inl, inr, [], ◌∷◌, ◌++◌, Option, Some, true, sym, subst, ap, ◌∙◌, arith, None, false}
 use Rattle.std.specs.List.{slice_get}
 use Rattle.std.proofs.lemmas.List.{append-nil}
 use Rattle.slate_types.specs.Line.{Line, IsLine, IsPrefix, end, extended}
@@ -8,11 +8,12 @@ use Rattle.slate_store.specs.declared.objects.VersionedManifest.{VersionedManife
 use Rattle.slate_store.specs.Objects.{Objects, latest_manifest}
 use Rattle.slate_store.specs.Content.{IsSound, content}
 use Rattle.slate_model.specs.Changes.{after_part}
+use Rattle.slate_model.specs.Follower.{Follower, can_follow}
 use Rattle.slate_model.specs.Handle.{Handle, unstored}
 use Rattle.slate_model.specs.Object.{Object, Handle as AHandle, Follower as AFollower}
 use Rattle.slate_model.specs.Open.{found_log, next_manifest, open_changes, opened_handle, opened_manifest}
-use Rattle.slate_model.proofs.Reopened.{opened}
-use Rattle.slate_live.specs.Represents.{Holds, IsHandleAt, IsValid, IsValidHandle}
+use Rattle.slate_model.proofs.Reopened.{opened, and_right}
+use Rattle.slate_live.specs.Represents.{Holds, IsHandleAt, IsValid, IsValidHandle, IsFollowerAt, IsValidFollower}
 use Rattle.slate_live.specs.World.{World}
 use Rattle.slate_live.proofs.Places.{get-push}
 use Rattle.slate_live.proofs.Prefixes.{prefix-same, up_to-all}
@@ -31,6 +32,13 @@ fenced stored latest latest' v h is older valid =
           let epoch = ap (λ (m : VersionedManifest). m.manifest.writer_epoch) same in
           absurd (omega (arith, epoch, above, older));
     }
+
+-- a database that can be followed still can be by the next manifest
+next-followed : (latest : Option VersionedManifest) (manifest : VersionedManifest) (last : ℕ) → latest ≡ Some manifest → can_follow false manifest ≡ true → can_follow false (next_manifest latest last) ≡ true
+next-followed None manifest last is can = absurd (cc)
+next-followed (Some latest) manifest last is can =
+    let same : latest ≡ manifest = cc in
+    subst (λ (m : VersionedManifest). can_follow false (next_manifest (Some m) last) ≡ true) (sym same) (and_right _ _ can)
 
 -- the handle of an opening is valid over what is stored, under the manifest that it committed
 valid-opened : (stored : Line) (limit : ℕ) (latest : Option VersionedManifest) (v : VersionedManifest) → latest ≡ Some v → IsLine stored → IsValidHandle stored latest (opened_handle true limit v stored)
@@ -58,6 +66,9 @@ module _ (limit : ℕ) (w : World) (o : Objects) (is_sound : IsSound o) (holds :
   valid-over : (m : ℕ) (h : Handle) → IsHandleAt w.objects m h → IsValidHandle w.stored (latest_manifest o) h
   valid-over m h at = subst (λ l. IsValidHandle w.stored l h) latest-known (valid.handles m h at)
 
+  follower-over : (m : ℕ) (f : Follower) → IsFollowerAt w.objects m f → IsValidFollower w.stored (latest_manifest o) f
+  follower-over m f at = subst (λ l. IsValidFollower w.stored l f) latest-known (valid.followers m f at)
+
   -- the epoch of each handle is below that of the opening
   older : (m : ℕ) (h : Handle) → IsHandleAt w.objects m h → h.epoch < v.manifest.writer_epoch
   older m h at =
@@ -71,6 +82,7 @@ module _ (limit : ℕ) (w : World) (o : Objects) (is_sound : IsSound o) (holds :
     pub sound : IsSound o'
     pub content : content o' ≡ w.stored
     pub handles : (m : ℕ) (h : Handle) → IsHandleAt w.objects m h → IsValidHandle w.stored (latest_manifest o') h
+    pub followers : (m : ℕ) (f : Follower) → IsFollowerAt w.objects m f → IsValidFollower w.stored (latest_manifest o') f
     pub latest : 0 < made → latest_manifest o' ≡ Some v
 
   pub after-part : (made : ℕ) → made ≤ 2 → Opened made (after_part made (open_changes (λ xs. xs) o) o)
@@ -79,6 +91,7 @@ module _ (limit : ℕ) (w : World) (o : Objects) (is_sound : IsSound o) (holds :
         sound = is_sound;
         content = holds.stored;
         handles = valid-over;
+        followers = follower-over;
         latest = λ some. absurd (omega (arith, some));
       }
   after-part (suc made) few =
@@ -87,6 +100,7 @@ module _ (limit : ℕ) (w : World) (o : Objects) (is_sound : IsSound o) (holds :
         sound = b.sound;
         content = b.content ∙ holds.stored;
         handles = λ m h at. fenced w.stored (latest_manifest o) (latest_manifest (after_part (suc made) (open_changes (λ xs. xs) o) o)) v h b.latest (older m h at) (valid-over m h at);
+        followers = λ m f at. let x = follower-over m f at in record { front = x.front; followed = (v, b.latest, next-followed (latest_manifest o) x.followed.0 (found_log o) x.followed.1 x.followed.2) };
         latest = λ some. b.latest;
       }
 
@@ -108,7 +122,7 @@ module _ (limit : ℕ) (w : World) (o : Objects) (is_sound : IsSound o) (holds :
         line = subst IsLine (sym stored) valid.line;
         followers = λ m f at.
             elim (get-push w.objects (AHandle new) (AFollower f) m (subst (λ os. slice_get os m ≡ Some (AFollower f)) objects at)) [
-              | inl before ↦ subst (IsPrefix f.line) (sym stored) (valid.followers m f before)
+              | inl before ↦ subst (λ l. IsValidFollower w'.stored l f) (sym latest) (subst (λ s. IsValidFollower s (latest_manifest o') f) (sym stored) (after.followers m f before))
               | inr last_one ↦ absurd (let other = last_one.1 in cc)
             ];
         handles = λ m h at.
@@ -136,7 +150,7 @@ module _ (limit : ℕ) (w : World) (o : Objects) (is_sound : IsSound o) (holds :
       let at-before : (m : ℕ) (x : Object) → slice_get w'.objects m ≡ Some x → slice_get w.objects m ≡ Some x = λ (m : ℕ) (x : Object) (at : slice_get w'.objects m ≡ Some x). subst (λ os. slice_get os m ≡ Some x) objects at in
       record {
         line = subst IsLine (sym stored) valid.line;
-        followers = λ m f at. subst (IsPrefix f.line) (sym stored) (valid.followers m f (at-before m (AFollower f) at));
+        followers = λ m f at. subst (λ l. IsValidFollower w'.stored l f) (sym latest) (subst (λ s. IsValidFollower s (latest_manifest o') f) (sym stored) (after.followers m f (at-before m (AFollower f) at)));
         handles = λ m h at. subst (λ l. IsValidHandle w'.stored l h) (sym latest) (subst (λ s. IsValidHandle s (latest_manifest o') h) (sym stored) (after.handles m h (at-before m (AHandle h) at)));
         distinct = λ m n a b at_m at_n epochs. valid.distinct m n a b (at-before m (AHandle a) at_m) (at-before n (AHandle b) at_n) epochs;
       }

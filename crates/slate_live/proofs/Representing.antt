@@ -1,5 +1,5 @@
 -- A command over an honest store leads to a world that the live state and the store represent.
-use Rattle.std.proofs.Common.{◌≡◌, ℕ, true, List, [], ◌∷◌, ◌++◌, set, map, Option, Some, None, Result, Ok, Err, inl, inr, refl, sym, subst, ap, ◌∙◌, arith}
+use Rattle.std.proofs.Common.{◌≡◌, ℕ, Bool, true, false, ◌||◌, ◌&&◌, ◌==◌, not, length, List, [], ◌∷◌, ◌++◌, set, map, Option, Some, None, Result, Ok, Err, inl, inr, refl, sym, subst, ap, ◌∙◌, arith}
 use Rattle.std.specs.List.{slice_get}
 use Rattle.std.specs.Prelude.{nat_lt}
 use Rattle.std.specs.Result.{IfOk}
@@ -8,13 +8,14 @@ use Rattle.slate_types.specs.declared.batches.Batch.{Batch}
 use Rattle.slate_types.specs.declared.options.CloseOptions.{CloseOptions}
 use Rattle.slate_types.specs.declared.options.FlushType.{FlushType}
 use Rattle.slate_types.specs.Line.{IsLine, IsPrefix}
+use Rattle.slate_store.specs.declared.objects.VersionedManifest.{VersionedManifest}
 use Rattle.slate_store.specs.Objects.{Objects, latest_manifest}
 use Rattle.slate_store.specs.Content.{IsSound, content}
 use Rattle.slate_errors.specs.declared.errors.SlateError.{SlateError}
 use Rattle.slate_model.specs.Catalogue.{catalogue_of, span}
 use Rattle.slate_model.specs.Changes.{PartMade}
 use Rattle.slate_model.specs.declared.answers.PollAnswer.{PollAnswer}
-use Rattle.slate_model.specs.Follower.{Follower, Rebuilds}
+use Rattle.slate_model.specs.Follower.{Follower, Rebuilds, can_follow}
 use Rattle.slate_model.specs.Handle.{Handle, unstored}
 use Rattle.slate_model.specs.Known.{IsContent, Known}
 use Rattle.slate_model.specs.Object.{Object, Handle as AHandle, Follower as AFollower, kept}
@@ -27,7 +28,7 @@ use Rattle.slate_script.specs.declared.commands.Command.{Command}
 use Rattle.slate_script.specs.declared.replies.Reply.{Reply}
 use Rattle.slate_live.specs.declared.states.Write.{Write}
 use Rattle.slate_live.specs.Commands.{Acts, ActsOn, Does, DoesBy, added}
-use Rattle.slate_live.specs.Represents.{Holds, IsFollowerAt, IsHandleAt, IsValid, IsValidHandle, Represents}
+use Rattle.slate_live.specs.Represents.{Holds, IsFollowerAt, IsHandleAt, IsValid, IsValidHandle, Represents, IsValidFollower}
 use Rattle.slate_live.specs.Settings.{Settings}
 use Rattle.slate_live.specs.State.{Live, State, by_objects, running}
 use Rattle.slate_live.specs.World.{Next, World, by_catalogue, state_of, stored_after, to_store, unstored_at}
@@ -36,6 +37,14 @@ use Rattle.slate_live.proofs.Leading.{Leads, follower-leads, handle-leads, unmad
 use Rattle.slate_live.proofs.Opening.{Opened, after-part, valid-opened-world, valid-unopened-world}
 use Rattle.slate_live.proofs.Places.{get-push}
 use Rattle.slate_live.proofs.Prefixes.{after-nil, prefix-same}
+
+or-and : (a b : Bool) → ((a || not true) && b) ≡ true → ((a || not false) && b) ≡ true
+or-and true b h = h
+or-and false b h = absurd (cc)
+
+-- a database by which a follower can be opened can be followed by it from then on
+still-follows : (latest : VersionedManifest) → can_follow true latest ≡ true → can_follow false latest ≡ true
+still-follows latest can = or-and latest.manifest.initialized (length latest.manifest.tables == 0) can
 
 -- the objects of a world are all that the code keeps
 pub kept-all : (xs : List Object) → map kept xs ≡ xs
@@ -82,7 +91,7 @@ module _ (settings : Settings) (w : World) (o : Objects) (is_sound : IsSound o) 
       let same = store-is l.after l.modelled in
       let by_held : Acts (by_objects (Some o)) settings.merge n command made old (holding o w.faults) w.writes reply new (holding l.after store.faults) writes = subst (λ k. Acts (by_objects (Some o)) settings.merge n command made old (holding o w.faults) w.writes reply new k writes) same a in
       let known = acts-known o l.after w.faults store.faults made w.writes writes reply w.stored is_sound holds.stored valid.line settings.merge n command old new
-      (λ g is_follower. valid.followers n g (at ∙ ap Some is_follower)) by_held in
+      (λ g is_follower. (valid.followers n g (at ∙ ap Some is_follower)).front) by_held in
       record {
         after = l.after;
         modelled = l.modelled;
@@ -96,6 +105,10 @@ module _ (settings : Settings) (w : World) (o : Objects) (is_sound : IsSound o) 
               objects = is;
             }));
       }
+
+  -- a follower of the world, under the catalogue of the objects
+  follower-over : (m : ℕ) (f : Follower) → IsFollowerAt w.objects m f → IsValidFollower w.stored (latest_manifest (catalogue_of o)) f
+  follower-over m f at = subst (λ c. IsValidFollower w.stored (latest_manifest c) f) (sym holds.catalogue) (valid.followers m f at)
 
   -- nothing is done
   led-only : (answer : Reply) → (made ≡ 0) × (reply ≡ answer) × (s' ≡ s) → ((after : Objects) → (made ≡ 0) × (reply ≡ answer) × (state_of (world after) ≡ state_of w) → Does (by_catalogue w.stored) settings made (state_of w) command reply (state_of (world after))) → Led
@@ -116,7 +129,7 @@ module _ (settings : Settings) (w : World) (o : Objects) (is_sound : IsSound o) 
         content = holds.stored ∙ sym stored;
         is_valid = record {
           line = subst IsLine (sym stored) valid.line;
-          followers = λ m f at. subst (IsPrefix f.line) (sym stored) (valid.followers m f (subst (λ os. IsFollowerAt os m f) same_objects at));
+          followers = λ m f at. subst (λ l. IsValidFollower l (latest_manifest (catalogue_of o)) f) (sym stored) (follower-over m f (subst (λ os. IsFollowerAt os m f) same_objects at));
           handles = λ m h at. subst (λ l. IsValidHandle l (latest_manifest (catalogue_of o)) h) (sym stored) (subst (λ c. IsValidHandle w.stored (latest_manifest c) h) (sym holds.catalogue) (valid.handles m h (subst (λ os. IsHandleAt os m h) same_objects at)));
           distinct = λ i j a b at_i at_j epochs. valid.distinct i j a b (subst (λ os. IsHandleAt os i a) same_objects at_i) (subst (λ os. IsHandleAt os j b) same_objects at_j) epochs;
         };
@@ -152,12 +165,12 @@ module _ (settings : Settings) (w : World) (o : Objects) (is_sound : IsSound o) 
       }
 
   -- the world after an opening of a follower is valid
-  followed-valid : stored_after made w.stored (to_store w command.action) ≡ w.stored → (r : Result (Follower × PollAnswer) SlateError) → IfOk r (λ b. IsPrefix (b.0).line w.stored) → objects ≡ w.objects ++ added (λ (b : Follower × PollAnswer). AFollower b.0) r → IsValid (world o)
+  followed-valid : stored_after made w.stored (to_store w command.action) ≡ w.stored → (r : Result (Follower × PollAnswer) SlateError) → IfOk r (λ b. IsValidFollower w.stored (latest_manifest (catalogue_of o)) b.0) → objects ≡ w.objects ++ added (λ (b : Follower × PollAnswer). AFollower b.0) r → IsValid (world o)
   followed-valid same (Err e) front more =
       let before : objects ≡ w.objects = more ∙ append-nil w.objects in
       record {
         line = subst IsLine (sym same) valid.line;
-        followers = λ m f at. subst (IsPrefix f.line) (sym same) (valid.followers m f (subst (λ os. IsFollowerAt os m f) before at));
+        followers = λ m f at. subst (λ l. IsValidFollower l (latest_manifest (catalogue_of o)) f) (sym same) (follower-over m f (subst (λ os. IsFollowerAt os m f) before at));
         handles = λ m h at. subst (λ l. IsValidHandle l (latest_manifest (catalogue_of o)) h) (sym same) (subst (λ c. IsValidHandle w.stored (latest_manifest c) h) (sym holds.catalogue) (valid.handles m h (subst (λ os. IsHandleAt os m h) before at)));
         distinct = λ i j a b at_i at_j epochs. valid.distinct i j a b (subst (λ os. IsHandleAt os i a) before at_i) (subst (λ os. IsHandleAt os j b) before at_j) epochs;
       }
@@ -169,19 +182,23 @@ module _ (settings : Settings) (w : World) (o : Objects) (is_sound : IsSound o) 
       ]) in
       record {
         line = subst IsLine (sym same) valid.line;
-        followers = λ m f at. subst (IsPrefix f.line) (sym same)
+        followers = λ m f at. subst (λ l. IsValidFollower l (latest_manifest (catalogue_of o)) f) (sym same)
             (elim (get-push w.objects (AFollower b.0) (AFollower f) m (subst (λ os. slice_get os m ≡ Some (AFollower f)) more at)) [
-              | inl before ↦ valid.followers m f before
-              | inr last_one ↦ (let other = last_one.1 in let is : b.0 ≡ f = cc in subst (λ (g : Follower). IsPrefix g.line w.stored) is front)
+              | inl before ↦ follower-over m f before
+              | inr last_one ↦ (let other = last_one.1 in let is : b.0 ≡ f = cc in subst (IsValidFollower w.stored (latest_manifest (catalogue_of o))) is front)
             ]);
         handles = λ m h at. subst (λ l. IsValidHandle l (latest_manifest (catalogue_of o)) h) (sym same) (subst (λ c. IsValidHandle w.stored (latest_manifest c) h) (sym holds.catalogue) (valid.handles m h (handle-before m h at)));
         distinct = λ i j x y at_i at_j epochs. valid.distinct i j x y (handle-before i x at_i) (handle-before j y at_j) epochs;
       }
 
-  followed-front : (r : Result (Follower × PollAnswer) SlateError) (after : Known (List Batch)) → Rebuilds (IsContent (Some o)) true (holding o w.faults) r after → IfOk r (λ b. IsPrefix (b.0).line w.stored)
+  followed-front : (r : Result (Follower × PollAnswer) SlateError) (after : Known (List Batch)) → Rebuilds (IsContent (Some o)) true (holding o w.faults) r after → IfOk r (λ b. IsValidFollower w.stored (latest_manifest (catalogue_of o)) b.0)
   followed-front (Ok b) after built =
       let all = built.sees o w.stored refl (o, refl, is_sound, sym holds.stored) in
-      subst (λ (g : Follower). IsPrefix g.line w.stored) (sym all.2) (prefix-same w.stored)
+      let can = built.can o refl in
+      record {
+        front = subst (λ (g : Follower). IsPrefix g.line w.stored) (sym all.2) (prefix-same w.stored);
+        followed = ((b.0).view, can.0, still-follows (b.0).view can.1);
+      }
   followed-front (Err e) after built = tt
 
   -- an opening of a follower

@@ -164,7 +164,7 @@ module _ (settings : Settings) (w : World) (valid : IsValid w) (command : Comman
 
   acts-rise : (n : ℕ) (old new : Object) → slice_get w.objects n ≡ Some old → Acts k settings.merge n command made old (state_of w).store w.writes reply new s'.store s'.writes → Rises old new
   acts-rise n (AHandle h) (AHandle h') at a = handle-rises _ settings.merge n command.moment command.second command.action made h _ w.writes reply h' _ _ (valid.handles n h at).durable a
-  acts-rise n (AFollower f) (AFollower f') at a = follower-rises w.stored _ settings.merge command.action made f w.catalogue _ w.writes reply f' _ _ refl (valid.followers n f at) a
+  acts-rise n (AFollower f) (AFollower f') at a = follower-rises w.stored _ settings.merge command.action made f w.catalogue _ w.writes reply f' _ _ refl (valid.followers n f at).front a
   acts-rise n (AHandle h) (AFollower f') at a = absurd a
   acts-rise n (AFollower f) (AHandle h') at a = absurd a
 

@@ -20,6 +20,7 @@ use Rattle.slate_live.proofs.Prefixes.{prefix-extend}
 pub record After (w : World) (n : ℕ) (h new : Handle) (made : ℕ) (o' : Objects) : Type 0 where
   pub sound : IsSound o'
   pub content : content o' ≡ stored_after made w.stored (unstored h)
+  pub latest : latest_manifest o' ≡ latest_manifest w.catalogue
   pub handles : (m : ℕ) (a : Handle) → IsHandleAt (set w.objects n (AHandle new)) m a → IsValidHandle (stored_after made w.stored (unstored h)) (latest_manifest o') a
 
 module _ (w : World) (o o' : Objects) (n : ℕ) (h : Handle) (r : Result (Unit {0}) SlateError) (view : VersionedManifest) (new : Handle) (as_valid : (s : Line) (l : Option VersionedManifest) → IsValidHandle s l (flushed h view r) → IsValidHandle s l new) (sound : IsSound o) (holds : Holds o w) (valid : IsValid w) (there : IsHandleAt w.objects n h) (can : CanFlush h) where
@@ -34,6 +35,7 @@ module _ (w : World) (o o' : Objects) (n : ℕ) (h : Handle) (r : Result (Unit {
       record {
         sound = sound;
         content = holds.stored;
+        latest = sym latest-known;
         handles = valid-set (IsValidHandle w.stored (latest_manifest o)) w.objects n h new there (as_valid w.stored (latest_manifest o) (valid-none w.stored o o h r view 0 can (valid-over n h there) s refl)) (λ m a other is. valid-over m a is);
       }
 
@@ -70,6 +72,7 @@ module _ (w : World) (o o' : Objects) (n : ℕ) (h : Handle) (r : Result (Unit {
       record {
         sound = put.sound;
         content = put.content ∙ ap (λ l. extended l (unstored h)) holds.stored;
+        latest = sym latest-known;
         handles = valid-set (IsValidHandle (extended w.stored (unstored h)) (latest_manifest o)) w.objects n h new there
             (as_valid (extended w.stored (unstored h)) (latest_manifest o) (valid-one w.stored o (with_log o latest.manifest (unstored h)) h r view 1 can v s refl)) (others latest is current);
       }

@@ -1,12 +1,12 @@
 -- When a live state and a store represent a world.
-use Rattle.std.specs.Prelude.{◌≡◌, ℕ, ◌-◌, ◌≤◌, List, map, slice_get, take, Option, Some, None}
+use Rattle.std.specs.Prelude.{◌≡◌, true, false, ℕ, ◌-◌, ◌≤◌, List, map, slice_get, take, Option, Some, None}
 use Rattle.slate_types.specs.declared.batches.Batch.{Batch}
 use Rattle.slate_types.specs.Line.{Line, IsLine, IsPrefix, extended}
 use Rattle.slate_store.specs.declared.objects.VersionedManifest.{VersionedManifest}
 use Rattle.slate_store.specs.Objects.{Objects, latest_manifest}
 use Rattle.slate_store.specs.Content.{AreRising, IsSound, content}
 use Rattle.slate_model.specs.Catalogue.{catalogue_of}
-use Rattle.slate_model.specs.Follower.{Follower}
+use Rattle.slate_model.specs.Follower.{Follower, can_follow}
 use Rattle.slate_model.specs.Handle.{Handle, accepted, unstored}
 use Rattle.slate_model.specs.Known.{Known}
 use Rattle.slate_model.specs.Object.{Object, Handle as AHandle, Follower as AFollower, kept}
@@ -38,14 +38,20 @@ pub record IsValidHandle (stored : Line) (latest : Option VersionedManifest) (ha
   pub current : (manifest : VersionedManifest) → handle.result ≡ None → latest ≡ Some manifest →
       manifest.manifest.writer_epoch ≤ handle.epoch → extended stored (unstored handle) ≡ handle.line
 
+-- A follower of a world in which this line is stored under this manifest: what it sees begins what is stored, and the
+-- database can be followed.
+pub record IsValidFollower (stored : Line) (latest : Option VersionedManifest) (follower : Follower) : Type 0 where
+  pub front : IsPrefix follower.line stored
+  pub followed : (manifest : VersionedManifest) × (latest ≡ Some manifest) × (can_follow false manifest ≡ true)
+
 abbrev pub IsFollowerAt : List Object → ℕ → Follower → Type 0
 IsFollowerAt live n follower = slice_get live n ≡ Some (AFollower follower)
 
--- what holds of every world that commands lead to: a line is stored, its handles are valid, no two have the same epoch,
--- and what a follower sees begins what is stored
+-- what holds of every world that commands lead to: a line is stored, its handles and followers are valid, and no two
+-- handles have the same epoch
 pub record IsValid (w : World) : Type 0 where
   pub line : IsLine w.stored
-  pub followers : (n : ℕ) (follower : Follower) → IsFollowerAt w.objects n follower → IsPrefix follower.line w.stored
+  pub followers : (n : ℕ) (follower : Follower) → IsFollowerAt w.objects n follower → IsValidFollower w.stored (latest_manifest w.catalogue) follower
   pub handles : (n : ℕ) (handle : Handle) → IsHandleAt w.objects n handle → IsValidHandle w.stored (latest_manifest w.catalogue) handle
   pub distinct : (m n : ℕ) (a b : Handle) → IsHandleAt w.objects m a → IsHandleAt w.objects n b → a.epoch ≡ b.epoch → m ≡ n
 

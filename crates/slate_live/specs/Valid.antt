@@ -90,7 +90,7 @@ IsValidAction merge w moment second (actions.Close n options) =
     (λ follower. (recorded_fault follower.result ≡ None))
 IsValidAction merge w moment second (actions.Follow mode managed skip) = CanFollow w
 IsValidAction merge w moment second (actions.Poll n) =
-    AtObject (slice_get w.objects n) (λ handle. ⊥) (λ follower. (follower.result ≡ None) × CanFollow w)
+    AtObject (slice_get w.objects n) (λ handle. ⊥) (λ follower. follower.result ≡ None)
 IsValidAction merge w moment second (actions.Await n) =
     (write : Write) × (slice_get w.writes n ≡ Some write)
     × AtObject (slice_get w.objects write.handle) (λ handle. write.number ≤ handle.durable) (λ follower. ⊥)

@@ -14,11 +14,11 @@ use Rattle.std.proofs.lemmas.List.Elements.{recursion_from_All}
 use Rattle.std.proofs.lemmas.List.Sorted.{ranks_by, sorted_far, length_permutation}
 use Rattle.std.proofs.lemmas.Map.Text.{is_eq-slice_cmp}
 use Rattle.std.proofs.lemmas.Slice.Eq.{bytes_eq-Decides}
-use Rattle.slate_rows.specs.declared.scan_options.IterationOrder.{IterationOrder}
-use Rattle.slate_rows.specs.declared.scan_options.IterationOrder.TheVariants.{Ascending, Descending}
+use Rattle.slate_types.specs.declared.scan_options.IterationOrder.{IterationOrder}
+use Rattle.slate_types.specs.declared.scan_options.IterationOrder.TheVariants.{Ascending, Descending}
 use Rattle.slate_reads.specs.declared.reads.Version.{Version as Held}
 use Rattle.slate_rows.specs.Gathered.{AreSorted, of_key}
-use Rattle.slate_rows.specs.Order.{order_cmp, is_before}
+use Rattle.slate_types.specs.Order.{order_cmp, is_before}
 use Rattle.slate_types.specs.Range.{key_cmp}
 use Rattle.slate_reads.specs.Read.{is_base, since_base}
 use Rattle.slate_reads.specs.Tails.{seen}

@@ -12,9 +12,9 @@ use Rattle.std.proofs.lemmas.Map.Keys.{sorted_head, sorted_tail}
 use Rattle.std.proofs.lemmas.List.Kept.{IsStrictlySortedBy-filter}
 use Rattle.slate_types.specs.declared.batches.KeyValue.{KeyValue}
 use Rattle.slate_rows.specs.declared.iterators.Kept.{Kept}
-use Rattle.slate_rows.specs.declared.scan_options.IterationOrder.{IterationOrder}
-use Rattle.slate_rows.specs.declared.scan_options.IterationOrder.TheVariants.{Ascending, Descending}
-use Rattle.slate_rows.specs.Order.{order_cmp, is_before, AreInOrder, row_keys}
+use Rattle.slate_types.specs.declared.scan_options.IterationOrder.{IterationOrder}
+use Rattle.slate_types.specs.declared.scan_options.IterationOrder.TheVariants.{Ascending, Descending}
+use Rattle.slate_types.specs.Order.{order_cmp, is_before, AreInOrder, row_keys}
 use Rattle.slate_rows.specs.Kept.{kept_rows, kept_keys, AreCopies, AreKept}
 
 pub order_cmp-total : (order : IterationOrder) → IsTotalOrder (order_cmp order)

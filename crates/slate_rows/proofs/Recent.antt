@@ -7,7 +7,7 @@ use Rattle.std.proofs.lemmas.List.{take_more, map-append, append_assoc, append-n
 use Rattle.std.proofs.lemmas.List.Sorted.{ranks_by}
 use Rattle.slate_types.specs.declared.batches.Batch.{Batch}
 use Rattle.slate_rows.specs.declared.entries.RowEntry.{RowEntry}
-use Rattle.slate_rows.specs.declared.scan_options.IterationOrder.{IterationOrder}
+use Rattle.slate_types.specs.declared.scan_options.IterationOrder.{IterationOrder}
 use Rattle.slate_rows.specs.Recency.{recency_cmp, AreNewestFirst, IsRecency}
 use Rattle.slate_rows.proofs.Passing.{order_cmp-total}
 

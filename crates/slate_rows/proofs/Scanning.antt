@@ -12,13 +12,13 @@ use Rattle.std.proofs.lemmas.List.Elements.{filter-append}
 use Rattle.std.proofs.lemmas.Map.Text.{is_eq-slice_cmp}
 use Rattle.std.proofs.lemmas.Slice.Eq.{bytes_eq-Decides}
 use Rattle.slate_types.specs.declared.batches.KeyValue.{KeyValue}
-use Rattle.slate_rows.specs.declared.scan_options.IterationOrder.{IterationOrder}
-use Rattle.slate_rows.specs.declared.scan_options.IterationOrder.TheVariants.{Ascending, Descending}
+use Rattle.slate_types.specs.declared.scan_options.IterationOrder.{IterationOrder}
+use Rattle.slate_types.specs.declared.scan_options.IterationOrder.TheVariants.{Ascending, Descending}
 use Rattle.slate_types.specs.declared.read_faults.ReadFault.{ReadFault}
 use Rattle.slate_reads.specs.declared.reads.Version.{Version as Held}
 use Rattle.slate_rows.specs.Gathered.{AreSorted, held_keys, of_key, read_held, held_rows}
 use Rattle.slate_types.specs.Operator.{Merge}
-use Rattle.slate_rows.specs.Order.{order_cmp, is_before}
+use Rattle.slate_types.specs.Order.{order_cmp, is_before}
 use Rattle.slate_reads.specs.Read.{fold_versions, since_base}
 use Rattle.slate_rows.specs.Scan.{with_found, rows_of}
 use Rattle.slate_reads.specs.Tails.{seen}

@@ -13,8 +13,8 @@ use Rattle.std.proofs.lemmas.Bool.{false≢true}
 use Rattle.std.proofs.lemmas.List.{append_assoc, append-nil, map-append, take-append-drop, drop-drop, drop_more, drop_all, take_rest, length-append, length-drop}
 use Rattle.std.proofs.lemmas.List.Elements.{All-from_recursion, All-push}
 use Rattle.slate_types.specs.declared.batches.KeyValue.{KeyValue}
-use Rattle.slate_rows.specs.declared.scan_options.IterationOrder.{IterationOrder}
-use Rattle.slate_rows.specs.declared.scan_options.IterationOrder.TheVariants.{Ascending, Descending}
+use Rattle.slate_types.specs.declared.scan_options.IterationOrder.{IterationOrder}
+use Rattle.slate_types.specs.declared.scan_options.IterationOrder.TheVariants.{Ascending, Descending}
 use Rattle.slate_rows.proofs.Passing.{order_cmp-total}
 use Rattle.slate_types.specs.declared.ranges.ByteRange.{ByteRange}
 use Rattle.slate_types.specs.declared.read_faults.ReadFault.{ReadFault}
@@ -22,7 +22,7 @@ use Rattle.slate_types.specs.declared.read_faults.ReadFault.TheVariants.{MergeOp
 use Rattle.slate_reads.specs.declared.reads.Version.{Version as Held}
 use Rattle.slate_rows.specs.Gathered.{AreSorted, Adds, held_keys, held_rows}
 use Rattle.slate_types.specs.Operator.{Merge}
-use Rattle.slate_rows.specs.Order.{order_cmp, AreInOrder, row_keys}
+use Rattle.slate_types.specs.Order.{order_cmp, AreInOrder, row_keys}
 use Rattle.slate_types.specs.Range.{key_cmp, contains}
 use Rattle.slate_reads.specs.Read.{Reads, fold_versions, since_base}
 use Rattle.slate_rows.specs.Scan.{Rows, with_found}

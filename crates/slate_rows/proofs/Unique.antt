@@ -12,11 +12,11 @@ use Rattle.std.proofs.lemmas.Map.Views.{list_any-from_Contains}
 use Rattle.std.proofs.lemmas.Slice.Eq.{bytes_eq-Decides}
 use Rattle.slate_types.specs.declared.batches.Batch.{Batch}
 use Rattle.slate_types.specs.declared.batches.KeyValue.{KeyValue}
-use Rattle.slate_rows.specs.declared.scan_options.IterationOrder.{IterationOrder}
+use Rattle.slate_types.specs.declared.scan_options.IterationOrder.{IterationOrder}
 use Rattle.slate_types.specs.declared.ranges.ByteRange.{ByteRange}
 use Rattle.slate_types.specs.declared.read_faults.ReadFault.{ReadFault}
 use Rattle.slate_types.specs.Operator.{Merge}
-use Rattle.slate_rows.specs.Order.{order_cmp, AreInOrder}
+use Rattle.slate_types.specs.Order.{order_cmp, AreInOrder}
 use Rattle.slate_reads.specs.Read.{read_at}
 use Rattle.slate_rows.specs.Scan.{Rows, rows_of, IsScan}
 use Rattle.slate_rows.proofs.Passing.{order_cmp-total}

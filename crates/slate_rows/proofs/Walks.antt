@@ -21,8 +21,8 @@ use Rattle.slate_types.specs.Range.{contains}
 use Rattle.slate_reads.specs.Read.{Version, history, read_at, versions_in, since_base, fold_versions}
 use Rattle.slate_reads.proofs.Ends.{within, within-all}
 use Rattle.slate_reads.proofs.Lists.{all-append}
-use Rattle.slate_rows.specs.declared.scan_options.IterationOrder.{IterationOrder}
-use Rattle.slate_rows.specs.Order.{order_cmp, is_before, AreInOrder}
+use Rattle.slate_types.specs.declared.scan_options.IterationOrder.{IterationOrder}
+use Rattle.slate_types.specs.Order.{order_cmp, is_before, AreInOrder}
 use Rattle.slate_rows.specs.Scan.{IsScan, with_found, rows_of}
 use Rattle.slate_rows.specs.Walked.{key_list, AreWalked}
 use Rattle.slate_rows.proofs.Passing.{order_cmp-total}

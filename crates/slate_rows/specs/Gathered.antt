@@ -3,13 +3,13 @@ use Rattle.std.specs.Prelude.{◌≡◌, ℕ, true, false, List, [], ◌∷◌, 
 use Rattle.std.specs.List.{AllByRecursion, dedup}
 use Rattle.std.specs.Str.{bytes_eq}
 use Rattle.slate_types.specs.declared.batches.KeyValue.{KeyValue}
-use Rattle.slate_rows.specs.declared.scan_options.IterationOrder.{IterationOrder}
+use Rattle.slate_types.specs.declared.scan_options.IterationOrder.{IterationOrder}
 use Rattle.slate_types.specs.declared.ranges.ByteRange.{ByteRange}
 use Rattle.slate_types.specs.declared.read_faults.ReadFault.{ReadFault}
 use Rattle.slate_types.specs.declared.read_faults.ReadFault.TheVariants.{NoMemory}
 use Rattle.slate_reads.specs.declared.reads.Version.{Version as Held}
 use Rattle.slate_types.specs.Operator.{Merge}
-use Rattle.slate_rows.specs.Order.{is_before}
+use Rattle.slate_types.specs.Order.{is_before}
 use Rattle.slate_types.specs.Range.{contains}
 use Rattle.slate_reads.specs.Read.{Version, since_base, fold_versions}
 use Rattle.slate_rows.specs.Scan.{Rows, rows_of}

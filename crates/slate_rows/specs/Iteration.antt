@@ -2,13 +2,13 @@
 use Rattle.std.specs.Prelude.{ℕ, Bool, true, false, not, List, [], ◌∷◌, filter, Option, Some, None, Result, Ok, Err}
 use Rattle.std.specs.Ordering.{is_le}
 use Rattle.slate_types.specs.declared.batches.KeyValue.{KeyValue}
-use Rattle.slate_rows.specs.declared.scan_options.IterationOrder.{IterationOrder}
+use Rattle.slate_types.specs.declared.scan_options.IterationOrder.{IterationOrder}
 use Rattle.slate_types.specs.declared.ranges.ByteRange.{ByteRange}
 use Rattle.slate_types.specs.declared.read_faults.ReadFault.{ReadFault}
 use Rattle.slate_rows.specs.declared.seeks.SeekFault.{SeekFault}
 use Rattle.slate_rows.specs.declared.seeks.SeekFault.TheVariants.{OutOfRange, LessThanLastReturned, Stored}
 use Rattle.slate_types.specs.Range.{key_cmp, contains}
-use Rattle.slate_rows.specs.Order.{is_before}
+use Rattle.slate_types.specs.Order.{is_before}
 
 -- an iteration: the rows that are left, the fault after them, the key of the row that came last, and the fault that came
 pub record Iteration : Type 0 where

@@ -3,8 +3,8 @@ use Rattle.std.specs.Prelude.{◌≡◌, ℕ, List, map}
 use Rattle.std.specs.List.{AllByRecursion}
 use Rattle.slate_types.specs.declared.batches.KeyValue.{KeyValue}
 use Rattle.slate_rows.specs.declared.iterators.Kept.{Kept}
-use Rattle.slate_rows.specs.declared.scan_options.IterationOrder.{IterationOrder}
-use Rattle.slate_rows.specs.Order.{AreInOrder}
+use Rattle.slate_types.specs.declared.scan_options.IterationOrder.{IterationOrder}
+use Rattle.slate_types.specs.Order.{AreInOrder}
 
 -- the rows of an iterator
 abbrev pub kept_rows : List Kept → List KeyValue

@@ -2,7 +2,6 @@ pub mod Gathered
 pub mod IndexKey
 pub mod Iteration
 pub mod Kept
-pub mod Order
 pub mod Recency
 pub mod Scan
 pub mod Shared

@@ -11,8 +11,8 @@ use Rattle.slate_types.specs.declared.batches.Op.TheVariants.{Put, Delete, Merge
 use Rattle.slate_rows.specs.declared.entries.RowEntry.{RowEntry}
 use Rattle.slate_rows.specs.declared.entries.ValueDeletable.{ValueDeletable}
 use Rattle.slate_rows.specs.declared.entries.ValueDeletable.TheVariants.{Value, Merge, Tombstone}
-use Rattle.slate_rows.specs.declared.scan_options.IterationOrder.{IterationOrder}
-use Rattle.slate_rows.specs.Order.{order_cmp}
+use Rattle.slate_types.specs.declared.scan_options.IterationOrder.{IterationOrder}
+use Rattle.slate_types.specs.Order.{order_cmp}
 use Rattle.slate_reads.specs.Read.{is_within}
 
 -- what an operation leaves at its key

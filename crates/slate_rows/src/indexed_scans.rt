@@ -7,9 +7,9 @@ ghost use Rattle.slate_types.specs.declared.batches.Batch.{Batch as AnyBatch};
 ghost use Rattle.slate_types.specs.Range.{contains};
 ghost use Rattle.slate_types.specs.declared.ranges.ByteRange.{ByteRange as AnyRange};
 ghost use Rattle.slate_reads.specs.Read.{IsOperator, read_at};
-ghost use Rattle.slate_rows.specs.declared.scan_options.IterationOrder.{IterationOrder as AnyOrder};
+ghost use Rattle.slate_types.specs.declared.scan_options.IterationOrder.{IterationOrder as AnyOrder};
 ghost use Rattle.slate_rows.specs.Iteration.{begun};
-ghost use Rattle.slate_rows.specs.Order.{AreInOrder, row_keys};
+ghost use Rattle.slate_types.specs.Order.{AreInOrder, row_keys};
 ghost use Rattle.slate_rows.specs.Scan.{IsScan, rows_of as rows_of_keys};
 ghost use Rattle.slate_rows.specs.Walked.{key_list, AreWalked};
 

@@ -4,7 +4,7 @@ ghost use Rattle.std.specs.VecDeque.{deque_len};
 ghost use Rattle.slate_rows.specs.declared.iterators.Kept.{Kept};
 ghost use Rattle.slate_rows.specs.Iteration.{begun, next_of, after_next, is_returned, seek_refusal, sought};
 ghost use Rattle.slate_rows.specs.Kept.{kept_rows, kept_keys, AreCopies};
-ghost use Rattle.slate_rows.specs.Order.{is_before, AreInOrder, row_keys};
+ghost use Rattle.slate_types.specs.Order.{is_before, AreInOrder, row_keys};
 ghost use Rattle.slate_types.specs.Range.{contains};
 
 use crate::{IterationOrder, SeekFault};

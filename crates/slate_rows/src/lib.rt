@@ -7,7 +7,6 @@ mod index_keys;
 mod indexed_scans;
 mod iterators;
 mod recencies;
-mod scan_options;
 mod scans;
 mod seeks;
 mod varints;
@@ -17,7 +16,6 @@ pub use index_keys::compute_index_key;
 pub use indexed_scans::scan_indexed;
 pub use iterators::DbIterator;
 pub use recencies::{DbRecencyIterator, recency};
-pub use scan_options::{IterationOrder, ScanOptions};
 pub use scans::scan;
 pub use seeks::SeekFault;
 pub use slate_reads::{
@@ -25,7 +23,8 @@ pub use slate_reads::{
 };
 pub use slate_types::{
     Batch, ByteRange, CloseOptions, ConcatOperator, DurabilityLevel, FixedPrefix, FlushOptions,
-    FlushType, KeyBound, KeyOp, KeyValue, MergeFault, MergeOperator, MergeOptions, Name, NoMemory,
-    Op, PrefixExtractor, PutOptions, ReadFault, ReadOptions, Seq, WriteBatch, WriteOptions,
+    FlushType, IterationOrder, KeyBound, KeyOp, KeyValue, MergeFault, MergeOperator, MergeOptions,
+    Name, NoMemory, Op, PrefixExtractor, PutOptions, ReadFault, ReadOptions, ScanOptions, Seq,
+    WriteBatch, WriteOptions,
 };
 pub use varints::{VarintFault, decode_varint, encode_varint, varint_len};

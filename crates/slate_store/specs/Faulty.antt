@@ -1,6 +1,6 @@
 -- A store whose calls fail by a list, and what becomes of each.
-use Rattle.std.specs.Prelude.{◌≡◌, ℕ, ◌+◌, ◌==◌, nat_lt, if◌then◌else◌, List, find, Option, Some, None, Result, Err}
-use Rattle.slate_types.specs.Counts.{count_end, one_more}
+use Rattle.std.specs.Prelude.{◌≡◌, ℕ, ◌==◌, if◌then◌else◌, List, find, Option, Some, None, Result, Err}
+use Rattle.slate_types.specs.Counts.{next_call, one_more}
 use Rattle.slate_types.specs.declared.store_errors.StoreError.{StoreError}
 use Rattle.slate_types.specs.declared.store_errors.StoreError.TheVariants.{Failed}
 use Rattle.slate_store.specs.declared.faulty_store.FailingCall.{FailingCall}
@@ -15,9 +15,14 @@ pub record Faulty (S : Type 0) : Type 0 where
   pub calls : ℕ
   pub faults : ℕ
 
--- what the list says of the next call, which is counted from 1; at the end of the count it says nothing
+-- what the list says of a call
+abbrev pub named : List FailingCall → Option ℕ → Option FailingCall
+named failing None = None
+named failing (Some number) = find (λ call. call.at == number) failing
+
+-- what it says of the next call
 abbrev pub next_named : {S : Type 0} → Faulty S → Option FailingCall
-next_named store = if nat_lt store.calls count_end then find (λ call. call.at == store.calls + 1) store.failing else None
+next_named store = named store.failing (next_call store.calls)
 
 -- whether a call is answered, fails once it was made, or fails and isn't made
 abbrev pub fate_of : Option FailingCall → Fate

@@ -2,7 +2,7 @@
 ghost use Rattle.std.specs.Prelude.{◌≡◌, ◌≤◌, ◌==◌, find};
 
 use crate::{LogFile, Manifest, Store, VersionedManifest};
-use slate_types::{Batch, Seq, StoreError};
+use slate_types::{Batch, CallCount, Seq, StoreError};
 use std::alloc::Global;
 use std::marker::Model;
 
@@ -47,8 +47,7 @@ impl Fate {
 pub struct FaultyStore<S> {
     inner: S,
     failing: Seq<FailingCall>,
-    calls: u64,
-    faults: u64,
+    count: CallCount,
 }
 
 impl<S> Model for FaultyStore<S> {
@@ -56,7 +55,7 @@ impl<S> Model for FaultyStore<S> {
 
     ghost Value = { Faulty S };
 
-    ghost view = { λ s. record { inner = s.inner; failing = s.failing; calls = s.calls; faults = s.faults } };
+    ghost view = { λ s. record { inner = s.inner; failing = s.failing; calls = s.count.made; faults = s.count.faults } };
 }
 
 impl<S> FaultyStore<S> {
@@ -69,8 +68,7 @@ impl<S> FaultyStore<S> {
         FaultyStore {
             inner,
             failing,
-            calls: 0,
-            faults: 0,
+            count: CallCount::new(),
         }
     }
 
@@ -79,7 +77,7 @@ impl<S> FaultyStore<S> {
     pub fn calls(&self) -> u64
         ensures { result ≡ self.now.calls }
     {
-        self.calls
+        self.count.made()
     }
 
     /// The store inside.
@@ -95,14 +93,13 @@ impl<S> FaultyStore<S> {
         ensures counted { self.new ≡ called self.old }
         ensures never_falls { self.old.faults ≤ self.new.faults }
     {
-        let Some(call) = self.calls.checked_add(1) else {
+        let Some(call) = self.count.next_call() else {
             return Fate::Answered;
         };
-        self.calls = call;
         let Some(named) = find_call(self.failing.as_slice(), call) else {
             return Fate::Answered;
         };
-        self.faults = self.faults.saturating_add(1);
+        self.count.count_fault();
         if named.landed {
             Fate::Landed
         } else {

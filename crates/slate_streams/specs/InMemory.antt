@@ -1,7 +1,7 @@
 -- Sources and sinks in memory: which calls fail, and what the others answer.
-use Rattle.std.specs.Prelude.{◌≡◌, ℕ, ◌+◌, ◌==◌, min, Bool, true, false, ◌&&◌, nat_lt, List, length}
+use Rattle.std.specs.Prelude.{◌≡◌, ℕ, ◌==◌, min, Bool, true, false, List, length, Option, Some, None}
 use Rattle.std.specs.List.{list_any}
-use Rattle.slate_types.specs.Counts.{count_end, one_more}
+use Rattle.slate_types.specs.Counts.{next_call, one_more}
 use Rattle.slate_streams.specs.declared.sources.ReadAnswer.{ReadAnswer}
 use Rattle.slate_streams.specs.declared.sources.ReadAnswer.TheVariants.{Got, End, Failed}
 use Rattle.slate_streams.specs.declared.sinks.WriteAnswer.{WriteAnswer}
@@ -14,9 +14,14 @@ pub record Calls : Type 0 where
   pub made : ℕ
   pub faults : ℕ
 
+-- whether a call is among those that are to fail
+abbrev pub is_named : List ℕ → Option ℕ → Bool
+is_named failing None = false
+is_named failing (Some call) = list_any (λ at. at == call) failing
+
 -- whether the next call is to fail
 abbrev pub fails_next : Calls → Bool
-fails_next calls = nat_lt calls.made count_end && list_any (λ at. at == calls.made + 1) calls.failing
+fails_next calls = is_named calls.failing (next_call calls.made)
 
 -- the calls after one more that answered, and after one that failed
 abbrev pub answered : Calls → Calls

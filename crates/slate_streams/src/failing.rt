@@ -1,36 +1,34 @@
-// Counting calls of streams in memory, and failing some by their numbers.
+// Counting the calls of streams in memory, and failing some by their numbers.
 ghost use Rattle.std.specs.Prelude.{◌≡◌, ◌≤◌};
 ghost use Rattle.slate_types.specs.Counts.{one_more};
 ghost use Rattle.slate_streams.specs.InMemory.{called, fails_next};
 
-use slate_types::Seq;
+use slate_types::{CallCount, Seq};
 use std::marker::Model;
 
 /// Counts the calls of a source or a sink in memory, and knows which of them fail.
 #[derive(Debug, Drop)]
-pub(crate) struct CallCount {
+pub(crate) struct FailingCalls {
     failing: Seq<u64>,
-    made: u64,
-    faults: u64,
+    count: CallCount,
 }
 
-impl Model for CallCount {
+impl Model for FailingCalls {
     ghost use Rattle.slate_streams.specs.InMemory.{Calls};
 
     ghost Value = { Calls };
 
-    ghost view = { λ c. record { failing = c.failing; made = c.made; faults = c.faults } };
+    ghost view = { λ c. record { failing = c.failing; made = c.count.made; faults = c.count.faults } };
 }
 
-impl CallCount {
+impl FailingCalls {
     /// No call yet; those of these numbers, counted from 1, are to fail.
-    pub(crate) fn new(failing: Seq<u64>) -> CallCount
+    pub(crate) fn new(failing: Seq<u64>) -> FailingCalls
         ensures { result ≡ record { failing = failing; made = 0; faults = 0 } }
     {
-        CallCount {
+        FailingCalls {
             failing,
-            made: 0,
-            faults: 0,
+            count: CallCount::new(),
         }
     }
 
@@ -40,10 +38,9 @@ impl CallCount {
         ensures counted { self.new ≡ called result self.old }
         ensures never_falls { self.old.faults ≤ self.new.faults }
     {
-        let Some(call) = self.made.checked_add(1) else {
+        let Some(call) = self.count.next_call() else {
             return false;
         };
-        self.made = call;
         let fails = self.failing.as_slice().contains(&call);
         if fails {
             self.count_fault();
@@ -56,6 +53,6 @@ impl CallCount {
         ensures counted { self.new ≡ record self.old { faults = one_more self.old.faults } }
         ensures never_falls { self.old.faults ≤ self.new.faults }
     {
-        self.faults = self.faults.saturating_add(1);
+        self.count.count_fault();
     }
 }

@@ -1,7 +1,7 @@
 // Reading from bytes in memory, a piece per call.
 ghost use Rattle.std.specs.Prelude.{◌≡◌, ◌≤◌};
 
-use crate::failing::CallCount;
+use crate::failing::FailingCalls;
 use crate::{ReadAnswer, Source};
 use slate_types::Seq;
 use std::marker::Model;
@@ -13,7 +13,7 @@ pub struct SliceSource {
     /// How many bytes were handed over.
     start: usize,
     piece: usize,
-    calls: CallCount,
+    calls: FailingCalls,
 }
 
 impl Model for SliceSource {
@@ -38,7 +38,7 @@ impl SliceSource {
             bytes,
             start: 0,
             piece,
-            calls: CallCount::new(failing),
+            calls: FailingCalls::new(failing),
         }
     }
 }

@@ -1,7 +1,7 @@
 // Writing to bytes in memory, a piece per call.
 ghost use Rattle.std.specs.Prelude.{◌≡◌, ◌≤◌, []};
 
-use crate::failing::CallCount;
+use crate::failing::FailingCalls;
 use crate::{Sink, WriteAnswer};
 use slate_types::Seq;
 use std::alloc::Global;
@@ -13,7 +13,7 @@ use std::marker::Model;
 pub struct VecSink {
     bytes: Vec<u8>,
     piece: usize,
-    calls: CallCount,
+    calls: FailingCalls,
 }
 
 impl Model for VecSink {
@@ -37,7 +37,7 @@ impl VecSink {
         VecSink {
             bytes: Vec::new(alloc),
             piece,
-            calls: CallCount::new(failing),
+            calls: FailingCalls::new(failing),
         }
     }
 

@@ -3,15 +3,18 @@
 #![tactic(auto)]
 
 mod batches;
+mod counts;
 mod memory;
 mod operators;
 mod options;
 mod ranges;
 mod read_faults;
+mod scan_options;
 mod sequences;
 mod store_errors;
 
 pub use batches::{Batch, KeyOp, KeyValue, Op, WriteBatch};
+pub use counts::CallCount;
 pub use memory::NoMemory;
 pub use operators::{ConcatOperator, FixedPrefix, MergeFault, MergeOperator, PrefixExtractor};
 pub use options::{
@@ -20,5 +23,6 @@ pub use options::{
 };
 pub use ranges::{ByteRange, KeyBound};
 pub use read_faults::ReadFault;
+pub use scan_options::{IterationOrder, ScanOptions};
 pub use sequences::{Name, Seq};
 pub use store_errors::{StoreError, StoreFault};

@@ -2,7 +2,7 @@ use Rattle.std.proofs.Common.{◌≡◌, ◌∙◌, ap, subst, ◌+◌, ◌++◌
 use Rattle.std.specs.List.{flat_map}
 use Rattle.slate_types.specs.Range.{contains}
 use Rattle.slate_reads.specs.Read.{read_at}
-use Rattle.slate_rows.specs.Order.{AreInOrder, row_keys}
+use Rattle.slate_types.specs.Order.{AreInOrder, row_keys}
 use Rattle.slate_rows.specs.Scan.{rows_of}
 use Rattle.slate_rows.specs.Walked.{key_list}
 use Rattle.slate_rows.proofs.Steps.{after_rows, found-more, found-end, order-found, order-fault, range-found, range-fault}

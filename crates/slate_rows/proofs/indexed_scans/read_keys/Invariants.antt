@@ -1,12 +1,12 @@
 use Rattle.std.proofs.Common.{◌≡◌, ◌++◌, IsTrue, true, drop, All, Option}
 use Rattle.std.specs.List.{AllByRecursion, flat_map}
 use Rattle.std.specs.Option.{option_copied}
-use Rattle.slate_rows.specs.declared.scan_options.IterationOrder.{IterationOrder}
+use Rattle.slate_types.specs.declared.scan_options.IterationOrder.{IterationOrder}
 use Rattle.slate_types.specs.declared.ranges.ByteRange.{ByteRange}
 use Rattle.slate_types.specs.Operator.{Merge}
 use Rattle.slate_types.specs.Range.{contains}
 use Rattle.slate_reads.specs.Read.{IsOperator, read_at}
-use Rattle.slate_rows.specs.Order.{AreInOrder, row_keys}
+use Rattle.slate_types.specs.Order.{AreInOrder, row_keys}
 use Rattle.slate_rows.specs.Scan.{rows_of}
 use Rattle.slate_rows.specs.Walked.{key_list}
 use Rattle.slate_rows.proofs.Steps.{after_rows}

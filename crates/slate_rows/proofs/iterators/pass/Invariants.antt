@@ -2,7 +2,7 @@ use Rattle.std.proofs.Common.{◌≡◌, not}
 use Rattle.std.specs.List.{filter}
 use Rattle.std.specs.VecDeque.{deque_len}
 use Rattle.slate_rows.specs.Kept.{kept_keys}
-use Rattle.slate_rows.specs.Order.{is_before, AreInOrder}
+use Rattle.slate_types.specs.Order.{is_before, AreInOrder}
 use Rattle.slate_rows.proofs.iterators.pass.Given as goal
 
 abbrev pub invariant-loop-kept : goal.invariant-loop-kept

@@ -2,11 +2,11 @@ use Rattle.std.proofs.Common.{◌≡◌, ◌≤◌, ◌-◌, ◌++◌, IsTrue, t
 use Rattle.std.specs.List.{AllByRecursion, dedup}
 use Rattle.std.specs.Option.{option_copied}
 use Rattle.std.specs.Str.{bytes_eq}
-use Rattle.slate_rows.specs.declared.scan_options.IterationOrder.{IterationOrder}
+use Rattle.slate_types.specs.declared.scan_options.IterationOrder.{IterationOrder}
 use Rattle.slate_types.specs.declared.ranges.ByteRange.{ByteRange}
 use Rattle.slate_rows.specs.Gathered.{AreSorted, held_keys, held_rows}
 use Rattle.slate_types.specs.Operator.{Merge}
-use Rattle.slate_rows.specs.Order.{AreInOrder, row_keys}
+use Rattle.slate_types.specs.Order.{AreInOrder, row_keys}
 use Rattle.slate_types.specs.Range.{contains}
 use Rattle.slate_reads.specs.Read.{IsOperator}
 use Rattle.slate_rows.proofs.Steps.{after_rows}

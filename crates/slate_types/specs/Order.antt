@@ -4,8 +4,8 @@ use Rattle.std.specs.declared.cmp.Ordering.{Ordering}
 use Rattle.std.specs.Ordering.{is_lt}
 use Rattle.std.specs.List.Sorted.{IsStrictlySortedBy}
 use Rattle.slate_types.specs.declared.batches.KeyValue.{KeyValue}
-use Rattle.slate_rows.specs.declared.scan_options.IterationOrder.{IterationOrder}
-use Rattle.slate_rows.specs.declared.scan_options.IterationOrder.TheVariants.{Ascending, Descending}
+use Rattle.slate_types.specs.declared.scan_options.IterationOrder.{IterationOrder}
+use Rattle.slate_types.specs.declared.scan_options.IterationOrder.TheVariants.{Ascending, Descending}
 use Rattle.slate_types.specs.Range.{key_cmp}
 
 -- how two keys stand in an order

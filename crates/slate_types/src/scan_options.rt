@@ -1,7 +1,7 @@
 // The options of a scan, and the order of its keys.
 ghost use Rattle.std.specs.Prelude.{◌≡◌, false};
 
-use slate_types::DurabilityLevel;
+use crate::DurabilityLevel;
 use std::cmp::Ordering;
 
 /// The order in which a scan gives its rows, by key.
@@ -12,10 +12,10 @@ pub enum IterationOrder {
 }
 
 impl IterationOrder {
-    ghost use Rattle.slate_rows.specs.Order.{order_cmp, is_before};
+    ghost use Rattle.slate_types.specs.Order.{order_cmp, is_before};
 
     /// How two keys stand in this order.
-    pub(crate) fn compare(self, key: &[u8], other: &[u8]) -> Ordering
+    pub fn compare(self, key: &[u8], other: &[u8]) -> Ordering
         ensures { result ≡ order_cmp self key.now other.now }
     {
         match self {
@@ -25,7 +25,7 @@ impl IterationOrder {
     }
 
     /// Whether a key comes before another in this order.
-    pub(crate) fn is_before(self, key: &[u8], other: &[u8]) -> bool
+    pub fn is_before(self, key: &[u8], other: &[u8]) -> bool
         ensures { result ≡ is_before self key.now other.now }
     {
         self.compare(key, other).is_lt()
@@ -33,7 +33,7 @@ impl IterationOrder {
 }
 
 impl Default for IterationOrder {
-    ghost use Rattle.slate_rows.specs.declared.scan_options.IterationOrder.TheVariants.{Ascending};
+    ghost use Rattle.slate_types.specs.declared.scan_options.IterationOrder.TheVariants.{Ascending};
 
     ghost is_default = { λ order. order ≡ Ascending };
 
@@ -56,7 +56,7 @@ pub struct ScanOptions {
 /// Memory, not dirty, and ascending.
 impl Default for ScanOptions {
     ghost use Rattle.slate_types.specs.declared.options.DurabilityLevel.TheVariants.{Memory};
-    ghost use Rattle.slate_rows.specs.declared.scan_options.IterationOrder.TheVariants.{Ascending};
+    ghost use Rattle.slate_types.specs.declared.scan_options.IterationOrder.TheVariants.{Ascending};
 
     ghost is_default = { λ o. o ≡ record { durability_filter = Memory; dirty = false; order = Ascending } };
 

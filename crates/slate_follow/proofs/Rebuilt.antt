@@ -1,18 +1,18 @@
 -- What is found and replayed makes a follower, which sees all that a sound store has.
-use Rattle.std.proofs.Common.{◌≡◌, ℕ, ◌+◌, Bool, true, List, Option, Some, None, Ok, refl, sym, subst, ap, ◌∙◌, arith}
+use Rattle.std.proofs.Common.{◌≡◌, ℕ, Bool, true, List, Option, Some, None, Ok, refl, sym, subst, ap, ◌∙◌}
 use Rattle.std.specs.Option.{IfSome}
 use Rattle.slate_types.specs.declared.batches.Batch.{Batch}
 use Rattle.slate_types.specs.Line.{Line, end}
 use Rattle.slate_store.specs.declared.objects.VersionedManifest.{VersionedManifest}
-use Rattle.slate_store.specs.Content.{IsSound, content, content_by}
+use Rattle.slate_store.specs.Content.{IsSound, content, content_by, logged}
 use Rattle.slate_store.specs.Objects.{Objects, last_log, latest_manifest}
-use Rattle.slate_store.specs.Logs.{IsReplayable, replayed}
+use Rattle.slate_replay.proofs.Recovered.{recovered-all}
 use Rattle.slate_replay.specs.declared.replays.Replayed.{Replayed}
 use Rattle.slate_replay.specs.declared.replays.Replayed.TheVariants as replays
 use Rattle.slate_model.specs.Follower.{Follower, SeesAll, rebuilt, can_follow}
 use Rattle.slate_model.specs.Known.{IsContent}
 use Rattle.slate_model.proofs.Reduced.{some-same}
-use Rattle.slate_model.proofs.Reopened.{and_right, content-logged, line_from, no-tables, replayable-by}
+use Rattle.slate_model.proofs.Reopened.{and_right, content-logged, line_from, logs-by, no-tables}
 use Rattle.slate_model.specs.declared.answers.PollAnswer.{PollAnswer}
 use Rattle.slate_model.specs.declared.answers.PollAnswer.TheVariants.{Whole, Truncated}
 use Rattle.slate_follow.specs.Rebuilding.{FindsView, GiveBatches, HasLogs, ReplaysLatest}
@@ -33,28 +33,15 @@ module _ (opening : Bool) (view : VersionedManifest) (batches : List Batch) wher
   has_logs replays.Whole o given = given
   has_logs (replays.Truncated id) o given = (id, given)
 
-  abbrev Given : Objects → List Batch → Replayed → Type 0
-  Given o all found = (batches ≡ all) × (found ≡ replays.Whole)
-
-  -- log files that can be replayed give all of it
-  whole : (found : Replayed) (o : Objects) → let m = view.manifest in let last = last_log m.replay_after_wal_id o in IsReplayable m.replay_after_wal_id last m.last_l0_seq o → GiveBatches o m batches found → Given o (replayed m.replay_after_wal_id last m.last_l0_seq o) found
-  whole replays.Whole o can given =
-      let m = view.manifest in
-      let last = last_log m.replay_after_wal_id o in
-      let same : m.last_l0_seq ≡ m.last_l0_seq + 0 = omega arith in
-      (given.appended (subst (λ n. IsReplayable m.replay_after_wal_id last n o) same can) ∙ ap (λ n. replayed m.replay_after_wal_id last n o) (sym same), refl)
-  whole (replays.Truncated id) o can given =
-      let m = view.manifest in
-      let last = last_log m.replay_after_wal_id o in
-      let same : m.last_l0_seq ≡ m.last_l0_seq + 0 = omega arith in
-      absurd (given.missing (subst (λ n. IsReplayable m.replay_after_wal_id last n o) same can))
-
   sees : (found : Replayed) (o : Objects) → IsSound o → FindsView opening o (Ok view) → GiveBatches o view.manifest batches found → SeesAll o (content o) follower (answer_of found (end line))
   sees found o sound can given =
-      let none = no-tables view.manifest.tables (and_right _ _ can.1) in
-      let all = whole found o (replayable-by o view sound can.0) given in
+      let m = view.manifest in
+      let last = last_log m.replay_after_wal_id o in
+      let none = no-tables m.tables (and_right _ _ can.1) in
+      let its = logs-by o view sound can.0 in
+      let all = recovered-all m.replay_after_wal_id last m.last_l0_seq (logged o m) batches o its.whole its.belong found given in
       let same : content o ≡ line =
-      ap (content_by o) can.0 ∙ (content-logged o view sound can.0 none ∙ ap (line_from view.manifest.last_l0_seq) (sym all.0)) in
+      ap (content_by o) can.0 ∙ (content-logged o view none ∙ ap (line_from m.last_l0_seq) (sym all.0)) in
       (view, can.0, ap (rebuilt view) (sym same), ap (λ r. answer_of r (end line)) all.1 ∙ ap (λ l. Whole (end l)) (sym same))
 
   -- what was found and replayed makes the follower

@@ -1,7 +1,7 @@
 -- What is seen of a batch once it is stored.
-use Rattle.std.specs.Prelude.{◌≡◌, ℕ, ◌+◌, ◌≤◌, true, slice_get, Some}
+use Rattle.std.specs.Prelude.{◌≡◌, ℕ, ◌≤◌, true, slice_get, Some}
 use Rattle.slate_types.specs.declared.batches.Batch.{Batch}
-use Rattle.slate_types.specs.Line.{Line}
+pub use Rattle.slate_store.specs.Logs.{StandsIn}
 use Rattle.slate_model.specs.Handle.{Handle}
 use Rattle.slate_script.specs.declared.commands.Action.{Action}
 use Rattle.slate_script.specs.declared.commands.Action.TheVariants as actions
@@ -10,10 +10,6 @@ use Rattle.slate_script.specs.declared.replies.Reply.TheVariants as replies
 use Rattle.slate_live.specs.declared.states.Write.{Write}
 use Rattle.slate_live.specs.Represents.{IsHandleAt}
 use Rattle.slate_live.specs.World.{World}
-
--- the batch stands in the line, at the place of its number
-abbrev pub StandsIn : Batch → Line → Type 0
-StandsIn batch line = (k : ℕ) × (slice_get line.batches k ≡ Some batch) × (batch.number ≡ line.floor + k + 1)
 
 -- What an opening or a poll answers and leaves that begins after this batch was stored: a handle that is opened has it
 -- in its line, and a reader that is opened or polled answers a number at or above its own.

@@ -1,11 +1,11 @@
 -- Putting an entry behind all others, and what is last in a list.
-use Rattle.std.proofs.Common.{◌≡◌, ℕ, ◌-◌, ◌<◌, List, [], ◌∷◌, ◌++◌, map, length, get_or, Some, None, refl, sym, ap, ◌∙◌, arith, sub-one, length-append}
+use Rattle.std.proofs.Common.{◌≡◌, ℕ, ◌-◌, ◌<◌, List, [], ◌∷◌, ◌++◌, map, length, get_or, Some, None, refl, sym, ap, ◌∙◌, arith, sub-one, length-append, cond}
 use Rattle.std.proofs.Math.Seq.{get_or-append_seam}
 use Rattle.std.specs.List.{slice_get}
 use Rattle.std.specs.Ordering.{nat_cmp}
-use Rattle.std.specs.declared.cmp.Ordering.TheVariants.{Greater}
+use Rattle.std.specs.declared.cmp.Ordering.TheVariants.{Greater, Less}
 use Rattle.std.specs.Cmp.{nat_cmp_is}
-use Rattle.std.specs.BTreeMap.{insert_entry}
+use Rattle.std.specs.BTreeMap.{insert_entry, is_at}
 use Rattle.std.proofs.lemmas.Option.{slice_get-get_or}
 use Rattle.slate_store.specs.Objects.{entry_at, greatest, last}
 
@@ -20,6 +20,11 @@ absent k n (e ∷ es) h =
     let above : e.0 < k = omega arith in
     let rest : greatest n (map (λ e. e.0) es) < k = omega arith in
     rw (greater k e.0 above) (absent k n es rest)
+
+-- an entry behind others stands under none of the lower numbers
+pub entry-below : {X : Type 0} (id k : ℕ) (x : X) (es : List (ℕ × X)) → id < k → entry_at id (es ++ (k, x) ∷ []) ≡ entry_at id es
+entry-below id k x [] less = let other : nat_cmp id k ≡ Less = sym (nat_cmp_is id k Less less) in rw other refl
+entry-below id k x (e ∷ es) less = ap (λ rest. cond (is_at (nat_cmp id) e.0) (Some e.1) rest) (entry-below id k x es less)
 
 -- an entry with an id above all others goes to the end
 pub insert-last : {X : Type 0} (k n : ℕ) (x : X) (es : List (ℕ × X)) → greatest n (map (λ e. e.0) es) < k → insert_entry nat_cmp es k x ≡ es ++ (k, x) ∷ []

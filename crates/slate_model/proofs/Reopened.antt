@@ -1,24 +1,26 @@
 -- An opening keeps the content of sound objects, and its replay gives the handle all of it.
-use Rattle.std.proofs.Common.{◌≡◌, ℕ, zero, suc, ◌+◌, ◌-◌, ◌<◌, ◌≤◌, List, [], ◌∷◌, ◌++◌, length, map, take, max, Bool, true, false, Option, Some, None, refl, sym, subst, ap, ◌∙◌, arith, sub-one, length-append, ◌&&◌, ◌==◌, ltb}
+use Rattle.std.proofs.Common.{◌≡◌, ℕ, zero, suc, ◌+◌, ◌<◌, ◌≤◌, List, [], ◌∷◌, ◌++◌, length, map, max, Bool, true, false, Option, Some, None, refl, sym, subst, ap, ◌∙◌, arith, sub-one, ◌&&◌, ◌==◌}
 use Rattle.std.proofs.Math.Dec.{eqb-suc-zero}
-use Rattle.std.specs.List.{AllByRecursion, filter, flat_map}
+use Rattle.std.specs.List.{All, AllByRecursion, flat_map}
 use Rattle.std.specs.Option.{IfSome, option_map}
-use Rattle.std.proofs.lemmas.List.{append-nil, length-map, map-append, take_all, take_at}
+use Rattle.std.proofs.lemmas.List.{append-nil, map-append}
 use Rattle.slate_types.specs.declared.batches.Batch.{Batch}
 use Rattle.slate_types.specs.Line.{AreNumberedFrom, IsLine, Line, batches_above}
 use Rattle.slate_types.proofs.Lines.{above-all}
 use Rattle.slate_store.specs.declared.objects.Manifest.{Manifest}
 use Rattle.slate_store.specs.declared.objects.VersionedManifest.{VersionedManifest}
-use Rattle.slate_store.specs.Objects.{Objects, PutManifest, PutLog, changed, empty, greatest, is_present, last, last_log, latest_manifest, versioned}
-use Rattle.slate_store.specs.Content.{AreGapless, AreRising, HasItsLogs, HasItsTables, IsSound, content, content_by, logged, logs_above, number_before, table_batches}
-use Rattle.slate_store.specs.Logs.{IsReplayable, replayed}
+use Rattle.slate_store.specs.Objects.{Objects, PutManifest, PutLog, changed, empty, entry_at, greatest, is_present, last, last_log, latest_manifest, versioned}
+use Rattle.slate_store.specs.Content.{AreRising, HasItsLogs, HasItsTables, IsSound, content, content_by, logged, logs_above, number_before, table_batches}
+use Rattle.slate_store.specs.Logs.{AreWhole, BelongTo, HaveNoGap, StandsIn, batches_between}
+use Rattle.slate_store.proofs.Gapless.{between-gapless, stored-gapless}
+use Rattle.slate_store.proofs.Logs.{SameLogs, no_gap-numbered, numbered-stand, untruncated, whole-start}
 use Rattle.slate_errors.specs.declared.errors.SlateError.{SlateError}
 use Rattle.slate_errors.specs.declared.errors.SlateError.TheVariants as errors
 use Rattle.slate_model.specs.Changes.{after_part}
 use Rattle.slate_model.specs.Handle.{Handle}
 use Rattle.slate_model.specs.Open.{OpenFault, can_open, can_open_by, first_manifest, can_reopen, found_log, latest_tick, mark_of, next_manifest, open_changes, opened_handle, opened_manifest}
-use Rattle.slate_model.proofs.Entries.{absent, insert-last, last-push, nil-from-last}
-use Rattle.slate_model.proofs.Sound.{above-after, appended, at_least, gapless-greatest, gapless-push, with_log}
+use Rattle.slate_model.proofs.Entries.{absent, entry-below, insert-last, last-push, nil-from-last}
+use Rattle.slate_model.proofs.Sound.{appended, at_least, gapless-greatest, with_log}
 
 no_last : {X Y : Type 0} (f : X → Y) (o : Option X) → option_map f o ≡ None → o ≡ None
 no_last f None h = refl
@@ -180,81 +182,65 @@ numbered_rest floor (x ∷ xs) ys h =
     let e : (floor + 1) + length xs ≡ floor + length (x ∷ xs) = omega arith in
     subst (λ n. AreNumberedFrom n ys) e (numbered_rest (floor + 1) xs ys h.1)
 
--- what is replayed of log files without a gap is what is logged
-replayed-logged : (o : Objects) (m : Manifest) → HasItsLogs o m → replayed m.replay_after_wal_id (last_log m.replay_after_wal_id o) m.last_l0_seq o ≡ logged o m
-replayed-logged o m has =
-    let mark = m.replay_after_wal_id in
-    let count = gapless-greatest mark mark o.logs (omega arith) has.gapless in
-    ap (λ logs. batches_above m.last_l0_seq (flat_map (λ log. log.1) logs)) (take_all (last_log mark o - mark) (logs_above mark o) (omega (arith, count)))
+abbrev pub line_from : ℕ → List Batch → Line
+line_from floor bs = record { floor = floor; batches = bs }
 
--- the log files of sound objects can be replayed
-pub replayable-by : (o : Objects) (latest : VersionedManifest) → IsSound o → latest_manifest o ≡ Some latest → IsReplayable latest.manifest.replay_after_wal_id (last_log latest.manifest.replay_after_wal_id o) latest.manifest.last_l0_seq o
-replayable-by o latest sound is =
+-- The log files of a manifest, up to the last one: they are whole, and what they have above its last number in tables
+-- is a line.
+pub record HasItsLine (o : Objects) (m : Manifest) (last : ℕ) : Type 0 where
+  pub numbered : AreNumberedFrom m.last_l0_seq (logged o m)
+  pub whole : AreWhole m.replay_after_wal_id last m.last_l0_seq (m.last_l0_seq + length (logged o m)) o
+  pub belong : BelongTo m.replay_after_wal_id last m.last_l0_seq (line_from m.last_l0_seq (logged o m)) o
+
+-- those of sound objects are so
+pub logs-by : (o : Objects) (latest : VersionedManifest) → IsSound o → latest_manifest o ≡ Some latest → HasItsLine o latest.manifest (last_log latest.manifest.replay_after_wal_id o)
+logs-by o latest sound is =
     let m = latest.manifest in
+    let mark = m.replay_after_wal_id in
+    let last = last_log mark o in
     let has = subst (λ x. IfSome x (λ l. HasItsLogs o l.manifest)) is sound.logs in
     let joined = subst (λ x. IfSome x (λ l. HasItsTables o l.manifest)) is sound.joined in
     let line = subst (λ x. IsLine (content_by o x)) is sound.line in
     let tables = table_batches o m.tables in
-    let rest = numbered_rest (number_before tables m.last_l0_seq) tables (logged o m) line in
-    let count = gapless-greatest m.replay_after_wal_id m.replay_after_wal_id o.logs (omega arith) has.gapless in
+    let numbered = subst (λ n. AreNumberedFrom n (logged o m)) joined (numbered_rest (number_before tables m.last_l0_seq) tables (logged o m) line) in
+    let count = gapless-greatest mark mark o.logs (omega arith) has.gapless in
+    let all = flat_map (λ log. log.1) (logs_above mark o) in
+    let read : batches_between mark last o ≡ all = between-gapless mark o has.gapless last (omega (arith, count)) in
     record {
-      gapless = has.gapless;
-      stored = omega (arith, count);
-      numbered = subst (AreNumberedFrom m.last_l0_seq) (sym (replayed-logged o m has)) (subst (λ n. AreNumberedFrom n (logged o m)) joined rest);
+      numbered = numbered;
+      whole = record {
+        stored = λ id over within none. stored-gapless mark o has.gapless id over (omega (arith, count)) none;
+        no_gap = subst (HaveNoGap m.last_l0_seq (m.last_l0_seq + length (logged o m))) (sym read) (no_gap-numbered m.last_l0_seq m.last_l0_seq all (omega arith) numbered);
+      };
+      belong = subst (λ xs. All (λ b. StandsIn b (line_from m.last_l0_seq (logged o m))) (batches_above m.last_l0_seq xs)) (sym read) (numbered-stand m.last_l0_seq (logged o m) numbered);
     }
 
-replayable-from : (o : Objects) (latest : Option VersionedManifest) → IsSound o → latest_manifest o ≡ latest → let last = last_log (mark_of latest) o in let m = (next_manifest latest last).manifest in IsReplayable m.replay_after_wal_id last m.last_l0_seq o
-replayable-from o None sound is = subst (λ o. IsReplayable 0 (last_log 0 o) 0 o) (sym (nothing_there o sound is)) (record { gapless = tt; stored = omega arith; numbered = tt })
-replayable-from o (Some latest) sound is = replayable-by o latest sound is
+logs-from : (o : Objects) (latest : Option VersionedManifest) → IsSound o → latest_manifest o ≡ latest → let last = last_log (mark_of latest) o in HasItsLine o (next_manifest latest last).manifest last
+logs-from o None sound is =
+    subst (λ o. HasItsLine o first_manifest (last_log 0 o)) (sym (nothing_there o sound is))
+    (record { numbered = tt; whole = whole-start 0 0 empty; belong = numbered-stand 0 [] tt })
+logs-from o (Some latest) sound is =
+    let its = logs-by o latest sound is in
+    record { numbered = its.numbered; whole = its.whole; belong = its.belong }
+
+-- also those that an opening replays
+pub opened-logs : (o : Objects) → IsSound o → HasItsLine o (opened_manifest o).manifest (found_log o)
+opened-logs o sound = logs-from o (latest_manifest o) sound refl
 
 -- sound objects bring about none of the errors that only unsound ones do
 pub no-fault : (o : Objects) (e : SlateError) → IsSound o → OpenFault o e → ⊥
-no-fault o (errors.WalTruncated id) sound fault = fault (replayable-from o (latest_manifest o) sound refl)
+no-fault o (errors.WalTruncated id) sound fault =
+    let m = (opened_manifest o).manifest in
+    let its = opened-logs o sound in
+    untruncated id m.replay_after_wal_id (found_log o) m.last_l0_seq (m.last_l0_seq + length (logged o m)) fault.0 o its.whole fault.1
 no-fault o errors.TransactionalObjectVersionExists sound fault =
     let free = free-by o (latest_manifest o) (found_log o) sound refl in absurd (cc)
 no-fault o e sound fault = absurd fault
 
--- What can be replayed after the changes of an opening is what could be replayed before.
-pub record SameReplay (mark last number : ℕ) (o o' : Objects) : Type 0 where
-  pub replayable : IsReplayable mark last number o'
-  pub batches : replayed mark last number o' ≡ replayed mark last number o
-
-same-replay : (o o1 : Objects) (m : Manifest) (number : ℕ) → o1.logs ≡ o.logs → let mark = m.replay_after_wal_id in let last = last_log mark o in IsReplayable mark last number o → SameReplay mark last number o (with_log o1 m [])
-same-replay o o1 m number logs can =
-    let mark = m.replay_after_wal_id in
-    let last = last_log mark o in
-    let same_last : last_log mark o1 ≡ last = ap (λ ls. greatest mark (map (λ e. e.0) ls)) logs in
-    let same_above : logs_above mark o1 ≡ logs_above mark o = ap (filter (λ log. ltb mark log.0)) logs in
-    let count = gapless-greatest mark mark o.logs (omega arith) can.gapless in
-    let above : logs_above mark (with_log o1 m []) ≡ logs_above mark o ++ (last + 1, []) ∷ [] =
-    above-after o1 m [] ∙ (ap (λ ls. ls ++ (last_log mark o1 + 1, []) ∷ []) same_above ∙ ap (λ n. logs_above mark o ++ (n + 1, []) ∷ []) same_last) in
-    let front : take (last - mark) (logs_above mark (with_log o1 m [])) ≡ take (last - mark) (logs_above mark o) =
-    ap (take (last - mark)) above
-    ∙ (take_at (logs_above mark o) ((last + 1, []) ∷ []) (last - mark) (omega (arith, count))
-    ∙ sym (take_all (last - mark) (logs_above mark o) (omega (arith, count)))) in
-    let batches : replayed mark last number (with_log o1 m []) ≡ replayed mark last number o = ap (λ ls. batches_above number (flat_map (λ log. log.1) ls)) front in
-    let ids = map (λ (log : ℕ × List Batch). log.0) (logs_above mark o) in
-    let ids-after : map (λ (log : ℕ × List Batch). log.0) (logs_above mark (with_log o1 m [])) ≡ ids ++ (last + 1) ∷ [] =
-    ap (map (λ log. log.0)) above ∙ map-append (λ log. log.0) (logs_above mark o) ((last + 1, []) ∷ []) in
-    let many = length-map (logs_above mark o) (λ log. log.0) in
-    let longer = ap length above ∙ length-append (logs_above mark o) ((last + 1, []) ∷ []) in
-    record {
-      replayable = record {
-        gapless = subst (AreGapless mark) (sym ids-after) (gapless-push mark ids (last + 1) can.gapless (omega (arith, count, many)));
-        stored = let h = can.stored in omega (arith, h, longer);
-        numbered = subst (AreNumberedFrom number) (sym batches) can.numbered;
-      };
-      batches = batches;
-    }
-
-pub opening-replays : (o : Objects) → let m = (opened_manifest o).manifest in let last = found_log o in IsReplayable m.replay_after_wal_id last m.last_l0_seq o → SameReplay m.replay_after_wal_id last m.last_l0_seq o (after_part 2 (open_changes (λ xs. xs) o) o)
-opening-replays o =
-    let v = opened_manifest o in
-    let m = v.manifest in
-    let o1 = changed (PutManifest v.id m) o in
-    subst (λ last. IsReplayable m.replay_after_wal_id last m.last_l0_seq o → SameReplay m.replay_after_wal_id last m.last_l0_seq o (changed (PutLog (last + 1) []) o1))
-    (ap (λ mark. last_log mark o) (mark-kept (latest_manifest o) (found_log o)))
-    (same-replay o o1 m m.last_l0_seq refl)
+-- the changes of an opening leave the log files that it replays
+pub opening-logs : (mark : ℕ) (o : Objects) → SameLogs mark (found_log o) o (after_part 2 (open_changes (λ xs. xs) o) o)
+opening-logs mark o id over within =
+    ap (entry_at id) (insert-last (found_log o + 1) (mark_of (latest_manifest o)) [] o.logs (omega arith)) ∙ entry-below id (found_log o + 1) [] o.logs (omega arith)
 
 and_left : (a b : Bool) → (a && b) ≡ true → a ≡ true
 and_left true b h = refl
@@ -275,24 +261,19 @@ names-none latest can =
     let two = and_left _ _ three in
     no-tables latest.manifest.tables (and_right _ _ two)
 
-abbrev pub line_from : ℕ → List Batch → Line
-line_from floor bs = record { floor = floor; batches = bs }
-
--- the content of sound objects whose latest manifest names no table is what its log files have above the last number
--- in tables
-pub content-logged : (o : Objects) (latest : VersionedManifest) → IsSound o → latest_manifest o ≡ Some latest → latest.manifest.tables ≡ [] → let m = latest.manifest in content_by o (Some latest) ≡ line_from m.last_l0_seq (replayed m.replay_after_wal_id (last_log m.replay_after_wal_id o) m.last_l0_seq o)
-content-logged o latest sound is none =
+-- the content of objects whose latest manifest names no table is what its log files have above the last number in
+-- tables
+pub content-logged : (o : Objects) (latest : VersionedManifest) → latest.manifest.tables ≡ [] → content_by o (Some latest) ≡ line_from latest.manifest.last_l0_seq (logged o latest.manifest)
+content-logged o latest none =
     let m = latest.manifest in
-    let has = subst (λ x. IfSome x (λ l. HasItsLogs o l.manifest)) is sound.logs in
     ap (λ ids. line_from (number_before (table_batches o ids) m.last_l0_seq) (table_batches o ids ++ logged o m)) none
-    ∙ ap (line_from m.last_l0_seq) (sym (replayed-logged o m has))
 
 -- the content of a store that can be opened is what its log files have above the last number in tables
-content-by : (o : Objects) (latest : Option VersionedManifest) → IsSound o → latest_manifest o ≡ latest → can_open_by latest (last_log (mark_of latest) o) ≡ true → let last = last_log (mark_of latest) o in let m = (next_manifest latest last).manifest in content_by o latest ≡ line_from m.last_l0_seq (replayed m.replay_after_wal_id last m.last_l0_seq o)
+content-by : (o : Objects) (latest : Option VersionedManifest) → IsSound o → latest_manifest o ≡ latest → can_open_by latest (last_log (mark_of latest) o) ≡ true → let m = (next_manifest latest (last_log (mark_of latest) o)).manifest in content_by o latest ≡ line_from m.last_l0_seq (logged o m)
 content-by o None sound is can =
     let nothing = nothing_there o sound is in
-    subst (λ o. line_from 0 [] ≡ line_from 0 (replayed 0 (last_log 0 o) 0 o)) (sym nothing) refl
-content-by o (Some latest) sound is can = content-logged o latest sound is (names-none latest (and_left _ _ can))
+    subst (λ o. line_from 0 [] ≡ line_from 0 (logged o first_manifest)) (sym nothing) refl
+content-by o (Some latest) sound is can = content-logged o latest (names-none latest (and_left _ _ can))
 
 -- the handle of an opening that replayed these batches
 abbrev pub recovered : Bool → ℕ → VersionedManifest → List Batch → Handle
@@ -309,16 +290,12 @@ recovered keeps_log limit v bs =
     }
 
 -- over sound objects that can be opened its line is their content
-pub recovered-is : (keeps_log : Bool) (limit : ℕ) (o : Objects) → IsSound o → can_open o ≡ true → let v = opened_manifest o in recovered keeps_log limit v (replayed v.manifest.replay_after_wal_id (found_log o) v.manifest.last_l0_seq o) ≡ opened_handle keeps_log limit v (content o)
+pub recovered-is : (keeps_log : Bool) (limit : ℕ) (o : Objects) → IsSound o → can_open o ≡ true → let v = opened_manifest o in recovered keeps_log limit v (logged o v.manifest) ≡ opened_handle keeps_log limit v (content o)
 recovered-is keeps_log limit o sound can =
     let v = opened_manifest o in
     let number = v.manifest.last_l0_seq in
-    let bs = replayed v.manifest.replay_after_wal_id (found_log o) number o in
-    let replayable = replayable-from o (latest_manifest o) sound refl in
-    let all : batches_above number bs ≡ bs = above-all number number bs replayable.numbered (omega arith) in
+    let bs = logged o v.manifest in
+    let its = opened-logs o sound in
+    let all : batches_above number bs ≡ bs = above-all number number bs its.numbered (omega arith) in
     sym (ap (opened_handle keeps_log limit v) (content-by o (latest_manifest o) sound refl can)
     ∙ ap (λ xs. record (recovered keeps_log limit v bs) { tick = latest_tick v.manifest.last_tick xs }) all)
-
--- the log files of sound objects can be replayed by an opening
-pub replayable : (o : Objects) → IsSound o → IsReplayable (opened_manifest o).manifest.replay_after_wal_id (found_log o) (opened_manifest o).manifest.last_l0_seq o
-replayable o sound = replayable-from o (latest_manifest o) sound refl

@@ -7,7 +7,7 @@ use Rattle.slate_store.specs.declared.objects.VersionedManifest.{VersionedManife
 use Rattle.slate_types.specs.declared.store_errors.StoreFault.TheVariants.{Unavailable}
 use Rattle.slate_store.specs.Objects.{Objects, ObjectsOf, ChangeOf, PutManifest, PutLog, is_present, latest_manifest, last_log}
 use Rattle.slate_store.specs.Calls.{WhereModelled}
-use Rattle.slate_store.specs.Logs.{IsReplayable}
+use Rattle.slate_store.specs.Logs.{AreTruncatedAt}
 use Rattle.slate_errors.specs.declared.errors.SlateError.{SlateError}
 use Rattle.slate_errors.specs.declared.errors.SlateError.TheVariants as errors
 use Rattle.slate_model.specs.Changes.{PartMade, after_part}
@@ -101,12 +101,12 @@ opened_handle keeps_log limit view stored =
       result = None;
     }
 
--- What only objects bring about that aren't sound: an error that the replay is truncated, where log files or batches are
--- missing, or that an object is there already.
+-- What only objects bring about that aren't sound: that the log files to be replayed are truncated, at the one with
+-- this id, or that an object is there already.
 abbrev pub OpenFault : Objects → SlateError → Type 0
 OpenFault objects (errors.WalTruncated id) =
     let m = (opened_manifest objects).manifest in
-    IsReplayable m.replay_after_wal_id (found_log objects) m.last_l0_seq objects → ⊥
+    (end : ℕ) × AreTruncatedAt id m.replay_after_wal_id (found_log objects) m.last_l0_seq end objects
 OpenFault objects errors.TransactionalObjectVersionExists =
     is_present (PutManifest (opened_manifest objects).id (opened_manifest objects).manifest) objects ≡ true
 OpenFault objects error = ⊥

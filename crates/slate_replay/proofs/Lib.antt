@@ -1,3 +1,3 @@
-pub mod Logs
 pub mod Appending
 pub mod Replaying
+pub mod Recovered

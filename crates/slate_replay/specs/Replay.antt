@@ -1,64 +1,38 @@
 -- What a replay of log files appends, and how it ends.
-use Rattle.std.specs.Prelude.{◌≡◌, ℕ, ◌+◌, ◌-◌, ◌<◌, ◌≤◌, Bool, true, false, All, List, ◌++◌, length, MatchOption, Result, Ok, Err}
-use Rattle.std.specs.List.{Any}
+use Rattle.std.specs.Prelude.{◌≡◌, ℕ, ◌+◌, Bool, true, false, All, List, length, Result, Ok, Err}
 use Rattle.slate_types.specs.declared.batches.Batch.{Batch}
-use Rattle.slate_types.specs.Line.{AreNumberedFrom, batches_above}
-use Rattle.slate_store.specs.Objects.{Objects, log_at}
-use Rattle.slate_store.specs.Logs.{IsReplayable, replayed}
+use Rattle.slate_types.specs.Line.{Line, IsPrefix, batches_above}
+use Rattle.slate_store.specs.Objects.{Objects}
+use Rattle.slate_store.specs.Logs.{AreTruncatedAt, AreWhole, BelongTo, HaveGap, HaveNoGap, StandsIn}
 use Rattle.slate_types.specs.declared.store_errors.StoreError.{StoreError}
 use Rattle.slate_types.specs.declared.store_errors.StoreError.TheVariants.{NoMemory}
 use Rattle.slate_replay.specs.declared.replays.Replayed.{Replayed}
 use Rattle.slate_replay.specs.declared.replays.Replayed.TheVariants.{Whole, Truncated}
 
--- no batch is past this number
-abbrev pub EndBy : ℕ → List Batch → Type 0
-EndBy end batches = All (λ batch. batch.number ≤ end) batches
+-- the line of batches in memory
+abbrev pub line_of : ℕ → List Batch → Line
+line_of floor batches = record { floor = floor; batches = batches }
 
--- a batch is past the next number
-abbrev pub HaveGapAfter : ℕ → List Batch → Type 0
-HaveGapAfter end batches = Any (λ batch. end + 1 < batch.number) batches
+-- How a replay ends that leads from one number to another: the log files are whole, or truncated at this one, and the
+-- replay leads up to the gap. One that fails leads to any number.
+abbrev pub Ends : (mark last from end : ℕ) → Objects → Result Replayed StoreError → Type 0
+Ends mark last from end objects (Ok Whole) = AreWhole mark last from end objects
+Ends mark last from end objects (Ok (Truncated id)) = AreTruncatedAt id mark last from end objects
+Ends mark last from end objects (Err error) = Unit {0}
 
--- each log file above a mark, up to an id, is stored, and has no batch past this number
-abbrev pub AreStoredBy : (mark last end : ℕ) → Objects → Type 0
-AreStoredBy mark last end objects = (id : ℕ) → mark < id → id ≤ last → MatchOption (log_at id objects) ⊥ (EndBy end)
+-- What a replay leaves of the batches that it found, however it ends: they begin each line that those before begin and
+-- that the log files belong to, and reach as far as the log files go without a gap.
+pub record Replays (mark last floor : ℕ) (old new : List Batch) (objects : Objects) (result : Result Replayed StoreError) : Type 0 where
+  pub begins : (line : Line) → IsPrefix (line_of floor old) line → BelongTo mark last (floor + length old) line objects → IsPrefix (line_of floor new) line
+  pub ends : Ends mark last (floor + length old) (floor + length new) objects result
 
--- All log files were there and have no batch past the end. Where their batches come one after another, these were
--- appended, all and in order.
-pub record IsWhole (mark last floor : ℕ) (old new : List Batch) (objects : Objects) : Type 0 where
-  pub stored : AreStoredBy mark last (floor + length new) objects
-  pub appended : IsReplayable mark last (floor + length old) objects → new ≡ old ++ replayed mark last (floor + length old) objects
+-- how appending the batches of one log file ends: true where there is no gap
+abbrev pub EndsAppending : (from end : ℕ) → List Batch → Result Bool StoreError → Type 0
+EndsAppending from end batches (Ok true) = HaveNoGap from end batches
+EndsAppending from end batches (Ok false) = HaveGap from end batches
+EndsAppending from end batches (Err error) = error ≡ NoMemory
 
--- The log file with this id is the first that isn't stored, or that has a batch past the next number. That comes only
--- where log files or batches are missing.
-pub record IsTruncatedAt (id mark last floor : ℕ) (old new : List Batch) (objects : Objects) : Type 0 where
-  pub above : mark < id
-  pub within : id ≤ last
-  pub earlier : AreStoredBy mark (id - 1) (floor + length new) objects
-  pub truncated : MatchOption (log_at id objects) (Unit {0}) (HaveGapAfter (floor + length new))
-  pub missing : IsReplayable mark last (floor + length old) objects → ⊥
-
--- one list of batches begins another
-abbrev pub IsFront : List Batch → List Batch → Type 0
-IsFront front batches = (rest : List Batch) × (batches ≡ front ++ rest)
-
--- what a replay leaves of the batches that it found; one that fails leaves the first of those that it was to leave
-abbrev pub Replays : (mark last floor : ℕ) → (old new : List Batch) → Objects → Result Replayed StoreError → Type 0
-Replays mark last floor old new objects (Ok Whole) = IsWhole mark last floor old new objects
-Replays mark last floor old new objects (Ok (Truncated id)) = IsTruncatedAt id mark last floor old new objects
-Replays mark last floor old new objects (Err error) =
-    IsReplayable mark last (floor + length old) objects → IsFront new (old ++ replayed mark last (floor + length old) objects)
-
--- Batches come next after a number: those of them above it are numbered from it on.
-abbrev pub ComeNext : ℕ → List Batch → Type 0
-ComeNext end batches = AreNumberedFrom end (batches_above end batches)
-
--- what appending the batches of one log file leaves: true where there was no gap
-abbrev pub AppendsNext : (floor : ℕ) → (old new batches : List Batch) → Result Bool StoreError → Type 0
-AppendsNext floor old new batches (Ok true) =
-    EndBy (floor + length new) batches
-    × (ComeNext (floor + length old) batches → new ≡ old ++ batches_above (floor + length old) batches)
-AppendsNext floor old new batches (Ok false) =
-    HaveGapAfter (floor + length new) batches × (ComeNext (floor + length old) batches → ⊥)
-AppendsNext floor old new batches (Err error) =
-    (error ≡ NoMemory)
-    × (ComeNext (floor + length old) batches → IsFront new (old ++ batches_above (floor + length old) batches))
+-- what appending the batches of one log file leaves
+pub record AppendsNext (floor : ℕ) (old new batches : List Batch) (result : Result Bool StoreError) : Type 0 where
+  pub begins : (line : Line) → IsPrefix (line_of floor old) line → All (λ batch. StandsIn batch line) (batches_above (floor + length old) batches) → IsPrefix (line_of floor new) line
+  pub ends : EndsAppending (floor + length old) (floor + length new) batches result

@@ -7,7 +7,7 @@ use std::alloc::Global;
 use std::test::Fail;
 
 // It opens a database, writes one batch and flushes it: seven calls of the store.
-fn write_once<S: Store>(alloc: Global, store: &mut S) -> Result<(), SlateError> {
+pub(crate) fn write_once<S: Store>(alloc: Global, store: &mut S) -> Result<(), SlateError> {
     let extractor: Option<&FixedPrefix> = None;
     let mut writer = WriterState::open(alloc, store, &WriterOptions::default(), extractor)?;
     let mut batch = WriteBatch::new(alloc);

@@ -1,3 +1,5 @@
 pub mod Copies
 pub mod LastLog
 pub mod Faults
+pub mod Logs
+pub mod Gapless

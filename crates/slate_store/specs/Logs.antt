@@ -1,18 +1,46 @@
--- What a replay of log files is to leave, and when they can be replayed.
-use Rattle.std.specs.Prelude.{ℕ, ◌+◌, ◌-◌, ◌≤◌, List, length, map, take}
-use Rattle.std.specs.List.{flat_map}
+-- The log files above a mark: whether they are whole, where they are truncated, and which line they belong to.
+use Rattle.std.specs.Prelude.{◌≡◌, ◌≢◌, ℕ, ◌+◌, ◌-◌, ◌<◌, ◌≤◌, max, All, List, [], ◌∷◌, ◌++◌, slice_get, Some, None, unwrap_or, MatchOption}
+use Rattle.std.specs.List.{flat_map, range_with_len}
 use Rattle.slate_types.specs.declared.batches.Batch.{Batch}
-use Rattle.slate_types.specs.Line.{AreNumberedFrom, batches_above}
-use Rattle.slate_store.specs.Content.{AreGapless, logs_above}
-use Rattle.slate_store.specs.Objects.{Objects}
+use Rattle.slate_types.specs.Line.{Line, batches_above}
+use Rattle.slate_store.specs.Objects.{Objects, log_at}
 
--- the batches above a number that the log files above a mark, up to an id, have
-abbrev pub replayed : (mark last number : ℕ) → Objects → List Batch
-replayed mark last number objects = batches_above number (flat_map (λ log. log.1) (take (last - mark) (logs_above mark objects)))
+-- the batches of the log files above a mark, up to an id, in order; one that isn't stored has none
+abbrev pub batches_between : (mark last : ℕ) → Objects → List Batch
+batches_between mark last objects = flat_map (λ id. unwrap_or (log_at id objects) []) (range_with_len (mark + 1) (last - mark))
 
--- The log files above a mark are stored without a gap, up to an id at least, and what they have above a number are
--- batches one after another from it on.
-pub record IsReplayable (mark last number : ℕ) (objects : Objects) : Type 0 where
-  pub gapless : AreGapless mark (map (λ log. log.0) (logs_above mark objects))
-  pub stored : last ≤ mark + length (logs_above mark objects)
-  pub numbered : AreNumberedFrom number (replayed mark last number objects)
+-- Batches whose numbers lead from one number to another without a gap: each is at most one past the greatest before it.
+abbrev pub HaveNoGap : (from end : ℕ) → List Batch → Type 0
+HaveNoGap from end [] = end ≡ from
+HaveNoGap from end (batch ∷ batches) = (batch.number ≤ from + 1) × HaveNoGap (max from batch.number) end batches
+
+-- those before a gap lead from one number to another, and the batch after it is past the next number
+pub record HaveGap (from end : ℕ) (batches : List Batch) : Type 0 where
+  pub front : List Batch
+  pub batch : Batch
+  pub rest : List Batch
+  pub parts : batches ≡ front ++ batch ∷ rest
+  pub no_gap : HaveNoGap from end front
+  pub past : end + 1 < batch.number
+
+-- The log files above a mark, up to an id, are stored, and their batches lead from one number to another without a gap.
+pub record AreWhole (mark last from end : ℕ) (objects : Objects) : Type 0 where
+  pub stored : (id : ℕ) → mark < id → id ≤ last → log_at id objects ≢ None
+  pub no_gap : HaveNoGap from end (batches_between mark last objects)
+
+-- The log files above a mark, up to an id, are truncated at this one of them: those before it are whole, and it isn't
+-- stored, or its batches have a gap. The batches before that lead from one number to the other.
+pub record AreTruncatedAt (id mark last from end : ℕ) (objects : Objects) : Type 0 where
+  pub above : mark < id
+  pub within : id ≤ last
+  pub reached : ℕ
+  pub earlier : AreWhole mark (id - 1) from reached objects
+  pub cut : MatchOption (log_at id objects) (end ≡ reached) (HaveGap reached end)
+
+-- the batch stands in the line, at the place of its number
+abbrev pub StandsIn : Batch → Line → Type 0
+StandsIn batch line = (k : ℕ) × (slice_get line.batches k ≡ Some batch) × (batch.number ≡ line.floor + k + 1)
+
+-- what the log files above a mark, up to an id, have above a number stands in the line
+abbrev pub BelongTo : (mark last number : ℕ) → Line → Objects → Type 0
+BelongTo mark last number line objects = All (λ batch. StandsIn batch line) (batches_above number (batches_between mark last objects))

@@ -1,5 +1,5 @@
 -- The calls of an opening, one after another, make an opening of the model.
-use Rattle.std.proofs.Common.{◌≡◌, ℕ, ℤ, ◌+◌, Bool, List, [], length, Option, Some, Result, Ok, Err, true, false, refl, sym, subst, ap, inl, inr, ◌∙◌, arith}
+use Rattle.std.proofs.Common.{◌≡◌, ℕ, ℤ, ◌+◌, Bool, List, [], length, Option, Some, None, Result, Ok, Err, true, false, refl, sym, subst, ap, inl, inr, ◌∙◌, arith}
 use Rattle.std.specs.Option.{IfSome}
 use Rattle.slate_types.specs.declared.batches.Batch.{Batch}
 use Rattle.slate_types.specs.Line.{Line}
@@ -8,7 +8,11 @@ use Rattle.slate_types.specs.declared.store_errors.StoreError.{StoreError}
 use Rattle.slate_types.specs.declared.store_errors.StoreError.TheVariants as refusals
 use Rattle.slate_types.specs.declared.store_errors.StoreFault.TheVariants.{Unavailable}
 use Rattle.slate_store.specs.Calls.{Puts, WhereModelled}
-use Rattle.slate_store.specs.Content.{IsSound, content}
+use Rattle.slate_store.specs.Content.{IsSound, content, logged}
+use Rattle.slate_store.proofs.Logs.{truncated-same}
+use Rattle.slate_replay.proofs.Recovered.{recovered-all, replays-same}
+use Rattle.slate_replay.specs.declared.replays.Replayed.TheVariants.{Whole}
+use Rattle.slate_replay.specs.Replay.{Replays}
 use Rattle.slate_store.specs.Objects.{Objects, Change, PutManifest, PutLog, is_present}
 use Rattle.slate_errors.specs.Errors.{error_of_store}
 use Rattle.slate_errors.specs.declared.errors.SlateError.{SlateError}
@@ -18,7 +22,7 @@ use Rattle.slate_model.specs.Open.{IsFresh, OpenFault, Opens, OpensHandle, found
 use Rattle.slate_store.specs.Objects.{changed, latest_manifest}
 use Rattle.slate_model.proofs.Entries.{absent}
 use Rattle.slate_model.proofs.Newest.{newest}
-use Rattle.slate_model.proofs.Reopened.{opening-replays, recovered, recovered-is, replayable}
+use Rattle.slate_model.proofs.Reopened.{opened-logs, opening-logs, recovered, recovered-is}
 use Rattle.slate_model.specs.Handle.{Handle}
 use Rattle.slate_model.specs.Known.{CountsFaults, IsContent, Known}
 use Rattle.slate_model.proofs.Reduced.{some-same}
@@ -76,8 +80,10 @@ module _ (o : Objects) (view : VersionedManifest) (last : ℕ) (found : FindsNex
     -- an opening that broke off in its replay
     pub opens_by_recovery : {A : Type 0} (e : SlateError) → Recovers view last o1 (Err e) → OpensModelled {A = A} o (Err e) o1
     opens_by_recovery (errors.WalTruncated id) h =
-        let gone = recovers-after (Err (errors.WalTruncated id)) h in
-        (2, record { answer = λ can. gone (opening-replays o can).replayable; part = omega arith; only = refl; can = λ _. found.0; after = both })
+        let m = (opened_manifest o).manifest in
+        let cut = recovers-after (Err (errors.WalTruncated id)) h in
+        let cut_before = truncated-same id m.replay_after_wal_id (found_log o) m.last_l0_seq cut.0 o (after_part 2 (open_changes (λ xs. xs) o) o) (opening-logs m.replay_after_wal_id o) cut.1 in
+        (2, record { answer = (cut.0, cut_before); part = omega arith; only = refl; can = λ _. found.0; after = both })
     opens_by_recovery errors.Fenced h =
         let newer = recovers-after (Err errors.Fenced) h in
         let top = newest o newer.0 newer.1 in
@@ -89,14 +95,20 @@ module _ (o : Objects) (view : VersionedManifest) (last : ℕ) (found : FindsNex
         (2, record { answer = tt; part = omega arith; only = tt; can = λ _. found.0; after = both })
     opens_by_recovery e h = absurd h
 
-    -- and one that replayed the content
+    -- and one that replayed the log files
+    pub opened_by_replay : (batches : List Batch) → Recovers view last o1 (Ok batches) → let m = (opened_manifest o).manifest in Replays m.replay_after_wal_id (found_log o) m.last_l0_seq [] batches o (Ok Whole)
+    opened_by_replay batches h =
+        let m = (opened_manifest o).manifest in
+        replays-same m.replay_after_wal_id (found_log o) m.last_l0_seq [] batches o (after_part 2 (open_changes (λ xs. xs) o) o) Whole (opening-logs m.replay_after_wal_id o) (recovers-after (Ok batches) h)
+
+    -- of sound objects, these have the content
     pub opened_by_recovery : (keeps_log : Bool) (limit : ℕ) (batches : List Batch) → Recovers view last o1 (Ok batches) → IsSound o → recovered keeps_log limit view batches ≡ opened_handle keeps_log limit (opened_manifest o) (content o)
     opened_by_recovery keeps_log limit batches h sound =
-        let can = replayable o sound in
-        let same = opening-replays o can in
-        let all = recovers-after (Ok batches) h same.replayable in
+        let m = (opened_manifest o).manifest in
+        let its = opened-logs o sound in
+        let all = recovered-all m.replay_after_wal_id (found_log o) m.last_l0_seq (logged o m) batches o its.whole its.belong Whole (opened_by_replay batches h) in
         ap (λ v. recovered keeps_log limit v batches) found.1
-        ∙ (ap (recovered keeps_log limit (opened_manifest o)) (all ∙ same.batches) ∙ recovered-is keeps_log limit o sound found.0)
+        ∙ (ap (recovered keeps_log limit (opened_manifest o)) all.0 ∙ recovered-is keeps_log limit o sound found.0)
 
 -- the same of the calls of an opening, one after the other
 pub puts_modelled : {A : Type 0} {t t0 t1 : Option Objects} (view : VersionedManifest) (last : ℕ) (e : SlateError) → IfSome t (λ o. FindsNext o (Ok (view, last))) → t0 ≡ t → WhereModelled (PutsOpening view (last + 1) (Err e)) t0 t1 → WhereModelled (λ o o'. OpensModelled {A = A} o (Err e) o') t t1
@@ -119,6 +131,13 @@ module _ {t t0 t1 : Option Objects} (view : VersionedManifest) (last : ℕ) (fou
   recovered_modelled keeps_log limit batches recovers o is sound =
       let p = puts.some o (kept ∙ is) in
       opened_by_recovery o view last (found_at o is) p.0 p.2 keeps_log limit batches (subst (λ x. IfSome x (λ o. Recovers view last o (Ok batches))) p.1 recovers) sound
+
+-- the same of a store that may be modelled
+pub has_logs : {t t0 t1 : Option Objects} (view : VersionedManifest) (last : ℕ) (batches : List Batch) → IfSome t (λ o. FindsNext o (Ok (view, last))) → t0 ≡ t → WhereModelled (PutsOpening view (last + 1) (Ok tt)) t0 t1 → IfSome t1 (λ o. Recovers view last o (Ok batches)) → IfSome t (λ o. let m = (opened_manifest o).manifest in Replays m.replay_after_wal_id (found_log o) m.last_l0_seq [] batches o (Ok Whole))
+has_logs {t = None} view last batches found kept puts recovers = tt
+has_logs {t = Some o} view last batches found kept puts recovers =
+    let p = puts.some o kept in
+    opened_by_replay o view last found p.0 p.2 batches (subst (λ x. IfSome x (λ o. Recovers view last o (Ok batches))) p.1 recovers)
 
 -- the fields of the handle of an opening
 pub recovered_at : (keeps_log : Bool) (limit : ℕ) (view : VersionedManifest) (batches bs : List Batch) (tick : ℤ) → bs ≡ batches → tick ≡ latest_tick view.manifest.last_tick batches → record (recovered keeps_log limit view batches) { durable = view.manifest.last_l0_seq + length bs; tick = tick } ≡ recovered keeps_log limit view batches

@@ -4,10 +4,13 @@ use Rattle.slate_types.specs.declared.batches.Batch.{Batch}
 use Rattle.slate_store.specs.declared.objects.VersionedManifest.{VersionedManifest}
 use Rattle.slate_types.specs.declared.store_errors.StoreFault.TheVariants.{Unavailable}
 use Rattle.slate_store.specs.Objects.{Objects, Change, PutManifest, PutLog, is_present, latest_manifest}
-use Rattle.slate_store.specs.Logs.{IsReplayable, replayed}
+use Rattle.slate_store.specs.Logs.{AreTruncatedAt}
+use Rattle.slate_replay.specs.Replay.{Replays}
+use Rattle.slate_replay.specs.declared.replays.Replayed.TheVariants.{Whole}
 use Rattle.slate_errors.specs.declared.errors.SlateError.{SlateError}
 use Rattle.slate_errors.specs.declared.errors.SlateError.TheVariants as errors
 use Rattle.slate_model.specs.Changes.{after_part}
+use Rattle.slate_model.specs.Handle.{Handle}
 use Rattle.slate_model.specs.Open.{OpenCause, can_open, found_log, opened_manifest}
 
 -- the last log file of a store that can be opened; or why it can't be
@@ -36,16 +39,23 @@ PutsOpening view fence (Err errors.NoMemory) old new =
     (made : ℕ) × (made ≤ 2) × (new ≡ after_part made (opening_puts view fence) old)
 PutsOpening view fence (Err error) old new = ⊥
 
--- what the log files of a manifest give up to one of them, or why they give nothing
+-- The batches that the log files of a manifest have, up to one of them, or why they give none: they are truncated at
+-- this one, or the manifest isn't the latest any more.
 abbrev pub Recovers : VersionedManifest → ℕ → Objects → Result (List Batch) SlateError → Type 0
 Recovers view last objects (Ok batches) =
     let m = view.manifest in
-    IsReplayable m.replay_after_wal_id last m.last_l0_seq objects → batches ≡ replayed m.replay_after_wal_id last m.last_l0_seq objects
+    Replays m.replay_after_wal_id last m.last_l0_seq [] batches objects (Ok Whole)
 Recovers view last objects (Err (errors.WalTruncated id)) =
     let m = view.manifest in
-    IsReplayable m.replay_after_wal_id last m.last_l0_seq objects → ⊥
+    (end : ℕ) × AreTruncatedAt id m.replay_after_wal_id last m.last_l0_seq end objects
 Recovers view last objects (Err errors.Fenced) =
     (latest : VersionedManifest) × (latest_manifest objects ≡ Some latest) × (view.manifest.writer_epoch < latest.manifest.writer_epoch)
 Recovers view last objects (Err (errors.ObjectStoreError Unavailable)) = Unit {0}
 Recovers view last objects (Err errors.NoMemory) = Unit {0}
 Recovers view last objects (Err error) = ⊥
+
+-- what a handle that was opened sees is what a replay of the log files gives, sound or not
+abbrev pub HasLogs : Objects → Handle → Type 0
+HasLogs objects handle =
+    let m = (opened_manifest objects).manifest in
+    Replays m.replay_after_wal_id (found_log objects) m.last_l0_seq [] handle.line.batches objects (Ok Whole)

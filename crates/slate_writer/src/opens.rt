@@ -8,7 +8,7 @@ ghost use Rattle.slate_store.specs.Objects.{latest_manifest};
 ghost use Rattle.slate_model.specs.Known.{CountsFaults, IsContent, known};
 ghost use Rattle.slate_model.specs.Open.{OpenFault, OpensHandle, can_open_by, can_reopen, first_manifest, latest_tick, mark_of, next_manifest};
 ghost use Rattle.slate_model.specs.Write.{last_number};
-ghost use Rattle.slate_writer.specs.Opening.{FindsLog, FindsNext, PutsOpening, Recovers};
+ghost use Rattle.slate_writer.specs.Opening.{FindsLog, FindsNext, HasLogs, PutsOpening, Recovers};
 
 use crate::WriterState;
 use slate_errors::{CloseCell, SlateError};
@@ -60,9 +60,11 @@ impl WriterState {
     /// It answers `InvalidDBState` where the latest manifest isn't initialised, and where the next manifest, epoch or
     /// log file would pass the greatest number; nothing is put then. Until tables are built it answers so too where
     /// the manifest names one. A fault of the store (`ObjectStoreError`) or `NoMemory` may leave the manifest, which
-    /// fences the handles before it, or the manifest and the log file. `WalTruncated` comes where log files or batches
-    /// of the replay are missing, and `Fenced` where another handle was opened meanwhile; none of the two, nor
-    /// `TransactionalObjectVersionExists`, comes over a store that only handles wrote.
+    /// fences the handles before it, or the manifest and the log file. `WalTruncated` names the log file at which the
+    /// replay ended, since it isn't stored or a batch of it is past the next number; it comes where another look at the
+    /// latest manifest finds no greater epoch, and `Fenced` where it does, since another handle was opened meanwhile.
+    /// The manifest and the log file are put then. None of the two, nor `TransactionalObjectVersionExists`, comes over
+    /// a store that only handles wrote.
     pub fn open<S: Store, E: PrefixExtractor>(
         alloc: Global,
         store: &mut S,
@@ -70,8 +72,9 @@ impl WriterState {
         extractor: Option<&E>,
     ) -> Result<WriterState, SlateError>
         requires { extractor ≡ None }
-        ensures { (made : ℕ) × OpensHandle (λ batches. batches) OpenFault (IsContent (S.objects store.old)) made options.now.wal_enabled options.now.max_unflushed_bytes
+        ensures opens { (made : ℕ) × OpensHandle (λ batches. batches) OpenFault (IsContent (S.objects store.old)) made options.now.wal_enabled options.now.max_unflushed_bytes
             (known S.objects S.faults store.old) result (known S.objects S.faults store.new) }
+        ensures replays { IfOk result (λ h. IfSome (S.objects store.old) (λ o. HasLogs o h)) }
     {
         let (view, last) = find_next(alloc, store)?;
         put_opening(alloc, store, &view, last + 1)?;

@@ -1,7 +1,8 @@
-use Rattle.std.proofs.Common.{◌≡◌, ◌+◌, ◌<◌, ◌^◌, ◌++◌, List, Ok, true, length, take}
+use Rattle.std.proofs.Common.{◌≡◌, ◌+◌, ◌<◌, ◌^◌, ◌++◌, List, length, take}
 use Rattle.slate_types.specs.Line.{AreNumberedFrom}
 use Rattle.slate_types.specs.declared.batches.Batch.{Batch}
-use Rattle.slate_replay.specs.Replay.{AppendsNext}
+use Rattle.slate_store.specs.Logs.{HaveNoGap}
+use Rattle.slate_replay.proofs.Appending.{Begins}
 use Rattle.slate_replay.proofs.replays.append_next.Given as goal
 
 abbrev pub invariant-loop-batch : goal.invariant-loop-batch
@@ -9,5 +10,6 @@ invariant-loop-batch l = record {
   numbered : AreNumberedFrom l.floor l.memory;
   fits : l.floor + length l.memory < 2 ^ 64;
   grows : (added : List Batch) × (l.memory ≡ l.fn.memory ++ added);
-  appended : AppendsNext l.floor l.fn.memory l.memory (take l.batch-index l.batches) (Ok true);
+  begins : Begins l.floor l.fn.memory l.memory l.batches;
+  no_gap : HaveNoGap (l.floor + length l.fn.memory) (l.floor + length l.memory) (take l.batch-index l.batches);
 }

@@ -1,8 +1,9 @@
-use Rattle.std.proofs.Common.{◌≡◌, ◌+◌, ◌<◌, ◌≤◌, ◌^◌, ◌++◌, List, length, max}
+use Rattle.std.proofs.Common.{◌≡◌, ◌+◌, ◌<◌, ◌≤◌, ◌^◌, ◌++◌, List, Ok, length, max}
 use Rattle.std.specs.Option.{IfSome}
 use Rattle.slate_types.specs.Line.{AreNumberedFrom}
 use Rattle.slate_types.specs.declared.batches.Batch.{Batch}
-use Rattle.slate_replay.specs.Replay.{IsWhole}
+use Rattle.slate_replay.specs.Replay.{Replays}
+use Rattle.slate_replay.specs.declared.replays.Replayed.TheVariants.{Whole}
 use Rattle.slate_replay.proofs.replays.replay.Given as goal
 
 abbrev pub invariant-loop-before : goal.invariant-loop-before
@@ -13,5 +14,5 @@ invariant-loop-before g l = record {
   kept : g.S.Store.objects l.store ≡ g.S.Store.objects l.fn.store;
   count : g.S.Store.faults l.fn.store ≤ g.S.Store.faults l.store;
   within : l.before ≤ max l.mark l.last;
-  whole : IfSome (g.S.Store.objects l.fn.store) (λ o. IsWhole l.mark l.before l.floor l.fn.memory l.memory o);
+  replays : IfSome (g.S.Store.objects l.fn.store) (λ o. Replays l.mark l.before l.floor l.fn.memory l.memory o (Ok Whole));
 }

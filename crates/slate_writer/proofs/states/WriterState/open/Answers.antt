@@ -1,28 +1,28 @@
 use Rattle.std.proofs.Common.{◌∙◌, ap, rules}
 use Rattle.std.proofs.lemmas.Result.{err_from_is_err_and}
 use Rattle.slate_model.specs.Open.{latest_tick}
-use Rattle.slate_writer.proofs.Openings.{found_view, none_modelled, opened_modelled, opens_err, opens_ok, puts_modelled, recovered_at, recovered_modelled, recovery_modelled}
+use Rattle.slate_writer.proofs.Openings.{found_view, has_logs, none_modelled, opened_modelled, opens_err, opens_ok, puts_modelled, recovered_at, recovered_modelled, recovery_modelled}
 use Rattle.slate_writer.proofs.states.WriterState.open.Goals as goal
 
-pub returns-in_err-view : goal.returns-in_err-view
-returns-in_err-view g c =
+pub returns-in_err-view-clause-opens : goal.returns-in_err-view-clause-opens
+returns-in_err-view-clause-opens g c =
     let p = err_from_is_err_and c.from_residual.result c.from_residual.ensures.1 in
     rw (p.1, p.2) (opens_err c.args.options.now.wal_enabled c.args.options.now.max_unflushed_bytes _ _ _ (search rules) (none_modelled _ c.in_err-view.ensures.kept c.in_err-view.ensures.where_modelled))
 
-pub returns-in_err-put_opening : goal.returns-in_err-put_opening
-returns-in_err-put_opening g c =
+pub returns-in_err-put_opening-clause-opens : goal.returns-in_err-put_opening-clause-opens
+returns-in_err-put_opening-clause-opens g c =
     let p = err_from_is_err_and c.from_residual-in_err-put_opening.result c.from_residual-in_err-put_opening.ensures.1 in
     rw (p.1, p.2) (opens_err c.args.options.now.wal_enabled c.args.options.now.max_unflushed_bytes _ _ _ (search rules)
     (puts_modelled c.in_ok-view.view c.in_ok-view.last _ c.in_ok-view.ensures.where_modelled c.in_ok-view.ensures.kept c.in_err-put_opening.ensures.where_modelled))
 
-pub returns-in_err-memory : goal.returns-in_err-memory
-returns-in_err-memory g c =
+pub returns-in_err-memory-clause-opens : goal.returns-in_err-memory-clause-opens
+returns-in_err-memory-clause-opens g c =
     let p = err_from_is_err_and c.from_residual-in_err-memory.result c.from_residual-in_err-memory.ensures.1 in
     rw (p.1, p.2) (opens_err c.args.options.now.wal_enabled c.args.options.now.max_unflushed_bytes _ _ _ (search rules)
     (recovery_modelled c.in_ok-view.view c.in_ok-view.last c.in_ok-view.ensures.where_modelled c.in_ok-view.ensures.kept c.in_ok-put_opening.ensures.where_modelled _ c.in_err-memory.ensures.kept c.in_err-memory.ensures.where_modelled))
 
-pub returns : goal.returns
-returns g c =
+pub returns-clause-opens : goal.returns-clause-opens
+returns-clause-opens g c =
     let fresh = c.new.ensures in
     rw c.new.ensures (opens_ok c.args.options.now.wal_enabled c.args.options.now.max_unflushed_bytes _ _ _ (search rules)
     (opened_modelled c.in_ok-view.view c.in_ok-view.last _ c.in_ok-view.ensures.where_modelled c.in_ok-view.ensures.kept c.in_ok-put_opening.ensures.where_modelled c.in_ok-memory.ensures.kept)
@@ -30,3 +30,7 @@ returns g c =
     (found_view c.in_ok-view.view c.in_ok-view.last c.in_ok-view.ensures.where_modelled)
     (λ o is sound. recovered_at c.args.options.now.wal_enabled c.args.options.now.max_unflushed_bytes c.in_ok-view.view c.in_ok-memory.memory c.batches.result.now _ c.batches.ensures.value (search rules ∙ (c.latest_tick.ensures ∙ (ap (latest_tick _) c.batches-2.ensures.value ∙ ap (λ t. latest_tick t c.in_ok-memory.memory) (search rules))))
     ∙ recovered_modelled c.in_ok-view.view c.in_ok-view.last c.in_ok-view.ensures.where_modelled c.in_ok-view.ensures.kept c.in_ok-put_opening.ensures.where_modelled c.args.options.now.wal_enabled c.args.options.now.max_unflushed_bytes c.in_ok-memory.memory c.in_ok-memory.ensures.where_modelled o is sound))
+
+pub returns-clause-replays : goal.returns-clause-replays
+returns-clause-replays g c =
+    has_logs c.in_ok-view.view c.in_ok-view.last c.in_ok-memory.memory c.in_ok-view.ensures.where_modelled c.in_ok-view.ensures.kept c.in_ok-put_opening.ensures.where_modelled c.in_ok-memory.ensures.where_modelled

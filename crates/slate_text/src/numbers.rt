@@ -26,8 +26,8 @@ pub fn read_number(field: &[u8]) -> Option<u64>
     Some(number)
 }
 
-// A time in milliseconds.
-fn read_time(field: &[u8]) -> Option<i64>
+/// The time in milliseconds that a field spells: a number from 0 to 9223372036854775807. It takes no memory.
+pub fn read_time(field: &[u8]) -> Option<i64>
     ensures { result ≡ time_of field.now }
 {
     i64::try_from(read_number(field)?).ok()

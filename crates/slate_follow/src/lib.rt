@@ -6,6 +6,7 @@ mod options;
 mod polls;
 mod reads;
 mod rebuilds;
+mod scans;
 mod states;
 
 pub use options::DbReaderOptions;

@@ -9,3 +9,4 @@ pub mod Scanned
 pub mod Recent
 pub mod Unique
 pub mod Walks
+pub mod Taking

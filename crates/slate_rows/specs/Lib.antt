@@ -5,5 +5,6 @@ pub mod Kept
 pub mod Recency
 pub mod Scan
 pub mod Shared
+pub mod Taken
 pub mod Varint
 pub mod Walked

@@ -9,6 +9,7 @@ use Rattle.slate_types.specs.Operator.{Merge}
 use Rattle.slate_types.specs.Order.{AreInOrder}
 use Rattle.slate_types.specs.Range.{contains}
 use Rattle.slate_reads.specs.Read.{history, read_at}
+use Rattle.slate_rows.specs.Iteration.{Iteration, begun}
 
 -- rows, and the fault that ends them, where there is one
 pub record Rows : Type 0 where
@@ -33,3 +34,8 @@ pub record IsScan (merge : Option Merge) (batches : List Batch) (bound : Option 
   pub in_order : AreInOrder order keys
   pub whole : (key : List ℕ) → Contains keys key ↔ (IsTrue (contains range key) × (history batches bound key ≢ []))
   pub taken : rows_of (read_at merge batches bound) keys ≡ record { rows = rows; fault = fault }
+
+-- An iteration over the plain scan, of which no row has come yet.
+pub record BeginsScan (merge : Option Merge) (batches : List Batch) (bound : Option ℕ) (range : ByteRange) (order : IterationOrder) (it : Iteration) : Type 0 where
+  pub unbegun : it ≡ begun range order it.rows it.fault
+  pub plain : IsScan merge batches bound range order it.rows it.fault

@@ -1,9 +1,11 @@
 // Iterators over the rows of a range, with seeks and the fault that ends them.
-ghost use Rattle.std.specs.Prelude.{◌≡◌, ◌<◌, ◌∷◌, List, map, not, filter, All, IsTrue, IfOk, OnOk, IfErr, Some, None};
+ghost use Rattle.std.specs.Prelude.{◌≡◌, ◌<◌, ◌∷◌, ◌++◌, List, map, not, filter, take, All, IsTrue, IfOk, OnOk, IfErr, Some, None};
 ghost use Rattle.std.specs.VecDeque.{deque_len};
 ghost use Rattle.slate_rows.specs.declared.iterators.Kept.{Kept};
 ghost use Rattle.slate_rows.specs.Iteration.{begun, next_of, after_next, is_returned, seek_refusal, sought};
 ghost use Rattle.slate_rows.specs.Kept.{kept_rows, kept_keys, AreCopies};
+ghost use Rattle.slate_rows.specs.Taken.{all_rows, after_taking, seek_at, Seeks};
+ghost use Rattle.slate_reads.specs.Read.{Reads};
 ghost use Rattle.slate_types.specs.Order.{is_before, AreInOrder, row_keys};
 ghost use Rattle.slate_types.specs.Range.{contains};
 
@@ -114,6 +116,67 @@ impl DbIterator {
         pass(&mut self.rows, self.order, next_key);
         Ok(())
     }
+
+    /// All rows that are left. Where a fault ends them it answers that fault, and else they come, or `NoMemory`. It
+    /// copies no row, and takes constant time for each, and the memory of their list.
+    pub fn into_rows(self, alloc: Global) -> Result<Seq<KeyValue>, ReadFault>
+        ensures { Reads (all_rows self.rows self.fault) result }
+    {
+        let DbIterator { rows, fault, .. } = self;
+        if let Some(fault) = fault {
+            return Err(fault);
+        }
+        let mut list = Vec::new(alloc);
+        add_rows(&mut list, rows)?;
+        Ok(Seq::of(list))
+    }
+
+    /// The next rows, up to `count`, and then those of the rest that aren't before a key, in the order of the iterator:
+    /// what so many calls of `next`, a `seek` and `into_rows` give.
+    ///
+    /// It answers `Stored` with the fault that ends the rows where fewer than `count` come, then what `seek` refuses,
+    /// and then `Stored` with the fault, where one ends the rows; for want of memory it answers `Stored` with
+    /// `NoMemory`. It copies no row, and takes constant time for each row that is left, also for those that the seek
+    /// passes, and the memory of the list that it gives.
+    pub fn into_rows_with_seek(
+        mut self,
+        alloc: Global,
+        count: u64,
+        key: &[u8],
+    ) -> Result<Seq<KeyValue>, SeekFault>
+        ensures { Seeks (seek_at count key.now self) result }
+    {
+        let mut list = Vec::new(alloc);
+        self.take_rows(&mut list, count)?;
+        self.seek(key)?;
+        let DbIterator { rows, fault, .. } = self;
+        if let Some(fault) = fault {
+            return Err(SeekFault::Stored(fault));
+        }
+        add_rows(&mut list, rows)?;
+        Ok(Seq::of(list))
+    }
+
+    /// Adds the next rows to a list, up to `count`.
+    fn take_rows(&mut self, list: &mut Vec<KeyValue>, count: u64) -> Result<(), NoMemory>
+        ensures rows { OnOk result (list.new.items ≡ list.old.items ++ take count self.old.rows) }
+        ensures after { OnOk result (self.new ≡ after_taking count self.old) }
+    {
+        'rows: for _ in 0..count {
+            let Ok(Some(row)) = self.next() else {
+                break;
+            };
+            list.push(row)?;
+        }
+        Ok(())
+    }
+}
+
+/// Adds rows to a list.
+fn add_rows(list: &mut Vec<KeyValue>, rows: VecDeque<Kept>) -> Result<(), NoMemory>
+    ensures { OnOk result (list.new.items ≡ list.old.items ++ kept_rows rows.items) }
+{
+    Ok(list.extend(rows.into_iter().map(|kept| kept.row))?)
 }
 
 /// Whether a key is at most the one that was returned last.

@@ -6,6 +6,7 @@ mod flushes;
 mod merges;
 mod opens;
 mod reads;
+mod scans;
 mod states;
 mod writes;
 

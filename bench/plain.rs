@@ -3,6 +3,7 @@
 use std::collections::BTreeMap;
 use std::fmt::Write as _;
 use std::io::{Read, Write};
+use std::ops::Bound;
 use std::rc::Rc;
 
 #[derive(Clone)]
@@ -138,14 +139,41 @@ fn write_word(out: &mut String, bytes: &[u8]) {
     }
 }
 
+fn write_stamp(out: &mut String, row: &Row) {
+    write_word(out, &row.value);
+    let _ = writeln!(out, " number {} created {}", row.number, row.created);
+}
+
 fn write_row(out: &mut String, row: Option<&Row>) {
     match row {
         None => out.push_str("none\n"),
         Some(row) => {
             out.push_str("value ");
-            write_word(out, &row.value);
-            let _ = writeln!(out, " number {} created {}", row.number, row.created);
+            write_stamp(out, row);
         }
+    }
+}
+
+/// A bound of a range: `*`, or `[` or `(` and a byte word.
+fn read_bound(word: &[u8]) -> Option<Bound<Vec<u8>>> {
+    match word {
+        b"*" => Some(Bound::Unbounded),
+        [b'[', key @ ..] => Some(Bound::Included(read_word(key)?)),
+        [b'(', key @ ..] => Some(Bound::Excluded(read_word(key)?)),
+        _ => None,
+    }
+}
+
+/// Prints the rows of a range, whose bounds don't cross.
+fn write_rows(out: &mut String, rows: &Rows, low: Bound<Vec<u8>>, high: Bound<Vec<u8>>) {
+    let bounds = (low.as_ref().map(Vec::as_slice), high.as_ref().map(Vec::as_slice));
+    let found: Vec<(&Rc<[u8]>, &Row)> = rows.range::<[u8], _>(bounds).collect();
+    let _ = writeln!(out, "rows {}", found.len());
+    for (key, row) in found {
+        out.push_str("row ");
+        write_word(out, key);
+        out.push(' ');
+        write_stamp(out, row);
     }
 }
 
@@ -214,6 +242,11 @@ impl Live {
             }
             (b"get", Object::Handle(handle)) => write_row(out, handle.rows.get(read_word(fields.next()?)?.as_slice())),
             (b"get", Object::Follower(follower)) => write_row(out, follower.rows.get(read_word(fields.next()?)?.as_slice())),
+            (b"scan", Object::Handle(handle)) => {
+                let low = read_bound(fields.next()?)?;
+                let high = read_bound(fields.next()?)?;
+                write_rows(out, &handle.rows, low, high);
+            }
             (b"poll", Object::Follower(follower)) => {
                 self.store.poll(follower);
                 let _ = writeln!(out, "whole at {}", follower.number);

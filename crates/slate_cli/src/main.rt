@@ -13,8 +13,11 @@ const HELP: &str = "\
 slate reads a script of timed commands from standard input, runs it over a fresh
 store in memory, and prints a reply per command.
 
-usage: slate < SCRIPT
+usage: slate [--merge concat] < SCRIPT
        slate --help | --version
+
+With --merge concat the operands of a key are appended; without it a merge is
+refused.
 
 A line of the script is a moment in milliseconds and a command, as in
   0 open

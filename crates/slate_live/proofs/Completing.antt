@@ -1,15 +1,17 @@
 -- A valid command that meets no fault is refused nothing.
-use Rattle.std.proofs.Common.{◌≡◌, ◌⊎◌, inl, inr, ℕ, ℤ, ◌<◌, ◌≤◌, Bool, true, false, if◌then◌else◌, ◌||◌, List, [], ◌∷◌, length, Option, Some, None, Result, Ok, Err, refl, sym, subst, ap, ◌∙◌, arith}
+use Rattle.std.proofs.Common.{◌≡◌, ◌≢◌, ◌⊎◌, inl, inr, ℕ, ℤ, ◌<◌, ◌≤◌, Bool, true, false, if◌then◌else◌, List, [], ◌∷◌, length, Option, Some, None, Result, Ok, Err, refl, sym, subst, ap, ◌∙◌, arith}
 use Rattle.std.specs.List.{slice_get}
 use Rattle.std.proofs.lemmas.Bool.{le-leb, lt-ltb}
-use Rattle.std.proofs.Math.Dec.{eqb-suc-zero}
 use Rattle.slate_types.specs.Counts.{HasRisen}
+use Rattle.slate_types.specs.declared.batches.KeyOp.{KeyOp}
 use Rattle.slate_types.specs.declared.batches.KeyValue.{KeyValue}
 use Rattle.slate_types.specs.declared.options.FlushType.{FlushType}
+use Rattle.slate_types.specs.Operator.{Merge}
 use Rattle.slate_types.specs.declared.read_faults.ReadFault.{ReadFault}
 use Rattle.slate_types.specs.declared.read_faults.ReadFault.TheVariants as reads
 use Rattle.slate_types.specs.declared.store_errors.StoreFault.TheVariants.{Unavailable}
 use Rattle.slate_store.specs.declared.objects.VersionedManifest.{VersionedManifest}
+use Rattle.slate_rows.specs.Iteration.{Iteration}
 use Rattle.slate_store.specs.Objects.{latest_manifest, last_log}
 use Rattle.slate_errors.specs.declared.endings.Ended.{Ended}
 use Rattle.slate_errors.specs.declared.errors.SlateError.{SlateError}
@@ -24,24 +26,26 @@ use Rattle.slate_model.specs.Handle.{CloseResult, Handle, accepted, unstored}
 use Rattle.slate_model.specs.Known.{CountsFaults}
 use Rattle.slate_model.specs.Object.{Object, Handle as AHandle, Follower as AFollower}
 use Rattle.slate_model.specs.Open.{OpenAnswer}
-use Rattle.slate_model.specs.Read.{AnswersRead, Reads}
+use Rattle.slate_model.specs.Read.{AnswersRead, AnswersScan}
 use Rattle.slate_model.specs.Write.{Writes, accepted_moment, batch_refusal, clock_refusal, last_number, number_refusal, write_refusal}
 use Rattle.slate_model.proofs.Reduced.{modelled}
-use Rattle.slate_script.specs.declared.commands.Action.{Action}
-use Rattle.slate_script.specs.declared.commands.Action.TheVariants as actions
 use Rattle.slate_script.specs.declared.commands.Command.{Command}
 use Rattle.slate_script.specs.declared.replies.Reply.{Reply}
 use Rattle.slate_script.specs.declared.replies.Reply.TheVariants as replies
 use Rattle.slate_live.specs.declared.states.Write.{Write}
+use Rattle.slate_live.specs.Calls.{Call, Write as WriteCall, Merge as MergeCall, Flush, Get, Scan, Seek, Close, Poll, Nothing, call_of, Target, NewHandle, NewFollower, OfWrite, OfObject, target_of}
 use Rattle.slate_live.specs.Commands.{ActsOn, DoesBy, asked_reply, write_reply}
-use Rattle.slate_live.specs.Handles.{flush_of_close, pending_reply, put_op}
-use Rattle.slate_live.specs.Replies.{closed_reply, ended_reply, follower_ended_reply, followed_reply, found_reply, polled_reply, refusal, reply_to}
+use Rattle.slate_live.specs.Followers.{FollowerActs}
+use Rattle.slate_live.specs.Handles.{HandleActs, MergesTo, WritesTo, pending_reply}
+use Rattle.slate_live.specs.Replies.{IsRead, closed_reply, ended_reply, follower_ended_reply, followed_reply, found_reply, polled_reply, refusal, reply_to}
 use Rattle.slate_live.specs.Represents.{IsValid}
+use Rattle.slate_live.specs.Scans.{IsTaken, Takes, scanned, sought}
 use Rattle.slate_live.specs.Settings.{Settings}
-use Rattle.slate_live.specs.Valid.{AtObject, CanClose, CanFollow, CanOpen, CanPut, CanStore, IsOkOrNoMemory, IsValidAction, IsValidCommand}
+use Rattle.slate_live.specs.Valid.{AtObject, CanAsk, CanAskFollower, CanClose, CanFollow, CanOpen, CanRead, CanStore, CanTake, CanWrite, IsDurable, IsOkOrNoMemory, IsValidAt, IsValidCommand}
 use Rattle.slate_live.specs.World.{Next, World, by_catalogue, state_of}
 use Rattle.slate_live.proofs.Cases.{some-of}
-use Rattle.slate_live.proofs.Naming.{FollowerDid, HandleDid, follower-did, handle-did}
+use Rattle.slate_live.proofs.Naming.{follower-did, handle-did}
+use Rattle.slate_live.proofs.Writing.{accepts}
 
 none-some : {A : Type 0} (o : Option A) (x : A) → o ≡ None → o ≡ Some x → ⊥
 none-some o x none some = absurd (cc)
@@ -124,28 +128,35 @@ close-completes w w' made h h' (Some (Err fault)) flush_type e reply at can c is
     let a = some-of (λ q. (e ≡ ended (fault_again q)) × (h' ≡ h) × _) h.result (Err fault) at c.again in
     subst IsOkOrNoMemory (sym (is ∙ ap ended_reply a.0)) tt
 
--- a put that nothing stands against isn't refused
-no-refusal : (handle : Handle) (key value : List ℕ) (expire : Option ℤ) (moment : ℤ) (second : Option ℤ) → handle.result ≡ None → CanPut key moment second handle → write_refusal handle (put_op key value expire ∷ []) moment second ≡ None
-no-refusal handle [] value expire moment second unclosed can = absurd (beyond 0 0 can.0 (omega (arith)))
-no-refusal handle (byte ∷ key) value expire moment second unclosed can =
-    let batch : batch_refusal (put_op (byte ∷ key) value expire ∷ []) ≡ None = ap (λ empty. if (empty || false) then Some errors.EmptyKey else None) (eqb-suc-zero (length key)) in
-    let number : number_refusal (accepted handle) ≡ None = ap (λ below. if below then None else Some errors.InvalidDBState) (lt-ltb (accepted handle) last_number can.1) in
-    let clock : clock_refusal handle.tick moment second (accepted_moment handle.tick moment second) ≡ None = ap (clock_refusal handle.tick moment second) can.3 in
-    rw (unclosed, batch, number, clock) refl
+-- a write that nothing stands against isn't refused
+no-refusal : (handle : Handle) (ops : List KeyOp) (moment : ℤ) (second : Option ℤ) → CanWrite ops moment second handle → write_refusal handle ops moment second ≡ None
+no-refusal handle ops moment second can =
+    let batch : batch_refusal ops ≡ None = accepts ops can.writable in
+    let number : number_refusal (accepted handle) ≡ None = ap (λ below. if below then None else Some errors.InvalidDBState) (lt-ltb (accepted handle) last_number can.number) in
+    let clock : clock_refusal handle.tick moment second (accepted_moment handle.tick moment second) ≡ None = ap (clock_refusal handle.tick moment second) (can.moments).1 in
+    rw (can.unclosed, batch, number, clock) refl
 
 memory-alone : (e : SlateError) (refused : Option SlateError) → refused ≡ None → (e ≡ errors.NoMemory) ⊎ (refused ≡ Some e) → e ≡ errors.NoMemory
 memory-alone e refused none (inl memory) = memory
 memory-alone e refused none (inr because) = absurd (none-some refused e none because)
 
-write-free : (h h' : Handle) (key value : List ℕ) (expire : Option ℤ) (moment : ℤ) (second : Option ℤ) (r : Result Written SlateError) → h.result ≡ None → CanPut key moment second h → Writes h (put_op key value expire ∷ []) moment second r h' → IsFree r
-write-free h h' key value expire moment second (Ok w) live can s = tt
-write-free h h' key value expire moment second (Err e) live can s = memory-alone e _ (no-refusal h key value expire moment second live can) s.refused.0
+write-free : (h h' : Handle) (ops : List KeyOp) (moment : ℤ) (second : Option ℤ) (r : Result Written SlateError) → CanWrite ops moment second h → Writes h ops moment second r h' → IsFree r
+write-free h h' ops moment second (Ok w) can s = tt
+write-free h h' ops moment second (Err e) can s = memory-alone e _ (no-refusal h ops moment second can) s.refused.0
+
+write-completes : (n : ℕ) (ops : List KeyOp) (moment : ℤ) (second : Option ℤ) (h : Handle) (writes : List Write) (reply : Reply) (h' : Handle) (writes' : List Write) → CanWrite ops moment second h → WritesTo n ops moment second h writes reply h' writes' → IsOkOrNoMemory reply
+write-completes n ops moment second h writes reply h' writes' can s =
+    subst IsOkOrNoMemory (sym s.replied) (free-reply _ s.result (λ x at. tt) (write-free h h' ops moment second s.result can s.does))
+
+merge-completes : (merge : Option Merge) (n : ℕ) (op : KeyOp) (moment : ℤ) (second : Option ℤ) (h : Handle) (writes : List Write) (reply : Reply) (h' : Handle) (writes' : List Write) → merge ≢ None → CanWrite (op ∷ []) moment second h → MergesTo merge n op moment second h writes reply h' writes' → IsOkOrNoMemory reply
+merge-completes None n op moment second h writes reply h' writes' some can s = absurd (some refl)
+merge-completes (Some merge) n op moment second h writes reply h' writes' some can s = write-completes n (op ∷ []) moment second h writes reply h' writes' can s
 
 ok-err : {A : Type 0} (answer : Result A ReadFault) (found : A) (fault : ReadFault) → answer ≡ Ok found → answer ≡ Err fault → ⊥
 ok-err answer found fault ok err = absurd (cc)
 
--- a read that finds a row, or none, is refused nothing
-answers-free : (plain : Result (Option KeyValue) ReadFault) (found : Option KeyValue) (r : Result (Option KeyValue) SlateError) → plain ≡ Ok found → AnswersRead plain r → IsFree r
+-- a read that answers is refused nothing
+answers-free : {A : Type 0} (plain : Result A ReadFault) (found : A) (r : Result A SlateError) → plain ≡ Ok found → AnswersRead plain r → IsFree r
 answers-free plain found (Ok row) is a = tt
 answers-free plain found (Err errors.MergeOperatorMissing) is a = absurd (ok-err plain found reads.MergeOperatorMissing is a)
 answers-free plain found (Err errors.MergeOperatorError) is a = absurd (ok-err plain found reads.MergeOperatorError is a)
@@ -157,9 +168,20 @@ found-free : (found : Option KeyValue) → IsOkOrNoMemory (found_reply found)
 found-free None = tt
 found-free (Some row) = tt
 
-read-completes : (result : CloseResult) (plain : Result (Option KeyValue) ReadFault) (found : Option KeyValue) (r : Result (Option KeyValue) SlateError) (reply : Reply) → result ≡ None → plain ≡ Ok found → Reads result plain r → reply ≡ reply_to found_reply r → IsOkOrNoMemory reply
-read-completes result plain found r reply live is reads is_reply =
-    subst IsOkOrNoMemory (sym is_reply) (free-reply found_reply r (λ x at. found-free x) (answers-free plain found r is (reads.read live)))
+read-completes : {A : Type 0} (done : A → Reply) → ((x : A) → IsOkOrNoMemory (done x)) → (closed : CloseResult) (plain : Result A ReadFault) (reply : Reply) → CanRead closed plain → IsRead done closed plain reply → IsOkOrNoMemory reply
+read-completes done ok closed plain reply can r =
+    subst IsOkOrNoMemory (sym r.replied) (free-reply done r.result (λ x at. ok x) (answers-free plain can.1 r.result can.2 ((r.does).read can.0)))
+
+-- what is taken of a scan that answers is refused nothing
+taken-free : {is_plain : Iteration → Type 0} (taken : Iteration → Result (List KeyValue) SlateError) (scan : Result Iteration SlateError) (result : Result (List KeyValue) SlateError) → ((it : Iteration) → is_plain it → (rows : List KeyValue) × (taken it ≡ Ok rows)) → AnswersScan is_plain scan → Takes taken scan result → IsFree result
+taken-free taken (Ok it) result can plain (inl memory) = subst IsFree (sym memory) refl
+taken-free taken (Ok it) result can plain (inr all) = let c = can it plain in subst IsFree (sym (all ∙ c.1)) tt
+taken-free taken (Err errors.NoMemory) result can plain takes = subst IsFree (sym takes) refl
+taken-free taken (Err e) result can plain takes = absurd plain
+
+take-completes : {is_plain : Iteration → Type 0} (closed : CloseResult) (taken : Iteration → Result (List KeyValue) SlateError) (reply : Reply) → CanTake closed is_plain taken → IsTaken closed is_plain taken reply → IsOkOrNoMemory reply
+take-completes closed taken reply can t =
+    subst IsOkOrNoMemory (sym t.replied) (free-reply replies.Rows t.result (λ x at. tt) (taken-free taken t.scan t.result can.1 ((t.scans).scan can.0) t.takes))
 
 -- the latest manifest of the world is one by which the database can be followed
 abbrev Follows : Bool → World → Type 0
@@ -204,57 +226,57 @@ by-object (Some (AHandle h)) of_handle of_follower at f g = f h refl at
 by-object (Some (AFollower x)) of_handle of_follower at f g = g x refl at
 
 module _ (settings : Settings) (w w' : World) (valid : IsValid w) (command : Command) (made : ℕ) (reply : Reply) (calm : HasRisen w.faults w'.faults → ⊥) where
-  abbrev On : ℕ → Type 0
-  On n = ActsOn (by_catalogue w.stored) settings.merge n command made (slice_get w.objects n) (state_of w) reply (state_of w')
-
-  handle-at : (n : ℕ) (action : Action) (h : Handle) → command.action ≡ action → slice_get w.objects n ≡ Some (AHandle h) → On n → HandleDid (by_catalogue w.stored) settings.merge n command action made (state_of w) reply (state_of w') h
-  handle-at n action h is at d = handle-did (by_catalogue w.stored) settings.merge n command action made (state_of w) reply (state_of w') (slice_get w.objects n) h is at d
-
-  follower-at : (n : ℕ) (action : Action) (f : Follower) → command.action ≡ action → slice_get w.objects n ≡ Some (AFollower f) → On n → FollowerDid (by_catalogue w.stored) settings.merge n command action made (state_of w) reply (state_of w') f
-  follower-at n action f is at d = follower-did (by_catalogue w.stored) settings.merge n command action made (state_of w) reply (state_of w') (slice_get w.objects n) f is at d
-
-  asked : (write : Write) → AtObject (slice_get w.objects write.handle) (λ handle. write.number ≤ handle.durable) (λ follower. ⊥) → IsOkOrNoMemory (asked_reply (slice_get w.objects write.handle) write.number)
-  asked write at =
+  asked : (found : Option Write) → IsDurable w found → IsOkOrNoMemory (write_reply w.objects found)
+  asked None never = absurd never
+  asked (Some write) at =
       by-object (slice_get w.objects write.handle) _ _ at
       (λ h is low. subst (λ x. IsOkOrNoMemory (asked_reply x write.number)) (sym is)
       (subst IsOkOrNoMemory (sym (ap (λ b. if b then replies.Durable else pending_reply h.result) (le-leb write.number h.durable low))) tt))
       (λ f is never. absurd never)
 
-  completes-by : (action : Action) → command.action ≡ action → DoesBy (by_catalogue w.stored) settings command action made (state_of w) reply (state_of w') → IsValidAction settings.merge w command.moment command.second action → IsOkOrNoMemory reply
-  completes-by actions.Open is d can =
+  -- a handle that may be asked this
+  handle-completes : (n : ℕ) (call : Call) (h h' : Handle) → CanAsk settings.merge w command.moment command.second call h → HandleActs span settings.merge n command.moment command.second call made h (state_of w).store w.writes reply h' (state_of w').store w'.writes → IsOkOrNoMemory reply
+  handle-completes n (WriteCall ops) h h' can a = write-completes n ops _ _ h _ reply h' _ can a.0
+  handle-completes n (MergeCall op) h h' can a = merge-completes settings.merge n op _ _ h _ reply h' _ can.0 can.1 a.0
+  handle-completes n Flush h h' can a = flush-completes w w' made h h' (a.0).result reply can.0 can.1 (a.0).does (a.0).replied calm
+  handle-completes n (Get key remote) h h' can a = read-completes found_reply found-free h.result _ reply can a.0
+  handle-completes n (Scan range order remote) h h' can a = take-completes h.result scanned reply can a.0
+  handle-completes n (Seek range take key order remote) h h' can a = take-completes h.result (sought range take key) reply can a.0
+  handle-completes n (Close t) h h' can a = close-completes w w' made h h' h.result t (a.0).ended reply refl can (a.0).does (a.0).replied calm
+  handle-completes n Poll h h' can a = absurd can
+  handle-completes n Nothing h h' can a = absurd can
+
+  -- a follower that may be asked this
+  follower-completes : (n : ℕ) (call : Call) (f f' : Follower) → slice_get w.objects n ≡ Some (AFollower f) → CanAskFollower settings.merge w call f → FollowerActs (λ line. line ≡ w.stored) (λ follower. w.stored.batches) settings.merge call made f (state_of w).store w.writes reply f' (state_of w').store w'.writes → IsOkOrNoMemory reply
+  follower-completes n (WriteCall ops) f f' at can a = absurd can
+  follower-completes n (MergeCall op) f f' at can a = absurd can
+  follower-completes n Flush f f' at can a = absurd can
+  follower-completes n (Get key remote) f f' at can a = read-completes found_reply found-free f.result _ reply can a.0
+  follower-completes n (Scan range order remote) f f' at can a = take-completes f.result scanned reply can a.0
+  follower-completes n (Seek range take key order remote) f f' at can a = take-completes f.result (sought range take key) reply can a.0
+  follower-completes n (Close t) f f' at can a = closed-follower-reply (recorded_fault f.result) reply can a.0
+  follower-completes n Poll f f' at can a =
+      subst IsOkOrNoMemory (sym (a.0).replied) (poll-reply w w' f' (a.0).result (((a.0).does).rebuilds can) (valid.followers n f at).followed calm)
+  follower-completes n Nothing f f' at can a = absurd can
+
+  object-completes : (n : ℕ) (call : Call) → call_of command.action ≡ call → AtObject (slice_get w.objects n) (CanAsk settings.merge w command.moment command.second call) (CanAskFollower settings.merge w call) → ActsOn (by_catalogue w.stored) settings.merge n command made (slice_get w.objects n) (state_of w) reply (state_of w') → IsOkOrNoMemory reply
+  object-completes n call is can d =
+      by-object (slice_get w.objects n) _ _ can
+      (λ h at can_ask.
+      let a = handle-did (by_catalogue w.stored) settings.merge n command call made (state_of w) reply (state_of w') (slice_get w.objects n) h is at d in
+      handle-completes n call h a.new can_ask a.acts)
+      (λ f at can_ask.
+      let a = follower-did (by_catalogue w.stored) settings.merge n command call made (state_of w) reply (state_of w') (slice_get w.objects n) f is at d in
+      follower-completes n call f a.new at can_ask a.acts)
+
+  completes-at : (target : Target) → DoesBy (by_catalogue w.stored) settings command target made (state_of w) reply (state_of w') → IsValidAt settings.merge w command.moment command.second (call_of command.action) target → IsOkOrNoMemory reply
+  completes-at NewHandle d can =
       let o = modelled w.catalogue w'.catalogue (d.does).opens in
       subst IsOkOrNoMemory (sym d.replied) (free-reply _ d.result (λ x at. tt) (open-free w w'.faults d.result o.answer (d.does).faults can calm))
-  completes-by (actions.Follow mode managed skip) is d can = subst IsOkOrNoMemory (sym (d.0).replied) (follow-reply w w' (length w.objects) (d.0).result (d.0).does can calm)
-  completes-by (actions.Await n) is d can =
-      subst IsOkOrNoMemory (sym (d.1 ∙ ap (write_reply w.objects) can.1)) (asked can.0 can.2)
-  completes-by (actions.Put n key value expire) is d can =
-      let h = handle-at n (actions.Put n key value expire) can.0 is can.1 d in
-      subst IsOkOrNoMemory (sym (h.acts).0.replied) (free-reply _ (h.acts).0.result (λ x at. tt) (write-free can.0 h.new key value expire command.moment command.second (h.acts).0.result can.2 can.3 (h.acts).0.does))
-  completes-by (actions.Flush n t) is d can =
-      let h = handle-at n (actions.Flush n t) can.0 is can.1 d in
-      flush-completes w w' made can.0 h.new (h.acts).0.result reply can.2 can.3 (h.acts).0.does (h.acts).0.replied calm
-  completes-by (actions.Get n key remote) is d can =
-      by-object (slice_get w.objects n) _ _ can
-      (λ h at can_read.
-      let a = handle-at n (actions.Get n key remote) h is at d in
-      read-completes h.result _ can_read.1.0 (a.acts).0.result reply can_read.0 can_read.1.1 (a.acts).0.does (a.acts).0.replied)
-      (λ f at can_read.
-      let a = follower-at n (actions.Get n key remote) f is at d in
-      read-completes f.result _ can_read.1 (a.acts).0.result reply can_read.0 can_read.2 (a.acts).0.does (a.acts).0.replied)
-  completes-by (actions.Close n options) is d can =
-      by-object (slice_get w.objects n) _ _ can
-      (λ h at can_close.
-      let a = handle-at n (actions.Close n options) h is at d in
-      close-completes w w' made h a.new h.result (flush_of_close options) (a.acts).0.ended reply refl can_close (a.acts).0.does (a.acts).0.replied calm)
-      (λ f at none.
-      let a = follower-at n (actions.Close n options) f is at d in
-      closed-follower-reply (recorded_fault f.result) reply none (a.acts).0)
-  completes-by (actions.Poll n) is d can =
-      by-object (slice_get w.objects n) _ _ can (λ h at never. absurd never)
-      (λ f at unclosed.
-      let a = follower-at n (actions.Poll n) f is at d in
-      subst IsOkOrNoMemory (sym (a.acts).0.replied) (poll-reply w w' a.new (a.acts).0.result (((a.acts).0.does).rebuilds unclosed) (valid.followers n f at).followed calm))
+  completes-at NewFollower d can = subst IsOkOrNoMemory (sym (d.0).replied) (follow-reply w w' (length w.objects) (d.0).result (d.0).does can calm)
+  completes-at (OfWrite n) d can = subst IsOkOrNoMemory (sym d.1) (asked (slice_get w.writes n) can)
+  completes-at (OfObject n) d can = object-completes n (call_of command.action) refl can d
 
 -- a valid command that meets no fault is refused nothing
 pub completes : (settings : Settings) (w : World) (command : Command) (reply : Reply) (w' : World) → IsValid w → Next settings w command reply w' → IsValidCommand settings.merge w command → (HasRisen w.faults w'.faults → ⊥) → IsOkOrNoMemory reply
-completes settings w command reply w' valid next can calm = completes-by settings w w' valid command next.made reply calm command.action refl next.does can
+completes settings w command reply w' valid next can calm = completes-at settings w w' valid command next.made reply calm (target_of command.action) next.does can

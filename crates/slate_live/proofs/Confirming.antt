@@ -14,6 +14,7 @@ use Rattle.slate_script.specs.declared.replies.Reply.{Reply}
 use Rattle.slate_script.specs.declared.replies.Reply.TheVariants as replies
 use Rattle.slate_live.specs.declared.states.Write.{Write}
 use Rattle.slate_live.specs.Confirmed.{StandsIn}
+use Rattle.slate_live.specs.Calls.{target_of}
 use Rattle.slate_live.specs.Commands.{DoesBy, asked_reply, write_reply}
 use Rattle.slate_live.specs.Handles.{pending_reply}
 use Rattle.slate_live.specs.Represents.{IsHandleAt, IsValid, up_to}
@@ -52,13 +53,13 @@ stored-of w n (Some write) is durable = stored-at w n write (slice_get w.objects
 
 pub reported : (settings : Settings) (w : World) (command : Command) (reply : Reply) (w' : World) → Next settings w command reply w' → (n : ℕ) → command.action ≡ actions.Await n → reply ≡ replies.Durable → IsStoredOf w n
 reported settings w command reply w' next n is durable =
-    let d = subst (λ a. DoesBy (by_catalogue w.stored) settings command a next.made (state_of w) reply (state_of w')) is next.does in
+    let d = subst (λ a. DoesBy (by_catalogue w.stored) settings command (target_of a) next.made (state_of w) reply (state_of w')) is next.does in
     stored-of w n (slice_get w.writes n) refl (sym durable ∙ d.1)
 
 -- asking changes no object and no write
 pub asked-same : (settings : Settings) (w : World) (command : Command) (reply : Reply) (w' : World) → Next settings w command reply w' → (n : ℕ) → command.action ≡ actions.Await n → (w'.objects ≡ w.objects) × (w'.writes ≡ w.writes)
 asked-same settings w command reply w' next n is =
-    let d = subst (λ a. DoesBy (by_catalogue w.stored) settings command a next.made (state_of w) reply (state_of w')) is next.does in
+    let d = subst (λ a. DoesBy (by_catalogue w.stored) settings command (target_of a) next.made (state_of w) reply (state_of w')) is next.does in
     (ap (λ (s : State Span). s.objects) d.2, ap (λ (s : State Span). s.writes) d.2)
 
 -- what a handle knows to be durable is within what is stored

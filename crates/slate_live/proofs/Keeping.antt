@@ -19,16 +19,15 @@ use Rattle.slate_model.specs.Handle.{CloseResult, Handle, accepted}
 use Rattle.slate_model.specs.Known.{Known}
 use Rattle.slate_model.specs.Object.{Object, Handle as AHandle, Follower as AFollower}
 use Rattle.slate_model.specs.Write.{Writes, next_batch, written}
-use Rattle.slate_script.specs.declared.commands.Action.{Action}
-use Rattle.slate_script.specs.declared.commands.Action.TheVariants as actions
 use Rattle.slate_script.specs.declared.commands.Command.{Command}
 use Rattle.slate_script.specs.declared.replies.Reply.{Reply}
 use Rattle.slate_script.specs.declared.replies.Reply.TheVariants as replies
 use Rattle.slate_live.specs.declared.states.Write.{Write}
+use Rattle.slate_live.specs.Calls.{Call, Write as WriteCall, Merge as MergeCall, Flush, Get, Scan, Seek, Close, Poll, Nothing, call_of, Target, NewHandle, NewFollower, OfWrite, OfObject, target_of}
 use Rattle.slate_live.specs.Commands.{Acts, ActsOn, DoesBy, asked_reply, write_reply}
 use Rattle.slate_live.specs.Confirmed.{StandsIn}
 use Rattle.slate_live.specs.Followers.{FollowerActs}
-use Rattle.slate_live.specs.Handles.{HandleActs, noted, pending_reply}
+use Rattle.slate_live.specs.Handles.{HandleActs, MergesTo, noted, pending_reply}
 use Rattle.slate_live.specs.Replies.{closed_reply, followed_reply, follower_closed_reply, found_reply, polled_reply, refusal, reply_to}
 use Rattle.slate_live.specs.Represents.{IsHandleAt}
 use Rattle.slate_live.specs.Rising.{Rise, Rises}
@@ -169,35 +168,45 @@ module _ (xs ys : List Object) (rise : Rise xs ys) (ws vs : List Write) where
       keeps-write xs ys rise ws vs reply n h h' ops w.create_ts write at refl s.accepted.2 s.accepted.3 set_is more
       (numbers-by vs is (write, subst (λ us. slice_get us (length ws) ≡ Some write) (sym more) (get-seam ws write), refl))
 
-  handle-keeps : (merge : Option Merge) (n : ℕ) (moment : ℤ) (second : Option ℤ) (action : Action) (made : ℕ) (h h' : Handle) (before after : Known Span) (reply : Reply) → IsHandleAt xs n h → ys ≡ set xs n (AHandle h') → HandleActs span merge n moment second action made h before ws reply h' after vs → Keeps xs ws reply ys vs
-  handle-keeps merge n moment second (actions.Put object key value expire) made h h' before after reply at set_is a = write-keeps n h h' _ moment second (a.0).result reply at (a.0).does (a.0).replied (a.0).noted set_is
-  handle-keeps merge n moment second (actions.Flush object t) made h h' before after reply at set_is a =
-      keeps-by xs ys rise ws vs reply a.1 (numbers-by vs (a.0).replied (numbers-to vs _ (a.0).result (λ x. tt)))
-  handle-keeps merge n moment second (actions.Close object options) made h h' before after reply at set_is a =
-      keeps-by xs ys rise ws vs reply a.1 (numbers-by vs (a.0).replied (numbers-closed vs _ _))
-  handle-keeps merge n moment second (actions.Get object key remote) made h h' before after reply at set_is a =
-      keeps-by xs ys rise ws vs reply a.3 (numbers-by vs (a.0).replied (numbers-to vs _ (a.0).result (numbers-found vs)))
-  handle-keeps merge n moment second actions.Open made h h' before after reply at set_is a = keeps-by xs ys rise ws vs reply a.3 (numbers-by vs a.0 tt)
-  handle-keeps merge n moment second (actions.Follow mode managed skip) made h h' before after reply at set_is a = keeps-by xs ys rise ws vs reply a.3 (numbers-by vs a.0 tt)
-  handle-keeps merge n moment second (actions.Poll object) made h h' before after reply at set_is a = keeps-by xs ys rise ws vs reply a.3 (numbers-by vs a.0 tt)
-  handle-keeps merge n moment second (actions.Await write) made h h' before after reply at set_is a = keeps-by xs ys rise ws vs reply a.3 (numbers-by vs a.0 tt)
+  merge-keeps : (merge : Option Merge) (n : ℕ) (op : KeyOp) (moment : ℤ) (second : Option ℤ) (h h' : Handle) (reply : Reply) → IsHandleAt xs n h → ys ≡ set xs n (AHandle h') → MergesTo merge n op moment second h ws reply h' vs → Keeps xs ws reply ys vs
+  merge-keeps None n op moment second h h' reply at set_is a = keeps-by xs ys rise ws vs reply a.2 (numbers-by vs a.0 tt)
+  merge-keeps (Some merge) n op moment second h h' reply at set_is a = write-keeps n h h' _ moment second a.result reply at a.does a.replied a.noted set_is
 
-  follower-keeps : (stored : Line) (rows : Follower → List Batch) (merge : Option Merge) (action : Action) (made : ℕ) (f f' : Follower) (before after : Known Span) (reply : Reply) → FollowerActs (λ line. line ≡ stored) rows merge action made f before ws reply f' after vs → Keeps xs ws reply ys vs
-  follower-keeps stored rows merge (actions.Poll object) made f f' before after reply a =
-      keeps-by xs ys rise ws vs reply a.2 (numbers-by vs (a.0).replied (numbers-to vs _ (a.0).result (numbers-polled vs)))
-  follower-keeps stored rows merge (actions.Get object key remote) made f f' before after reply a =
+  handle-keeps : (merge : Option Merge) (n : ℕ) (moment : ℤ) (second : Option ℤ) (call : Call) (made : ℕ) (h h' : Handle) (before after : Known Span) (reply : Reply) → IsHandleAt xs n h → ys ≡ set xs n (AHandle h') → HandleActs span merge n moment second call made h before ws reply h' after vs → Keeps xs ws reply ys vs
+  handle-keeps merge n moment second (WriteCall ops) made h h' before after reply at set_is a = write-keeps n h h' _ moment second (a.0).result reply at (a.0).does (a.0).replied (a.0).noted set_is
+  handle-keeps merge n moment second (MergeCall op) made h h' before after reply at set_is a = merge-keeps merge n op moment second h h' reply at set_is a.0
+  handle-keeps merge n moment second Flush made h h' before after reply at set_is a =
+      keeps-by xs ys rise ws vs reply a.1 (numbers-by vs (a.0).replied (numbers-to vs _ (a.0).result (λ x. tt)))
+  handle-keeps merge n moment second (Close t) made h h' before after reply at set_is a =
+      keeps-by xs ys rise ws vs reply a.1 (numbers-by vs (a.0).replied (numbers-closed vs _ _))
+  handle-keeps merge n moment second (Get key remote) made h h' before after reply at set_is a =
       keeps-by xs ys rise ws vs reply a.3 (numbers-by vs (a.0).replied (numbers-to vs _ (a.0).result (numbers-found vs)))
-  follower-keeps stored rows merge (actions.Close object options) made f f' before after reply a = keeps-by xs ys rise ws vs reply a.3 (numbers-by vs a.0 (numbers-follower-closed vs _ _))
-  follower-keeps stored rows merge actions.Open made f f' before after reply a = keeps-by xs ys rise ws vs reply a.3 (numbers-by vs a.0 tt)
-  follower-keeps stored rows merge (actions.Put object key value expire) made f f' before after reply a = keeps-by xs ys rise ws vs reply a.3 (numbers-by vs a.0 tt)
-  follower-keeps stored rows merge (actions.Flush object t) made f f' before after reply a = keeps-by xs ys rise ws vs reply a.3 (numbers-by vs a.0 tt)
-  follower-keeps stored rows merge (actions.Follow mode managed skip) made f f' before after reply a = keeps-by xs ys rise ws vs reply a.3 (numbers-by vs a.0 tt)
-  follower-keeps stored rows merge (actions.Await write) made f f' before after reply a = keeps-by xs ys rise ws vs reply a.3 (numbers-by vs a.0 tt)
+  handle-keeps merge n moment second (Scan range order remote) made h h' before after reply at set_is a =
+      keeps-by xs ys rise ws vs reply a.3 (numbers-by vs (a.0).replied (numbers-to vs _ (a.0).result (λ x. tt)))
+  handle-keeps merge n moment second (Seek range take key order remote) made h h' before after reply at set_is a =
+      keeps-by xs ys rise ws vs reply a.3 (numbers-by vs (a.0).replied (numbers-to vs _ (a.0).result (λ x. tt)))
+  handle-keeps merge n moment second Poll made h h' before after reply at set_is a = keeps-by xs ys rise ws vs reply a.3 (numbers-by vs a.0 tt)
+  handle-keeps merge n moment second Nothing made h h' before after reply at set_is a = keeps-by xs ys rise ws vs reply a.3 (numbers-by vs a.0 tt)
+
+  follower-keeps : (stored : Line) (rows : Follower → List Batch) (merge : Option Merge) (call : Call) (made : ℕ) (f f' : Follower) (before after : Known Span) (reply : Reply) → FollowerActs (λ line. line ≡ stored) rows merge call made f before ws reply f' after vs → Keeps xs ws reply ys vs
+  follower-keeps stored rows merge Poll made f f' before after reply a =
+      keeps-by xs ys rise ws vs reply a.2 (numbers-by vs (a.0).replied (numbers-to vs _ (a.0).result (numbers-polled vs)))
+  follower-keeps stored rows merge (Get key remote) made f f' before after reply a =
+      keeps-by xs ys rise ws vs reply a.3 (numbers-by vs (a.0).replied (numbers-to vs _ (a.0).result (numbers-found vs)))
+  follower-keeps stored rows merge (Close t) made f f' before after reply a = keeps-by xs ys rise ws vs reply a.3 (numbers-by vs a.0 (numbers-follower-closed vs _ _))
+  follower-keeps stored rows merge (Scan range order remote) made f f' before after reply a =
+      keeps-by xs ys rise ws vs reply a.3 (numbers-by vs (a.0).replied (numbers-to vs _ (a.0).result (λ x. tt)))
+  follower-keeps stored rows merge (Seek range take key order remote) made f f' before after reply a =
+      keeps-by xs ys rise ws vs reply a.3 (numbers-by vs (a.0).replied (numbers-to vs _ (a.0).result (λ x. tt)))
+  follower-keeps stored rows merge (WriteCall ops) made f f' before after reply a = keeps-by xs ys rise ws vs reply a.3 (numbers-by vs a.0 tt)
+  follower-keeps stored rows merge (MergeCall op) made f f' before after reply a = keeps-by xs ys rise ws vs reply a.3 (numbers-by vs a.0 tt)
+  follower-keeps stored rows merge Flush made f f' before after reply a = keeps-by xs ys rise ws vs reply a.3 (numbers-by vs a.0 tt)
+  follower-keeps stored rows merge Nothing made f f' before after reply a = keeps-by xs ys rise ws vs reply a.3 (numbers-by vs a.0 tt)
 
 module _ (settings : Settings) (w w' : World) (command : Command) (made : ℕ) (reply : Reply) (rise : Rise w.objects w'.objects) where
   acts-keep : (n : ℕ) (old new : Object) → slice_get w.objects n ≡ Some old → w'.objects ≡ set w.objects n new → Acts (by_catalogue w.stored) settings.merge n command made old (state_of w).store w.writes reply new (state_of w').store w'.writes → Keeps w.objects w.writes reply w'.objects w'.writes
-  acts-keep n (AHandle h) (AHandle h') at set_is a = handle-keeps w.objects w'.objects rise w.writes w'.writes settings.merge n command.moment command.second command.action made h h' _ _ reply at set_is a
-  acts-keep n (AFollower f) (AFollower f') at set_is a = follower-keeps w.objects w'.objects rise w.writes w'.writes w.stored _ settings.merge command.action made f f' _ _ reply a
+  acts-keep n (AHandle h) (AHandle h') at set_is a = handle-keeps w.objects w'.objects rise w.writes w'.writes settings.merge n command.moment command.second (call_of command.action) made h h' _ _ reply at set_is a
+  acts-keep n (AFollower f) (AFollower f') at set_is a = follower-keeps w.objects w'.objects rise w.writes w'.writes w.stored _ settings.merge (call_of command.action) made f f' _ _ reply a
   acts-keep n (AHandle h) (AFollower f') at set_is a = absurd a
   acts-keep n (AFollower f) (AHandle h') at set_is a = absurd a
 
@@ -205,19 +214,15 @@ module _ (settings : Settings) (w w' : World) (command : Command) (made : ℕ) (
   on-keeps n None at d = keeps-by w.objects w'.objects rise w.writes w'.writes reply (ap (λ (s : State Span). s.writes) d.2) (numbers-by w'.writes d.1 tt)
   on-keeps n (Some old) at d = acts-keep n old d.new at d.objects d.acts
 
-  keeps-action : (action : Action) → DoesBy (by_catalogue w.stored) settings command action made (state_of w) reply (state_of w') → Keeps w.objects w.writes reply w'.objects w'.writes
-  keeps-action actions.Open d =
+  keeps-target : (target : Target) → DoesBy (by_catalogue w.stored) settings command target made (state_of w) reply (state_of w') → Keeps w.objects w.writes reply w'.objects w'.writes
+  keeps-target NewHandle d =
       keeps-by w.objects w'.objects rise w.writes w'.writes reply d.writes (numbers-by w'.writes d.replied (numbers-to w'.writes _ d.result (λ x. tt)))
-  keeps-action (actions.Follow mode managed skip) d =
+  keeps-target NewFollower d =
       keeps-by w.objects w'.objects rise w.writes w'.writes reply (d.0).writes (numbers-by w'.writes (d.0).replied (numbers-to w'.writes _ (d.0).result (λ (b : Follower × PollAnswer). numbers-followed w'.writes (length w.objects) b.1)))
-  keeps-action (actions.Await n) d =
+  keeps-target (OfWrite n) d =
       keeps-by w.objects w'.objects rise w.writes w'.writes reply (ap (λ (s : State Span). s.writes) d.2) (numbers-by w'.writes d.1 (numbers-write w'.writes w.objects (slice_get w.writes n)))
-  keeps-action (actions.Put n key value expire) d = on-keeps n (slice_get w.objects n) refl d
-  keeps-action (actions.Flush n t) d = on-keeps n (slice_get w.objects n) refl d
-  keeps-action (actions.Get n key remote) d = on-keeps n (slice_get w.objects n) refl d
-  keeps-action (actions.Close n options) d = on-keeps n (slice_get w.objects n) refl d
-  keeps-action (actions.Poll n) d = on-keeps n (slice_get w.objects n) refl d
+  keeps-target (OfObject n) d = on-keeps n (slice_get w.objects n) refl d
 
 -- what every command keeps, where no object goes back
 pub keeps : (settings : Settings) (w : World) (command : Command) (reply : Reply) (w' : World) → Rise w.objects w'.objects → Next settings w command reply w' → Keeps w.objects w.writes reply w'.objects w'.writes
-keeps settings w command reply w' rise next = keeps-action settings w w' command next.made reply rise command.action next.does
+keeps settings w command reply w' rise next = keeps-target settings w w' command next.made reply rise (target_of command.action) next.does

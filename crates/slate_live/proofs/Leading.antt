@@ -3,8 +3,6 @@ use Rattle.std.proofs.Common.{◌≡◌, ℕ, ℤ, nat_lt, List, set, Option, So
 use Rattle.std.specs.Result.{IfErr}
 use Rattle.slate_types.specs.declared.batches.Batch.{Batch}
 use Rattle.slate_types.specs.declared.batches.KeyOp.{KeyOp}
-use Rattle.slate_types.specs.declared.options.CloseOptions.{CloseOptions}
-use Rattle.slate_types.specs.declared.options.FlushType.{FlushType}
 use Rattle.slate_types.specs.Line.{IsPrefix, Line}
 use Rattle.slate_types.specs.Operator.{Merge}
 use Rattle.slate_store.specs.declared.objects.VersionedManifest.{VersionedManifest}
@@ -22,14 +20,13 @@ use Rattle.slate_model.specs.Known.{IsContent, Known, Untouched}
 use Rattle.slate_model.specs.Object.{Object, Handle as AHandle, Follower as AFollower}
 use Rattle.slate_model.specs.Write.{Writes}
 use Rattle.slate_model.proofs.Reduced.{holding}
-use Rattle.slate_script.specs.declared.commands.Action.{Action}
-use Rattle.slate_script.specs.declared.commands.Action.TheVariants as actions
 use Rattle.slate_script.specs.declared.replies.Reply.{Reply}
 use Rattle.slate_live.specs.declared.states.Write.{Write}
+use Rattle.slate_live.specs.Calls.{Call, Write as WriteCall, Merge as MergeCall, Flush, Get, Scan, Seek, Close, Poll, Nothing}
 use Rattle.slate_live.specs.Followers.{FollowerActs}
-use Rattle.slate_live.specs.Handles.{HandleActs}
+use Rattle.slate_live.specs.Handles.{HandleActs, MergesTo}
 use Rattle.slate_live.specs.Represents.{Holds, IsFollowerAt, IsHandleAt, IsValid, IsValidHandle, IsValidFollower}
-use Rattle.slate_live.specs.World.{World, stored_after}
+use Rattle.slate_live.specs.World.{World, stored_after, stored_by}
 use Rattle.slate_live.proofs.Cases.{by-option, close-by, flush-by, some-of}
 use Rattle.slate_live.proofs.Changing.{distinct-set, followers-set, followers-set-handle, handles-set-follower, valid-set, valid-written}
 use Rattle.slate_live.proofs.Prefixes.{prefix-after, prefix-same}
@@ -112,34 +109,41 @@ module _ (w : World) (o : Objects) (is_sound : IsSound o) (holds : Holds o w) (v
   same-valid : (n : ℕ) (h h' : Handle) → IsHandleAt w.objects n h → h' ≡ h → IsValidHandle w.stored (latest_manifest w.catalogue) h'
   same-valid n h h' there same = subst (IsValidHandle w.stored (latest_manifest w.catalogue)) (sym same) (mine n h there)
 
-  -- what a handle's command leaves
-  pub handle-leads : (merge : Option Merge) (n : ℕ) (moment : ℤ) (second : Option ℤ) (action : Action) (made : ℕ) (h : Handle) (writes : List Write) (reply : Reply) (h' : Handle) (store : Known (List Batch)) (writes' : List Write) (batches : List Batch) → IsHandleAt w.objects n h → ((m : ℕ) (t : Option FlushType) → action ≡ actions.Flush m t → batches ≡ unstored h) → ((m : ℕ) (t : Option CloseOptions) → action ≡ actions.Close m t → batches ≡ unstored h) → HandleActs (λ xs. xs) merge n moment second action made h (holding o w.faults) writes reply h' store writes' → Leads batches made (set w.objects n (AHandle h')) store
-  handle-leads merge n moment second (actions.Put object key value expire) made h writes reply h' store writes' batches there flush close a =
-      untouched-leads n h h' there (handle-rises (λ xs. xs) merge n moment second (actions.Put object key value expire) made h _ writes reply h' _ writes' (mine n h there).durable a).epoch batches made store a.1
+  merge-valid : (merge : Option Merge) (n : ℕ) (op : KeyOp) (moment : ℤ) (second : Option ℤ) (h h' : Handle) (writes : List Write) (reply : Reply) (writes' : List Write) → IsHandleAt w.objects n h → MergesTo merge n op moment second h writes reply h' writes' → IsValidHandle w.stored (latest_manifest w.catalogue) h'
+  merge-valid None n op moment second h h' writes reply writes' there a = same-valid n h h' there a.1
+  merge-valid (Some merge) n op moment second h h' writes reply writes' there a = written-valid w.stored (latest_manifest w.catalogue) h h' _ moment second a.result a.does (mine n h there)
+
+  -- what a handle's command leaves, where the batches that it is to store are these
+  pub handle-leads : (merge : Option Merge) (n : ℕ) (moment : ℤ) (second : Option ℤ) (call : Call) (made : ℕ) (h : Handle) (writes : List Write) (reply : Reply) (h' : Handle) (store : Known (List Batch)) (writes' : List Write) (batches : List Batch) → IsHandleAt w.objects n h → batches ≡ stored_by call (unstored h) → HandleActs (λ xs. xs) merge n moment second call made h (holding o w.faults) writes reply h' store writes' → Leads batches made (set w.objects n (AHandle h')) store
+  handle-leads merge n moment second (WriteCall ops) made h writes reply h' store writes' batches there is_stored a =
+      untouched-leads n h h' there (handle-rises (λ xs. xs) merge n moment second (WriteCall ops) made h _ writes reply h' _ writes' (mine n h there).durable a).epoch batches made store a.1
       (written-valid w.stored (latest_manifest w.catalogue) h h' _ moment second (a.0).result (a.0).does (mine n h there))
-  handle-leads merge n moment second (actions.Flush object t) made h writes reply h' store writes' batches there flush close a =
-      let epoch = (handle-rises (λ xs. xs) merge n moment second (actions.Flush object t) made h _ writes reply h' _ writes' (mine n h there).durable a).epoch in
+  handle-leads merge n moment second (MergeCall op) made h writes reply h' store writes' batches there is_stored a =
+      untouched-leads n h h' there (handle-rises (λ xs. xs) merge n moment second (MergeCall op) made h _ writes reply h' _ writes' (mine n h there).durable a).epoch batches made store a.1
+      (merge-valid merge n op moment second h h' writes reply writes' there a.0)
+  handle-leads merge n moment second Flush made h writes reply h' store writes' batches there is_stored a =
+      let epoch = (handle-rises (λ xs. xs) merge n moment second Flush made h _ writes reply h' _ writes' (mine n h there).durable a).epoch in
       flush-by (λ xs. xs) made h _ h' store (Leads batches made (set w.objects n (AHandle h')) store) (a.0).result (a.0).does
       (λ q is error same u. untouched-leads n h h' there epoch batches made store u (same-valid n h h' there same))
       (λ live without error same u. untouched-leads n h h' there epoch batches made store u (same-valid n h h' there same))
-      (λ can is s. stored-leads n h h' there epoch batches made store (a.0).result h'.view (flush object t refl) (λ l m v. subst (IsValidHandle l m) (sym is) v) can s)
-  handle-leads merge n moment second (actions.Close object options) made h writes reply h' store writes' batches there flush close a =
-      let epoch = (handle-rises (λ xs. xs) merge n moment second (actions.Close object options) made h _ writes reply h' _ writes' (mine n h there).durable a).epoch in
+      (λ can is s. stored-leads n h h' there epoch batches made store (a.0).result h'.view is_stored (λ l m v. subst (IsValidHandle l m) (sym is) v) can s)
+  handle-leads merge n moment second (Close t) made h writes reply h' store writes' batches there is_stored a =
+      let epoch = (handle-rises (λ xs. xs) merge n moment second (Close t) made h _ writes reply h' _ writes' (mine n h there).durable a).epoch in
       let after_close : h' ≡ closed h → IsValidHandle w.stored (latest_manifest w.catalogue) h' = λ (is : h' ≡ closed h). subst (IsValidHandle w.stored (latest_manifest w.catalogue)) (sym is) (closed-valid w.stored (latest_manifest w.catalogue) h (mine n h there)) in
       close-by (λ xs. xs) made h _ h' store (Leads batches made (set w.objects n (AHandle h')) store) _ (a.0).ended (a.0).does
       (λ q is error same u. untouched-leads n h h' there epoch batches made store u (same-valid n h h' there same))
       (λ live none error is u. untouched-leads n h h' there epoch batches made store u (after_close is))
       (λ live some without error is u. untouched-leads n h h' there epoch batches made store u (after_close is))
-      (λ can some tasks is s. stored-leads n h h' there epoch batches made store _ h'.view (close object options refl) (λ l m v. subst (IsValidHandle l m) (sym is) (closed-valid l m _ v)) can s)
-  handle-leads merge n moment second (actions.Get object key remote) made h writes reply h' store writes' batches there flush close a =
+      (λ can some tasks is s. stored-leads n h h' there epoch batches made store _ h'.view is_stored (λ l m v. subst (IsValidHandle l m) (sym is) (closed-valid l m _ v)) can s)
+  handle-leads merge n moment second (Get key remote) made h writes reply h' store writes' batches there is_stored a =
       untouched-leads n h h' there (ap (λ (x : Handle). x.epoch) a.1) batches made store a.2 (same-valid n h h' there a.1)
-  handle-leads merge n moment second actions.Open made h writes reply h' store writes' batches there flush close a =
+  handle-leads merge n moment second (Scan range order remote) made h writes reply h' store writes' batches there is_stored a =
       untouched-leads n h h' there (ap (λ (x : Handle). x.epoch) a.1) batches made store a.2 (same-valid n h h' there a.1)
-  handle-leads merge n moment second (actions.Follow mode managed skip) made h writes reply h' store writes' batches there flush close a =
+  handle-leads merge n moment second (Seek range take key order remote) made h writes reply h' store writes' batches there is_stored a =
       untouched-leads n h h' there (ap (λ (x : Handle). x.epoch) a.1) batches made store a.2 (same-valid n h h' there a.1)
-  handle-leads merge n moment second (actions.Poll object) made h writes reply h' store writes' batches there flush close a =
+  handle-leads merge n moment second Poll made h writes reply h' store writes' batches there is_stored a =
       untouched-leads n h h' there (ap (λ (x : Handle). x.epoch) a.1) batches made store a.2 (same-valid n h h' there a.1)
-  handle-leads merge n moment second (actions.Await write) made h writes reply h' store writes' batches there flush close a =
+  handle-leads merge n moment second Nothing made h writes reply h' store writes' batches there is_stored a =
       untouched-leads n h h' there (ap (λ (x : Handle). x.epoch) a.1) batches made store a.2 (same-valid n h h' there a.1)
 
   -- a follower that changed, and the objects of the store that didn't
@@ -182,13 +186,14 @@ module _ (w : World) (o : Objects) (is_sound : IsSound o) (holds : Holds o w) (v
   kept-objects same = ap (λ (k : Known (List Batch)). k.objects) same
 
   -- what a follower's command leaves
-  pub follower-leads : (merge : Option Merge) (n : ℕ) (action : Action) (made : ℕ) (f : Follower) (writes : List Write) (reply : Reply) (f' : Follower) (store : Known (List Batch)) (writes' : List Write) (batches : List Batch) → IsFollowerAt w.objects n f → FollowerActs (IsContent (Some o)) (λ g. g.line.batches) merge action made f (holding o w.faults) writes reply f' store writes' → Leads batches made (set w.objects n (AFollower f')) store
-  follower-leads merge n (actions.Poll object) made f writes reply f' store writes' batches there a = poll-leads n f f' batches made (a.0).result store there a.1 (a.0).does
-  follower-leads merge n (actions.Close object options) made f writes reply f' store writes' batches there a =
+  pub follower-leads : (merge : Option Merge) (n : ℕ) (call : Call) (made : ℕ) (f : Follower) (writes : List Write) (reply : Reply) (f' : Follower) (store : Known (List Batch)) (writes' : List Write) (batches : List Batch) → IsFollowerAt w.objects n f → FollowerActs (IsContent (Some o)) (λ g. g.line.batches) merge call made f (holding o w.faults) writes reply f' store writes' → Leads batches made (set w.objects n (AFollower f')) store
+  follower-leads merge n Poll made f writes reply f' store writes' batches there a = poll-leads n f f' batches made (a.0).result store there a.1 (a.0).does
+  follower-leads merge n (Close t) made f writes reply f' store writes' batches there a =
       follower-kept n f f' batches made store there (a.2).0 (kept-objects (a.2).1) (subst (λ (g : Follower). IsPrefix g.line w.stored) (sym a.1) (valid.followers n f there).front)
-  follower-leads merge n (actions.Get object key remote) made f writes reply f' store writes' batches there a = follower-kept n f f' batches made store there (a.2).0 (kept-objects (a.2).1) (front-same n f f' there a.1)
-  follower-leads merge n actions.Open made f writes reply f' store writes' batches there a = follower-kept n f f' batches made store there (a.2).0 (kept-objects (a.2).1) (front-same n f f' there a.1)
-  follower-leads merge n (actions.Put object key value expire) made f writes reply f' store writes' batches there a = follower-kept n f f' batches made store there (a.2).0 (kept-objects (a.2).1) (front-same n f f' there a.1)
-  follower-leads merge n (actions.Flush object t) made f writes reply f' store writes' batches there a = follower-kept n f f' batches made store there (a.2).0 (kept-objects (a.2).1) (front-same n f f' there a.1)
-  follower-leads merge n (actions.Follow mode managed skip) made f writes reply f' store writes' batches there a = follower-kept n f f' batches made store there (a.2).0 (kept-objects (a.2).1) (front-same n f f' there a.1)
-  follower-leads merge n (actions.Await write) made f writes reply f' store writes' batches there a = follower-kept n f f' batches made store there (a.2).0 (kept-objects (a.2).1) (front-same n f f' there a.1)
+  follower-leads merge n (Get key remote) made f writes reply f' store writes' batches there a = follower-kept n f f' batches made store there (a.2).0 (kept-objects (a.2).1) (front-same n f f' there a.1)
+  follower-leads merge n (Scan range order remote) made f writes reply f' store writes' batches there a = follower-kept n f f' batches made store there (a.2).0 (kept-objects (a.2).1) (front-same n f f' there a.1)
+  follower-leads merge n (Seek range take key order remote) made f writes reply f' store writes' batches there a = follower-kept n f f' batches made store there (a.2).0 (kept-objects (a.2).1) (front-same n f f' there a.1)
+  follower-leads merge n (WriteCall ops) made f writes reply f' store writes' batches there a = follower-kept n f f' batches made store there (a.2).0 (kept-objects (a.2).1) (front-same n f f' there a.1)
+  follower-leads merge n (MergeCall op) made f writes reply f' store writes' batches there a = follower-kept n f f' batches made store there (a.2).0 (kept-objects (a.2).1) (front-same n f f' there a.1)
+  follower-leads merge n Flush made f writes reply f' store writes' batches there a = follower-kept n f f' batches made store there (a.2).0 (kept-objects (a.2).1) (front-same n f f' there a.1)
+  follower-leads merge n Nothing made f writes reply f' store writes' batches there a = follower-kept n f f' batches made store there (a.2).0 (kept-objects (a.2).1) (front-same n f f' there a.1)

@@ -20,3 +20,4 @@ pub mod Rising
 pub mod Seeing
 pub mod Staying
 pub mod Storing
+pub mod Writing

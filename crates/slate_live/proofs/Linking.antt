@@ -1,16 +1,19 @@
 -- What a command does over a store makes a link from each world that is represented.
-use Rattle.std.proofs.Common.{◌≡◌, ◌⊎◌, inl, inr, ℕ, ℤ, Bool, List, nat_lt, Option, sym, subst}
-use Rattle.std.specs.List.{slice_get}
+use Rattle.std.proofs.Common.{◌≡◌, ◌⊎◌, inl, inr, ℕ, ℤ, Bool, List, nat_lt, Option, sym, subst, ap}
 use Rattle.slate_types.specs.declared.batches.Batch.{Batch}
+use Rattle.slate_types.specs.declared.batches.WriteBatch.{WriteBatch}
 use Rattle.slate_types.specs.declared.options.CloseOptions.{CloseOptions}
 use Rattle.slate_types.specs.declared.options.FlushType.{FlushType}
+use Rattle.slate_types.specs.declared.ranges.ByteRange.{ByteRange}
+use Rattle.slate_types.specs.declared.scan_options.IterationOrder.{IterationOrder}
 use Rattle.slate_types.specs.Line.{IsPrefix}
 use Rattle.slate_model.specs.Known.{Known}
 use Rattle.slate_script.specs.declared.commands.Action.{Action}
 use Rattle.slate_script.specs.declared.commands.Action.TheVariants as actions
 use Rattle.slate_script.specs.declared.commands.Command.{Command}
 use Rattle.slate_script.specs.declared.replies.Reply.{Reply}
-use Rattle.slate_live.specs.Commands.{ActsOn, Does, DoesBy}
+use Rattle.slate_live.specs.Calls.{OfObject, Target, target_of}
+use Rattle.slate_live.specs.Commands.{Does, DoesBy}
 use Rattle.slate_live.specs.Represents.{Links}
 use Rattle.slate_live.specs.Settings.{Settings}
 use Rattle.slate_live.specs.State.{Knowledge, Live, State, by_objects, running}
@@ -44,23 +47,32 @@ linked settings command live live' store store' made reply does w r =
       l.2,
     )
 
--- a command does what is said of its action
-pub does-as : {L : Type 0} (k : Knowledge L) (settings : Settings) (command : Command) (made : ℕ) (s : State L) (reply : Reply) (s' : State L) (action : Action) → command.action ≡ action → DoesBy k settings command action made s reply s' → Does k settings made s command reply s'
-does-as k settings command made s reply s' action is does = subst (λ a. DoesBy k settings command a made s reply s') (sym is) does
+-- a command does what is said of its target
+pub does-at : {L : Type 0} (k : Knowledge L) (settings : Settings) (command : Command) (made : ℕ) (s : State L) (reply : Reply) (s' : State L) (target : Target) → target_of command.action ≡ target → DoesBy k settings command target made s reply s' → Does k settings made s command reply s'
+does-at k settings command made s reply s' target is does = subst (λ t. DoesBy k settings command t made s reply s') (sym is) does
 
 -- the action names the object with this number
 abbrev pub Names : Action → ℕ → Type 0
 Names action n =
     ((key : List ℕ) × (value : List ℕ) × (expire : Option ℤ) × (action ≡ actions.Put n key value expire))
+    ⊎ (((key : List ℕ) × (value : List ℕ) × (expire : Option ℤ) × (action ≡ actions.Merge n key value expire))
+    ⊎ (((key : List ℕ) × (action ≡ actions.Delete n key))
+    ⊎ (((batch : WriteBatch) × (action ≡ actions.Batch n batch))
     ⊎ (((flush_type : Option FlushType) × (action ≡ actions.Flush n flush_type))
     ⊎ (((key : List ℕ) × (remote : Bool) × (action ≡ actions.Get n key remote))
+    ⊎ (((range : ByteRange) × (order : IterationOrder) × (remote : Bool) × (action ≡ actions.Scan n range order remote))
+    ⊎ (((range : ByteRange) × (take : ℕ) × (key : List ℕ) × (order : IterationOrder) × (remote : Bool) × (action ≡ actions.Seek n range take key order remote))
     ⊎ (((options : Option CloseOptions) × (action ≡ actions.Close n options))
-    ⊎ (action ≡ actions.Poll n))))
+    ⊎ (action ≡ actions.Poll n)))))))))
 
--- a command that names an object does what the object does
-pub named : {L : Type 0} (k : Knowledge L) (settings : Settings) (command : Command) (n made : ℕ) (s : State L) (reply : Reply) (s' : State L) → Names command.action n → ActsOn k settings.merge n command made (slice_get s.objects n) s reply s' → Does k settings made s command reply s'
-named k settings command n made s reply s' (inl put) acts = does-as k settings command made s reply s' (actions.Put n put.0 put.1 put.2) put.3 acts
-named k settings command n made s reply s' (inr (inl flush)) acts = does-as k settings command made s reply s' (actions.Flush n flush.0) flush.1 acts
-named k settings command n made s reply s' (inr (inr (inl get))) acts = does-as k settings command made s reply s' (actions.Get n get.0 get.1) get.2 acts
-named k settings command n made s reply s' (inr (inr (inr (inl close)))) acts = does-as k settings command made s reply s' (actions.Close n close.0) close.1 acts
-named k settings command n made s reply s' (inr (inr (inr (inr poll)))) acts = does-as k settings command made s reply s' (actions.Poll n) poll acts
+pub names-object : (action : Action) (n : ℕ) → Names action n → target_of action ≡ OfObject n
+names-object action n (inl put) = ap target_of put.3
+names-object action n (inr (inl merge)) = ap target_of merge.3
+names-object action n (inr (inr (inl delete))) = ap target_of delete.1
+names-object action n (inr (inr (inr (inl batch)))) = ap target_of batch.1
+names-object action n (inr (inr (inr (inr (inl flush))))) = ap target_of flush.1
+names-object action n (inr (inr (inr (inr (inr (inl get)))))) = ap target_of get.2
+names-object action n (inr (inr (inr (inr (inr (inr (inl scan))))))) = ap target_of scan.3
+names-object action n (inr (inr (inr (inr (inr (inr (inr (inl seek)))))))) = ap target_of seek.5
+names-object action n (inr (inr (inr (inr (inr (inr (inr (inr (inl close))))))))) = ap target_of close.1
+names-object action n (inr (inr (inr (inr (inr (inr (inr (inr (inr poll))))))))) = ap target_of poll

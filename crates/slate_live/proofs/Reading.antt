@@ -1,5 +1,5 @@
 -- Plain reads of lines that begin others, and what no plain read finds.
-use Rattle.std.proofs.Common.{◌≡◌, ℕ, ◌≤◌, List, [], ◌∷◌, ◌++◌, leb, sym, Option, Some, None, Result, Ok, Err, false, refl, subst, ap, ◌∙◌, arith, ℤ, ◌+◌}
+use Rattle.std.proofs.Common.{◌≡◌, ◌≢◌, ◌↔◌, IsTrue, Contains, ℕ, ◌≤◌, List, [], ◌∷◌, ◌++◌, leb, sym, Option, Some, None, Result, Ok, Err, false, refl, subst, ap, ◌∙◌, arith, ℤ, ◌+◌}
 use Rattle.std.specs.List.{filter, flat_map}
 use Rattle.std.proofs.lemmas.Bool.{lt-leb}
 use Rattle.std.proofs.lemmas.List.{append-nil}
@@ -12,8 +12,13 @@ use Rattle.slate_types.specs.declared.batches.Op.TheVariants.{Put, Delete, Merge
 use Rattle.slate_types.specs.declared.read_faults.ReadFault.{ReadFault}
 use Rattle.slate_types.specs.declared.read_faults.ReadFault.TheVariants as reads
 use Rattle.slate_types.specs.Line.{AreNumberedFrom, IsLine, IsPrefix, Line, end, extended}
+use Rattle.slate_types.specs.declared.ranges.ByteRange.{ByteRange}
+use Rattle.slate_types.specs.declared.scan_options.IterationOrder.{IterationOrder}
+use Rattle.slate_types.specs.Range.{contains}
 use Rattle.slate_types.specs.Operator.{Merge}
 use Rattle.slate_reads.specs.Read.{Version, and_then, fold_versions, is_within, merged_row, read_at, row_after, since_base, tail, versions_in}
+use Rattle.slate_rows.specs.Iteration.{Iteration}
+use Rattle.slate_rows.specs.Scan.{BeginsScan, rows_of, with_found}
 use Rattle.slate_model.proofs.Reopened.{numbered_rest}
 
 -- no plain read finds a damaged row
@@ -56,3 +61,22 @@ front-within line stored p numbered =
 pub front-read : (merge : Option Merge) (line stored : Line) (key : List ℕ) → IsPrefix line stored → IsLine stored → read_at merge line.batches (Some (end line)) key ≡ read_at merge stored.batches (Some (end line)) key
 front-read merge line stored key p numbered =
     ap (λ bs. fold_versions merge key None (since_base (flat_map (versions_in key) bs))) (sym (front-within line stored p numbered))
+
+rows-same : (f g : List ℕ → Result (Option KeyValue) ReadFault) → ((key : List ℕ) → f key ≡ g key) → (keys : List (List ℕ)) → rows_of f keys ≡ rows_of g keys
+rows-same f g same [] = refl
+rows-same f g same (key ∷ keys) = ap (λ r. with_found r (rows_of f keys)) (same key) ∙ ap (with_found (g key)) (rows-same f g same keys)
+
+-- a scan of what a follower sees is one of what is stored
+pub front-scan : (merge : Option Merge) (line stored : Line) (range : ByteRange) (order : IterationOrder) (it : Iteration) → IsPrefix line stored → IsLine stored → BeginsScan merge line.batches (Some (end line)) range order it → BeginsScan merge stored.batches (Some (end line)) range order it
+front-scan merge line stored range order it p numbered begun =
+    let s = begun.plain in
+    let same = λ (key : List ℕ). front-read merge line stored key p numbered in
+    record {
+      unbegun = begun.unbegun;
+      plain = record {
+        keys = s.keys;
+        in_order = s.in_order;
+        whole = λ key. subst (λ (bs : List Batch). Contains s.keys key ↔ (IsTrue (contains range key) × (flat_map (versions_in key) bs ≢ []))) (sym (front-within line stored p numbered)) (s.whole key);
+        taken = sym (rows-same _ _ same s.keys) ∙ s.taken;
+      };
+    }

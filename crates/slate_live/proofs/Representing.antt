@@ -5,8 +5,6 @@ use Rattle.std.specs.Prelude.{nat_lt}
 use Rattle.std.specs.Result.{IfOk}
 use Rattle.std.proofs.lemmas.List.{append-nil}
 use Rattle.slate_types.specs.declared.batches.Batch.{Batch}
-use Rattle.slate_types.specs.declared.options.CloseOptions.{CloseOptions}
-use Rattle.slate_types.specs.declared.options.FlushType.{FlushType}
 use Rattle.slate_types.specs.Line.{IsLine, IsPrefix}
 use Rattle.slate_store.specs.declared.objects.VersionedManifest.{VersionedManifest}
 use Rattle.slate_store.specs.Objects.{Objects, latest_manifest}
@@ -16,22 +14,21 @@ use Rattle.slate_model.specs.Catalogue.{catalogue_of, span}
 use Rattle.slate_model.specs.Changes.{PartMade}
 use Rattle.slate_model.specs.declared.answers.PollAnswer.{PollAnswer}
 use Rattle.slate_model.specs.Follower.{Follower, Rebuilds, can_follow}
-use Rattle.slate_model.specs.Handle.{Handle, unstored}
+use Rattle.slate_model.specs.Handle.{Handle}
 use Rattle.slate_model.specs.Known.{IsContent, Known}
 use Rattle.slate_model.specs.Object.{Object, Handle as AHandle, Follower as AFollower, kept}
 use Rattle.slate_model.specs.Open.{OpenFault, OpensHandle, opened_handle, opened_manifest}
 use Rattle.slate_model.proofs.Flushed.{part_le}
 use Rattle.slate_model.proofs.Reduced.{catalogued, holding, opens-reduced, rebuilds-reduced}
-use Rattle.slate_script.specs.declared.commands.Action.{Action}
-use Rattle.slate_script.specs.declared.commands.Action.TheVariants as actions
 use Rattle.slate_script.specs.declared.commands.Command.{Command}
 use Rattle.slate_script.specs.declared.replies.Reply.{Reply}
 use Rattle.slate_live.specs.declared.states.Write.{Write}
+use Rattle.slate_live.specs.Calls.{call_of, Target, NewHandle, NewFollower, OfWrite, OfObject, target_of}
 use Rattle.slate_live.specs.Commands.{Acts, ActsOn, Does, DoesBy, added}
 use Rattle.slate_live.specs.Represents.{Holds, IsFollowerAt, IsHandleAt, IsValid, IsValidHandle, Represents, IsValidFollower}
 use Rattle.slate_live.specs.Settings.{Settings}
 use Rattle.slate_live.specs.State.{Live, State, by_objects, running}
-use Rattle.slate_live.specs.World.{Next, World, by_catalogue, state_of, stored_after, to_store, unstored_at}
+use Rattle.slate_live.specs.World.{Next, World, by_catalogue, state_of, stored_after, stored_at, stored_by, to_store, unstored_at}
 use Rattle.slate_live.proofs.Knowing.{acts-known}
 use Rattle.slate_live.proofs.Leading.{Leads, follower-leads, handle-leads, unmade}
 use Rattle.slate_live.proofs.Opening.{Opened, after-part, valid-opened-world, valid-unopened-world}
@@ -216,44 +213,36 @@ module _ (settings : Settings) (w : World) (o : Objects) (is_sound : IsSound o) 
       }
 
   -- what an object's command leaves, by its kind
-  leads-by : (n : ℕ) (old new : Object) → slice_get w.objects n ≡ Some old → ((h : Handle) → old ≡ AHandle h → (m : ℕ) (t : Option FlushType) → command.action ≡ actions.Flush m t → to_store w command.action ≡ unstored h) → ((h : Handle) → old ≡ AHandle h → (m : ℕ) (t : Option CloseOptions) → command.action ≡ actions.Close m t → to_store w command.action ≡ unstored h) → Acts (by_objects (Some o)) settings.merge n command made old (holding o w.faults) w.writes reply new store writes → Leads w o is_sound holds valid (to_store w command.action) made (set w.objects n new) store
-  leads-by n (AHandle h) (AHandle h') at flush close a = handle-leads w o is_sound holds valid settings.merge n command.moment command.second command.action made h w.writes reply h' store writes (to_store w command.action) at (flush h refl) (close h refl) a
-  leads-by n (AFollower f) (AFollower f') at flush close a = follower-leads w o is_sound holds valid settings.merge n command.action made f w.writes reply f' store writes (to_store w command.action) at a
-  leads-by n (AHandle h) (AFollower f') at flush close a = absurd a
-  leads-by n (AFollower f) (AHandle h') at flush close a = absurd a
+  leads-by : (n : ℕ) (old new : Object) → slice_get w.objects n ≡ Some old → to_store w command.action ≡ stored_by (call_of command.action) (unstored_at (Some old)) → Acts (by_objects (Some o)) settings.merge n command made old (holding o w.faults) w.writes reply new store writes → Leads w o is_sound holds valid (to_store w command.action) made (set w.objects n new) store
+  leads-by n (AHandle h) (AHandle h') at is_stored a = handle-leads w o is_sound holds valid settings.merge n command.moment command.second (call_of command.action) made h w.writes reply h' store writes (to_store w command.action) at is_stored a
+  leads-by n (AFollower f) (AFollower f') at is_stored a = follower-leads w o is_sound holds valid settings.merge n (call_of command.action) made f w.writes reply f' store writes (to_store w command.action) at a
+  leads-by n (AHandle h) (AFollower f') at is_stored a = absurd a
+  leads-by n (AFollower f) (AHandle h') at is_stored a = absurd a
 
   -- a command that names an object
-  led-on : (n : ℕ) (found : Option Object) → slice_get w.objects n ≡ found → ((h : Handle) → found ≡ Some (AHandle h) → (m : ℕ) (t : Option FlushType) → command.action ≡ actions.Flush m t → to_store w command.action ≡ unstored h) → ((h : Handle) → found ≡ Some (AHandle h) → (m : ℕ) (t : Option CloseOptions) → command.action ≡ actions.Close m t → to_store w command.action ≡ unstored h) → ActsOn (by_objects (Some o)) settings.merge n command made found s reply s' → ((after : Objects) → ActsOn (by_catalogue w.stored) settings.merge n command made (slice_get w.objects n) (state_of w) reply (state_of (world after)) → Does (by_catalogue w.stored) settings made (state_of w) command reply (state_of (world after))) → Led
-  led-on n None at flush close a does =
+  led-on : (n : ℕ) (found : Option Object) → slice_get w.objects n ≡ found → to_store w command.action ≡ stored_by (call_of command.action) (unstored_at found) → ActsOn (by_objects (Some o)) settings.merge n command made found s reply s' → ((after : Objects) → ActsOn (by_catalogue w.stored) settings.merge n command made (slice_get w.objects n) (state_of w) reply (state_of (world after)) → Does (by_catalogue w.stored) settings made (state_of w) command reply (state_of (world after))) → Led
+  led-on n None at is_stored a does =
       led-only _ a (λ after only. does after (subst (λ found. ActsOn (by_catalogue w.stored) settings.merge n command made found (state_of w) reply (state_of (world after))) (sym at) only))
-  led-on n (Some old) at flush close a does =
-      let l = leads-by n old a.new at (λ h is. flush h (ap Some is)) (λ h is. close h (ap Some is)) a.acts in
+  led-on n (Some old) at is_stored a does =
+      let l = leads-by n old a.new at is_stored a.acts in
       led-acts n old a.new at (subst (λ xs. Leads w o is_sound holds valid (to_store w command.action) made xs store) (sym a.objects) l) a.acts a.objects does
 
-  nothing-stored : (action : Action) → command.action ≡ action → to_store w action ≡ [] → stored_after made w.stored (to_store w command.action) ≡ w.stored
-  nothing-stored action is none = ap (stored_after made w.stored) (ap (to_store w) is ∙ none) ∙ after-nil (nat_lt 0 made) w.stored
+  nothing-stored : (target : Target) → target_of command.action ≡ target → stored_at w target (call_of command.action) ≡ [] → stored_after made w.stored (to_store w command.action) ≡ w.stored
+  nothing-stored target is none = ap (stored_after made w.stored) (ap (λ t. stored_at w t (call_of command.action)) is ∙ none) ∙ after-nil (nat_lt 0 made) w.stored
 
-  does-as : (action : Action) → command.action ≡ action → (after : Objects) → DoesBy (by_catalogue w.stored) settings command action made (state_of w) reply (state_of (world after)) → Does (by_catalogue w.stored) settings made (state_of w) command reply (state_of (world after))
-  does-as action is after d = subst (λ a. DoesBy (by_catalogue w.stored) settings command a made (state_of w) reply (state_of (world after))) (sym is) d
+  does-at : (target : Target) → target_of command.action ≡ target → (after : Objects) → DoesBy (by_catalogue w.stored) settings command target made (state_of w) reply (state_of (world after)) → Does (by_catalogue w.stored) settings made (state_of w) command reply (state_of (world after))
+  does-at target is after d = subst (λ t. DoesBy (by_catalogue w.stored) settings command t made (state_of w) reply (state_of (world after))) (sym is) d
 
-  led-by : (action : Action) → command.action ≡ action → DoesBy (by_objects (Some o)) settings command action made s reply s' → Led
-  led-by actions.Open is d =
-      led-opens (nothing-stored actions.Open is refl) d.result d.does d.objects
-      (λ after opens. does-as actions.Open is after (record { result = d.result; replied = d.replied; does = opens; objects = d.objects; writes = d.writes }))
-  led-by (actions.Follow mode managed skip) is d =
-      led-follows (nothing-stored (actions.Follow mode managed skip) is refl) (d.0).result (d.0).does (d.0).objects
-      (λ built. does-as (actions.Follow mode managed skip) is o (record { result = (d.0).result; replied = (d.0).replied; does = built; objects = (d.0).objects; writes = (d.0).writes }, d.1))
-  led-by (actions.Await n) is d = led-only _ d (λ after only. does-as (actions.Await n) is after only)
-  led-by (actions.Put n key value expire) is d =
-      led-on n (slice_get w.objects n) refl (λ h at m t other. absurd (cc (is, other))) (λ h at m t other. absurd (cc (is, other))) d (λ after a. does-as (actions.Put n key value expire) is after a)
-  led-by (actions.Flush n t) is d =
-      led-on n (slice_get w.objects n) refl (λ h at m u same. ap (to_store w) is ∙ ap unstored_at at) (λ h at m u other. absurd (cc (is, other))) d (λ after a. does-as (actions.Flush n t) is after a)
-  led-by (actions.Get n key remote) is d =
-      led-on n (slice_get w.objects n) refl (λ h at m t other. absurd (cc (is, other))) (λ h at m t other. absurd (cc (is, other))) d (λ after a. does-as (actions.Get n key remote) is after a)
-  led-by (actions.Close n t) is d =
-      led-on n (slice_get w.objects n) refl (λ h at m u other. absurd (cc (is, other))) (λ h at m u same. ap (to_store w) is ∙ ap unstored_at at) d (λ after a. does-as (actions.Close n t) is after a)
-  led-by (actions.Poll n) is d =
-      led-on n (slice_get w.objects n) refl (λ h at m t other. absurd (cc (is, other))) (λ h at m t other. absurd (cc (is, other))) d (λ after a. does-as (actions.Poll n) is after a)
+  led-by : (target : Target) → target_of command.action ≡ target → DoesBy (by_objects (Some o)) settings command target made s reply s' → Led
+  led-by NewHandle is d =
+      led-opens (nothing-stored NewHandle is refl) d.result d.does d.objects
+      (λ after opens. does-at NewHandle is after (record { result = d.result; replied = d.replied; does = opens; objects = d.objects; writes = d.writes }))
+  led-by NewFollower is d =
+      led-follows (nothing-stored NewFollower is refl) (d.0).result (d.0).does (d.0).objects
+      (λ built. does-at NewFollower is o (record { result = (d.0).result; replied = (d.0).replied; does = built; objects = (d.0).objects; writes = (d.0).writes }, d.1))
+  led-by (OfWrite n) is d = led-only _ d (λ after only. does-at (OfWrite n) is after only)
+  led-by (OfObject n) is d =
+      led-on n (slice_get w.objects n) refl (ap (λ t. stored_at w t (call_of command.action)) is) d (λ after a. does-at (OfObject n) is after a)
 
 -- from a world that is represented, a command leads to one that is
 pub leads : (settings : Settings) (live live' : Live) (store store' : Known (List Batch)) (w : World) (command : Command) (made : ℕ) (reply : Reply) → Represents live store w → Does (by_objects store.objects) settings made (running live store) command reply (running live' store') → (w' : World) × Next settings w command reply w' × Represents live' store' w'
@@ -267,7 +256,7 @@ leads settings live live' store store' w command made reply r d =
     let by_held : Does (by_objects (Some o)) settings made (record { objects = w.objects; writes = w.writes; store = holding o w.faults }) command reply (running live' store') =
     subst (λ objects. Does (by_objects objects) settings made (record { objects = w.objects; writes = w.writes; store = holding o w.faults }) command reply (running live' store')) (r.held).1
     (subst (λ x. Does (by_objects store.objects) settings made x command reply (running live' store')) state d) in
-    let l = led-by settings w o (r.held).2 (r.held).3 r.valid command made reply live'.objects live'.writes store' command.action refl by_held in (
+    let l = led-by settings w o (r.held).2 (r.held).3 r.valid command made reply live'.objects live'.writes store' (target_of command.action) refl by_held in (
       world settings w o (r.held).2 (r.held).3 r.valid command made reply live'.objects live'.writes store' l.after,
       record { made = made; does = l.does; stored = refl },
       record {

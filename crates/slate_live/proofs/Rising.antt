@@ -23,14 +23,13 @@ use Rattle.slate_model.specs.Handle.{CloseResult, Handle, accepted}
 use Rattle.slate_model.specs.Known.{Known}
 use Rattle.slate_model.specs.Object.{Object, Handle as AHandle, Follower as AFollower}
 use Rattle.slate_model.specs.Write.{Writes, accepted_moment}
-use Rattle.slate_script.specs.declared.commands.Action.{Action}
-use Rattle.slate_script.specs.declared.commands.Action.TheVariants as actions
 use Rattle.slate_script.specs.declared.commands.Command.{Command}
 use Rattle.slate_script.specs.declared.replies.Reply.{Reply}
 use Rattle.slate_live.specs.declared.states.Write.{Write}
+use Rattle.slate_live.specs.Calls.{Call, Write as WriteCall, Merge as MergeCall, Flush, Get, Scan, Seek, Close, Poll, Nothing, call_of, Target, NewHandle, NewFollower, OfWrite, OfObject, target_of}
 use Rattle.slate_live.specs.Commands.{Acts, ActsOn, DoesBy}
 use Rattle.slate_live.specs.Followers.{FollowerActs}
-use Rattle.slate_live.specs.Handles.{HandleActs}
+use Rattle.slate_live.specs.Handles.{HandleActs, MergesTo}
 use Rattle.slate_live.specs.Represents.{IsValid}
 use Rattle.slate_live.specs.Rising.{FollowerRises, HandleRises, Rise, Rises, StaysClosed}
 use Rattle.slate_live.specs.Settings.{Settings}
@@ -82,24 +81,29 @@ flushed-rises h view (Err e) live low = record { line = prefix-same h.line; dura
 closed-rises : (h g : Handle) → h.result ≡ None → HandleRises h g → HandleRises h (closed g)
 closed-rises h g live r = record { line = r.line; durable = r.durable; tick = r.tick; epoch = r.epoch; result = is-none (λ q. Some (Ok tt) ≡ Some q) h.result live }
 
-pub handle-rises : {L : Type 0} (summary : List Batch → L) (merge : Option Merge) (n : ℕ) (moment : ℤ) (second : Option ℤ) (action : Action) (made : ℕ) (h : Handle) (before : Known L) (writes : List Write) (reply : Reply) (h' : Handle) (after : Known L) (writes' : List Write) → h.durable ≤ accepted h → HandleActs summary merge n moment second action made h before writes reply h' after writes' → HandleRises h h'
-handle-rises summary merge n moment second (actions.Put object key value expire) made h before writes reply h' after writes' low a = write-rises h h' _ moment second (a.0).result (a.0).does
-handle-rises summary merge n moment second (actions.Flush object flush_type) made h before writes reply h' after writes' low a =
+merge-rises : (merge : Option Merge) (n : ℕ) (op : KeyOp) (moment : ℤ) (second : Option ℤ) (h : Handle) (writes : List Write) (reply : Reply) (h' : Handle) (writes' : List Write) → MergesTo merge n op moment second h writes reply h' writes' → HandleRises h h'
+merge-rises None n op moment second h writes reply h' writes' a = rises-same h h' a.1
+merge-rises (Some merge) n op moment second h writes reply h' writes' a = write-rises h h' _ moment second a.result a.does
+
+pub handle-rises : {L : Type 0} (summary : List Batch → L) (merge : Option Merge) (n : ℕ) (moment : ℤ) (second : Option ℤ) (call : Call) (made : ℕ) (h : Handle) (before : Known L) (writes : List Write) (reply : Reply) (h' : Handle) (after : Known L) (writes' : List Write) → h.durable ≤ accepted h → HandleActs summary merge n moment second call made h before writes reply h' after writes' → HandleRises h h'
+handle-rises summary merge n moment second (WriteCall ops) made h before writes reply h' after writes' low a = write-rises h h' _ moment second (a.0).result (a.0).does
+handle-rises summary merge n moment second (MergeCall op) made h before writes reply h' after writes' low a = merge-rises merge n op moment second h writes reply h' writes' a.0
+handle-rises summary merge n moment second Flush made h before writes reply h' after writes' low a =
     flush-by summary made h before h' after (HandleRises h h') (a.0).result (a.0).does
     (λ q is error same store. rises-same h h' same)
     (λ live without error same store. rises-same h h' same)
     (λ can is stores. subst (HandleRises h) (sym is) (flushed-rises h h'.view (a.0).result can.0 low))
-handle-rises summary merge n moment second (actions.Close object options) made h before writes reply h' after writes' low a =
+handle-rises summary merge n moment second (Close t) made h before writes reply h' after writes' low a =
     close-by summary made h before h' after (HandleRises h h') _ (a.0).ended (a.0).does
     (λ q is error same store. rises-same h h' same)
     (λ live none error is store. subst (HandleRises h) (sym is) (closed-rises h h live (rises-same h h refl)))
     (λ live some without error is store. subst (HandleRises h) (sym is) (closed-rises h h live (rises-same h h refl)))
     (λ can some tasks is stores. subst (HandleRises h) (sym is) (closed-rises h _ can.0 (flushed-rises h h'.view _ can.0 low)))
-handle-rises summary merge n moment second (actions.Get object key remote) made h before writes reply h' after writes' low a = rises-same h h' a.1
-handle-rises summary merge n moment second actions.Open made h before writes reply h' after writes' low a = rises-same h h' a.1
-handle-rises summary merge n moment second (actions.Follow mode managed skip) made h before writes reply h' after writes' low a = rises-same h h' a.1
-handle-rises summary merge n moment second (actions.Poll object) made h before writes reply h' after writes' low a = rises-same h h' a.1
-handle-rises summary merge n moment second (actions.Await write) made h before writes reply h' after writes' low a = rises-same h h' a.1
+handle-rises summary merge n moment second (Get key remote) made h before writes reply h' after writes' low a = rises-same h h' a.1
+handle-rises summary merge n moment second (Scan range order remote) made h before writes reply h' after writes' low a = rises-same h h' a.1
+handle-rises summary merge n moment second (Seek range take key order remote) made h before writes reply h' after writes' low a = rises-same h h' a.1
+handle-rises summary merge n moment second Poll made h before writes reply h' after writes' low a = rises-same h h' a.1
+handle-rises summary merge n moment second Nothing made h before writes reply h' after writes' low a = rises-same h h' a.1
 
 follower-same : (f f' : Follower) → f' ≡ f → FollowerRises f f'
 follower-same f f' same = subst (FollowerRises f) (sym same) (record { number = omega arith; result = stays f.result })
@@ -127,15 +131,16 @@ closed-follower-rises : (f : Follower) (r : CloseResult) → f.result ≡ r → 
 closed-follower-rises f None is = record { number = omega arith; result = is-none (λ q. (closed_follower f).result ≡ Some q) f.result is }
 closed-follower-rises f (Some q) is = record { number = omega arith; result = subst (λ x. StaysClosed x (Some (unwrap_or x (Ok tt)))) (sym is) refl }
 
-pub follower-rises : {L : Type 0} (stored : Line) (rows : Follower → List Batch) (merge : Option Merge) (action : Action) (made : ℕ) (f : Follower) (o : ObjectsOf L) (before : Known L) (writes : List Write) (reply : Reply) (f' : Follower) (after : Known L) (writes' : List Write) → before.objects ≡ Some o → IsPrefix f.line stored → FollowerActs (λ line. line ≡ stored) rows merge action made f before writes reply f' after writes' → FollowerRises f f'
-follower-rises stored rows merge (actions.Poll object) made f o before writes reply f' after writes' at front a = poll-rises stored f f' o before after (a.0).result at front (a.0).does
-follower-rises stored rows merge (actions.Close object options) made f o before writes reply f' after writes' at front a = subst (FollowerRises f) (sym a.1) (closed-follower-rises f f.result refl)
-follower-rises stored rows merge (actions.Get object key remote) made f o before writes reply f' after writes' at front a = follower-same f f' a.1
-follower-rises stored rows merge actions.Open made f o before writes reply f' after writes' at front a = follower-same f f' a.1
-follower-rises stored rows merge (actions.Put object key value expire) made f o before writes reply f' after writes' at front a = follower-same f f' a.1
-follower-rises stored rows merge (actions.Flush object flush_type) made f o before writes reply f' after writes' at front a = follower-same f f' a.1
-follower-rises stored rows merge (actions.Follow mode managed skip) made f o before writes reply f' after writes' at front a = follower-same f f' a.1
-follower-rises stored rows merge (actions.Await write) made f o before writes reply f' after writes' at front a = follower-same f f' a.1
+pub follower-rises : {L : Type 0} (stored : Line) (rows : Follower → List Batch) (merge : Option Merge) (call : Call) (made : ℕ) (f : Follower) (o : ObjectsOf L) (before : Known L) (writes : List Write) (reply : Reply) (f' : Follower) (after : Known L) (writes' : List Write) → before.objects ≡ Some o → IsPrefix f.line stored → FollowerActs (λ line. line ≡ stored) rows merge call made f before writes reply f' after writes' → FollowerRises f f'
+follower-rises stored rows merge Poll made f o before writes reply f' after writes' at front a = poll-rises stored f f' o before after (a.0).result at front (a.0).does
+follower-rises stored rows merge (Close t) made f o before writes reply f' after writes' at front a = subst (FollowerRises f) (sym a.1) (closed-follower-rises f f.result refl)
+follower-rises stored rows merge (Get key remote) made f o before writes reply f' after writes' at front a = follower-same f f' a.1
+follower-rises stored rows merge (Scan range order remote) made f o before writes reply f' after writes' at front a = follower-same f f' a.1
+follower-rises stored rows merge (Seek range take key order remote) made f o before writes reply f' after writes' at front a = follower-same f f' a.1
+follower-rises stored rows merge (WriteCall ops) made f o before writes reply f' after writes' at front a = follower-same f f' a.1
+follower-rises stored rows merge (MergeCall op) made f o before writes reply f' after writes' at front a = follower-same f f' a.1
+follower-rises stored rows merge Flush made f o before writes reply f' after writes' at front a = follower-same f f' a.1
+follower-rises stored rows merge Nothing made f o before writes reply f' after writes' at front a = follower-same f f' a.1
 
 rises-refl : (x : Object) → Rises x x
 rises-refl (AHandle h) = rises-same h h refl
@@ -163,8 +168,8 @@ module _ (settings : Settings) (w : World) (valid : IsValid w) (command : Comman
   k = by_catalogue w.stored
 
   acts-rise : (n : ℕ) (old new : Object) → slice_get w.objects n ≡ Some old → Acts k settings.merge n command made old (state_of w).store w.writes reply new s'.store s'.writes → Rises old new
-  acts-rise n (AHandle h) (AHandle h') at a = handle-rises _ settings.merge n command.moment command.second command.action made h _ w.writes reply h' _ _ (valid.handles n h at).durable a
-  acts-rise n (AFollower f) (AFollower f') at a = follower-rises w.stored _ settings.merge command.action made f w.catalogue _ w.writes reply f' _ _ refl (valid.followers n f at).front a
+  acts-rise n (AHandle h) (AHandle h') at a = handle-rises _ settings.merge n command.moment command.second (call_of command.action) made h _ w.writes reply h' _ _ (valid.handles n h at).durable a
+  acts-rise n (AFollower f) (AFollower f') at a = follower-rises w.stored _ settings.merge (call_of command.action) made f w.catalogue _ w.writes reply f' _ _ refl (valid.followers n f at).front a
   acts-rise n (AHandle h) (AFollower f') at a = absurd a
   acts-rise n (AFollower f) (AHandle h') at a = absurd a
 
@@ -172,16 +177,12 @@ module _ (settings : Settings) (w : World) (valid : IsValid w) (command : Comman
   on-rises n None at a = rise-same w.objects s'.objects (ap (λ (s : State Span). s.objects) a.2)
   on-rises n (Some old) at a = rise-set w.objects s'.objects n old a.new at (acts-rise n old a.new at a.acts) a.objects
 
-  does-rises : (action : Action) → DoesBy k settings command action made (state_of w) reply s' → Rise w.objects s'.objects
-  does-rises actions.Open d = rise-push w.objects s'.objects _ d.objects
-  does-rises (actions.Follow mode managed skip) d = rise-push w.objects s'.objects _ (d.0).objects
-  does-rises (actions.Await n) d = rise-same w.objects s'.objects (ap (λ (s : State Span). s.objects) d.2)
-  does-rises (actions.Put n key value expire) d = on-rises n (slice_get w.objects n) refl d
-  does-rises (actions.Flush n flush_type) d = on-rises n (slice_get w.objects n) refl d
-  does-rises (actions.Get n key remote) d = on-rises n (slice_get w.objects n) refl d
-  does-rises (actions.Close n options) d = on-rises n (slice_get w.objects n) refl d
-  does-rises (actions.Poll n) d = on-rises n (slice_get w.objects n) refl d
+  does-rises : (target : Target) → DoesBy k settings command target made (state_of w) reply s' → Rise w.objects s'.objects
+  does-rises NewHandle d = rise-push w.objects s'.objects _ d.objects
+  does-rises NewFollower d = rise-push w.objects s'.objects _ (d.0).objects
+  does-rises (OfWrite n) d = rise-same w.objects s'.objects (ap (λ (s : State Span). s.objects) d.2)
+  does-rises (OfObject n) d = on-rises n (slice_get w.objects n) refl d
 
 -- whatever a command answers, no object goes back
 pub rises : (settings : Settings) (w : World) (command : Command) (reply : Reply) (w' : World) → IsValid w → Next settings w command reply w' → Rise w.objects w'.objects
-rises settings w command reply w' valid next = does-rises settings w valid command next.made reply (state_of w') command.action next.does
+rises settings w command reply w' valid next = does-rises settings w valid command next.made reply (state_of w') (target_of command.action) next.does

@@ -1,5 +1,5 @@
 -- What is stored is seen by each opening and each poll.
-use Rattle.std.proofs.Common.{◌≡◌, ℕ, ◌≤◌, Bool, true, false, ◌++◌, length, Option, Some, None, Result, Ok, Err, refl, sym, subst, arith}
+use Rattle.std.proofs.Common.{◌≡◌, ℕ, ◌≤◌, Bool, true, false, ◌++◌, length, Option, Some, None, Result, Ok, Err, refl, sym, subst, arith, ap}
 use Rattle.std.specs.List.{slice_get}
 use Rattle.std.proofs.lemmas.Option.{slice_get_within}
 use Rattle.slate_types.specs.declared.batches.Batch.{Batch}
@@ -18,6 +18,7 @@ use Rattle.slate_script.specs.declared.commands.Action.TheVariants as actions
 use Rattle.slate_script.specs.declared.commands.Command.{Command}
 use Rattle.slate_script.specs.declared.replies.Reply.{Reply}
 use Rattle.slate_script.specs.declared.replies.Reply.TheVariants as replies
+use Rattle.slate_live.specs.Calls.{Poll, call_of, target_of}
 use Rattle.slate_live.specs.Commands.{ActsOn, DoesBy, added}
 use Rattle.slate_live.specs.Confirmed.{Sees, StandsIn}
 use Rattle.slate_live.specs.Replies.{followed_reply, polled_reply, refusal, reply_to}
@@ -84,25 +85,30 @@ poll-sees n batch w w' f f' r stands p =
     let c = some-of (λ q. (r ≡ Err (closed_error q)) × _) f.result q is p.closed in
     subst (λ x. Sees batch (actions.Poll n) (reply_to polled_reply x) w') (sym c.0) (sees-refusal batch (actions.Poll n) (closed_error q) w'))
 
-sees-on : (settings : Settings) (batch : Batch) (w w' : World) (command : Command) (made n : ℕ) (reply : Reply) (found : Option Object) → command.action ≡ actions.Poll n → StandsIn batch w.stored → slice_get w.objects n ≡ found → ActsOn (by_catalogue w.stored) settings.merge n command made found (state_of w) reply (state_of w') → Sees batch (actions.Poll n) reply w'
+sees-on : (settings : Settings) (batch : Batch) (w w' : World) (command : Command) (made n : ℕ) (reply : Reply) (found : Option Object) → call_of command.action ≡ Poll → StandsIn batch w.stored → slice_get w.objects n ≡ found → ActsOn (by_catalogue w.stored) settings.merge n command made found (state_of w) reply (state_of w') → Sees batch (actions.Poll n) reply w'
 sees-on settings batch w w' command made n reply None is stands at d = sees-by batch (actions.Poll n) w' d.1 tt
 sees-on settings batch w w' command made n reply (Some (AHandle h)) is stands at d =
-    let a = handle-did (by_catalogue w.stored) settings.merge n command (actions.Poll n) made (state_of w) reply (state_of w') (Some (AHandle h)) h is refl d in
+    let a = handle-did (by_catalogue w.stored) settings.merge n command Poll made (state_of w) reply (state_of w') (Some (AHandle h)) h is refl d in
     sees-by batch (actions.Poll n) w' (a.acts).0 tt
 sees-on settings batch w w' command made n reply (Some (AFollower f)) is stands at d =
-    let a = follower-did (by_catalogue w.stored) settings.merge n command (actions.Poll n) made (state_of w) reply (state_of w') (Some (AFollower f)) f is refl d in
+    let a = follower-did (by_catalogue w.stored) settings.merge n command Poll made (state_of w) reply (state_of w') (Some (AFollower f)) f is refl d in
     sees-by batch (actions.Poll n) w' (a.acts).0.replied (poll-sees n batch w w' f a.new (a.acts).0.result stands (a.acts).0.does)
 
-sees-action : (settings : Settings) (batch : Batch) (w w' : World) (command : Command) (made : ℕ) (action : Action) (reply : Reply) → command.action ≡ action → StandsIn batch w.stored → DoesBy (by_catalogue w.stored) settings command action made (state_of w) reply (state_of w') → Sees batch action reply w'
+sees-action : (settings : Settings) (batch : Batch) (w w' : World) (command : Command) (made : ℕ) (action : Action) (reply : Reply) → command.action ≡ action → StandsIn batch w.stored → DoesBy (by_catalogue w.stored) settings command (target_of action) made (state_of w) reply (state_of w') → Sees batch action reply w'
 sees-action settings batch w w' command made actions.Open reply is stands d =
     sees-by batch actions.Open w' d.replied (open-sees batch w w' made settings.options.max_unflushed_bytes d.result d.does d.objects stands)
 sees-action settings batch w w' command made (actions.Follow mode managed skip) reply is stands d =
     sees-by batch (actions.Follow mode managed skip) w' (d.0).replied
     (follow-sees batch (actions.Follow mode managed skip) w w' (length w.objects) true (d.0).result (d.0).does (stands-end batch w.stored stands))
-sees-action settings batch w w' command made (actions.Poll n) reply is stands d = sees-on settings batch w w' command made n reply (slice_get w.objects n) is stands refl d
+sees-action settings batch w w' command made (actions.Poll n) reply is stands d = sees-on settings batch w w' command made n reply (slice_get w.objects n) (ap call_of is) stands refl d
 sees-action settings batch w w' command made (actions.Put n key value expire) reply is stands d = tt
+sees-action settings batch w w' command made (actions.Merge n key value expire) reply is stands d = tt
+sees-action settings batch w w' command made (actions.Delete n key) reply is stands d = tt
+sees-action settings batch w w' command made (actions.Batch n ops) reply is stands d = tt
 sees-action settings batch w w' command made (actions.Flush n flush_type) reply is stands d = tt
 sees-action settings batch w w' command made (actions.Get n key remote) reply is stands d = tt
+sees-action settings batch w w' command made (actions.Scan n range order remote) reply is stands d = tt
+sees-action settings batch w w' command made (actions.Seek n range take key order remote) reply is stands d = tt
 sees-action settings batch w w' command made (actions.Close n options) reply is stands d = tt
 sees-action settings batch w w' command made (actions.Await n) reply is stands d = tt
 

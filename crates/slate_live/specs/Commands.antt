@@ -6,12 +6,11 @@ use Rattle.slate_model.specs.Follower.{Rebuilds}
 use Rattle.slate_model.specs.Known.{Known}
 use Rattle.slate_model.specs.Object.{Object, Handle, Follower}
 use Rattle.slate_model.specs.Open.{OpensHandle}
-use Rattle.slate_script.specs.declared.commands.Action.{Action}
-use Rattle.slate_script.specs.declared.commands.Action.TheVariants as actions
 use Rattle.slate_script.specs.declared.commands.Command.{Command}
 use Rattle.slate_script.specs.declared.replies.Reply.{Reply}
 use Rattle.slate_script.specs.declared.replies.Reply.TheVariants as replies
 use Rattle.slate_live.specs.declared.states.Write.{Write}
+use Rattle.slate_live.specs.Calls.{Target, NewHandle, NewFollower, OfWrite, OfObject, call_of, target_of}
 use Rattle.slate_live.specs.Followers.{FollowerActs}
 use Rattle.slate_live.specs.Handles.{HandleActs, durable_reply}
 use Rattle.slate_live.specs.Replies.{followed_reply, reply_to}
@@ -38,9 +37,9 @@ pub record Adds {L A : Type 0} (did : Known L → Result A SlateError → Known 
 -- what an object does at a command, by its kind
 abbrev pub Acts : {L : Type 0} → Knowledge L → Option Merge → ℕ → Command → ℕ → Object → Known L → List Write → Reply → Object → Known L → List Write → Type 0
 Acts k merge n command made (Handle old) before writes reply (Handle new) after writes' =
-    HandleActs k.summary merge n command.moment command.second command.action made old before writes reply new after writes'
+    HandleActs k.summary merge n command.moment command.second (call_of command.action) made old before writes reply new after writes'
 Acts k merge n command made (Follower old) before writes reply (Follower new) after writes' =
-    FollowerActs k.is_stored k.rows merge command.action made old before writes reply new after writes'
+    FollowerActs k.is_stored k.rows merge (call_of command.action) made old before writes reply new after writes'
 Acts k merge n command made old before writes reply new after writes' = ⊥
 
 -- The object with number n does what is asked of it. All others are as before.
@@ -72,16 +71,12 @@ module _ {L : Type 0} (k : Knowledge L) (settings : Settings) where
   OpensFollowerIn made s reply s' =
       Adds (Rebuilds k.is_stored true) (λ b. Follower b.0) (λ n b. followed_reply n b.1) s reply s' × (made ≡ 0)
 
-  -- what a command does, so many of whose changes were made
-  abbrev pub DoesBy : Command → Action → ℕ → State L → Reply → State L → Type 0
-  DoesBy command actions.Open made s reply s' = OpensHandleIn made s reply s'
-  DoesBy command (actions.Follow mode managed skip) made s reply s' = OpensFollowerIn made s reply s'
-  DoesBy command (actions.Await n) made s reply s' = OnlyAnswers (write_reply s.objects (slice_get s.writes n)) made s reply s'
-  DoesBy command (actions.Put n key value expire) made s reply s' = ActsOn k settings.merge n command made (slice_get s.objects n) s reply s'
-  DoesBy command (actions.Flush n flush_type) made s reply s' = ActsOn k settings.merge n command made (slice_get s.objects n) s reply s'
-  DoesBy command (actions.Get n key remote) made s reply s' = ActsOn k settings.merge n command made (slice_get s.objects n) s reply s'
-  DoesBy command (actions.Close n options) made s reply s' = ActsOn k settings.merge n command made (slice_get s.objects n) s reply s'
-  DoesBy command (actions.Poll n) made s reply s' = ActsOn k settings.merge n command made (slice_get s.objects n) s reply s'
+  -- what a command does, by where it goes; so many of its changes were made
+  abbrev pub DoesBy : Command → Target → ℕ → State L → Reply → State L → Type 0
+  DoesBy command NewHandle made s reply s' = OpensHandleIn made s reply s'
+  DoesBy command NewFollower made s reply s' = OpensFollowerIn made s reply s'
+  DoesBy command (OfWrite n) made s reply s' = OnlyAnswers (write_reply s.objects (slice_get s.writes n)) made s reply s'
+  DoesBy command (OfObject n) made s reply s' = ActsOn k settings.merge n command made (slice_get s.objects n) s reply s'
 
   abbrev pub Does : ℕ → State L → Command → Reply → State L → Type 0
-  Does made s command reply s' = DoesBy command command.action made s reply s'
+  Does made s command reply s' = DoesBy command (target_of command.action) made s reply s'

@@ -2,40 +2,32 @@
 use Rattle.std.specs.Prelude.{◌≡◌, ℕ, ℤ, Bool, true, false, if◌then◌else◌, nat_le, List, [], ◌∷◌, ◌++◌, length, Option, Some, None, Result, Ok, Err}
 use Rattle.slate_types.specs.declared.batches.Batch.{Batch}
 use Rattle.slate_types.specs.declared.batches.KeyOp.{KeyOp}
-use Rattle.slate_types.specs.declared.batches.KeyValue.{KeyValue}
-use Rattle.slate_types.specs.declared.batches.Op.TheVariants.{Put}
-use Rattle.slate_types.specs.declared.options.CloseOptions.{CloseOptions}
 use Rattle.slate_types.specs.declared.options.DurabilityLevel.{DurabilityLevel}
 use Rattle.slate_types.specs.declared.options.DurabilityLevel.TheVariants.{Memory, Remote}
 use Rattle.slate_types.specs.declared.options.FlushType.{FlushType}
-use Rattle.slate_types.specs.declared.options.FlushType.TheVariants.{MemTable}
-use Rattle.slate_types.specs.Operator.{Merge}
+use Rattle.slate_types.specs.declared.ranges.ByteRange.{ByteRange}
+use Rattle.slate_types.specs.declared.scan_options.IterationOrder.{IterationOrder}
+use Rattle.slate_types.specs.Operator.{Merge as MergeFunction}
 use Rattle.slate_reads.specs.Bound.{read_bound}
 use Rattle.slate_reads.specs.Read.{read_at}
+use Rattle.slate_rows.specs.Iteration.{Iteration}
+use Rattle.slate_rows.specs.Scan.{BeginsScan}
 use Rattle.slate_errors.specs.declared.endings.Ended.{Ended}
 use Rattle.slate_errors.specs.declared.errors.SlateError.{SlateError}
+use Rattle.slate_errors.specs.declared.errors.SlateError.TheVariants.{MergeOperatorMissing}
 use Rattle.slate_errors.specs.Errors.{closed_error}
 use Rattle.slate_model.specs.Close.{Closes}
 use Rattle.slate_model.specs.declared.answers.Written.{Written}
 use Rattle.slate_model.specs.Flush.{Flushes}
 use Rattle.slate_model.specs.Handle.{CloseResult, Handle, accepted}
 use Rattle.slate_model.specs.Known.{Known, Untouched}
-use Rattle.slate_model.specs.Read.{Reads}
 use Rattle.slate_model.specs.Write.{Writes}
-use Rattle.slate_script.specs.declared.commands.Action.{Action}
-use Rattle.slate_script.specs.declared.commands.Action.TheVariants as actions
 use Rattle.slate_script.specs.declared.replies.Reply.{Reply}
 use Rattle.slate_script.specs.declared.replies.Reply.TheVariants as replies
 use Rattle.slate_live.specs.declared.states.Write.{Write}
-use Rattle.slate_live.specs.Replies.{ended_reply, found_reply, reply_to}
-
-abbrev pub put_op : List ℕ → List ℕ → Option ℤ → KeyOp
-put_op key value expire = record { key = key; op = Put value expire }
-
--- the flush that a close asks for: without options, to a table
-abbrev pub flush_of_close : Option CloseOptions → Option FlushType
-flush_of_close None = Some MemTable
-flush_of_close (Some options) = options.flush_type
+use Rattle.slate_live.specs.Calls.{Call, Write as WriteCall, Merge as MergeCall, Flush, Get, Scan, Seek, Close}
+use Rattle.slate_live.specs.Scans.{IsTaken, scanned, sought}
+use Rattle.slate_live.specs.Replies.{IsRead, ended_reply, found_reply, reply_to}
 
 abbrev pub level_of : Bool → DurabilityLevel
 level_of true = Remote
@@ -68,24 +60,45 @@ pub record ClosesHandle {L : Type 0} (summary : List Batch → L) (made : ℕ) (
   pub does : Closes summary made flush_type old before ended new after
 
 -- a read of a key: the plain read of the handle's line at its cut
-pub record ReadsHandle (merge : Option Merge) (key : List ℕ) (remote : Bool) (handle : Handle) (reply : Reply) : Type 0 where
-  pub result : Result (Option KeyValue) SlateError
-  pub replied : reply ≡ reply_to found_reply result
-  pub does : Reads handle.result (read_at merge handle.line.batches (cut handle remote) key) result
+abbrev pub GetsFrom : Option MergeFunction → List ℕ → Bool → Handle → Reply → Type 0
+GetsFrom merge key remote handle reply = IsRead found_reply handle.result (read_at merge handle.line.batches (cut handle remote) key) reply
 
--- What a command does to the handle with number n, of which so many changes were made. One that names an object of
--- another kind is answered that it is unknown.
-module _ {L : Type 0} (summary : List Batch → L) (merge : Option Merge) (n : ℕ) (moment : ℤ) (second : Option ℤ) where
-  abbrev pub HandleActs : Action → ℕ → Handle → Known L → List Write → Reply → Handle → Known L → List Write → Type 0
-  HandleActs (actions.Put object key value expire) made old before writes reply new after writes' =
-      WritesTo n (put_op key value expire ∷ []) moment second old writes reply new writes' × Untouched made before after
-  HandleActs (actions.Flush object flush_type) made old before writes reply new after writes' =
+-- a scan of a range and a seek in one: the plain scan of the handle's line at its cut
+abbrev pub IsPlainScan : Option MergeFunction → ByteRange → IterationOrder → Bool → Handle → Iteration → Type 0
+IsPlainScan merge range order remote handle it = BeginsScan merge handle.line.batches (cut handle remote) range order it
+
+abbrev pub ScansFrom : Option MergeFunction → ByteRange → IterationOrder → Bool → Handle → Reply → Type 0
+ScansFrom merge range order remote handle reply = IsTaken handle.result (IsPlainScan merge range order remote handle) scanned reply
+
+abbrev pub SeeksFrom : Option MergeFunction → ByteRange → ℕ → List ℕ → IterationOrder → Bool → Handle → Reply → Type 0
+SeeksFrom merge range take key order remote handle reply =
+    IsTaken handle.result (IsPlainScan merge range order remote handle) (sought range take key) reply
+
+-- a merge of one operand: without an operator it is refused before all else
+abbrev pub MergesTo : Option MergeFunction → ℕ → KeyOp → ℤ → Option ℤ → Handle → List Write → Reply → Handle → List Write → Type 0
+MergesTo None n op moment second old writes reply new writes' =
+    (reply ≡ replies.Refused MergeOperatorMissing) × (new ≡ old) × (writes' ≡ writes)
+MergesTo (Some merge) n op moment second old writes reply new writes' = WritesTo n (op ∷ []) moment second old writes reply new writes'
+
+-- What a command that asks this does to the handle with number n, of which so many changes were made. What isn't for a
+-- handle is answered that it is unknown.
+module _ {L : Type 0} (summary : List Batch → L) (merge : Option MergeFunction) (n : ℕ) (moment : ℤ) (second : Option ℤ) where
+  abbrev pub HandleActs : Call → ℕ → Handle → Known L → List Write → Reply → Handle → Known L → List Write → Type 0
+  HandleActs (WriteCall ops) made old before writes reply new after writes' =
+      WritesTo n ops moment second old writes reply new writes' × Untouched made before after
+  HandleActs (MergeCall op) made old before writes reply new after writes' =
+      MergesTo merge n op moment second old writes reply new writes' × Untouched made before after
+  HandleActs Flush made old before writes reply new after writes' =
       FlushesHandle summary made old before reply new after × (writes' ≡ writes)
-  HandleActs (actions.Get object key remote) made old before writes reply new after writes' =
-      ReadsHandle merge key remote old reply × (new ≡ old) × Untouched made before after × (writes' ≡ writes)
-  HandleActs (actions.Close object options) made old before writes reply new after writes' =
-      ClosesHandle summary made (flush_of_close options) old before reply new after × (writes' ≡ writes)
-  HandleActs action made old before writes reply new after writes' =
+  HandleActs (Get key remote) made old before writes reply new after writes' =
+      GetsFrom merge key remote old reply × (new ≡ old) × Untouched made before after × (writes' ≡ writes)
+  HandleActs (Scan range order remote) made old before writes reply new after writes' =
+      ScansFrom merge range order remote old reply × (new ≡ old) × Untouched made before after × (writes' ≡ writes)
+  HandleActs (Seek range take key order remote) made old before writes reply new after writes' =
+      SeeksFrom merge range take key order remote old reply × (new ≡ old) × Untouched made before after × (writes' ≡ writes)
+  HandleActs (Close flush_type) made old before writes reply new after writes' =
+      ClosesHandle summary made flush_type old before reply new after × (writes' ≡ writes)
+  HandleActs call made old before writes reply new after writes' =
       (reply ≡ replies.Unknown) × (new ≡ old) × Untouched made before after × (writes' ≡ writes)
 
 -- the reply where a write isn't durable

@@ -1,3 +1,4 @@
+pub mod Calls
 pub mod Commands
 pub mod Confirmed
 pub mod Followers
@@ -6,6 +7,7 @@ pub mod Replies
 pub mod Represents
 pub mod Rising
 pub mod Run
+pub mod Scans
 pub mod Session
 pub mod Settings
 pub mod State

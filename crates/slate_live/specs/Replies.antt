@@ -1,12 +1,15 @@
 -- The replies to what operations answer.
-use Rattle.std.specs.Prelude.{ℕ, List, true, false, Option, Some, None, Result, Ok, Err}
+use Rattle.std.specs.Prelude.{◌≡◌, ℕ, List, true, false, Option, Some, None, Result, Ok, Err}
 use Rattle.slate_types.specs.declared.batches.KeyValue.{KeyValue}
+use Rattle.slate_types.specs.declared.read_faults.ReadFault.{ReadFault}
 use Rattle.slate_errors.specs.declared.endings.Ended.{Ended}
 use Rattle.slate_errors.specs.declared.endings.TaskName.{TaskName}
 use Rattle.slate_errors.specs.declared.errors.SlateError.{SlateError}
 use Rattle.slate_errors.specs.declared.errors.SlateError.TheVariants as errors
 use Rattle.slate_model.specs.declared.answers.PollAnswer.{PollAnswer}
 use Rattle.slate_model.specs.declared.answers.PollAnswer.TheVariants.{Whole, Truncated}
+use Rattle.slate_model.specs.Handle.{CloseResult}
+use Rattle.slate_model.specs.Read.{Reads}
 use Rattle.slate_script.specs.declared.replies.Reply.{Reply}
 use Rattle.slate_script.specs.declared.replies.Reply.TheVariants as replies
 
@@ -19,6 +22,12 @@ refusal error = replies.Refused error
 abbrev pub reply_to : {A : Type 0} → (A → Reply) → Result A SlateError → Reply
 reply_to done (Ok answer) = done answer
 reply_to done (Err error) = refusal error
+
+-- The reply to a read of something that closed with this result, or is open, where the plain read gives this.
+pub record IsRead {A : Type 0} (done : A → Reply) (closed : CloseResult) (plain : Result A ReadFault) (reply : Reply) : Type 0 where
+  pub result : Result A SlateError
+  pub replied : reply ≡ reply_to done result
+  pub does : Reads closed plain result
 
 abbrev pub found_reply : Option KeyValue → Reply
 found_reply None = replies.Absent

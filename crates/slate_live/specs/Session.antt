@@ -1,8 +1,9 @@
 -- What a session did, by how it ended.
-use Rattle.std.specs.Prelude.{◌≡◌, ℕ, ◌<◌, ◌≤◌, ◌⊎◌, List, [], ◌++◌, length, take, Option, Some, None, Result, Ok, Err}
+use Rattle.std.specs.Prelude.{◌≡◌, ℕ, ◌<◌, ◌≤◌, ◌⊎◌, List, [], ◌++◌, length, take, Option, Some, None, option_map, Result, Ok, Err}
 use Rattle.std.specs.Global.{Vec}
 use Rattle.slate_types.specs.Counts.{HasRisen}
 use Rattle.slate_types.specs.Modelled.{WhereModelled}
+use Rattle.slate_types.specs.Operator.{concat}
 use Rattle.slate_types.specs.declared.batches.Batch.{Batch}
 use Rattle.slate_model.specs.Known.{Known, known}
 use Rattle.slate_store.specs.Objects.{Objects}
@@ -14,9 +15,10 @@ use Rattle.slate_script.specs.declared.commands.ScriptFault.TheVariants as scrip
 use Rattle.slate_script.specs.Replies.{replies_text}
 use Rattle.slate_script.specs.Scripts.{script_of}
 use Rattle.slate_script.specs.declared.commands.Command.{Command}
-use Rattle.slate_script.specs.declared.options.Options.{Options}
+use Rattle.slate_script.specs.declared.options.RunOptions.{RunOptions}
 use Rattle.slate_script.specs.declared.replies.Reply.{Reply}
 use Rattle.slate_live.specs.Run.{IsRun}
+use Rattle.slate_live.specs.Settings.{Settings}
 use Rattle.slate_live.specs.declared.sessions.Outcome.{Outcome}
 use Rattle.slate_live.specs.declared.sessions.Outcome.TheVariants.{Done, LineRefused, ReadFault, WriteFault, NoMemory, TooLong, WordsRefused}
 
@@ -68,6 +70,10 @@ pub record WasRead (bytes : List ℕ) (left left' : Option (List ℕ)) : Type 0 
   pub limit : length bytes ≤ MAX_SCRIPT
   pub where_modelled : WhereModelled (λ old new. (old ≡ bytes) × (new ≡ [])) left left'
 
+-- what the commands of a session are run with, by its words: the operator that appends, where they ask for it
+abbrev pub settings_of : RunOptions → Settings
+settings_of words = record { merge = option_map (λ operator. concat) words.operator; options = words.options }
+
 -- why no script came of a source
 abbrev pub StopsReading : Outcome → (left left' : Option (List ℕ)) → (faults faults' : ℕ) → Type 0
 StopsReading (LineRefused number) left left' faults faults' = (bytes : List ℕ) × WasRead bytes left left' × (script_of bytes ≡ Err number)
@@ -101,38 +107,38 @@ pub record KeepsOutput (s s' : Sides) : Type 0 where
   pub store : s'.store ≡ s.store
 
 -- The words were refused: nothing was read, run or written.
-pub record RefusesWords (words : Option Options) (replies : List Reply) (ending : Outcome) (s s' : Sides) : Type 0 where
+pub record RefusesWords (words : Option RunOptions) (replies : List Reply) (ending : Outcome) (s s' : Sides) : Type 0 where
   pub refused : words ≡ None
   pub ending_is : ending ≡ WordsRefused
   pub nothing : s' ≡ s
   pub no_reply : replies ≡ []
 
 -- No script came of the source: nothing was run or written.
-pub record RunsNothing (words : Option Options) (replies : List Reply) (ending : Outcome) (s s' : Sides) : Type 0 where
-  pub options : Options
+pub record RunsNothing (words : Option RunOptions) (replies : List Reply) (ending : Outcome) (s s' : Sides) : Type 0 where
+  pub options : RunOptions
   pub accepted : words ≡ Some options
   pub stops : StopsReading ending s.left s'.left s.source_faults s'.source_faults
   pub output : KeepsOutput s s'
   pub no_reply : replies ≡ []
 
 -- The script was read whole, its commands were run, and the text of the replies was written, or writing it ended.
-pub record RunsScript (words : Option Options) (replies : List Reply) (ending : Outcome) (s s' : Sides) : Type 0 where
-  pub options : Options
+pub record RunsScript (words : Option RunOptions) (replies : List Reply) (ending : Outcome) (s s' : Sides) : Type 0 where
+  pub options : RunOptions
   pub accepted : words ≡ Some options
   pub bytes : List ℕ
   pub read : WasRead bytes s.left s'.left
   pub commands : List Command
   pub script : script_of bytes ≡ Ok commands
-  pub run : IsRun (record { merge = None; options = options }) commands replies s.store s'.store
+  pub run : IsRun (settings_of options) commands replies s.store s'.store
   pub writing : EndsWriting ending (replies_text replies) s.written s'.written s.sink_faults s'.sink_faults
 
-abbrev pub Ends : Option Options → List Reply → Outcome → Sides → Sides → Type 0
+abbrev pub Ends : Option RunOptions → List Reply → Outcome → Sides → Sides → Type 0
 Ends words replies ending s s' =
     RefusesWords words replies ending s s' ⊎ (RunsNothing words replies ending s s' ⊎ RunsScript words replies ending s s')
 
 -- what a session that meets no fault needs: words that spell options, and a script within the limit, of script lines
-pub record IsGiven (words : Option Options) (s s' : Sides) : Type 0 where
-  pub options : Options
+pub record IsGiven (words : Option RunOptions) (s s' : Sides) : Type 0 where
+  pub options : RunOptions
   pub accepted : words ≡ Some options
   pub bytes : List ℕ
   pub left : s.left ≡ Some bytes

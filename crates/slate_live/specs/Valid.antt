@@ -1,29 +1,35 @@
 -- Commands that nothing in a world stands against, and the link of a command, which such a one answers.
-use Rattle.std.specs.Prelude.{◌≡◌, ℕ, ℤ, ◌<◌, ◌≤◌, Bool, true, false, List, length, slice_get, Option, Some, None, Ok, Err}
+use Rattle.std.specs.Prelude.{◌≡◌, ◌≢◌, ℕ, ℤ, ◌<◌, ◌≤◌, true, false, List, [], ◌∷◌, length, slice_get, Option, Some, None, Result, Ok, Err}
 use Rattle.slate_types.specs.declared.batches.Batch.{Batch}
+use Rattle.slate_types.specs.declared.batches.KeyOp.{KeyOp}
 use Rattle.slate_types.specs.declared.batches.KeyValue.{KeyValue}
+use Rattle.slate_types.specs.declared.read_faults.ReadFault.{ReadFault}
 use Rattle.slate_types.specs.Counts.{HasRisen}
 use Rattle.slate_types.specs.Line.{IsPrefix, end}
-use Rattle.slate_types.specs.Operator.{Merge}
+use Rattle.slate_types.specs.Operator.{Merge as MergeFunction}
 use Rattle.slate_reads.specs.Read.{read_at}
+use Rattle.slate_rows.specs.Iteration.{Iteration}
 use Rattle.slate_store.specs.declared.objects.VersionedManifest.{VersionedManifest}
 use Rattle.slate_store.specs.Objects.{latest_manifest, last_log}
 use Rattle.slate_types.specs.declared.options.FlushType.{FlushType}
+use Rattle.slate_errors.specs.declared.errors.SlateError.{SlateError}
 use Rattle.slate_errors.specs.declared.errors.SlateError.TheVariants as errors
 use Rattle.slate_model.specs.Handle.{CloseResult, Handle, accepted, unstored}
 use Rattle.slate_model.specs.Follower.{Follower, can_follow, number}
 use Rattle.slate_model.specs.Close.{recorded_fault}
 use Rattle.slate_live.specs.declared.states.Write.{Write}
 use Rattle.slate_model.specs.Open.{can_open}
-use Rattle.slate_model.specs.Write.{accepted_moment, last_number}
-use Rattle.slate_script.specs.declared.commands.Action.{Action}
+use Rattle.slate_model.specs.Write.{accepted_moment, last_number, merge_expiry}
 use Rattle.slate_script.specs.declared.commands.Action.TheVariants as actions
 use Rattle.slate_script.specs.declared.commands.Command.{Command}
 use Rattle.slate_script.specs.declared.replies.Reply.{Reply}
 use Rattle.slate_script.specs.declared.replies.Reply.TheVariants as replies
 use Rattle.slate_live.specs.Confirmed.{IsBatchOf, Sees, StandsIn}
 use Rattle.slate_model.specs.Object.{Object, Handle as AHandle, Follower as AFollower}
-use Rattle.slate_live.specs.Handles.{cut, flush_of_close}
+use Rattle.slate_live.specs.Calls.{Call, Write as WriteCall, Merge, Flush, Get, Scan, Seek, Close, Poll, Target, NewHandle, NewFollower, OfWrite, OfObject, call_of, target_of}
+use Rattle.slate_live.specs.Followers.{IsPlainScanAt}
+use Rattle.slate_live.specs.Handles.{IsPlainScan, cut}
+use Rattle.slate_live.specs.Scans.{scanned, sought}
 use Rattle.slate_live.specs.Rising.{Rise}
 use Rattle.slate_live.specs.Settings.{Settings}
 use Rattle.slate_live.specs.Represents.{up_to}
@@ -35,19 +41,25 @@ AtObject None of_handle of_follower = ⊥
 AtObject (Some (AHandle handle)) of_handle of_follower = of_handle handle
 AtObject (Some (AFollower follower)) of_handle of_follower = of_follower follower
 
--- the object with this number is an open handle, of which this holds
-abbrev pub IsOpen : World → ℕ → (Handle → Type 0) → Type 0
-IsOpen w n said = (handle : Handle) × (slice_get w.objects n ≡ Some (AHandle handle)) × (handle.result ≡ None) × said handle
-
 -- an opening: an existing manifest is initialised, and the ids and the epoch that it uses are left; until tables are
 -- built, the manifest names none
 abbrev pub CanOpen : World → Type 0
 CanOpen w = can_open w.catalogue ≡ true
 
--- a put to a handle: the key has a byte, a number is left, and one of the moments isn't below the tick
-abbrev pub CanPut : List ℕ → ℤ → Option ℤ → Handle → Type 0
-CanPut key moment second handle =
-    (0 < length key) × (accepted handle < last_number) × (at : ℤ) × (accepted_moment handle.tick moment second ≡ Some at)
+-- Operations that a handle may accept as one batch: there is one, each key has a byte, and no key is merged under two
+-- times of expiry.
+pub record AreWritable (ops : List KeyOp) : Type 0 where
+  pub some : 0 < length ops
+  pub keys : (i : ℕ) (o : KeyOp) → slice_get ops i ≡ Some o → 0 < length o.key
+  pub expiries : (i j : ℕ) (a b : KeyOp) (x y : Option ℤ) → slice_get ops i ≡ Some a → slice_get ops j ≡ Some b → a.key ≡ b.key →
+      merge_expiry a.op ≡ Some x → merge_expiry b.op ≡ Some y → x ≡ y
+
+-- a write to a handle: the operations may be accepted, a number is left, and one of the moments isn't below the tick
+pub record CanWrite (ops : List KeyOp) (moment : ℤ) (second : Option ℤ) (handle : Handle) : Type 0 where
+  pub unclosed : handle.result ≡ None
+  pub writable : AreWritable ops
+  pub number : accepted handle < last_number
+  pub moments : (at : ℤ) × (accepted_moment handle.tick moment second ≡ Some at)
 
 -- a flush of a handle: it keeps a log, no handle was opened since, and, where it has something to store, an id for a
 -- log file is left
@@ -69,35 +81,53 @@ CanClose None (Some flush_type) w handle = CanStore w handle
 abbrev pub CanFollow : World → Type 0
 CanFollow w = (latest : VersionedManifest) × (latest_manifest w.catalogue ≡ Some latest) × (can_follow true latest ≡ true)
 
--- a get from a handle: the plain read of its line at its cut finds a row, or none
-abbrev pub CanRead : Option Merge → List ℕ → Bool → Handle → Type 0
-CanRead merge key remote handle =
-    (found : Option KeyValue) × (read_at merge handle.line.batches (cut handle remote) key ≡ Ok found)
+-- a read of something open: the plain read gives an answer, and no fault
+abbrev pub CanRead : {A : Type 0} → CloseResult → Result A ReadFault → Type 0
+CanRead {A} closed plain = (closed ≡ None) × (found : A) × (plain ≡ Ok found)
 
--- a get from a follower, likewise
-abbrev pub CanReadFollower : Option Merge → World → List ℕ → Follower → Type 0
-CanReadFollower merge w key follower =
-    (follower.result ≡ None) × (found : Option KeyValue) × (read_at merge w.stored.batches (Some (number follower)) key ≡ Ok found)
+-- a scan of something open, or a seek in one: what is taken of the plain scan is rows, and no fault
+abbrev pub CanTake : CloseResult → (Iteration → Type 0) → (Iteration → Result (List KeyValue) SlateError) → Type 0
+CanTake closed is_plain taken = (closed ≡ None) × ((it : Iteration) → is_plain it → (rows : List KeyValue) × (taken it ≡ Ok rows))
 
-abbrev pub IsValidAction : Option Merge → World → ℤ → Option ℤ → Action → Type 0
-IsValidAction merge w moment second actions.Open = CanOpen w
-IsValidAction merge w moment second (actions.Put n key value expire) = IsOpen w n (CanPut key moment second)
-IsValidAction merge w moment second (actions.Flush n flush_type) = IsOpen w n (CanStore w)
-IsValidAction merge w moment second (actions.Get n key remote) =
-    AtObject (slice_get w.objects n) (λ handle. (handle.result ≡ None) × CanRead merge key remote handle) (CanReadFollower merge w key)
-IsValidAction merge w moment second (actions.Close n options) =
-    AtObject (slice_get w.objects n) (λ handle. CanClose handle.result (flush_of_close options) w handle)
-    (λ follower. (recorded_fault follower.result ≡ None))
-IsValidAction merge w moment second (actions.Follow mode managed skip) = CanFollow w
-IsValidAction merge w moment second (actions.Poll n) =
-    AtObject (slice_get w.objects n) (λ handle. ⊥) (λ follower. follower.result ≡ None)
-IsValidAction merge w moment second (actions.Await n) =
-    (write : Write) × (slice_get w.writes n ≡ Some write)
-    × AtObject (slice_get w.objects write.handle) (λ handle. write.number ≤ handle.durable) (λ follower. ⊥)
+-- what a handle may be asked
+abbrev pub CanAsk : Option MergeFunction → World → ℤ → Option ℤ → Call → Handle → Type 0
+CanAsk merge w moment second (WriteCall ops) handle = CanWrite ops moment second handle
+CanAsk merge w moment second (Merge op) handle = (merge ≢ None) × CanWrite (op ∷ []) moment second handle
+CanAsk merge w moment second Flush handle = (handle.result ≡ None) × CanStore w handle
+CanAsk merge w moment second (Get key remote) handle = CanRead handle.result (read_at merge handle.line.batches (cut handle remote) key)
+CanAsk merge w moment second (Scan range order remote) handle =
+    CanTake handle.result (IsPlainScan merge range order remote handle) scanned
+CanAsk merge w moment second (Seek range take key order remote) handle =
+    CanTake handle.result (IsPlainScan merge range order remote handle) (sought range take key)
+CanAsk merge w moment second (Close flush_type) handle = CanClose handle.result flush_type w handle
+CanAsk merge w moment second call handle = ⊥
+
+-- what a follower may be asked
+abbrev pub CanAskFollower : Option MergeFunction → World → Call → Follower → Type 0
+CanAskFollower merge w (Get key remote) follower = CanRead follower.result (read_at merge w.stored.batches (Some (number follower)) key)
+CanAskFollower merge w (Scan range order remote) follower =
+    CanTake follower.result (IsPlainScanAt merge w.stored.batches range order follower) scanned
+CanAskFollower merge w (Seek range take key order remote) follower =
+    CanTake follower.result (IsPlainScanAt merge w.stored.batches range order follower) (sought range take key)
+CanAskFollower merge w (Close flush_type) follower = recorded_fault follower.result ≡ None
+CanAskFollower merge w Poll follower = follower.result ≡ None
+CanAskFollower merge w call follower = ⊥
+
+-- a write that is durable
+abbrev pub IsDurable : World → Option Write → Type 0
+IsDurable w None = ⊥
+IsDurable w (Some write) = AtObject (slice_get w.objects write.handle) (λ handle. write.number ≤ handle.durable) (λ follower. ⊥)
+
+abbrev pub IsValidAt : Option MergeFunction → World → ℤ → Option ℤ → Call → Target → Type 0
+IsValidAt merge w moment second call NewHandle = CanOpen w
+IsValidAt merge w moment second call NewFollower = CanFollow w
+IsValidAt merge w moment second call (OfWrite n) = IsDurable w (slice_get w.writes n)
+IsValidAt merge w moment second call (OfObject n) =
+    AtObject (slice_get w.objects n) (CanAsk merge w moment second call) (CanAskFollower merge w call)
 
 -- nothing in this world stands against the command
-abbrev pub IsValidCommand : Option Merge → World → Command → Type 0
-IsValidCommand merge w command = IsValidAction merge w command.moment command.second command.action
+abbrev pub IsValidCommand : Option MergeFunction → World → Command → Type 0
+IsValidCommand merge w command = IsValidAt merge w command.moment command.second (call_of command.action) (target_of command.action)
 
 -- a reply that refuses nothing, or want of memory
 abbrev pub IsOkOrNoMemory : Reply → Type 0

@@ -8,10 +8,10 @@ use Rattle.slate_model.specs.Catalogue.{Catalogue, Span, catalogue_of, span}
 use Rattle.slate_model.specs.Handle.{unstored}
 use Rattle.slate_model.specs.Object.{Object, Handle}
 use Rattle.slate_script.specs.declared.commands.Action.{Action}
-use Rattle.slate_script.specs.declared.commands.Action.TheVariants as actions
 use Rattle.slate_script.specs.declared.commands.Command.{Command}
 use Rattle.slate_script.specs.declared.replies.Reply.{Reply}
 use Rattle.slate_live.specs.declared.states.Write.{Write}
+use Rattle.slate_live.specs.Calls.{Call, Flush, Close, Target, OfObject, call_of, target_of}
 use Rattle.slate_live.specs.Commands.{Does}
 use Rattle.slate_live.specs.Settings.{Settings}
 use Rattle.slate_live.specs.State.{Knowledge, State}
@@ -51,11 +51,19 @@ abbrev pub unstored_at : Option Object → List Batch
 unstored_at (Some (Handle handle)) = unstored handle
 unstored_at object = []
 
+-- those of them that a call is to store: a flush and a close do
+abbrev pub stored_by : Call → List Batch → List Batch
+stored_by Flush batches = batches
+stored_by (Close flush_type) batches = batches
+stored_by call batches = []
+
+abbrev pub stored_at : World → Target → Call → List Batch
+stored_at w (OfObject n) call = stored_by call (unstored_at (slice_get w.objects n))
+stored_at w target call = []
+
 -- the batches that a command is to store
 abbrev pub to_store : World → Action → List Batch
-to_store w (actions.Flush n flush_type) = unstored_at (slice_get w.objects n)
-to_store w (actions.Close n options) = unstored_at (slice_get w.objects n)
-to_store w action = []
+to_store w action = stored_at w (target_of action) (call_of action)
 
 -- the stored line after so many changes of a flush of these batches: it grows where the log file was put
 abbrev pub stored_after : ℕ → Line → List Batch → Line

@@ -5,16 +5,18 @@ ghost use Rattle.slate_types.specs.Operator.{Merge};
 ghost use Rattle.slate_reads.specs.Read.{IsOperator};
 ghost use Rattle.slate_model.specs.Known.{IsContent, known};
 ghost use Rattle.slate_live.specs.declared.states.Write.{Write};
-ghost use Rattle.slate_live.specs.Followers.{FollowerActs, PollsFollower, ReadsFollower};
+ghost use Rattle.slate_live.specs.Calls.{call_of};
+ghost use Rattle.slate_live.specs.Followers.{FollowerActs, GetsFromFollower, PollsFollower, ScansFollower, SeeksFollower};
 ghost use Rattle.slate_live.specs.Replies.{follower_ended_reply};
 
 use crate::handles::{read_reply, refusal};
+use crate::scans::{all_rows, rows_reply, rows_with_seek};
 use bytes::Bytes;
 use slate_errors::Ended;
 use slate_follow::{FollowerState, PollAnswer};
 use slate_script::{Action, Command, Reply};
 use slate_store::Store;
-use slate_types::{MergeOperator, PrefixExtractor};
+use slate_types::{ByteRange, IterationOrder, MergeOperator, PrefixExtractor};
 use std::alloc::Global;
 
 /// Does a command that names the reader.
@@ -29,11 +31,29 @@ pub(crate) fn act<S: Store, M: MergeOperator, E: PrefixExtractor>(
     requires { extractor ≡ None }
     ensures faults { S.faults store.old ≤ S.faults store.new }
     ensures does { (merge : Option Merge) (writes : List Write) → IsOperator M.may_answer (option_copied operator.entry) merge →
-        (made : ℕ) × FollowerActs (IsContent (S.objects store.old)) (λ f. f.line.batches) merge command.now.action made
+        (made : ℕ) × FollowerActs (IsContent (S.objects store.old)) (λ f. f.line.batches) merge (call_of command.now.action) made
         follower.old (known S.objects S.faults store.old) writes result follower.new (known S.objects S.faults store.new) writes }
 {
     match &command.action {
         Action::Get { key, .. } => get(follower, alloc, store, key, operator),
+        Action::Scan { range, order, .. } => {
+            scan(follower, alloc, store, range, *order, operator)
+        }
+        Action::Seek {
+            range,
+            take,
+            key,
+            order,
+            ..
+        } => seek(
+            follower,
+            alloc,
+            store,
+            range,
+            (*take, key),
+            *order,
+            operator,
+        ),
         Action::Poll { .. } => poll(follower, alloc, store, extractor, command.moment),
         Action::Close { .. } => ended_reply(follower.close(store)),
         _ => Reply::Unknown,
@@ -49,9 +69,45 @@ fn get<S: Store, M: MergeOperator>(
     operator: Option<&M>,
 ) -> Reply
     ensures store { store.new ≡ store.old }
-    ensures read { (merge : Option Merge) → IsOperator M.may_answer (option_copied operator.entry) merge → ReadsFollower merge follower.now.line.batches key.now follower.now result }
+    ensures read { (merge : Option Merge) → IsOperator M.may_answer (option_copied operator.entry) merge → GetsFromFollower merge follower.now.line.batches key.now follower.now result }
 {
     read_reply(follower.get(alloc, store, key.as_slice(), operator))
+}
+
+/// Reads a range of a reader.
+fn scan<S: Store, M: MergeOperator>(
+    follower: &FollowerState,
+    alloc: Global,
+    store: &mut S,
+    range: &ByteRange,
+    order: IterationOrder,
+    operator: Option<&M>,
+) -> Reply
+    ensures store { store.new ≡ store.old }
+    ensures read { (merge : Option Merge) → IsOperator M.may_answer (option_copied operator.entry) merge →
+        ScansFollower merge follower.now.line.batches range.now order follower.now result }
+{
+    let scan = follower.scan(alloc, store, range, order, operator);
+    rows_reply(all_rows(alloc, scan))
+}
+
+/// Reads so many rows of a range of a reader, and then those from a key on.
+fn seek<S: Store, M: MergeOperator>(
+    follower: &FollowerState,
+    alloc: Global,
+    store: &mut S,
+    range: &ByteRange,
+    take_and_key: (u64, &Bytes),
+    order: IterationOrder,
+    operator: Option<&M>,
+) -> Reply
+    ensures store { store.new ≡ store.old }
+    ensures read { (merge : Option Merge) → IsOperator M.may_answer (option_copied operator.entry) merge →
+        SeeksFollower merge follower.now.line.batches range.now take_and_key.entry.0 take_and_key.entry.1.now order follower.now result }
+{
+    let (take, key) = take_and_key;
+    let scan = follower.scan(alloc, store, range, order, operator);
+    rows_reply(rows_with_seek(alloc, scan, take, key, range))
 }
 
 /// Lets a reader see all that is stored.

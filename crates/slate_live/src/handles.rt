@@ -4,19 +4,23 @@ ghost use Rattle.std.specs.Option.{option_copied};
 ghost use Rattle.slate_types.specs.Operator.{Merge};
 ghost use Rattle.slate_reads.specs.Read.{IsOperator};
 ghost use Rattle.slate_model.specs.Known.{known};
+ghost use Rattle.slate_model.specs.Read.{Scans};
 ghost use Rattle.slate_model.specs.Write.{Writes};
 ghost use Rattle.slate_script.specs.Built.{IsBuilt, closes_without_table, puts_no_table};
-ghost use Rattle.slate_live.specs.Handles.{ClosesHandle, FlushesHandle, HandleActs, ReadsHandle, WritesTo, durable_reply, flush_of_close, level_of, noted, put_op};
+ghost use Rattle.slate_live.specs.Calls.{call_of, flush_of_close, ops_of};
+ghost use Rattle.slate_live.specs.Handles.{ClosesHandle, FlushesHandle, GetsFrom, HandleActs, IsPlainScan, ScansFrom, SeeksFrom, WritesTo, durable_reply, level_of, noted};
 ghost use Rattle.slate_live.specs.Replies.{ended_reply, found_reply, refusal, reply_to};
 
+use crate::scans::{all_rows, rows_reply, rows_with_seek};
 use crate::states::Write;
 use bytes::Bytes;
 use slate_errors::{Ended, SlateError};
+use slate_rows::DbIterator;
 use slate_script::{Action, Command, Reply};
 use slate_store::Store;
 use slate_types::{
-    CloseOptions, DurabilityLevel, FlushType, KeyOp, KeyValue, MergeOperator, NoMemory, Op,
-    PrefixExtractor, ReadOptions, Seq, WriteBatch,
+    ByteRange, CloseOptions, DurabilityLevel, FlushType, IterationOrder, KeyOp, KeyValue,
+    MergeOperator, NoMemory, Op, PrefixExtractor, ReadOptions, ScanOptions, Seq, WriteBatch,
 };
 use slate_writer::{WriterState, Written};
 use std::alloc::Global;
@@ -36,47 +40,64 @@ pub(crate) fn act<S: Store, M: MergeOperator, E: PrefixExtractor>(
     requires built { IsBuilt command.now.action }
     ensures faults { S.faults store.old ≤ S.faults store.new }
     ensures does { (merge : Option Merge) → IsOperator M.may_answer (option_copied operator.entry) merge →
-        (made : ℕ) × HandleActs (λ batches. batches) merge number command.now.moment command.now.second command.now.action made
+        (made : ℕ) × HandleActs (λ batches. batches) merge number command.now.moment command.now.second (call_of command.now.action) made
         writer.old (known S.objects S.faults store.old) writes.old.items result writer.new (known S.objects S.faults store.new) writes.new.items }
 {
     match &command.action {
-        Action::Put {
-            key,
-            value,
-            expire,
-            ..
-        } => put(
-            writer,
-            alloc,
-            writes,
-            number,
-            (key, value, *expire),
-            command,
-            extractor,
-        ),
+        Action::Put { .. } | Action::Delete { .. } | Action::Batch { .. } => {
+            write(writer, alloc, writes, number, command, extractor)
+        }
+        Action::Merge { .. } => {
+            if operator.is_none() {
+                return Reply::Refused(SlateError::MergeOperatorMissing);
+            }
+            write(writer, alloc, writes, number, command, extractor)
+        }
         Action::Flush { flush_type, .. } => flush(writer, alloc, store, *flush_type),
         Action::Get { key, remote, .. } => get(writer, alloc, store, key, *remote, operator),
+        Action::Scan {
+            range,
+            order,
+            remote,
+            ..
+        } => scan(writer, alloc, store, range, *order, *remote, operator),
+        Action::Seek {
+            range,
+            take,
+            key,
+            order,
+            remote,
+            ..
+        } => seek(
+            writer,
+            alloc,
+            store,
+            range,
+            (*take, key),
+            *order,
+            *remote,
+            operator,
+        ),
         Action::Close { options, .. } => close(writer, alloc, store, *options),
         _ => Reply::Unknown,
     }
 }
 
-/// Writes one put to the handle with a number.
-fn put<E: PrefixExtractor>(
+/// Writes the operations of a command to the handle with a number.
+fn write<E: PrefixExtractor>(
     writer: &mut WriterState,
     alloc: Global,
     writes: &mut Vec<Write>,
     number: u64,
-    put: (&Bytes, &Bytes, Option<i64>),
     command: &Command,
     extractor: Option<&E>,
 ) -> Reply
     requires { extractor ≡ None }
-    ensures { WritesTo number (put_op put.entry.0.now put.entry.1.now put.entry.2 ∷ []) command.now.moment command.now.second
+    ensures { WritesTo number (ops_of command.now.action) command.now.moment command.now.second
         writer.old writes.old.items result writer.new writes.new.items }
 {
     let write = writes.len() as u64;
-    match write_put(writer, alloc, writes, number, put, command, extractor) {
+    match write_noted(writer, alloc, writes, number, command, extractor) {
         Ok(written) => Reply::Written {
             write,
             number: written.number,
@@ -85,23 +106,21 @@ fn put<E: PrefixExtractor>(
     }
 }
 
-/// Writes one put, and notes the write.
-fn write_put<E: PrefixExtractor>(
+/// Writes the operations of a command, and notes the write.
+fn write_noted<E: PrefixExtractor>(
     writer: &mut WriterState,
     alloc: Global,
     writes: &mut Vec<Write>,
     handle: u64,
-    put: (&Bytes, &Bytes, Option<i64>),
     command: &Command,
     extractor: Option<&E>,
 ) -> Result<Written, SlateError>
     requires { extractor ≡ None }
-    ensures does { Writes writer.old (put_op put.entry.0.now put.entry.1.now put.entry.2 ∷ []) command.now.moment command.now.second result writer.new }
+    ensures does { Writes writer.old (ops_of command.now.action) command.now.moment command.now.second result writer.new }
     ensures noted { writes.new.items ≡ writes.old.items ++ noted handle result }
 {
     writes.reserve(1).map_err(NoMemory::from)?;
-    let (key, value, expire) = put;
-    let batch = put_batch(alloc, key, value, expire)?;
+    let batch = batch_of(alloc, &command.action)?;
     match writer.write(alloc, batch, command.moment, command.second, extractor) {
         Ok(written) => {
             writes.push_reserved(Write {
@@ -114,19 +133,39 @@ fn write_put<E: PrefixExtractor>(
     }
 }
 
-/// A batch of one put.
-fn put_batch(
-    alloc: Global,
-    key: &Bytes,
-    value: &Bytes,
-    expire: Option<i64>,
-) -> Result<WriteBatch, NoMemory>
-    ensures { IfOk result (λ batch. batch.ops ≡ put_op key.now value.now expire ∷ []) }
+/// The operations that a command writes. Keys and values are shared.
+fn batch_of(alloc: Global, action: &Action) -> Result<WriteBatch, NoMemory>
+    ensures { IfOk result (λ batch. batch.ops ≡ ops_of action.now) }
+{
+    match action {
+        Action::Put {
+            key,
+            value,
+            expire,
+            ..
+        } => one_op(alloc, key, Op::Put(value.clone()?, *expire)),
+        Action::Merge {
+            key,
+            value,
+            expire,
+            ..
+        } => one_op(alloc, key, Op::Merge(value.clone()?, *expire)),
+        Action::Delete { key, .. } => one_op(alloc, key, Op::Delete),
+        Action::Batch { batch, .. } => Ok(WriteBatch {
+            ops: batch.ops.clone()?,
+        }),
+        _ => Ok(WriteBatch::new(alloc)),
+    }
+}
+
+/// A batch of one operation.
+fn one_op(alloc: Global, key: &Bytes, op: Op) -> Result<WriteBatch, NoMemory>
+    ensures { IfOk result (λ batch. batch.ops ≡ record { key = key.now; op = op } ∷ []) }
 {
     let mut ops = Vec::with_capacity(alloc, 1)?;
     ops.push_reserved(KeyOp {
         key: key.clone()?,
-        op: Op::Put(value.clone()?, expire),
+        op,
     });
     Ok(WriteBatch { ops: Seq::of(ops) })
 }
@@ -169,7 +208,7 @@ fn get<S: Store, M: MergeOperator>(
     operator: Option<&M>,
 ) -> Reply
     ensures store { store.new ≡ store.old }
-    ensures read { (merge : Option Merge) → IsOperator M.may_answer (option_copied operator.entry) merge → ReadsHandle merge key.now remote writer.now result }
+    ensures read { (merge : Option Merge) → IsOperator M.may_answer (option_copied operator.entry) merge → GetsFrom merge key.now remote writer.now result }
 {
     let options = read_options(remote);
     read_reply(writer.get(alloc, store, key.as_slice(), &options, None, operator))
@@ -198,6 +237,76 @@ fn read_options(remote: bool) -> ReadOptions
     ReadOptions {
         durability_filter,
         dirty: false,
+    }
+}
+
+/// Reads a range of a handle.
+fn scan<S: Store, M: MergeOperator>(
+    writer: &WriterState,
+    alloc: Global,
+    store: &mut S,
+    range: &ByteRange,
+    order: IterationOrder,
+    remote: bool,
+    operator: Option<&M>,
+) -> Reply
+    ensures store { store.new ≡ store.old }
+    ensures read { (merge : Option Merge) → IsOperator M.may_answer (option_copied operator.entry) merge → ScansFrom merge range.now order remote writer.now result }
+{
+    let scan = begin_scan(writer, alloc, store, range, order, remote, operator);
+    rows_reply(all_rows(alloc, scan))
+}
+
+/// Reads so many rows of a range of a handle, and then those from a key on.
+fn seek<S: Store, M: MergeOperator>(
+    writer: &WriterState,
+    alloc: Global,
+    store: &mut S,
+    range: &ByteRange,
+    take_and_key: (u64, &Bytes),
+    order: IterationOrder,
+    remote: bool,
+    operator: Option<&M>,
+) -> Reply
+    ensures store { store.new ≡ store.old }
+    ensures read { (merge : Option Merge) → IsOperator M.may_answer (option_copied operator.entry) merge →
+        SeeksFrom merge range.now take_and_key.entry.0 take_and_key.entry.1.now order remote writer.now result }
+{
+    let (take, key) = take_and_key;
+    let scan = begin_scan(writer, alloc, store, range, order, remote, operator);
+    rows_reply(rows_with_seek(alloc, scan, take, key, range))
+}
+
+/// Begins a scan of a range of a handle.
+fn begin_scan<S: Store, M: MergeOperator>(
+    writer: &WriterState,
+    alloc: Global,
+    store: &mut S,
+    range: &ByteRange,
+    order: IterationOrder,
+    remote: bool,
+    operator: Option<&M>,
+) -> Result<DbIterator, SlateError>
+    ensures store { store.new ≡ store.old }
+    ensures scans { (merge : Option Merge) → IsOperator M.may_answer (option_copied operator.entry) merge →
+        Scans writer.now.result (IsPlainScan merge range.now order remote writer.now) result }
+{
+    let options = scan_options(order, remote);
+    writer.scan(alloc, store, range, &options, None, operator)
+}
+
+/// The options of a scan in an order, of durable batches alone, or of all.
+fn scan_options(order: IterationOrder, remote: bool) -> ScanOptions
+    ensures { result ≡ record { durability_filter = level_of remote; dirty = false; order = order } }
+{
+    let ReadOptions {
+        durability_filter,
+        dirty,
+    } = read_options(remote);
+    ScanOptions {
+        durability_filter,
+        dirty,
+        order,
     }
 }
 

@@ -6,14 +6,15 @@ mod followers;
 mod handles;
 mod objects;
 mod runs;
+mod scans;
 mod sessions;
 mod states;
 
 pub use runs::run;
 pub use sessions::{Finished, Outcome, session};
 pub use slate_script::{
-    Action, Command, LineAnswer, MAX_SCRIPT, Options, Reply, ScriptFault, print_replies, read_line,
-    read_script, script_fields,
+    Action, Command, LineAnswer, MAX_SCRIPT, Options, Reply, RunOptions, ScriptFault,
+    print_replies, read_line, read_script, script_fields,
 };
 pub use slate_streams::{
     InputFault, ReadAnswer, Sink, SliceSource, Source, VecSink, WriteAnswer, read_whole,

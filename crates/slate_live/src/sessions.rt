@@ -11,7 +11,7 @@ use slate_script::{
 };
 use slate_store::Store;
 use slate_streams::{InputFault, Sink, Source, read_whole, write_whole};
-use slate_types::{ConcatOperator, FixedPrefix, Seq};
+use slate_types::{FixedPrefix, Seq};
 use std::alloc::Global;
 use thiserror::Error;
 
@@ -187,20 +187,19 @@ pub fn session<I: Source, O: Sink, S: Store>(
         (sides I.left I.faults O.written O.faults S.objects S.faults source.new sink.new store.new)
         → (result.status ≡ 0) ⊎ (result.status ≡ 5) }
 {
-    let Some(options) = read_words(words) else {
+    let Some(words) = read_words(words) else {
         return Outcome::WordsRefused.finished(Vec::new(alloc));
     };
     let commands = match read_commands(alloc, source) {
         Ok(commands) => commands,
         Err(ending) => return ending.finished(Vec::new(alloc)),
     };
-    let operator: Option<&ConcatOperator> = None;
     let extractor: Option<&FixedPrefix> = None;
     let Ok(replies) = run(
         alloc,
         store,
-        &options,
-        operator,
+        &words.options,
+        words.operator.as_ref(),
         extractor,
         commands.as_slice(),
     ) else {

@@ -97,8 +97,13 @@ impl LiveState {
             ),
             Action::Await { write } => self.write_reply(*write),
             Action::Put { handle: number, .. }
+            | Action::Merge { handle: number, .. }
+            | Action::Delete { handle: number, .. }
+            | Action::Batch { handle: number, .. }
             | Action::Flush { handle: number, .. }
             | Action::Get { object: number, .. }
+            | Action::Scan { object: number, .. }
+            | Action::Seek { object: number, .. }
             | Action::Close { object: number, .. }
             | Action::Poll { follower: number } => {
                 self.act(alloc, store, *number, operator, extractor, command)

@@ -1,2 +1,4 @@
 pub mod LineLemmas
+pub mod BatchLemmas
+pub mod BoundLemmas
 pub mod ScriptLemmas

@@ -1,6 +1,6 @@
 -- Cutting a line at spaces, and a script at newlines.
 use Rattle.std.proofs.Common.{◌≡◌, ℕ, suc, ◌+◌, ◌<◌, ◌≤◌, Bool, true, false, cond, ltb, List, [], ◌∷◌, ◌++◌, length, take, drop, map, Some, None, unwrap_or, refl, sym, ap, ◌∙◌, arith, append_assoc, inl, inr}
-use Rattle.std.specs.List.{onto_first, position, position_or_len}
+use Rattle.std.specs.List.{onto_first, position, position_or_len, slice_split}
 use Rattle.std.specs.Str.Lines.{strip_carriage_return}
 use Rattle.std.proofs.lemmas.Bool.{cases_Bool, cases_lt, ltb-true, ltb-false, lt-ltb, le-ltb}
 use Rattle.std.proofs.lemmas.List.{drop-drop, drop_all, length-drop, nil_from_length}
@@ -9,47 +9,51 @@ use Rattle.std.proofs.lemmas.Option.{cond_some}
 use Rattle.slate_script.specs.Lines.{is_newline, is_space, parts_of, lines_of, fields_of}
 
 -- where the first place that passes is
-place_found : (p : ℕ → Bool) (xs : List ℕ) (i : ℕ) → position p xs ≡ Some i → (position_or_len p xs < length xs) × (position_or_len p xs ≡ i)
+place_found : {A : Type 0} (p : A → Bool) (xs : List A) (i : ℕ) → position p xs ≡ Some i → (position_or_len p xs < length xs) × (position_or_len p xs ≡ i)
 place_found p xs i h = let parts = cond_some (ltb (position_or_len p xs) (length xs)) (position_or_len p xs) i h in (ltb-true _ _ parts.0, parts.1)
 
 not_found : (b : Bool) (x : ℕ) → cond b (Some x) None ≡ None → b ≡ false
 not_found true x h = absurd cc
 not_found false x h = refl
 
-place_missing : (p : ℕ → Bool) (xs : List ℕ) → position p xs ≡ None → length xs ≤ position_or_len p xs
+place_missing : {A : Type 0} (p : A → Bool) (xs : List A) → position p xs ≡ None → length xs ≤ position_or_len p xs
 place_missing p xs h = ltb-false _ _ (not_found _ (position_or_len p xs) h)
 
--- ---- fields
+-- ---- parts, fields
 
--- the first field ends at the first space
-fields_at : (line : List ℕ) (space : ℕ) → position is_space line ≡ Some space → fields_of line ≡ take space line ∷ fields_of (drop (space + 1) line)
-fields_at line space h =
-    let found = place_found is_space line space h in
-    slice_split_first is_space line 0 found.0 ∙ ap (λ (i : ℕ). take i line ∷ fields_of (drop (i + 1) line)) found.1
+-- the first part ends at the first place that passes
+pub parts_at : {A : Type 0} (p : A → Bool) (xs : List A) (i : ℕ) (d : A) → position p xs ≡ Some i → slice_split p xs ≡ take i xs ∷ slice_split p (drop (i + 1) xs)
+parts_at p xs i d h =
+    let found = place_found p xs i h in
+    slice_split_first p xs d found.0 ∙ ap (λ (k : ℕ). take k xs ∷ slice_split p (drop (k + 1) xs)) found.1
 
-one_field : (line : List ℕ) → length line ≤ position_or_len is_space line → fields_of line ≡ line ∷ []
-one_field [] h = refl
-one_field (b ∷ bs) h = elim (cases_Bool (is_space b)) [ inl space ↦ absurd (at_space space) | inr other ↦ behind other (one_field bs) ]
+whole_part : {A : Type 0} (p : A → Bool) (xs : List A) → length xs ≤ position_or_len p xs → slice_split p xs ≡ xs ∷ []
+whole_part p [] h = refl
+whole_part p (x ∷ xs) h = elim (cases_Bool (p x)) [ inl passes ↦ absurd (at_place passes) | inr other ↦ behind other (whole_part p xs) ]
   where
-    at_space : is_space b ≡ true → ⊥
-    at_space space = let none : position_or_len is_space (b ∷ bs) ≡ 0 = rw space refl in omega (arith, none)
+    at_place : p x ≡ true → ⊥
+    at_place passes = let none : position_or_len p (x ∷ xs) ≡ 0 = rw passes refl in omega (arith, none)
 
-    behind : is_space b ≡ false → (length bs ≤ position_or_len is_space bs → fields_of bs ≡ bs ∷ []) → fields_of (b ∷ bs) ≡ (b ∷ bs) ∷ []
+    behind : p x ≡ false → (length xs ≤ position_or_len p xs → slice_split p xs ≡ xs ∷ []) → slice_split p (x ∷ xs) ≡ (x ∷ xs) ∷ []
     behind other shorter =
-        let more : position_or_len is_space (b ∷ bs) ≡ 1 + position_or_len is_space bs = rw other refl in
+        let more : position_or_len p (x ∷ xs) ≡ 1 + position_or_len p xs = rw other refl in
         rw (other, shorter (omega (arith, more))) refl
+
+-- where no place passes there is one part
+pub one_part : {A : Type 0} (p : A → Bool) (xs : List A) → position p xs ≡ None → slice_split p xs ≡ xs ∷ []
+one_part p xs h = whole_part p xs (place_missing p xs h)
 
 -- one more field is cut off
 pub field_cut : (front out : List (List ℕ)) (xs rest field : List ℕ) (total : List (List ℕ)) (space : ℕ) → position is_space xs ≡ Some space → field ≡ take space xs → rest ≡ drop (space + 1) xs → out ≡ front ++ field ∷ [] → front ++ fields_of xs ≡ total → out ++ fields_of rest ≡ total
 field_cut front out xs rest field total space h field-is rest-is out-is so_far =
-    rw (out-is, field-is, rest-is) (append_assoc front (take space xs ∷ []) (fields_of (drop (space + 1) xs)) ∙ ap (λ (fs : List (List ℕ)). front ++ fs) (sym (fields_at xs space h)) ∙ so_far)
+    rw (out-is, field-is, rest-is) (append_assoc front (take space xs ∷ []) (fields_of (drop (space + 1) xs)) ∙ ap (λ (fs : List (List ℕ)). front ++ fs) (sym (parts_at is_space xs space 0 h)) ∙ so_far)
 
 -- the last field has no space
 pub last_field : (front out : List (List ℕ)) (xs : List ℕ) (total : List (List ℕ)) → position is_space xs ≡ None → out ≡ front ++ xs ∷ [] → front ++ fields_of xs ≡ total → out ≡ total
-last_field front out xs total h out-is so_far = out-is ∙ ap (λ (fs : List (List ℕ)). front ++ fs) (sym (one_field xs (place_missing is_space xs h))) ∙ so_far
+last_field front out xs total h out-is so_far = out-is ∙ ap (λ (fs : List (List ℕ)). front ++ fs) (sym (one_part is_space xs h)) ∙ so_far
 
 -- what stands behind a place and one byte
-pub behind_place : (place : ℕ) (xs middle rest : List ℕ) → middle ≡ drop place xs → rest ≡ drop 1 middle → rest ≡ drop (place + 1) xs
+pub behind_place : {A : Type 0} (place : ℕ) (xs middle rest : List A) → middle ≡ drop place xs → rest ≡ drop 1 middle → rest ≡ drop (place + 1) xs
 behind_place place xs middle rest middle-is rest-is = rest-is ∙ ap (drop 1) middle-is ∙ drop-drop 1 place xs
 
 -- the same where nothing stands behind the place

@@ -1,36 +1,26 @@
--- The forms of a script's commands.
-use Rattle.std.specs.Prelude.{ℕ, ◌==◌, false, List, [], ◌∷◌, Option, Some, None, codes, option_and_then, if◌then◌else◌}
+-- The forms of a script's commands, and what a line is.
+use Rattle.std.specs.Prelude.{ℕ, ◌==◌, false, List, [], ◌∷◌, Option, Some, None, codes, if◌then◌else◌}
+use Rattle.std.specs.Option.{option_or}
 use Rattle.std.specs.Str.{bytes_eq}
 use Rattle.slate_types.specs.declared.options.CloseOptions.{CloseOptions}
 use Rattle.slate_types.specs.declared.options.FlushType.{FlushType}
 use Rattle.slate_types.specs.declared.options.FlushType.TheVariants.{Wal}
 use Rattle.slate_store.specs.declared.reader_modes.DbReaderMode.TheVariants.{FollowLatest}
 use Rattle.slate_text.specs.Numbers.{number_of, moment_of}
-use Rattle.slate_text.specs.Words.{word_of}
 use Rattle.slate_script.specs.Lines.{fields_of}
 use Rattle.slate_script.specs.declared.commands.Action.{Action}
 use Rattle.slate_script.specs.declared.commands.Action.TheVariants as actions
 use Rattle.slate_script.specs.declared.commands.Command.{Command}
 use Rattle.slate_script.specs.declared.commands.LineAnswer.{LineAnswer}
 use Rattle.slate_script.specs.declared.commands.LineAnswer.TheVariants as answers
-
-infixl 10 ◌>>=◌
-abbrev pub ◌>>=◌ : {A B : Type 0} → Option A → (A → Option B) → Option B
-o >>= f = option_and_then f o
+use Rattle.slate_script.specs.Queries.{query_of}
+use Rattle.slate_script.specs.Values.{◌>>=◌}
+use Rattle.slate_script.specs.Writes.{write_of}
 
 -- open
 abbrev pub open_form : List (List ℕ) → Option Action
 open_form [] = Some actions.Open
 open_form fields = None
-
--- put H KEY VALUE
-abbrev pub put_form : List (List ℕ) → Option Action
-put_form (h ∷ k ∷ v ∷ []) = do
-  handle ← number_of h
-  key ← word_of k
-  value ← word_of v
-  Some (actions.Put handle key value None)
-put_form fields = None
 
 -- the type of a flush; until tables are built, there is no other
 abbrev pub flush_type_of : List ℕ → Option FlushType
@@ -61,14 +51,6 @@ close_form (o ∷ t ∷ []) = do
   Some (actions.Close object (Some options))
 close_form fields = None
 
--- get O KEY
-abbrev pub get_form : List (List ℕ) → Option Action
-get_form (o ∷ k ∷ []) = do
-  object ← number_of o
-  key ← word_of k
-  Some (actions.Get object key false)
-get_form fields = None
-
 -- follow latest
 abbrev pub follow_form : List (List ℕ) → Option Action
 follow_form (m ∷ []) = if bytes_eq m (codes "latest") then Some (actions.Follow FollowLatest None false) else None
@@ -88,18 +70,20 @@ await_form (w ∷ []) = do
   Some (actions.Await write)
 await_form fields = None
 
--- the action that a name and the fields after it spell
-abbrev pub action_of : List ℕ → List (List ℕ) → Option Action
-action_of name fields =
+-- the command of a name and the fields behind it, where that opens, flushes, closes, polls or asks for a write
+abbrev pub other_of : List ℕ → List (List ℕ) → Option Action
+other_of name fields =
     if bytes_eq name (codes "open") then open_form fields
-    else (if bytes_eq name (codes "put") then put_form fields
     else (if bytes_eq name (codes "flush") then flush_form fields
-    else (if bytes_eq name (codes "get") then get_form fields
     else (if bytes_eq name (codes "close") then close_form fields
     else (if bytes_eq name (codes "follow") then follow_form fields
     else (if bytes_eq name (codes "poll") then poll_form fields
     else (if bytes_eq name (codes "await") then await_form fields
-    else None)))))))
+    else None)))))
+
+-- the action that a name and the fields after it spell
+abbrev pub action_of : List ℕ → List (List ℕ) → Option Action
+action_of name fields = option_or (write_of name fields) (option_or (query_of name fields) (other_of name fields))
 
 -- the command that the fields of a line spell: a moment, the name, and the fields of its form
 abbrev pub command_of : List (List ℕ) → Option Command

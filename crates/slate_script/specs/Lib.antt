@@ -1,5 +1,8 @@
 pub mod Lines
 pub mod Built
+pub mod Values
+pub mod Writes
+pub mod Queries
 pub mod Forms
 pub mod Scripts
 pub mod Replies

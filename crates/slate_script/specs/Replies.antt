@@ -1,5 +1,5 @@
 -- The text of each reply.
-use Rattle.std.specs.Prelude.{ℕ, ℤ, Bool, if◌then◌else◌, List, [], ◌∷◌, ◌++◌, Option, Some, None, codes, decimal}
+use Rattle.std.specs.Prelude.{ℕ, ℤ, Bool, if◌then◌else◌, List, [], ◌∷◌, ◌++◌, length, Option, Some, None, codes, decimal}
 use Rattle.std.specs.Fmt.{signed_decimal}
 use Rattle.std.specs.List.{flat_map}
 use Rattle.slate_types.specs.declared.batches.KeyValue.{KeyValue}
@@ -19,6 +19,14 @@ expiry_text (Some time) = codes " expires " ++ signed_decimal time
 -- the number of a row's write, its creation time and its time of expiry
 abbrev pub stamp_text : KeyValue → List ℕ
 stamp_text row = codes " number " ++ decimal row.seq ++ codes " created " ++ signed_decimal row.create_ts ++ expiry_text row.expire_ts
+
+-- a row of a scan, on a line of its own behind the others
+abbrev pub row_text : KeyValue → List ℕ
+row_text row = codes "\nrow " ++ word_text row.key ++ codes " " ++ word_text row.value ++ stamp_text row
+
+-- the rows of a scan: how many there are, and each of them
+abbrev pub rows_text : List KeyValue → List ℕ
+rows_text rows = codes "rows " ++ decimal (length rows) ++ flat_map row_text rows
 
 -- the name of a task
 abbrev pub task_text : TaskName → List ℕ
@@ -48,6 +56,7 @@ reply_words (replies.Handle object) = codes "handle " ++ decimal object
 reply_words (replies.Written write number) = codes "write " ++ decimal write ++ codes " number " ++ decimal number
 reply_words (replies.Found row) = codes "value " ++ word_text row.value ++ stamp_text row
 reply_words replies.Absent = codes "none"
+reply_words (replies.Rows rows) = rows_text rows
 reply_words replies.Flushed = codes "flushed"
 reply_words (replies.Follower object whole at) = codes "follower " ++ decimal object ++ codes " " ++ poll_text whole at
 reply_words replies.Durable = codes "durable"

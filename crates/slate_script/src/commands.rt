@@ -4,7 +4,7 @@ ghost use Rattle.slate_script.specs.declared.commands.ScriptFault.TheVariants.{N
 
 use bytes::Bytes;
 use slate_store::DbReaderMode;
-use slate_types::{CloseOptions, FlushType, NoMemory};
+use slate_types::{ByteRange, CloseOptions, FlushType, IterationOrder, NoMemory, WriteBatch};
 use std::alloc::{AllocError, AllocFailed};
 
 /// What a command does. Handles and followers are the objects of a run.
@@ -19,6 +19,23 @@ pub enum Action {
         value: Bytes,
         expire: Option<i64>,
     },
+    /// Writes one operand to merge. The time of expiry is in milliseconds.
+    Merge {
+        handle: u64,
+        key: Bytes,
+        value: Bytes,
+        expire: Option<i64>,
+    },
+    /// Writes one delete.
+    Delete {
+        handle: u64,
+        key: Bytes,
+    },
+    /// Writes a batch.
+    Batch {
+        handle: u64,
+        batch: WriteBatch,
+    },
     /// Makes what a handle wrote durable. Without a type it stores it in a log file; until tables are built it stores
     /// in no table.
     Flush {
@@ -29,6 +46,22 @@ pub enum Action {
     Get {
         object: u64,
         key: Bytes,
+        remote: bool,
+    },
+    /// Reads the rows of a range of an object in an order, from durable batches alone where `remote` is true.
+    Scan {
+        object: u64,
+        range: ByteRange,
+        order: IterationOrder,
+        remote: bool,
+    },
+    /// Begins the same scan, reads up to `take` of its rows, seeks the key, and reads the rows from there on.
+    Seek {
+        object: u64,
+        range: ByteRange,
+        take: u64,
+        key: Bytes,
+        order: IterationOrder,
         remote: bool,
     },
     /// Closes an object, and then flushes what a handle wrote as the options ask; without them to a table.

@@ -1,15 +1,16 @@
 // Reading a script line as the command that its fields spell.
 ghost use Rattle.std.specs.Prelude.{◌≡◌, true, IfOk, IfSome};
-ghost use Rattle.slate_text.specs.Words.{word_of};
 ghost use Rattle.slate_script.specs.Built.{IsBuilt, puts_no_table};
 ghost use Rattle.slate_script.specs.declared.commands.Command.{Command};
-ghost use Rattle.slate_script.specs.Forms.{open_form, put_form, flush_type_of, flush_form, get_form, close_options_of, close_form, follow_form, poll_form, await_form, action_of, command_of, line_of};
+ghost use Rattle.slate_script.specs.Forms.{open_form, flush_type_of, flush_form, close_options_of, close_form, follow_form, poll_form, await_form, other_of, action_of, command_of, line_of};
 
 use crate::fields::cut_fields;
+use crate::queries::read_query;
+use crate::writes::read_write;
 use crate::{Action, Command, LineAnswer};
 use bytes::Bytes;
 use slate_store::DbReaderMode;
-use slate_text::{read_moment, read_number, read_shared_word};
+use slate_text::{read_moment, read_number};
 use slate_types::{CloseOptions, FlushType, NoMemory};
 use std::alloc::Global;
 
@@ -21,37 +22,6 @@ fn read_open(fields: &[Bytes]) -> Option<Action>
         [] => Some(Action::Open),
         _ => None,
     }
-}
-
-/// A key or a value, which shares the field's storage.
-fn read_word(alloc: Global, field: &Bytes) -> Result<Option<Bytes>, NoMemory>
-    ensures { IfOk result (λ word. word ≡ word_of field.now) }
-{
-    read_shared_word(alloc, field.clone()?)
-}
-
-fn read_put(alloc: Global, fields: &[Bytes]) -> Result<Option<Action>, NoMemory>
-    ensures form { IfOk result (λ action. action ≡ put_form fields.now) }
-    ensures built { IfOk result (λ action. IfSome action IsBuilt) }
-{
-    let [handle, key, value] = fields else {
-        return Ok(None);
-    };
-    let Some(handle) = read_number(handle.as_slice()) else {
-        return Ok(None);
-    };
-    let Some(key) = read_word(alloc, key)? else {
-        return Ok(None);
-    };
-    let Some(value) = read_word(alloc, value)? else {
-        return Ok(None);
-    };
-    Ok(Some(Action::Put {
-        handle,
-        key,
-        value,
-        expire: None,
-    }))
 }
 
 /// The type of a flush. Until tables are built, there is no other.
@@ -119,26 +89,6 @@ fn read_close(fields: &[Bytes]) -> Option<Action>
     })
 }
 
-fn read_get(alloc: Global, fields: &[Bytes]) -> Result<Option<Action>, NoMemory>
-    ensures form { IfOk result (λ action. action ≡ get_form fields.now) }
-    ensures built { IfOk result (λ action. IfSome action IsBuilt) }
-{
-    let [object, key] = fields else {
-        return Ok(None);
-    };
-    let Some(object) = read_number(object.as_slice()) else {
-        return Ok(None);
-    };
-    let Some(key) = read_word(alloc, key)? else {
-        return Ok(None);
-    };
-    Ok(Some(Action::Get {
-        object,
-        key,
-        remote: false,
-    }))
-}
-
 fn read_follow(fields: &[Bytes]) -> Option<Action>
     ensures form { result ≡ follow_form fields.now }
     ensures built { IfSome result IsBuilt }
@@ -178,30 +128,40 @@ fn read_await(fields: &[Bytes]) -> Option<Action>
     Some(Action::Await { write })
 }
 
+// The command of a name and the fields behind it, where that opens, flushes, closes, polls or asks for a write.
+fn read_other(name: &[u8], fields: &[Bytes]) -> Option<Action>
+    ensures form { result ≡ other_of name.now fields.now }
+    ensures built { IfSome result IsBuilt }
+{
+    if name == b"open".as_slice() {
+        read_open(fields)
+    } else if name == b"flush".as_slice() {
+        read_flush(fields)
+    } else if name == b"close".as_slice() {
+        read_close(fields)
+    } else if name == b"follow".as_slice() {
+        read_follow(fields)
+    } else if name == b"poll".as_slice() {
+        read_poll(fields)
+    } else if name == b"await".as_slice() {
+        read_await(fields)
+    } else {
+        None
+    }
+}
+
 // The action that a name and the fields after it spell.
 fn read_action(alloc: Global, name: &[u8], fields: &[Bytes]) -> Result<Option<Action>, NoMemory>
     ensures form { IfOk result (λ action. action ≡ action_of name.now fields.now) }
     ensures built { IfOk result (λ action. IfSome action IsBuilt) }
 {
-    if name == b"open".as_slice() {
-        Ok(read_open(fields))
-    } else if name == b"put".as_slice() {
-        read_put(alloc, fields)
-    } else if name == b"flush".as_slice() {
-        Ok(read_flush(fields))
-    } else if name == b"get".as_slice() {
-        read_get(alloc, fields)
-    } else if name == b"close".as_slice() {
-        Ok(read_close(fields))
-    } else if name == b"follow".as_slice() {
-        Ok(read_follow(fields))
-    } else if name == b"poll".as_slice() {
-        Ok(read_poll(fields))
-    } else if name == b"await".as_slice() {
-        Ok(read_await(fields))
-    } else {
-        Ok(None)
+    if let Some(write) = read_write(alloc, name, fields)? {
+        return Ok(Some(write));
     }
+    if let Some(query) = read_query(alloc, name, fields)? {
+        return Ok(Some(query));
+    }
+    Ok(read_other(name, fields))
 }
 
 fn read_command(alloc: Global, fields: &[Bytes]) -> Result<Option<Command>, NoMemory>
@@ -242,7 +202,8 @@ pub(crate) fn read_shared_line(alloc: Global, line: Bytes) -> Result<LineAnswer,
 
 /// What a line of a script is, given without the newline at its end and without a carriage return before that: blank
 /// where it has no bytes or begins with `#`, the command that its fields spell, or refused exactly where they spell
-/// none. It copies the line once, and takes time in proportion to it.
+/// none. It copies the line once, and takes time in proportion to it: a batch, too, takes one pass over its operations,
+/// and a look-up by hash for each.
 pub fn read_line(alloc: Global, line: &[u8]) -> Result<LineAnswer, NoMemory>
     ensures { IfOk result (λ answer. answer ≡ line_of line.now) }
 {

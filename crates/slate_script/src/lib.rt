@@ -4,15 +4,20 @@
 mod commands;
 mod fields;
 mod forms;
+mod laws;
 mod options;
 mod printing;
+mod queries;
 mod replies;
 mod scripts;
+mod values;
+mod writes;
 
 pub use commands::{Action, Command, LineAnswer, ScriptFault};
 pub use fields::script_fields;
 pub use forms::read_line;
-pub use options::{Options, read_words};
+pub use laws::bounds_read_again;
+pub use options::{Options, RunOptions, read_words};
 pub use printing::print_replies;
 pub use replies::Reply;
 pub use scripts::{MAX_SCRIPT, read_script};

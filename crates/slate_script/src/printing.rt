@@ -1,6 +1,8 @@
 // Writing replies as text.
 ghost use Rattle.std.specs.Prelude.{◌≡◌, ◌++◌, ◌∷◌, length, take, decimal, OnOk, OnErr};
-ghost use Rattle.slate_script.specs.Replies.{expiry_text, fault_text, poll_text, stamp_text, task_text, tasks_text, reply_words, reply_text, replies_text};
+ghost use Rattle.std.specs.List.{flat_map};
+ghost use Rattle.slate_text.specs.Words.{word_text};
+ghost use Rattle.slate_script.specs.Replies.{expiry_text, fault_text, poll_text, row_text, rows_text, stamp_text, task_text, tasks_text, reply_words, reply_text, replies_text};
 
 use crate::Reply;
 use slate_errors::{Ending, SlateError, TaskName, write_error};
@@ -27,6 +29,15 @@ fn write_labelled(out: &mut Vec<u8>, label: &str, number: u64) -> Result<(), NoM
     write_number(out, number)
 }
 
+// Bytes as a byte word behind a text.
+fn write_shown(out: &mut Vec<u8>, label: &str, bytes: &[u8]) -> Result<(), NoMemory>
+    ensures ok { OnOk result (out.new.items ≡ out.old.items ++ (label.now ++ word_text bytes.now)) }
+    ensures err { OnErr result (take (length out.old.items) out.new.items ≡ out.old.items) }
+{
+    write_text(out, label)?;
+    write_byte_word(out, bytes)
+}
+
 fn write_stamp(out: &mut Vec<u8>, row: &KeyValue) -> Result<(), NoMemory>
     ensures ok { OnOk result (out.new.items ≡ out.old.items ++ stamp_text row.now) }
     ensures err { OnErr result (take (length out.old.items) out.new.items ≡ out.old.items) }
@@ -41,9 +52,35 @@ fn write_found(out: &mut Vec<u8>, row: &KeyValue) -> Result<(), NoMemory>
     ensures ok { OnOk result (out.new.items ≡ out.old.items ++ reply_words (Reply.Found row.now)) }
     ensures err { OnErr result (take (length out.old.items) out.new.items ≡ out.old.items) }
 {
-    write_text(out, "value ")?;
-    write_byte_word(out, row.value.as_slice())?;
+    write_shown(out, "value ", row.value.as_slice())?;
     write_stamp(out, row)
+}
+
+fn write_row(out: &mut Vec<u8>, row: &KeyValue) -> Result<(), NoMemory>
+    ensures ok { OnOk result (out.new.items ≡ out.old.items ++ row_text row.now) }
+    ensures err { OnErr result (take (length out.old.items) out.new.items ≡ out.old.items) }
+{
+    write_shown(out, "\nrow ", row.key.as_slice())?;
+    write_shown(out, " ", row.value.as_slice())?;
+    write_stamp(out, row)
+}
+
+fn write_each_row(out: &mut Vec<u8>, rows: &[KeyValue]) -> Result<(), NoMemory>
+    ensures ok { OnOk result (out.new.items ≡ out.old.items ++ flat_map row_text rows.now) }
+    ensures err { OnErr result (take (length out.old.items) out.new.items ≡ out.old.items) }
+{
+    for row in rows {
+        write_row(out, row)?;
+    }
+    Ok(())
+}
+
+fn write_rows(out: &mut Vec<u8>, rows: &[KeyValue]) -> Result<(), NoMemory>
+    ensures ok { OnOk result (out.new.items ≡ out.old.items ++ rows_text rows.now) }
+    ensures err { OnErr result (take (length out.old.items) out.new.items ≡ out.old.items) }
+{
+    write_labelled(out, "rows ", rows.len() as u64)?;
+    write_each_row(out, rows)
 }
 
 fn write_written(out: &mut Vec<u8>, write: u64, number: u64) -> Result<(), NoMemory>
@@ -150,6 +187,7 @@ fn write_words(out: &mut Vec<u8>, reply: &Reply) -> Result<(), NoMemory>
         Reply::Written { write, number } => write_written(out, *write, *number),
         Reply::Found(row) => write_found(out, row),
         Reply::Absent => write_text(out, "none"),
+        Reply::Rows(rows) => write_rows(out, rows.as_slice()),
         Reply::Flushed => write_text(out, "flushed"),
         Reply::Follower { object, whole, at } => write_follower(out, *object, *whole, *at),
         Reply::Durable => write_text(out, "durable"),

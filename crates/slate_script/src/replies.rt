@@ -1,6 +1,6 @@
 // The replies to commands.
 use slate_errors::{Ending, SlateError};
-use slate_types::KeyValue;
+use slate_types::{KeyValue, Seq};
 
 /// The reply to a command.
 #[derive(Debug, Drop)]
@@ -24,6 +24,8 @@ pub enum Reply {
     Found(KeyValue),
     /// A read found nothing.
     Absent,
+    /// The rows that a scan found, in its order.
+    Rows(Seq<KeyValue>),
     /// What was written is durable.
     Flushed,
     /// The write is durable.

@@ -2,10 +2,10 @@
 use bytes::Bytes;
 use slate_errors::{Ending, SlateError, TaskName};
 use slate_script::{
-    Action, Command, LineAnswer, Options, Reply, ScriptFault, print_replies, read_line,
+    Action, Command, LineAnswer, Options, Reply, RunOptions, ScriptFault, print_replies, read_line,
     read_script, read_words, script_fields,
 };
-use slate_types::{KeyValue, NoMemory};
+use slate_types::{ConcatOperator, KeyValue, NoMemory, Seq};
 use std::alloc::Global;
 use std::test::Fail;
 
@@ -102,7 +102,7 @@ fn fields(rt: HostRuntime) -> Result<(), Fail> {
 
 fn row(alloc: Global, expire_ts: Option<i64>) -> Result<KeyValue, Fail> {
     Ok(KeyValue {
-        key: Bytes::copy_from_slice(alloc, b"k")?,
+        key: Bytes::copy_from_slice(alloc, b"k\xff")?,
         value: Bytes::copy_from_slice(alloc, b"v w")?,
         seq: 3,
         create_ts: -4,
@@ -126,17 +126,22 @@ fn ended() -> Ending {
     tasks
 }
 
-// A row, with and without a time at which it expires.
+// What a get and a scan find: a row with and without a time at which it expires, and no row.
 fn rows(alloc: Global) -> Result<Vec<Reply>, Fail> {
-    let mut replies = Vec::with_capacity(alloc, 2)?;
+    let scanned = vec![in alloc; row(alloc, None)?, row(alloc, Some(5))?]?;
+    let mut replies = Vec::with_capacity(alloc, 4)?;
     replies.push(Reply::Found(row(alloc, None)?))?;
     replies.push(Reply::Found(row(alloc, Some(5))?))?;
+    replies.push(Reply::Rows(Seq::of(scanned)))?;
+    replies.push(Reply::Rows(Seq::of(Vec::new(alloc))))?;
     Ok(replies)
 }
 
 #[test]
 fn printed_rows(rt: HostRuntime) -> Result<(), Fail> {
-    let want = "value v%20w number 3 created -4\nvalue v%20w number 3 created -4 expires 5\n";
+    let want = "\
+        value v%20w number 3 created -4\nvalue v%20w number 3 created -4 expires 5\n\
+        rows 2\nrow k%ff v%20w number 3 created -4\nrow k%ff v%20w number 3 created -4 expires 5\nrows 0\n";
     let text = printed(rt.alloc(), rows(rt.alloc())?.as_slice())?;
     assert_eq!(rt; text.as_slice(), want.as_bytes());
     Ok(())
@@ -200,19 +205,43 @@ fn printed_endings(rt: HostRuntime) -> Result<(), Fail> {
     Ok(())
 }
 
+fn read(alloc: Global, words: &[&str]) -> Result<Option<RunOptions>, Fail> {
+    let mut owned = Vec::new(alloc);
+    for word in words {
+        owned.push(String::from_str(alloc, *word)?)?;
+    }
+    Ok(read_words(owned.as_slice()))
+}
+
+// Only `--merge concat` is taken, once and whole.
 #[test]
 fn words(rt: HostRuntime) -> Result<(), Fail> {
     let alloc = rt.alloc();
-    let none = Vec::new(alloc);
-    let options = read_words(none.as_slice()).ok_or("options")?;
-    let want = Options {
+    let options = Options {
         max_unflushed_bytes: 1_073_741_824,
         compactor: true,
         compaction_worker: true,
         collector: true,
     };
-    assert_eq!(rt; options, want);
-    let one = vec![in alloc; String::from_str(alloc, "")?]?;
-    assert_eq!(rt; read_words(one.as_slice()), None);
+    let plain = RunOptions {
+        operator: None,
+        options,
+    };
+    let merging = RunOptions {
+        operator: Some(ConcatOperator),
+        options,
+    };
+    for (words, want) in [
+        ([].as_slice(), Some(plain)),
+        (["--merge", "concat"].as_slice(), Some(merging)),
+        (["--merge"].as_slice(), None),
+        (["--merge", "sum"].as_slice(), None),
+        (["concat", "--merge"].as_slice(), None),
+        (["--merge", "concat", "--merge", "concat"].as_slice(), None),
+        (["--bare"].as_slice(), None),
+        ([""].as_slice(), None),
+    ] {
+        assert_eq!(rt; read(alloc, words)?, want);
+    }
     Ok(())
 }

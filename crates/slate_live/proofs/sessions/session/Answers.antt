@@ -1,7 +1,13 @@
-use Rattle.std.proofs.Common.{ap, refl, sym, ◌∙◌}
+use Rattle.std.proofs.Common.{◌≡◌, inr, ap, refl, sym, subst, ◌∙◌}
+use Rattle.std.specs.Option.{option_map}
+use Rattle.slate_types.specs.Operator.{concat}
+use Rattle.slate_reads.specs.Read.{IsOperator}
+use Rattle.slate_script.specs.Replies.{replies_text}
+use Rattle.slate_live.specs.Run.{IsRun}
+use Rattle.slate_live.specs.Session.{EndsWriting, settings_of}
 use Rattle.slate_live.specs.declared.sessions.Outcome.TheVariants.{NoMemory, WordsRefused}
 use Rattle.slate_model.specs.Known.{known}
-use Rattle.slate_live.proofs.Endings.{ends-refused, ends-unrun}
+use Rattle.slate_live.proofs.Endings.{appends, ends-refused, ends-unrun}
 use Rattle.slate_live.proofs.sessions.session.Goals as goal
 
 pub returns-in_default-clause-ends : goal.returns-in_default-clause-ends
@@ -18,7 +24,32 @@ returns-in_default-run-clause-ends g c =
       NoMemory,
       c.finished-in_default-run.ensures.status,
       c.finished-in_default-run.ensures.line,
-      ends-unrun _ c.in-Some.options _ _ _ (sym c.read_words.ensures ∙ c.in-Some.is)
+      ends-unrun _ c.in-Some.words _ _ _ (sym c.read_words.ensures ∙ c.in-Some.is)
           (record { written = refl; sink_faults = refl; store = ap (known g.S.Store.objects g.S.Store.faults) kept })
           (c.finished-in_default-run.ensures.replies ∙ c.new-in_default-run.ensures.items),
+    )
+
+pub returns-clause-ends : goal.returns-clause-ends
+returns-clause-ends g c =
+    let words = c.in-Some.words in
+    let script = c.in-Ok.ensures.reads in
+    let merge = option_map (λ operator. concat) words.operator in
+    let lawful = subst (λ o. IsOperator (λ operator key existing operand answer. answer ≡ concat key existing operand) o merge) (sym c.as_ref.ensures.value) (appends words.operator) in
+    let before = known g.S.Store.objects g.S.Store.faults c.args.store.now in
+    let after = known g.S.Store.objects g.S.Store.faults c.run.new.store in
+    let same : c.as_slice-2.result.now ≡ c.finished-2.result.replies = c.as_slice-2.ensures.value ∙ sym c.finished-2.ensures.replies in (
+      c.write_replies-ending.result,
+      c.finished-2.ensures.status,
+      c.finished-2.ensures.line,
+      inr (inr (record {
+        options = words;
+        accepted = sym c.read_words.ensures ∙ c.in-Some.is;
+        bytes = script.0;
+        read = script.1;
+        commands = c.in-Ok.commands.items;
+        script = script.2;
+        run = subst (λ commands. IsRun (settings_of words) commands c.finished-2.result.replies before after) c.as_slice.ensures.value
+            (subst (λ replies. IsRun (settings_of words) c.as_slice.result.now replies before after) (sym c.finished-2.ensures.replies) (c.in-Ok-run.ensures.leads merge lawful));
+        writing = subst (λ replies. EndsWriting c.write_replies-ending.result (replies_text replies) (g.O.Sink.written c.args.sink.now) (g.O.Sink.written c.write_replies-ending.new.sink) (g.O.Sink.faults c.args.sink.now) (g.O.Sink.faults c.write_replies-ending.new.sink)) same c.write_replies-ending.ensures.writes;
+      })),
     )

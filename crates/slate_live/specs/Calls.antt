@@ -1,0 +1,80 @@
+-- Where a command goes, and what it asks of the object that it names.
+use Rattle.std.specs.Prelude.{ℕ, ℤ, Bool, List, [], ◌∷◌, Option, Some, None}
+use Rattle.slate_types.specs.declared.batches.KeyOp.{KeyOp}
+use Rattle.slate_types.specs.declared.batches.Op.TheVariants.{Put, Delete, Merge as MergeOperand}
+use Rattle.slate_types.specs.declared.options.CloseOptions.{CloseOptions}
+use Rattle.slate_types.specs.declared.options.FlushType.{FlushType}
+use Rattle.slate_types.specs.declared.options.FlushType.TheVariants.{MemTable}
+use Rattle.slate_types.specs.declared.ranges.ByteRange.{ByteRange}
+use Rattle.slate_types.specs.declared.scan_options.IterationOrder.{IterationOrder}
+use Rattle.slate_script.specs.declared.commands.Action.{Action}
+use Rattle.slate_script.specs.declared.commands.Action.TheVariants as actions
+
+-- where a command goes: it opens a handle or a follower, asks for the write with a number, or names the object with one
+pub data Target : Type 0 where
+  NewHandle : Target
+  NewFollower : Target
+  OfWrite : (n : ℕ) → Target
+  OfObject : (n : ℕ) → Target
+
+abbrev pub target_of : Action → Target
+target_of actions.Open = NewHandle
+target_of (actions.Follow mode managed skip) = NewFollower
+target_of (actions.Await n) = OfWrite n
+target_of (actions.Put n key value expire) = OfObject n
+target_of (actions.Merge n key value expire) = OfObject n
+target_of (actions.Delete n key) = OfObject n
+target_of (actions.Batch n batch) = OfObject n
+target_of (actions.Flush n flush_type) = OfObject n
+target_of (actions.Get n key remote) = OfObject n
+target_of (actions.Scan n range order remote) = OfObject n
+target_of (actions.Seek n range take key order remote) = OfObject n
+target_of (actions.Close n options) = OfObject n
+target_of (actions.Poll n) = OfObject n
+
+abbrev pub put_op : List ℕ → List ℕ → Option ℤ → KeyOp
+put_op key value expire = record { key = key; op = Put value expire }
+
+abbrev pub merge_op : List ℕ → List ℕ → Option ℤ → KeyOp
+merge_op key operand expire = record { key = key; op = MergeOperand operand expire }
+
+abbrev pub delete_op : List ℕ → KeyOp
+delete_op key = record { key = key; op = Delete }
+
+-- the operations that a command writes
+abbrev pub ops_of : Action → List KeyOp
+ops_of (actions.Put n key value expire) = put_op key value expire ∷ []
+ops_of (actions.Merge n key value expire) = merge_op key value expire ∷ []
+ops_of (actions.Delete n key) = delete_op key ∷ []
+ops_of (actions.Batch n batch) = batch.ops
+ops_of action = []
+
+-- the flush that a close asks for: without options, to a table
+abbrev pub flush_of_close : Option CloseOptions → Option FlushType
+flush_of_close None = Some MemTable
+flush_of_close (Some options) = options.flush_type
+
+-- what a command asks of the object that it names
+pub data Call : Type 0 where
+  Write : (ops : List KeyOp) → Call  -- these operations, as one batch
+  Merge : (op : KeyOp) → Call  -- one operand to merge, which wants an operator
+  Flush : Call
+  Get : (key : List ℕ) → (remote : Bool) → Call
+  Scan : (range : ByteRange) → (order : IterationOrder) → (remote : Bool) → Call
+  Seek : (range : ByteRange) → (take : ℕ) → (key : List ℕ) → (order : IterationOrder) → (remote : Bool) → Call
+  Close : (flush_type : Option FlushType) → Call
+  Poll : Call
+  Nothing : Call
+
+abbrev pub call_of : Action → Call
+call_of (actions.Put n key value expire) = Write (put_op key value expire ∷ [])
+call_of (actions.Merge n key value expire) = Merge (merge_op key value expire)
+call_of (actions.Delete n key) = Write (delete_op key ∷ [])
+call_of (actions.Batch n batch) = Write batch.ops
+call_of (actions.Flush n flush_type) = Flush
+call_of (actions.Get n key remote) = Get key remote
+call_of (actions.Scan n range order remote) = Scan range order remote
+call_of (actions.Seek n range take key order remote) = Seek range take key order remote
+call_of (actions.Close n options) = Close (flush_of_close options)
+call_of (actions.Poll n) = Poll
+call_of action = Nothing

@@ -1,14 +1,10 @@
 -- Groups of tasks, and what a turn makes of them.
 use Rattle.std.specs.Prelude.{◌≡◌, ◌||◌, ℕ, ℤ, pos, Bool, true, false, IsTrue, if◌then◌else◌, List, [], ◌∷◌, ◌++◌, filter, Option, Some, None, is_none, Result, Ok, Err, is_err, unwrap_or}
 use Rattle.std.specs.List.{AllZip, AllByRecursion as ByRecursion, FoldsTo, list_any}
-use Rattle.slate_errors.specs.declared.closing.CloseFault.{CloseFault}
 use Rattle.slate_dispatch.specs.declared.groups.Member.{Member}
 use Rattle.slate_dispatch.specs.declared.tasks.TurnAnswer.{TurnAnswer}
+pub use Rattle.slate_dispatch.specs.Handlers.{Outcome}
 use Rattle.slate_dispatch.specs.Tasks.{TaskCall, Turn, Cancel, Finish, ending_of}
-
--- what a task or a group ended with
-abbrev pub Outcome : Type 0
-Outcome = Result (Unit {0}) CloseFault
 
 -- a group of tasks under a name
 pub record TaskGroup (T : Type 0) : Type 0 where
@@ -110,7 +106,8 @@ TurnsMembers steps moment random late cancels held (m ∷ old) (m' ∷ new) =
 
 -- What a pass over members left, where something had failed before or not, and the cell held this before: each had its
 -- turn, in order, and wrote its result to the cell as it ended.
-pub record Passes {T : Type 0} (steps : T → TaskCall → T → Type 0) (moment : ℤ) (random : ℕ) (failed : Bool) (held : Option Outcome) (old new : List (Member T)) (failed' : Bool) (held' : Option Outcome) : Type 0 where
+pub record Passes {T : Type 0} (steps : T → TaskCall → T → Type 0) (moment : ℤ) (random : ℕ) (failed : Bool) (held : Option Outcome)
+    (old new : List (Member T)) (failed' : Bool) (held' : Option Outcome) : Type 0 where
   pub turns : TurnsMembers steps moment random failed failed' held' old new
   pub fails : failed' ≡ (failed || has_error (endings old new))
   pub holds : held' ≡ after_writes (endings old new) held
@@ -138,7 +135,8 @@ TurnsInOrder steps moment random late cancels held (g ∷ old) (g' ∷ new) =
     × TurnsInOrder steps moment random (late || has_error (endings g.members g'.members)) cancels held old new
 
 -- the same of a pass over groups
-pub record PassesGroups {T : Type 0} (steps : T → TaskCall → T → Type 0) (moment : ℤ) (random : ℕ) (failed : Bool) (held : Option Outcome) (old new : List (TaskGroup T)) (failed' : Bool) (held' : Option Outcome) : Type 0 where
+pub record PassesGroups {T : Type 0} (steps : T → TaskCall → T → Type 0) (moment : ℤ) (random : ℕ) (failed : Bool) (held : Option Outcome)
+    (old new : List (TaskGroup T)) (failed' : Bool) (held' : Option Outcome) : Type 0 where
   pub turns : TurnsInOrder steps moment random failed failed' held' old new
   pub fails : failed' ≡ (failed || has_error (all_endings old new))
   pub holds : held' ≡ after_writes (all_endings old new) held

@@ -1,8 +1,7 @@
 -- Whole runs of a dispatcher, and what its handler is given of the messages that are sent.
 use Rattle.std.specs.Prelude.{◌≡◌, ◌⊎◌, Bool, List, [], ◌∷◌, ◌++◌, Option, Result}
-use Rattle.slate_errors.specs.declared.closing.CloseFault.{CloseFault}
 use Rattle.slate_dispatch.specs.declared.tickers.TickerDef.{TickerDef}
-use Rattle.slate_dispatch.specs.Handlers.{HandlerCall, Handle, Cleanup}
+use Rattle.slate_dispatch.specs.Handlers.{Handle, Cleanup, HandlerSteps, Outcome}
 use Rattle.slate_dispatch.specs.Tasks.{TaskCall, Turn, Cancel, Finish}
 use Rattle.slate_dispatch.specs.Turns.{Dispatching, DispatcherSteps}
 
@@ -18,11 +17,11 @@ sent (Send message ∷ events) = message ∷ sent events
 sent (Call call ∷ events) = sent events
 
 -- The handler is given these messages in a call: a turn has it handle one of them at most, and the end offers them.
-abbrev pub Gives : {H M : Type 0} → (H → HandlerCall M → H → Type 0) → Dispatching H M → TaskCall → List M → Dispatching H M → Type 0
+abbrev pub Gives : {H M : Type 0} → HandlerSteps H M → Dispatching H M → TaskCall → List M → Dispatching H M → Type 0
 Gives {H} {M} steps old (Turn moment random answer) given new =
     (given ≡ [])
     ⊎ ((message : M)
-    × (result : Result (Unit {0}) CloseFault)
+    × (result : Outcome)
     × (given ≡ message ∷ [])
     × steps old.handler (Handle message result) new.handler)
 Gives steps old Cancel given new = given ≡ []
@@ -32,14 +31,14 @@ abbrev pub with_sent : {H M : Type 0} → M → Dispatching H M → Dispatching 
 with_sent message d = record d { queue = d.queue ++ message ∷ [] }
 
 -- a run, one thing after another
-abbrev pub Runs : {H M : Type 0} → (H → HandlerCall M → H → Type 0) → (H → List TickerDef) → (H → List Bool) → (H → Option (Result (Unit {0}) CloseFault)) → Dispatching H M → List (Event M) → Dispatching H M → Type 0
+abbrev pub Runs : {H M : Type 0} → HandlerSteps H M → (H → List TickerDef) → (H → List Bool) → (H → Option Outcome) → Dispatching H M → List (Event M) → Dispatching H M → Type 0
 Runs steps tickers ready reports old [] new = new ≡ old
 Runs steps tickers ready reports old (Send message ∷ events) new = Runs steps tickers ready reports (with_sent message old) events new
 Runs {H} {M} steps tickers ready reports old (Call call ∷ events) new =
     (mid : Dispatching H M) × DispatcherSteps steps tickers ready reports old call mid × Runs steps tickers ready reports mid events new
 
 -- The same run, in which the handler is given these messages, in order.
-abbrev pub RunsGiving : {H M : Type 0} → (H → HandlerCall M → H → Type 0) → (H → List TickerDef) → (H → List Bool) → (H → Option (Result (Unit {0}) CloseFault)) → Dispatching H M → List (Event M) → List M → Dispatching H M → Type 0
+abbrev pub RunsGiving : {H M : Type 0} → HandlerSteps H M → (H → List TickerDef) → (H → List Bool) → (H → Option Outcome) → Dispatching H M → List (Event M) → List M → Dispatching H M → Type 0
 RunsGiving steps tickers ready reports old [] given new = (given ≡ []) × (new ≡ old)
 RunsGiving steps tickers ready reports old (Send message ∷ events) given new = RunsGiving steps tickers ready reports (with_sent message old) events given new
 RunsGiving {H} {M} steps tickers ready reports old (Call call ∷ events) given new =
@@ -51,6 +50,6 @@ RunsGiving {H} {M} steps tickers ready reports old (Call call ∷ events) given 
     × RunsGiving steps tickers ready reports mid events later new
 
 -- Each message that is sent is given once, in order, or is still in the queue.
-abbrev pub GivesOnce : {H M : Type 0} → (H → HandlerCall M → H → Type 0) → (H → List TickerDef) → (H → List Bool) → (H → Option (Result (Unit {0}) CloseFault)) → Dispatching H M → List (Event M) → Dispatching H M → Type 0
+abbrev pub GivesOnce : {H M : Type 0} → HandlerSteps H M → (H → List TickerDef) → (H → List Bool) → (H → Option Outcome) → Dispatching H M → List (Event M) → Dispatching H M → Type 0
 GivesOnce {H} {M} steps tickers ready reports old events new =
     (given : List M) × RunsGiving steps tickers ready reports old events given new × (old.queue ++ sent events ≡ given ++ new.queue)

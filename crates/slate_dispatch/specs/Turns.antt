@@ -1,12 +1,11 @@
 -- What a dispatcher is, and what its calls make of it.
 use Rattle.std.specs.Prelude.{◌≡◌, ℕ, ℤ, pos, ◌+ℤ◌, Bool, true, false, List, [], ◌∷◌, ◌++◌, slice_get, slice_set, Option, Some, None, Result, Ok, Err}
-use Rattle.slate_errors.specs.declared.closing.CloseFault.{CloseFault}
 use Rattle.slate_dispatch.specs.declared.tickers.TickerDef.{TickerDef}
 use Rattle.slate_dispatch.specs.declared.tasks.TurnAnswer.{TurnAnswer}
 use Rattle.slate_dispatch.specs.declared.tasks.TurnAnswer.TheVariants.{Cancelled, Handled, Idle, Failed}
 use Rattle.slate_dispatch.specs.declared.dispatchers.SendRefusal.{SendRefusal}
 use Rattle.slate_dispatch.specs.declared.dispatchers.SendRefusal.TheVariants.{Closed, NoMemory}
-use Rattle.slate_dispatch.specs.Handlers.{HandlerCall, Tick, Notify, Handle, Cleanup}
+use Rattle.slate_dispatch.specs.Handlers.{Tick, Notify, Handle, Cleanup, HandlerSteps, Outcome}
 use Rattle.slate_dispatch.specs.Origins.{Origin, Sent, Due, Ready, Nowhere, of_queue, due_at, first_ready}
 use Rattle.slate_dispatch.specs.Tasks.{TaskCall, Turn, Cancel, Finish}
 use Rattle.slate_dispatch.specs.Tickers.{wait_of, first_dues}
@@ -19,7 +18,7 @@ pub record Dispatching (H M : Type 0) : Type 0 where
   pub dues : List ℤ  -- when each ticker is due
   pub is_cancelled : Bool
   pub last_answer : Option TurnAnswer
-  pub finished : Option (Result (Unit {0}) CloseFault)
+  pub finished : Option Outcome
 
 -- a dispatcher that was made at a moment
 abbrev pub fresh : {H M : Type 0} → H → ℤ → List TickerDef → Dispatching H M
@@ -35,7 +34,7 @@ fresh handler moment tickers =
     }
 
 -- what `send` leaves and answers, where the close cell holds this
-abbrev pub Sends : {H M : Type 0} → M → Option (Result (Unit {0}) CloseFault) → Dispatching H M → Result (Unit {0}) (SendRefusal M) → Dispatching H M → Type 0
+abbrev pub Sends : {H M : Type 0} → M → Option Outcome → Dispatching H M → Result (Unit {0}) (SendRefusal M) → Dispatching H M → Type 0
 Sends message held old (Ok _) new = (old.is_closed ≡ false) × (new ≡ record old { queue = old.queue ++ message ∷ [] })
 Sends message held old (Err (Closed back result)) new = (old.is_closed ≡ true) × (back ≡ message) × (result ≡ held) × (new ≡ old)
 Sends message held old (Err (NoMemory back)) new = (old.is_closed ≡ false) × (back ≡ message) × (new ≡ old)
@@ -46,7 +45,7 @@ origin ready moment d = of_queue d.queue (due_at moment d.dues) (first_ready (re
 
 -- What taking the next message from where it comes leaves: the queue without it, or the handler after the call that
 -- made it; a ticker is due again its wait later.
-abbrev pub Takes : {H M : Type 0} → (H → HandlerCall M → H → Type 0) → (H → List TickerDef) → ℤ → ℕ → Origin M → Dispatching H M → Option M → Dispatching H M → Type 0
+abbrev pub Takes : {H M : Type 0} → HandlerSteps H M → (H → List TickerDef) → ℤ → ℕ → Origin M → Dispatching H M → Option M → Dispatching H M → Type 0
 Takes steps tickers moment random (Sent first rest) old (Some message) new = (message ≡ first) × (new ≡ record old { queue = rest })
 Takes steps tickers moment random (Due index) old (Some message) new =
     steps old.handler (Tick index message) new.handler
@@ -63,26 +62,27 @@ Takes steps tickers moment random (Ready index) old None new = ⊥
 Takes steps tickers moment random Nowhere old (Some message) new = ⊥
 
 -- what a turn answers by what the handler answered
-abbrev pub answer_of : Result (Unit {0}) CloseFault → TurnAnswer
+abbrev pub answer_of : Outcome → TurnAnswer
 answer_of (Ok _) = Handled
 answer_of (Err fault) = Failed fault
 
 -- the handler handles a message, and reports how that went
-pub record Handles {H M : Type 0} (steps : H → HandlerCall M → H → Type 0) (reports : H → Option (Result (Unit {0}) CloseFault)) (message : M) (result : Result (Unit {0}) CloseFault) (old new : H) : Type 0 where
+pub record Handles {H M : Type 0} (steps : HandlerSteps H M) (reports : H → Option Outcome) (message : M) (result : Outcome) (old new : H) : Type 0 where
   pub step : steps old (Handle message result) new
   pub reported : reports new ≡ Some result
 
 -- what becomes of the next message, where there is one
-abbrev pub Treats : {H M : Type 0} → (H → HandlerCall M → H → Type 0) → (H → Option (Result (Unit {0}) CloseFault)) → Option M → Dispatching H M → TurnAnswer → Dispatching H M → Type 0
+abbrev pub Treats : {H M : Type 0} → HandlerSteps H M → (H → Option Outcome) → Option M → Dispatching H M → TurnAnswer → Dispatching H M → Type 0
 Treats steps reports (Some message) old answer new =
-    (result : Result (Unit {0}) CloseFault)
+    (result : Outcome)
     × Handles steps reports message result old.handler new.handler
     × (answer ≡ answer_of result)
     × (new ≡ record old { handler = new.handler })
 Treats steps reports None old answer new = (answer ≡ Idle) × (new ≡ old)
 
 -- A dispatcher that is cancelled does nothing. Any other one takes the next message, where there is one, and handles it.
-abbrev pub Acts : {H M : Type 0} → (H → HandlerCall M → H → Type 0) → (H → List TickerDef) → (H → List Bool) → (H → Option (Result (Unit {0}) CloseFault)) → ℤ → ℕ → (is_cancelled : Bool) → Dispatching H M → TurnAnswer → Dispatching H M → Type 0
+abbrev pub Acts : {H M : Type 0} → HandlerSteps H M → (H → List TickerDef) → (H → List Bool) → (H → Option Outcome) →
+    ℤ → ℕ → (is_cancelled : Bool) → Dispatching H M → TurnAnswer → Dispatching H M → Type 0
 Acts steps tickers ready reports moment random true old answer new = (answer ≡ Cancelled) × (new ≡ old)
 Acts {H} {M} steps tickers ready reports moment random false old answer new =
     (message : Option M)
@@ -91,14 +91,14 @@ Acts {H} {M} steps tickers ready reports moment random false old answer new =
     × Treats steps reports message mid answer new
 
 -- a turn of a dispatcher is what it does, and that it reports its answer
-abbrev pub Turns : {H M : Type 0} → (H → HandlerCall M → H → Type 0) → (H → List TickerDef) → (H → List Bool) → (H → Option (Result (Unit {0}) CloseFault)) → ℤ → ℕ → Dispatching H M → TurnAnswer → Dispatching H M → Type 0
+abbrev pub Turns : {H M : Type 0} → HandlerSteps H M → (H → List TickerDef) → (H → List Bool) → (H → Option Outcome) → ℤ → ℕ → Dispatching H M → TurnAnswer → Dispatching H M → Type 0
 Turns {H} {M} steps tickers ready reports moment random old answer new =
     (mid : Dispatching H M)
     × Acts steps tickers ready reports moment random old.is_cancelled old answer mid
     × (new ≡ record mid { last_answer = Some answer })
 
 -- what a call of a dispatcher makes of it
-abbrev pub DispatcherSteps : {H M : Type 0} → (H → HandlerCall M → H → Type 0) → (H → List TickerDef) → (H → List Bool) → (H → Option (Result (Unit {0}) CloseFault)) → Dispatching H M → TaskCall → Dispatching H M → Type 0
+abbrev pub DispatcherSteps : {H M : Type 0} → HandlerSteps H M → (H → List TickerDef) → (H → List Bool) → (H → Option Outcome) → Dispatching H M → TaskCall → Dispatching H M → Type 0
 DispatcherSteps steps tickers ready reports old (Turn moment random answer) new = Turns steps tickers ready reports moment random old answer new
 DispatcherSteps steps tickers ready reports old Cancel new = new ≡ record old { is_cancelled = true }
 -- the queue is closed, and all that is in it is offered once, in order

@@ -54,7 +54,8 @@ pub record FlushesHandle {L : Type 0} (summary : List Batch → L) (made : ℕ) 
   pub replied : reply ≡ reply_to (λ _. replies.Flushed) result
   pub does : Flushes summary made old before result new after
 
-pub record ClosesHandle {L : Type 0} (summary : List Batch → L) (made : ℕ) (flush_type : Option FlushType) (old : Handle) (before : Known L) (reply : Reply) (new : Handle) (after : Known L) : Type 0 where
+pub record ClosesHandle {L : Type 0} (summary : List Batch → L) (made : ℕ) (flush_type : Option FlushType) (old : Handle)
+    (before : Known L) (reply : Reply) (new : Handle) (after : Known L) : Type 0 where
   pub ended : Ended
   pub replied : reply ≡ ended_reply ended
   pub does : Closes summary made flush_type old before ended new after

@@ -82,7 +82,8 @@ StoresOnly (Err errors.InvalidDBState) made = made ≡ 0
 StoresOnly result made = Unit {0}
 
 -- A flush of these batches by a handle of this epoch: its answer has its cause, and so many of its changes were made.
-pub record StoresBatches {L : Type 0} (summary : List Batch → L) (epoch : ℕ) (batches : List Batch) (objects : ObjectsOf L) (result : Result (Unit {0}) SlateError) (view view' : VersionedManifest) (made : ℕ) (objects' : ObjectsOf L) : Type 0 where
+pub record StoresBatches {L : Type 0} (summary : List Batch → L) (epoch : ℕ) (batches : List Batch) (objects : ObjectsOf L)
+    (result : Result (Unit {0}) SlateError) (view view' : VersionedManifest) (made : ℕ) (objects' : ObjectsOf L) : Type 0 where
   pub answer : FlushAnswer epoch batches objects result view view'
   pub part : PartMade result (length (flush_changes summary batches objects)) made
   pub only : StoresOnly result made
@@ -90,7 +91,8 @@ pub record StoresBatches {L : Type 0} (summary : List Batch → L) (epoch : ℕ)
   pub after : objects' ≡ after_part made (flush_changes summary batches objects) objects
 
 -- The batches of a handle that aren't stored go to the store, and the handle goes by this view from then on.
-pub record Stores {L : Type 0} (summary : List Batch → L) (made : ℕ) (handle : Handle) (view : VersionedManifest) (before : Known L) (result : Result (Unit {0}) SlateError) (after : Known L) : Type 0 where
+pub record Stores {L : Type 0} (summary : List Batch → L) (made : ℕ) (handle : Handle) (view : VersionedManifest)
+    (before : Known L) (result : Result (Unit {0}) SlateError) (after : Known L) : Type 0 where
   pub faults : CountsFaults before.faults after.faults result
   pub objects : WhereModelled (λ o o'. StoresBatches summary handle.epoch (unstored handle) o result handle.view view made o') before.objects after.objects
 

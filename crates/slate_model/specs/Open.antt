@@ -150,7 +150,8 @@ pub record IsFresh (keeps_log : Bool) (limit : ℕ) (handle : Handle) : Type 0 w
 
 -- An opening of a database by a handle. `unsound` says which objects bring about an error that sound ones don't, and
 -- `is_stored` which line is stored, where that is known: the handle of an opening that answers Ok sees it.
-pub record OpensHandle {L : Type 0} (summary : List Batch → L) (unsound : ObjectsOf L → SlateError → Type 0) (is_stored : Line → Type 0) (made : ℕ) (keeps_log : Bool) (limit : ℕ) (before : Known L) (result : Result Handle SlateError) (after : Known L) : Type 0 where
+pub record OpensHandle {L : Type 0} (summary : List Batch → L) (unsound : ObjectsOf L → SlateError → Type 0) (is_stored : Line → Type 0)
+    (made : ℕ) (keeps_log : Bool) (limit : ℕ) (before : Known L) (result : Result Handle SlateError) (after : Known L) : Type 0 where
   pub opens : WhereModelled (λ o o'. Opens summary (unsound o) o result made o') before.objects after.objects
   pub faults : CountsFaults before.faults after.faults result
   pub fresh : IfOk result (IsFresh keeps_log limit)

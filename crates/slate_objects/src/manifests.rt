@@ -1,6 +1,7 @@
 // Manifests as bytes.
 ghost use Rattle.std.specs.Prelude.{◌≡◌, List, ℕ, Result};
-ghost use Rattle.slate_objects.specs.Manifests.{CheckpointFits, FlagFits, ManifestFits, NameFits, TableIdFits, UuidFits, checkpoint_at, checkpoint_of, flag_at, flag_of, manifest_at, manifest_of, name_at, name_in, table_id_at, table_id_of, uuid_at, uuid_of};
+ghost use Rattle.slate_objects.specs.Manifests.{CheckpointFits, FlagFits, ManifestFits, NameFits, TableIdFits, UuidFits};
+ghost use Rattle.slate_objects.specs.Manifests.{checkpoint_at, checkpoint_of, flag_at, flag_of, manifest_at, manifest_of, name_at, name_in, table_id_at, table_id_of, uuid_at, uuid_of};
 ghost use Rattle.slate_objects.specs.Reading.{Gives};
 ghost use Rattle.slate_objects.specs.Spelling.{bytes_of};
 

@@ -3,7 +3,8 @@ ghost use Rattle.std.specs.Prelude.{◌≡◌, IfOk, IfSome};
 ghost use Rattle.std.specs.Option.{option_map};
 ghost use Rattle.std.specs.List.{position};
 ghost use Rattle.slate_script.specs.Built.{IsBuilt};
-ghost use Rattle.slate_script.specs.Writes.{put_of, merge_of, delete_of, operation_of, write_action, single_form, is_merge, is_separator, pieces_of, piece_of, operations_of, written, batch_form, write_of};
+ghost use Rattle.slate_script.specs.Writes.{put_of, merge_of, delete_of, operation_of, write_action, single_form};
+ghost use Rattle.slate_script.specs.Writes.{is_merge, is_separator, pieces_of, piece_of, operations_of, written, batch_form, write_of};
 
 use crate::Action;
 use crate::values::{read_expiry, read_word};

@@ -1,5 +1,5 @@
 -- What a follower finds of the latest manifest and its log files.
-use Rattle.std.specs.Prelude.{◌≡◌, ℕ, Bool, List, [], true, Some, Result, Ok, Err}
+use Rattle.std.specs.Prelude.{◌≡◌, ℕ, ◌+◌, ◌≤◌, Bool, List, [], true, Some, Result, Ok, Err}
 use Rattle.slate_types.specs.declared.batches.Batch.{Batch}
 use Rattle.slate_store.specs.declared.objects.Manifest.{Manifest}
 use Rattle.slate_store.specs.declared.objects.VersionedManifest.{VersionedManifest}
@@ -11,6 +11,7 @@ use Rattle.slate_replay.specs.declared.replays.Replayed.TheVariants as replays
 use Rattle.slate_errors.specs.declared.errors.SlateError.{SlateError}
 use Rattle.slate_errors.specs.declared.errors.SlateError.TheVariants as errors
 use Rattle.slate_model.specs.Follower.{Follower, FollowCause, can_follow}
+use Rattle.slate_model.specs.Open.{replayed_logs}
 use Rattle.slate_model.specs.declared.answers.PollAnswer.{PollAnswer}
 use Rattle.slate_model.specs.declared.answers.PollAnswer.TheVariants.{Whole, Truncated}
 
@@ -43,3 +44,8 @@ abbrev pub IsOfReplay : SlateError → Type 0
 IsOfReplay (errors.ObjectStoreError Unavailable) = Unit {0}
 IsOfReplay errors.NoMemory = Unit {0}
 IsOfReplay error = ⊥
+
+-- How often an opening or a poll calls a store at most: it asks for the latest manifest and the last log file, and reads
+-- the log files that it replays.
+abbrev pub CallsRebuilding : Objects → (calls calls' : ℕ) → Type 0
+CallsRebuilding objects calls calls' = calls' ≤ calls + 2 + replayed_logs objects

@@ -2,7 +2,7 @@
 ghost use Rattle.std.specs.Prelude.{◌≡◌, ◌≢◌, ◌≤◌, true, false, None, IfOk, IfSome};
 ghost use Rattle.slate_model.specs.Follower.{Polls, Rebuilds};
 ghost use Rattle.slate_model.specs.Known.{IsContent, known};
-ghost use Rattle.slate_follow.specs.Rebuilding.{ReplaysLatest};
+ghost use Rattle.slate_follow.specs.Rebuilding.{CallsRebuilding, ReplaysLatest};
 
 use crate::rebuilds::rebuild;
 use crate::{DbReaderMode, DbReaderOptions, FollowerState, PollAnswer};
@@ -14,8 +14,9 @@ use std::alloc::Global;
 impl FollowerState {
     /// Opens a reader of a database: it reads the latest manifest and all log files above the manifest's replay mark,
     /// and sees the batches that these have. It puts nothing. Of the modes, `FollowLatest` can be opened today, with
-    /// log files and without an extractor; in this mode `moment` isn't looked at. It takes time linear in the operations
-    /// of the log files, and for each key a logarithm of the keys. SlateDB's `DbReader::open`.
+    /// log files and without an extractor; in this mode `moment` isn't looked at. It calls the store twice, and once for
+    /// each log file that it replays. It takes time linear in the operations of the log files, and for each key a
+    /// logarithm of the keys. SlateDB's `DbReader::open`.
     ///
     /// It answers `Truncated` where a log file or a batch is missing, and the reader has the batches before it; that
     /// never comes over a store that only handles wrote. It answers `LatestTransactionalObjectVersionMissing` where
@@ -34,13 +35,14 @@ impl FollowerState {
         requires extractor { extractor ≡ None }
         ensures rebuilds { Rebuilds (IsContent (S.objects store.old)) true (known S.objects S.faults store.old) result (known S.objects S.faults store.new) }
         ensures replays { IfOk result (λ p. IfSome (S.objects store.old) (λ o. ReplaysLatest true o p.0 p.1)) }
+        ensures calls { IfSome (S.objects store.old) (λ o. CallsRebuilding o (S.calls store.old) (S.calls store.new)) }
     {
         rebuild(alloc, store, true)
     }
 
     /// Takes all that is stored by now: from then on the reader sees the batches of the log files above the latest
     /// manifest's replay mark, and answers from them until the next poll. `moment` isn't looked at. It rebuilds what it
-    /// sees at each poll, which takes the time of an opening.
+    /// sees at each poll, which takes the time and the calls of an opening.
     ///
     /// It answers `Truncated` where a log file or a batch is missing, and the reader has the batches before it then;
     /// that never comes over a store that only handles wrote. A poll that answers an error leaves the reader as it was,
@@ -58,6 +60,7 @@ impl FollowerState {
         requires { extractor ≡ None }
         ensures polls { Polls (IsContent (S.objects store.old)) self.old (known S.objects S.faults store.old) result self.new (known S.objects S.faults store.new) }
         ensures replays { IfOk result (λ a. IfSome (S.objects store.old) (λ o. ReplaysLatest false o self.new a)) }
+        ensures calls { IfSome (S.objects store.old) (λ o. CallsRebuilding o (S.calls store.old) (S.calls store.new)) }
         ensures count { S.faults store.old ≤ S.faults store.new }
         ensures untouched { self.old.result ≢ None → (self.new ≡ self.old) × (store.new ≡ store.old) }
     {

@@ -1,9 +1,10 @@
 // Building a follower from the latest manifest and its log files.
-ghost use Rattle.std.specs.Prelude.{◌≡◌, ◌+◌, ◌<◌, ◌^◌, length, IfOk, IfErr, IfSome};
+ghost use Rattle.std.specs.Prelude.{◌≡◌, ◌+◌, ◌-◌, ◌<◌, ◌≤◌, ◌^◌, length, IfOk, IfErr, IfSome};
 ghost use Rattle.slate_types.specs.Line.{AreNumberedFrom};
+ghost use Rattle.slate_store.specs.Objects.{last_log};
 ghost use Rattle.slate_model.specs.Follower.{Rebuilds, can_follow};
 ghost use Rattle.slate_model.specs.Known.{CountsFaults, IsContent, known};
-ghost use Rattle.slate_follow.specs.Rebuilding.{FindsView, GiveBatches, IsOfReplay, ReplaysLatest};
+ghost use Rattle.slate_follow.specs.Rebuilding.{CallsRebuilding, FindsView, GiveBatches, IsOfReplay, ReplaysLatest};
 
 use crate::{FollowerState, PollAnswer};
 use slate_errors::{CloseCell, SlateError};
@@ -20,6 +21,7 @@ pub(crate) fn rebuild<S: Store>(
 ) -> Result<(FollowerState, PollAnswer), SlateError>
     ensures rebuilds { Rebuilds (IsContent (S.objects store.old)) opening (known S.objects S.faults store.old) result (known S.objects S.faults store.new) }
     ensures replays { IfOk result (λ p. IfSome (S.objects store.old) (λ o. ReplaysLatest opening o p.0 p.1)) }
+    ensures calls { IfSome (S.objects store.old) (λ o. CallsRebuilding o (S.calls store.old) (S.calls store.new)) }
 {
     let view = find_view(alloc, store, opening)?;
     let (memory, replayed) = replay_logs(alloc, store, &view)?;
@@ -44,6 +46,7 @@ fn find_view<S: Store>(
     opening: bool,
 ) -> Result<VersionedManifest, SlateError>
     ensures faults { CountsFaults (S.faults store.old) (S.faults store.new) result }
+    ensures calls { S.calls store.new ≤ S.calls store.old + 1 }
     ensures kept { S.objects store.new ≡ S.objects store.old }
     ensures where_modelled { IfSome (S.objects store.old) (λ o. FindsView opening o result) }
 {
@@ -71,6 +74,7 @@ fn replay_logs<S: Store>(
     view: &VersionedManifest,
 ) -> Result<(IndexedTable, Replayed), SlateError>
     ensures faults { CountsFaults (S.faults store.old) (S.faults store.new) result }
+    ensures calls { IfSome (S.objects store.old) (λ o. S.calls store.new ≤ S.calls store.old + 1 + (last_log view.now.manifest.replay_after_wal_id o - view.now.manifest.replay_after_wal_id)) }
     ensures kept { S.objects store.new ≡ S.objects store.old }
     ensures numbered { IfOk result (λ p. AreNumberedFrom view.now.manifest.last_l0_seq p.0) }
     ensures fits { IfOk result (λ p. view.now.manifest.last_l0_seq + length p.0 < 2 ^ 64) }

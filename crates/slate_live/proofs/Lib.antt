@@ -3,6 +3,7 @@ pub mod Chains
 pub mod Changing
 pub mod Completing
 pub mod Confirming
+pub mod Counting
 pub mod Doing
 pub mod Endings
 pub mod Flushing

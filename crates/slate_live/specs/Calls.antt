@@ -1,5 +1,5 @@
--- Where a command goes, and what it asks of the object that it names.
-use Rattle.std.specs.Prelude.{ℕ, ℤ, Bool, List, [], ◌∷◌, Option, Some, None}
+-- Where a command goes, what it asks of the object that it names, and how often it may call the store.
+use Rattle.std.specs.Prelude.{ℕ, ℤ, ◌+◌, Bool, List, [], ◌∷◌, Option, Some, None}
 use Rattle.slate_types.specs.declared.batches.KeyOp.{KeyOp}
 use Rattle.slate_types.specs.declared.batches.Op.TheVariants.{Put, Delete, Merge as MergeOperand}
 use Rattle.slate_types.specs.declared.options.CloseOptions.{CloseOptions}
@@ -78,3 +78,20 @@ call_of (actions.Seek n range take key order remote) = Seek range take key order
 call_of (actions.Close n options) = Close (flush_of_close options)
 call_of (actions.Poll n) = Poll
 call_of action = Nothing
+
+-- how often what is asked of an object calls the store at most, where a poll replays so many log files
+abbrev pub most_asked : (logs : ℕ) → Call → ℕ
+most_asked logs Flush = 3
+most_asked logs (Close flush_type) = 3
+most_asked logs Poll = logs + 2
+most_asked logs call = 0
+
+-- and how often a command does; an opening calls it once more where its replay ends early
+abbrev pub most_made : (logs : ℕ) → Target → Call → ℕ
+most_made logs NewHandle call = logs + 5
+most_made logs NewFollower call = logs + 2
+most_made logs (OfWrite n) call = 0
+most_made logs (OfObject n) call = most_asked logs call
+
+abbrev pub most_calls : (logs : ℕ) → Action → ℕ
+most_calls logs action = most_made logs (target_of action) (call_of action)

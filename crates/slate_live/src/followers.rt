@@ -1,11 +1,12 @@
 // What commands do to a reader that follows a database.
-ghost use Rattle.std.specs.Prelude.{◌≡◌, ◌≤◌, ℕ, None, List, Option};
+ghost use Rattle.std.specs.Prelude.{◌≡◌, ◌≤◌, ◌+◌, ℕ, None, List, Option, IfSome};
 ghost use Rattle.std.specs.Option.{option_copied};
 ghost use Rattle.slate_types.specs.Operator.{Merge};
 ghost use Rattle.slate_reads.specs.Read.{IsOperator};
 ghost use Rattle.slate_model.specs.Known.{IsContent, known};
+ghost use Rattle.slate_model.specs.Open.{replayed_logs};
 ghost use Rattle.slate_live.specs.declared.states.Write.{Write};
-ghost use Rattle.slate_live.specs.Calls.{call_of};
+ghost use Rattle.slate_live.specs.Calls.{call_of, most_asked};
 ghost use Rattle.slate_live.specs.Followers.{FollowerActs, GetsFromFollower, PollsFollower, ScansFollower, SeeksFollower};
 ghost use Rattle.slate_live.specs.Replies.{follower_ended_reply};
 
@@ -30,6 +31,7 @@ pub(crate) fn act<S: Store, M: MergeOperator, E: PrefixExtractor>(
 ) -> Reply
     requires { extractor ≡ None }
     ensures faults { S.faults store.old ≤ S.faults store.new }
+    ensures calls { IfSome (S.objects store.old) (λ o. S.calls store.new ≤ S.calls store.old + most_asked (replayed_logs o) (call_of command.now.action)) }
     ensures does { (merge : Option Merge) (writes : List Write) → IsOperator M.may_answer (option_copied operator.entry) merge →
         (made : ℕ) × FollowerActs (IsContent (S.objects store.old)) (λ f. f.line.batches) merge (call_of command.now.action) made
         follower.old (known S.objects S.faults store.old) writes result follower.new (known S.objects S.faults store.new) writes }
@@ -120,6 +122,7 @@ fn poll<S: Store, E: PrefixExtractor>(
 ) -> Reply
     requires { extractor ≡ None }
     ensures faults { S.faults store.old ≤ S.faults store.new }
+    ensures calls { IfSome (S.objects store.old) (λ o. S.calls store.new ≤ S.calls store.old + (replayed_logs o + 2)) }
     ensures does { PollsFollower (IsContent (S.objects store.old)) follower.old (known S.objects S.faults store.old) result follower.new (known S.objects S.faults store.new) }
 {
     match follower.poll(alloc, store, extractor, moment) {

@@ -1,5 +1,5 @@
 // What commands do to a handle that writes.
-ghost use Rattle.std.specs.Prelude.{◌≡◌, ◌≤◌, ℕ, [], ◌∷◌, ◌++◌, true, false, None, Option, IfOk, IsTrue, ◌↔◌};
+ghost use Rattle.std.specs.Prelude.{◌≡◌, ◌≤◌, ℕ, ◌+◌, [], ◌∷◌, ◌++◌, true, false, None, Option, IfOk, IsTrue, ◌↔◌};
 ghost use Rattle.std.specs.Option.{option_copied};
 ghost use Rattle.slate_types.specs.Operator.{Merge};
 ghost use Rattle.slate_reads.specs.Read.{IsOperator};
@@ -7,7 +7,7 @@ ghost use Rattle.slate_model.specs.Known.{known};
 ghost use Rattle.slate_model.specs.Read.{Scans};
 ghost use Rattle.slate_model.specs.Write.{Writes};
 ghost use Rattle.slate_script.specs.Built.{IsBuilt, closes_without_table, puts_no_table};
-ghost use Rattle.slate_live.specs.Calls.{call_of, flush_of_close, ops_of};
+ghost use Rattle.slate_live.specs.Calls.{call_of, flush_of_close, most_asked, ops_of};
 ghost use Rattle.slate_live.specs.Handles.{ClosesHandle, FlushesHandle, GetsFrom, HandleActs, IsPlainScan, ScansFrom, SeeksFrom, WritesTo, durable_reply, level_of, noted};
 ghost use Rattle.slate_live.specs.Replies.{ended_reply, found_reply, refusal, reply_to};
 
@@ -39,6 +39,7 @@ pub(crate) fn act<S: Store, M: MergeOperator, E: PrefixExtractor>(
     requires extractor { extractor ≡ None }
     requires built { IsBuilt command.now.action }
     ensures faults { S.faults store.old ≤ S.faults store.new }
+    ensures calls { S.calls store.new ≤ S.calls store.old + most_asked 0 (call_of command.now.action) }
     ensures does { (merge : Option Merge) → IsOperator M.may_answer (option_copied operator.entry) merge →
         (made : ℕ) × HandleActs (λ batches. batches) merge number command.now.moment command.now.second (call_of command.now.action) made
         writer.old (known S.objects S.faults store.old) writes.old.items result writer.new (known S.objects S.faults store.new) writes.new.items }
@@ -189,6 +190,7 @@ fn flush<S: Store>(
 ) -> Reply
     requires { puts_no_table flush_type ≡ true }
     ensures faults { S.faults store.old ≤ S.faults store.new }
+    ensures calls { S.calls store.new ≤ S.calls store.old + 3 }
     ensures does { (made : ℕ) × FlushesHandle (λ batches. batches) made writer.old (known S.objects S.faults store.old) result writer.new (known S.objects S.faults store.new) }
 {
     let flush_type = flush_type.unwrap_or(FlushType::Wal);
@@ -319,6 +321,7 @@ fn close<S: Store>(
 ) -> Reply
     requires { closes_without_table options ≡ true }
     ensures faults { S.faults store.old ≤ S.faults store.new }
+    ensures calls { S.calls store.new ≤ S.calls store.old + 3 }
     ensures does { (made : ℕ) × ClosesHandle (λ batches. batches) made (flush_of_close options) writer.old (known S.objects S.faults store.old) result writer.new (known S.objects S.faults store.new) }
 {
     let options = options.unwrap_or_default();

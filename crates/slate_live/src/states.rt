@@ -1,10 +1,12 @@
 // The live objects of a run and its writes, and what one command does to them.
-ghost use Rattle.std.specs.Prelude.{◌≡◌, ◌≤◌, ℕ, [], true, None, Option, slice_get};
+ghost use Rattle.std.specs.Prelude.{◌≡◌, ◌≤◌, ◌+◌, ℕ, [], true, None, Option, slice_get, IfSome};
 ghost use Rattle.std.specs.Option.{option_copied};
 ghost use Rattle.slate_types.specs.Operator.{Merge};
 ghost use Rattle.slate_reads.specs.Read.{IsOperator};
 ghost use Rattle.slate_model.specs.Known.{known};
+ghost use Rattle.slate_model.specs.Open.{replayed_logs};
 ghost use Rattle.slate_script.specs.Built.{IsBuilt, follows_latest};
+ghost use Rattle.slate_live.specs.Calls.{call_of, most_asked, most_calls};
 ghost use Rattle.slate_live.specs.Commands.{ActsOn, Does, OpensFollowerIn, OpensHandleIn, write_reply};
 ghost use Rattle.slate_live.specs.Replies.{followed_reply};
 ghost use Rattle.slate_live.specs.Represents.{Links};
@@ -60,7 +62,7 @@ impl LiveState {
     }
 
     /// Does one command on the store. It takes the time of the call that the command makes, beside a look at the place
-    /// of its object.
+    /// of its object, and calls the store as often as that call does; a command that makes none doesn't call it.
     ///
     /// Over any store the command does what is said of it: the object that it names answers and changes by its own
     /// call, and all others are as before. Over an honest store the reply is one that the command may have, and the
@@ -78,6 +80,7 @@ impl LiveState {
         requires built { IsBuilt command.now.action }
         ensures options { self.new.options ≡ self.old.options }
         ensures faults { S.faults store.old ≤ S.faults store.new }
+        ensures calls { IfSome (S.objects store.old) (λ o. S.calls store.new ≤ S.calls store.old + most_calls (replayed_logs o) command.now.action) }
         ensures does { (merge : Option Merge) → IsOperator M.may_answer (option_copied operator.entry) merge →
             (made : ℕ) × Does (by_objects (S.objects store.old)) (record { merge = merge; options = self.old.options }) made
             (running self.old (known S.objects S.faults store.old)) command.now result (running self.new (known S.objects S.faults store.new)) }
@@ -121,6 +124,7 @@ impl LiveState {
         requires { extractor ≡ None }
         ensures options { self.new.options ≡ self.old.options }
         ensures faults { S.faults store.old ≤ S.faults store.new }
+        ensures calls { IfSome (S.objects store.old) (λ o. S.calls store.new ≤ S.calls store.old + (replayed_logs o + 5)) }
         ensures does { (merge : Option Merge) → (made : ℕ) × OpensHandleIn (by_objects (S.objects store.old)) (record { merge = merge; options = self.old.options }) made
             (running self.old (known S.objects S.faults store.old)) result (running self.new (known S.objects S.faults store.new)) }
     {
@@ -165,6 +169,7 @@ impl LiveState {
         requires built { follows_latest mode skip ≡ true }
         ensures options { self.new.options ≡ self.old.options }
         ensures faults { S.faults store.old ≤ S.faults store.new }
+        ensures calls { IfSome (S.objects store.old) (λ o. S.calls store.new ≤ S.calls store.old + (replayed_logs o + 2)) }
         ensures does { (merge : Option Merge) → OpensFollowerIn (by_objects (S.objects store.old)) (record { merge = merge; options = self.old.options }) 0
             (running self.old (known S.objects S.faults store.old)) result (running self.new (known S.objects S.faults store.new)) }
     {
@@ -199,6 +204,7 @@ impl LiveState {
         requires built { IsBuilt command.now.action }
         ensures options { self.new.options ≡ self.old.options }
         ensures faults { S.faults store.old ≤ S.faults store.new }
+        ensures calls { IfSome (S.objects store.old) (λ o. S.calls store.new ≤ S.calls store.old + most_asked (replayed_logs o) (call_of command.now.action)) }
         ensures does { (merge : Option Merge) → IsOperator M.may_answer (option_copied operator.entry) merge →
             (made : ℕ) × ActsOn (by_objects (S.objects store.old)) merge number command.now made (slice_get self.old.objects number)
             (running self.old (known S.objects S.faults store.old)) result (running self.new (known S.objects S.faults store.new)) }

@@ -1,5 +1,5 @@
 -- What an opening puts, the handle that it gives, and why it answers an error.
-use Rattle.std.specs.Prelude.{◌≡◌, ℕ, ℤ, ◌+◌, ◌==◌, ◌&&◌, ◌<◌, negsuc, nat_lt, int_lt, if◌then◌else◌, Bool, true, false, List, [], ◌∷◌, length, Option, Some, None, Result, Ok, Err, IfOk}
+use Rattle.std.specs.Prelude.{◌≡◌, ℕ, ℤ, ◌+◌, ◌-◌, ◌==◌, ◌&&◌, ◌<◌, negsuc, nat_lt, int_lt, if◌then◌else◌, Bool, true, false, List, [], ◌∷◌, length, Option, Some, None, Result, Ok, Err, IfOk}
 use Rattle.slate_types.specs.declared.batches.Batch.{Batch}
 use Rattle.slate_types.specs.Line.{Line, end, batches_above}
 use Rattle.slate_store.specs.declared.objects.Manifest.{Manifest}
@@ -43,6 +43,10 @@ mark_of (Some latest) = latest.manifest.replay_after_wal_id
 -- the last log file that an opening finds
 abbrev pub found_log : {L : Type 0} → ObjectsOf L → ℕ
 found_log objects = last_log (mark_of (latest_manifest objects)) objects
+
+-- how many log files an opening replays, and a poll
+abbrev pub replayed_logs : {L : Type 0} → ObjectsOf L → ℕ
+replayed_logs objects = found_log objects - mark_of (latest_manifest objects)
 
 -- the manifest that an opening commits after the latest one, where this log file is the last: the first, or a copy of
 -- the latest with the next epoch

@@ -1,5 +1,6 @@
 -- What a replay of log files appends, and how it ends.
-use Rattle.std.specs.Prelude.{◌≡◌, ℕ, ◌+◌, Bool, true, false, All, List, length, Result, Ok, Err}
+use Rattle.std.specs.Prelude.{◌≡◌, ℕ, ◌+◌, Bool, true, false, min, All, List, length, Result, Ok, Err}
+use Rattle.slate_types.specs.Counts.{count_end}
 use Rattle.slate_types.specs.declared.batches.Batch.{Batch}
 use Rattle.slate_types.specs.Line.{Line, IsPrefix, batches_above}
 use Rattle.slate_store.specs.Objects.{Objects}
@@ -12,6 +13,10 @@ use Rattle.slate_replay.specs.declared.replays.Replayed.TheVariants.{Whole, Trun
 -- the line of batches in memory
 abbrev pub line_of : ℕ → List Batch → Line
 line_of floor batches = record { floor = floor; batches = batches }
+
+-- a count of calls after so many more, one at least
+abbrev pub calls_after : (made calls : ℕ) → ℕ
+calls_after made calls = min (calls + made) count_end
 
 -- How a replay ends that leads from one number to another: the log files are whole, or truncated at this one, and the
 -- replay leads up to the gap. One that fails leads to any number.

@@ -1,8 +1,8 @@
 // What a manifest's log files have, in a table of its own.
-ghost use Rattle.std.specs.Prelude.{◌≡◌, ◌≢◌, ◌+◌, ◌<◌, ◌≤◌, ◌^◌, [], Ok, Err, length, IfOk, IfSome};
+ghost use Rattle.std.specs.Prelude.{◌≡◌, ◌≢◌, ◌+◌, ◌-◌, ◌<◌, ◌≤◌, ◌^◌, [], ℕ, Ok, Err, length, IfOk, IfSome};
 ghost use Rattle.slate_types.specs.Counts.{HasRisen};
 ghost use Rattle.slate_types.specs.Line.{AreNumberedFrom};
-ghost use Rattle.slate_replay.specs.Replay.{Replays};
+ghost use Rattle.slate_replay.specs.Replay.{Replays, calls_after};
 
 use crate::replays::{Replayed, replay};
 use slate_reads::IndexedTable;
@@ -25,6 +25,8 @@ pub fn recover<S: Store>(
     ensures failed { result ≡ Err StoreError.Failed → HasRisen (S.faults store.old) (S.faults store.new) }
     ensures none_missing { result ≢ Err StoreError.NotFound }
     ensures none_exists { result ≢ Err StoreError.Exists }
+    ensures calls { S.calls store.new ≤ S.calls store.old + (last - manifest.now.replay_after_wal_id) }
+    ensures ended_early { IfOk result (λ p. (id : ℕ) → p.1 ≡ Replayed.Truncated id → S.calls store.new ≡ calls_after (id - manifest.now.replay_after_wal_id) (S.calls store.old)) }
     ensures where_modelled { IfOk result (λ p. IfSome (S.objects store.old) (λ o. Replays manifest.now.replay_after_wal_id last manifest.now.last_l0_seq [] p.0 o (Ok p.1))) }
 {
     let floor = manifest.last_l0_seq;

@@ -1,10 +1,10 @@
 // Appending the batches of log files to those in memory.
-ghost use Rattle.std.specs.Prelude.{◌≡◌, ◌≢◌, ◌+◌, ◌<◌, ◌≤◌, ◌^◌, ◌++◌, [], ◌∷◌, ℕ, List, Err, OnOk, OnErr, length, IfSome};
+ghost use Rattle.std.specs.Prelude.{◌≡◌, ◌≢◌, ◌+◌, ◌-◌, ◌<◌, ◌≤◌, ◌^◌, ◌++◌, [], ◌∷◌, ℕ, List, Ok, Err, OnOk, OnErr, length, IfSome};
 ghost use Rattle.slate_types.specs.Counts.{HasRisen};
 ghost use Rattle.slate_types.specs.Line.{AreNumberedFrom};
 ghost use Rattle.slate_types.specs.declared.batches.Batch.{Batch};
 ghost use Rattle.slate_reads.specs.Index.{IsAboveLast};
-ghost use Rattle.slate_replay.specs.Replay.{Replays, AppendsNext};
+ghost use Rattle.slate_replay.specs.Replay.{Replays, AppendsNext, calls_after};
 
 use slate_reads::IndexedTable;
 use slate_store::Store;
@@ -25,8 +25,9 @@ pub enum Replayed {
 ///
 /// It ends at the first log file that isn't stored, or that has a batch past the next number. It answers `Failed`,
 /// where a read of the store failed, and `NoMemory`; `memory` has the first of the batches then, and another replay
-/// goes on after them. It takes time linear in the operations that it reads, and for each new key a logarithm of the
-/// keys. It copies the lists of operations of the batches that it appends, and no key and no value.
+/// goes on after them. It calls the store once for each log file that it reads. It takes time linear in the operations
+/// that it reads, and for each new key a logarithm of the keys. It copies the lists of operations of the batches that it
+/// appends, and no key and no value.
 pub fn replay<S: Store>(
     alloc: Global,
     store: &mut S,
@@ -45,6 +46,8 @@ pub fn replay<S: Store>(
     ensures failed { result ≡ Err StoreError.Failed → HasRisen (S.faults store.old) (S.faults store.new) }
     ensures none_missing { result ≢ Err StoreError.NotFound }
     ensures none_exists { result ≢ Err StoreError.Exists }
+    ensures calls { S.calls store.new ≤ S.calls store.old + (last - mark) }
+    ensures ended_early { (id : ℕ) → result ≡ Ok (Replayed.Truncated id) → S.calls store.new ≡ calls_after (id - mark) (S.calls store.old) }
     ensures where_modelled { IfSome (S.objects store.old) (λ o. Replays mark last floor memory.old memory.new o result) }
 {
     for before in mark..last {

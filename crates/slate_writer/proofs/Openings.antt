@@ -1,5 +1,5 @@
 -- The calls of an opening, one after another, make an opening of the model.
-use Rattle.std.proofs.Common.{◌≡◌, ℕ, ℤ, ◌+◌, Bool, List, [], length, Option, Some, None, Result, Ok, Err, true, false, refl, sym, subst, ap, inl, inr, ◌∙◌, arith}
+use Rattle.std.proofs.Common.{◌≡◌, ℕ, ℤ, ◌+◌, ◌-◌, ◌≤◌, Bool, List, [], length, Option, Some, None, Result, Ok, Err, true, false, refl, sym, subst, ap, inl, inr, ◌∙◌, arith}
 use Rattle.std.specs.Option.{IfSome}
 use Rattle.slate_types.specs.declared.batches.Batch.{Batch}
 use Rattle.slate_types.specs.Line.{Line}
@@ -12,13 +12,13 @@ use Rattle.slate_store.specs.Content.{IsSound, content, logged}
 use Rattle.slate_store.proofs.Logs.{truncated-same}
 use Rattle.slate_replay.proofs.Recovered.{recovered-all, replays-same}
 use Rattle.slate_replay.specs.declared.replays.Replayed.TheVariants.{Whole}
-use Rattle.slate_replay.specs.Replay.{Replays}
+use Rattle.slate_replay.specs.Replay.{Replays, calls_after}
 use Rattle.slate_store.specs.Objects.{Objects, Change, PutManifest, PutLog, is_present}
 use Rattle.slate_errors.specs.Errors.{error_of_store}
 use Rattle.slate_errors.specs.declared.errors.SlateError.{SlateError}
 use Rattle.slate_errors.specs.declared.errors.SlateError.TheVariants as errors
 use Rattle.slate_model.specs.Changes.{after_part}
-use Rattle.slate_model.specs.Open.{IsFresh, OpenFault, Opens, OpensHandle, found_log, mark_of, latest_tick, open_changes, opened_handle, opened_manifest}
+use Rattle.slate_model.specs.Open.{IsFresh, OpenFault, Opens, OpensHandle, found_log, mark_of, latest_tick, next_manifest, open_changes, opened_handle, opened_manifest}
 use Rattle.slate_store.specs.Objects.{changed, latest_manifest}
 use Rattle.slate_model.proofs.Entries.{absent}
 use Rattle.slate_model.proofs.Newest.{newest}
@@ -27,7 +27,7 @@ use Rattle.slate_model.specs.Handle.{Handle}
 use Rattle.slate_model.specs.Known.{CountsFaults, IsContent, Known}
 use Rattle.slate_model.proofs.Reduced.{some-same}
 use Rattle.slate_writer.proofs.Modelled.{made_once, modelled_from, modelled_kept}
-use Rattle.slate_writer.specs.Opening.{FindsNext, PutsOpening, Recovers, opening_puts}
+use Rattle.slate_writer.specs.Opening.{CallsOpening, FindsNext, PutsOpening, Recovers, opening_puts}
 
 -- a put of the fence that was refused, after that of the manifest
 pub puts_fence : (view : VersionedManifest) (fence : ℕ) (o o1 o2 : Objects) (e : StoreError) → o1 ≡ changed (PutManifest view.id view.manifest) o → Puts (PutLog fence []) (Err e) o1 o2 → PutsOpening view fence (Err (error_of_store e)) o o2
@@ -187,3 +187,27 @@ opened_modelled {t} view last h found kept puts kept2 = record {
       let f = subst (λ x. IfSome x (λ o. FindsNext o (Ok (view, last)))) is found in
       (p.0, kept2 ∙ p.1, (2, record { answer = f.0; part = refl; only = tt; can = λ _. f.0; after = p.2 ∙ after-are o view last f 2 }));
 }
+
+-- the manifest of an opening keeps the mark of the latest one
+mark-is : (latest : Option VersionedManifest) (last : ℕ) → (next_manifest latest last).manifest.replay_after_wal_id ≡ mark_of latest
+mark-is None last = refl
+mark-is (Some latest) last = refl
+
+-- the calls of an opening that ended by its replay, after the four before it
+abbrev pub no_batches : SlateError → Result (List Batch) SlateError
+no_batches e = Err e
+
+module _ (view : VersionedManifest) (last : ℕ) (e : SlateError) (calls before calls' : ℕ) (four : before ≡ calls_after 4 calls) (most : calls' ≤ before + (last - view.manifest.replay_after_wal_id + 1)) (early : (id : ℕ) → no_batches e ≡ Err (errors.WalTruncated id) → calls' ≡ calls_after (id - view.manifest.replay_after_wal_id + 1) before) where
+  calls-at : (o : Objects) (err : SlateError) → e ≡ err → FindsNext o (Ok (view, last)) → CallsOpening {A = Handle} o calls calls' (Err err)
+  calls-at o (errors.WalTruncated id) is found =
+      let mark = ap (λ (v : VersionedManifest). v.manifest.replay_after_wal_id) found.1 ∙ mark-is (latest_manifest o) (found_log o) in
+      let read = early id (ap no_batches is) in
+      omega (arith, mark, four, read)
+  calls-at o err is found =
+      let mark = ap (λ (v : VersionedManifest). v.manifest.replay_after_wal_id) found.1 ∙ mark-is (latest_manifest o) (found_log o) in
+      let up_to = found.2 in
+      omega (arith, mark, up_to, four, most)
+
+  pub calls-of : (t : Option Objects) → IfSome t (λ o. FindsNext o (Ok (view, last))) → IfSome t (λ o. CallsOpening {A = Handle} o calls calls' (Err e))
+  calls-of None found = tt
+  calls-of (Some o) found = calls-at o e refl found

@@ -1,17 +1,17 @@
 -- The steps of an opening: what it finds, what it puts, and what it replays.
-use Rattle.std.specs.Prelude.{◌≡◌, ℕ, ◌≤◌, ◌<◌, ◌⊎◌, List, [], ◌∷◌, true, Some, Result, Ok, Err}
+use Rattle.std.specs.Prelude.{◌≡◌, ℕ, ◌+◌, ◌-◌, ◌≤◌, ◌<◌, ◌⊎◌, List, [], ◌∷◌, true, Some, Result, Ok, Err}
 use Rattle.slate_types.specs.declared.batches.Batch.{Batch}
 use Rattle.slate_store.specs.declared.objects.VersionedManifest.{VersionedManifest}
 use Rattle.slate_types.specs.declared.store_errors.StoreFault.TheVariants.{Unavailable}
 use Rattle.slate_store.specs.Objects.{Objects, Change, PutManifest, PutLog, is_present, latest_manifest}
 use Rattle.slate_store.specs.Logs.{AreTruncatedAt}
-use Rattle.slate_replay.specs.Replay.{Replays}
+use Rattle.slate_replay.specs.Replay.{Replays, calls_after}
 use Rattle.slate_replay.specs.declared.replays.Replayed.TheVariants.{Whole}
 use Rattle.slate_errors.specs.declared.errors.SlateError.{SlateError}
 use Rattle.slate_errors.specs.declared.errors.SlateError.TheVariants as errors
 use Rattle.slate_model.specs.Changes.{after_part}
 use Rattle.slate_model.specs.Handle.{Handle}
-use Rattle.slate_model.specs.Open.{OpenCause, can_open, found_log, opened_manifest}
+use Rattle.slate_model.specs.Open.{OpenCause, can_open, found_log, mark_of, opened_manifest, replayed_logs}
 
 -- the last log file of a store that can be opened; or why it can't be
 abbrev pub FindsLog : Objects → Result ℕ SlateError → Type 0
@@ -59,3 +59,17 @@ abbrev pub HasLogs : Objects → Handle → Type 0
 HasLogs objects handle =
     let m = (opened_manifest objects).manifest in
     Replays m.replay_after_wal_id (found_log objects) m.last_l0_seq [] handle.line.batches objects (Ok Whole)
+
+-- how often a recovery of the log files of a manifest, up to one of them, calls a store at most
+abbrev pub recovery_calls : {A : Type 0} → VersionedManifest → ℕ → Result A SlateError → ℕ
+recovery_calls view last (Ok _) = last - view.manifest.replay_after_wal_id
+recovery_calls view last (Err error) = last - view.manifest.replay_after_wal_id + 1
+
+-- How often an opening calls a store: it asks for the latest manifest and the last log file, puts two objects, and
+-- reads the log files that it replays. Where these are truncated, it reads them up to that one, and asks for the latest
+-- manifest again.
+abbrev pub CallsOpening : {A : Type 0} → Objects → (calls calls' : ℕ) → Result A SlateError → Type 0
+CallsOpening objects calls calls' (Ok _) = calls' ≤ calls + 4 + replayed_logs objects
+CallsOpening objects calls calls' (Err (errors.WalTruncated id)) =
+    calls' ≡ calls_after (5 + (id - mark_of (latest_manifest objects))) calls
+CallsOpening objects calls calls' (Err error) = calls' ≤ calls + 5 + replayed_logs objects

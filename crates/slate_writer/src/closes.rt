@@ -1,5 +1,5 @@
 // Closing a handle, with the flush that is asked for.
-ghost use Rattle.std.specs.Prelude.{◌≡◌, ◌≢◌, ◌≤◌, ℕ, [], Some, None};
+ghost use Rattle.std.specs.Prelude.{◌≡◌, ◌≢◌, ◌+◌, ◌≤◌, ℕ, [], Some, None};
 ghost use Rattle.slate_model.specs.Close.{Closes, ended};
 ghost use Rattle.slate_model.specs.Flush.{CanFlush};
 ghost use Rattle.slate_model.specs.Known.{known};
@@ -17,7 +17,7 @@ impl WriterState {
     /// The error of the flush is answered, and is what `flush` would answer, `NoMemory` among them; the handle stays
     /// cleanly closed, and a batch that wasn't stored is lost. A handle that closed cleanly before answers `Closed`, and
     /// one that an error closed answers none; neither touches the store, and the result that was recorded first stays.
-    /// It takes the time of the flush, and a constant where there is none. Until handles run tasks, it ends none.
+    /// It takes the time and the calls of the flush, and a constant where there is none. Until handles run tasks, it ends none.
     /// SlateDB's `close`.
     ///
     /// Until tables are built it flushes the log alone.
@@ -26,6 +26,7 @@ impl WriterState {
         ensures does { (made : ℕ) × Closes (λ batches. batches) made options.now.flush_type self.old (known S.objects S.faults store.old) result self.new (known S.objects S.faults store.new) }
         ensures tasks { result.tasks ≡ [] }
         ensures count { S.faults store.old ≤ S.faults store.new }
+        ensures calls { S.calls store.new ≤ S.calls store.old + 3 }
         ensures untouched { (CanFlush self.old → ⊥) → store.new ≡ store.old }
         ensures unflushed { options.now.flush_type ≡ None → store.new ≡ store.old }
     {

@@ -1,5 +1,5 @@
 // Flushing a handle's batches to a log file.
-ghost use Rattle.std.specs.Prelude.{◌≡◌, ◌≤◌, ℕ, IfSome};
+ghost use Rattle.std.specs.Prelude.{◌≡◌, ◌+◌, ◌≤◌, ℕ, IfSome};
 ghost use Rattle.slate_store.specs.Calls.{WhereModelled};
 ghost use Rattle.slate_model.specs.Flush.{CanFlush, FindsCurrent, Flushes, Stores, StoresBatches, flushed, recorded};
 ghost use Rattle.slate_model.specs.Known.{CountsFaults, known};
@@ -13,7 +13,8 @@ use std::alloc::Global;
 
 impl WriterState {
     /// Stores the accepted batches that aren't stored yet, as one log file; where there are none, it puts nothing.
-    /// After Ok all accepted batches are durable. It takes time linear in the batches that it puts.
+    /// After Ok all accepted batches are durable. It calls the store three times at most, and takes time linear in the
+    /// batches that it puts.
     ///
     /// On a closed handle it answers `Closed` or the error that closed it, and touches no store. A handle that keeps
     /// no log answers `WalDisabled`. `Fenced`, where another handle opened since, and every fault of the store
@@ -32,6 +33,7 @@ impl WriterState {
         requires { flush_type ≡ FlushType.Wal }
         ensures does { (made : ℕ) × Flushes (λ batches. batches) made self.old (known S.objects S.faults store.old) result self.new (known S.objects S.faults store.new) }
         ensures count { S.faults store.old ≤ S.faults store.new }
+        ensures calls { S.calls store.new ≤ S.calls store.old + 3 }
         ensures untouched { (CanFlush self.old → ⊥) → store.new ≡ store.old }
     {
         if let Some(result) = self.closed.read() {
@@ -59,6 +61,7 @@ impl WriterState {
     ) -> Result<(), SlateError>
         ensures handle { self.new ≡ record (flushed self.old self.new.view result) { result = self.old.result } }
         ensures stored { (made : ℕ) × Stores (λ batches. batches) made self.old self.new.view (known S.objects S.faults store.old) result (known S.objects S.faults store.new) }
+        ensures calls { S.calls store.new ≤ S.calls store.old + 3 }
     {
         let unstored = (self.durable - self.floor) as usize;
         let batches = &self.memory.batches()[unstored..];
@@ -77,6 +80,7 @@ fn store_batches<S: Store>(
     view: &mut VersionedManifest,
 ) -> Result<(), SlateError>
     ensures faults { CountsFaults (S.faults store.old) (S.faults store.new) result }
+    ensures calls { S.calls store.new ≤ S.calls store.old + 3 }
     ensures where_modelled { WhereModelled (λ o o'. (made : ℕ) × StoresBatches (λ batches. batches) epoch batches.now o result view.old view.new made o') (S.objects store.old) (S.objects store.new) }
 {
     *view = current_manifest(alloc, store, epoch)?;
@@ -93,6 +97,7 @@ pub(crate) fn current_manifest<S: Store>(
     epoch: u64,
 ) -> Result<VersionedManifest, SlateError>
     ensures faults { CountsFaults (S.faults store.old) (S.faults store.new) result }
+    ensures calls { S.calls store.new ≤ S.calls store.old + 1 }
     ensures kept { S.objects store.new ≡ S.objects store.old }
     ensures where_modelled { IfSome (S.objects store.old) (λ o. FindsCurrent epoch o result) }
 {
@@ -113,6 +118,7 @@ fn append_log<S: Store>(
     batches: &[Batch],
 ) -> Result<(), SlateError>
     ensures faults { CountsFaults (S.faults store.old) (S.faults store.new) result }
+    ensures calls { S.calls store.new ≤ S.calls store.old + 2 }
     ensures where_modelled { WhereModelled (AppendsLog mark batches.now result) (S.objects store.old) (S.objects store.new) }
 {
     let last = store.last_log(alloc, mark)?;

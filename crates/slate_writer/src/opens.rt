@@ -1,5 +1,5 @@
 // Opening a database: its manifest, the fence, and the replay of its log files.
-ghost use Rattle.std.specs.Prelude.{◌≡◌, ℕ, ◌+◌, ◌<◌, ◌^◌, true, None, Some, Ok, length, IfErr, IfOk, IfSome};
+ghost use Rattle.std.specs.Prelude.{◌≡◌, ℕ, ◌+◌, ◌-◌, ◌<◌, ◌≤◌, ◌^◌, true, None, Some, Ok, Err, length, IfErr, IfOk, IfSome};
 ghost use Rattle.std.specs.Option.{option_copied};
 ghost use Rattle.slate_types.specs.Line.{AreNumberedFrom};
 ghost use Rattle.slate_store.specs.Calls.{IsCall, IsOfList, WhereModelled};
@@ -8,7 +8,8 @@ ghost use Rattle.slate_store.specs.Objects.{latest_manifest};
 ghost use Rattle.slate_model.specs.Known.{CountsFaults, IsContent, known};
 ghost use Rattle.slate_model.specs.Open.{OpenFault, OpensHandle, can_open_by, can_reopen, first_manifest, latest_tick, mark_of, next_manifest};
 ghost use Rattle.slate_model.specs.Write.{last_number};
-ghost use Rattle.slate_writer.specs.Opening.{FindsLog, FindsNext, HasLogs, PutsOpening, Recovers};
+ghost use Rattle.slate_replay.specs.Replay.{calls_after};
+ghost use Rattle.slate_writer.specs.Opening.{CallsOpening, FindsLog, FindsNext, HasLogs, PutsOpening, Recovers, recovery_calls};
 
 use crate::WriterState;
 use slate_errors::{CloseCell, SlateError};
@@ -54,7 +55,8 @@ impl WriterState {
     /// those of the handles that were opened before, and puts an empty log file: from then on their flushes store
     /// nothing and answer `Fenced`, if nothing else fails first, while their writes and gets go on until then. Then it
     /// replays the log files above the manifest's replay mark. The handle sees all batches that are stored, and all of
-    /// them are durable. It takes time linear in the operations of the log files, and for each key a logarithm of the
+    /// them are durable. It calls the store four times, and once for each log file that it replays; once more where the
+    /// replay ended early. It takes time linear in the operations of the log files, and for each key a logarithm of the
     /// keys. SlateDB's `Db::open`.
     ///
     /// It answers `InvalidDBState` where the latest manifest isn't initialised, and where the next manifest, epoch or
@@ -75,6 +77,7 @@ impl WriterState {
         ensures opens { (made : ℕ) × OpensHandle (λ batches. batches) OpenFault (IsContent (S.objects store.old)) made options.now.wal_enabled options.now.max_unflushed_bytes
             (known S.objects S.faults store.old) result (known S.objects S.faults store.new) }
         ensures replays { IfOk result (λ h. IfSome (S.objects store.old) (λ o. HasLogs o h)) }
+        ensures calls { IfSome (S.objects store.old) (λ o. CallsOpening o (S.calls store.old) (S.calls store.new) result) }
     {
         let (view, last) = find_next(alloc, store)?;
         put_opening(alloc, store, &view, last + 1)?;
@@ -152,6 +155,8 @@ fn find_log<S: Store>(
     latest: Option<&VersionedManifest>,
 ) -> Result<u64, SlateError>
     ensures faults { CountsFaults (S.faults store.old) (S.faults store.new) result }
+    ensures calls { S.calls store.new ≤ S.calls store.old + 1 }
+    ensures counted { IfOk result (λ last. S.calls store.new ≡ calls_after 1 (S.calls store.old)) }
     ensures kept { S.objects store.new ≡ S.objects store.old }
     ensures can { IfOk result (λ last. can_open_by (option_copied latest.entry) last ≡ true) }
     ensures below { IfOk result (λ last. last < last_number) }
@@ -172,6 +177,8 @@ fn find_log<S: Store>(
 /// The manifest that an opening commits, and the id of the last log file. There is one more id after it.
 fn find_next<S: Store>(alloc: Global, store: &mut S) -> Result<(VersionedManifest, u64), SlateError>
     ensures faults { CountsFaults (S.faults store.old) (S.faults store.new) result }
+    ensures calls { S.calls store.new ≤ S.calls store.old + 2 }
+    ensures counted { IfOk result (λ found. S.calls store.new ≡ calls_after 2 (S.calls store.old)) }
     ensures kept { S.objects store.new ≡ S.objects store.old }
     ensures where_modelled { IfSome (S.objects store.old) (λ o. FindsNext o result) }
     ensures below { IfOk result (λ found. found.1 < last_number) }
@@ -189,6 +196,8 @@ fn put_opening<S: Store>(
     fence: u64,
 ) -> Result<(), SlateError>
     ensures faults { CountsFaults (S.faults store.old) (S.faults store.new) result }
+    ensures calls { S.calls store.new ≤ S.calls store.old + 2 }
+    ensures counted { IfOk result (λ done. S.calls store.new ≡ calls_after 2 (S.calls store.old)) }
     ensures where_modelled { WhereModelled (PutsOpening view.now fence result) (S.objects store.old) (S.objects store.new) }
 {
     store.put_manifest(alloc, view.id, &view.manifest)?;
@@ -217,6 +226,8 @@ fn recover<S: Store>(
     last: u64,
 ) -> Result<IndexedTable, SlateError>
     ensures faults { CountsFaults (S.faults store.old) (S.faults store.new) result }
+    ensures calls { S.calls store.new ≤ S.calls store.old + recovery_calls view.now last result }
+    ensures ended_early { (id : ℕ) → result ≡ Err (SlateError.WalTruncated id) → S.calls store.new ≡ calls_after (id - view.now.manifest.replay_after_wal_id + 1) (S.calls store.old) }
     ensures kept { S.objects store.new ≡ S.objects store.old }
     ensures numbered { IfOk result (λ batches. AreNumberedFrom view.now.manifest.last_l0_seq batches) }
     ensures fits { IfOk result (λ batches. view.now.manifest.last_l0_seq + length batches < 2 ^ 64) }

@@ -27,6 +27,8 @@ loop-before-preserved g c =
       grows = (i.grows.0 ++ e.grows.0, e.grows.1 ∙ (ap (λ xs. xs ++ e.grows.0) i.grows.1 ∙ append_assoc c.args.memory.now i.grows.0 e.grows.0));
       kept = c.read_log.ensures.kept ∙ i.kept;
       count = let n = c.read_log.ensures.counts.fault_count in omega (arith, n, i.count);
+      calls = let n = c.read_log.ensures.counts.call_count in omega (arith, n, i.calls);
+      counted = let n = c.read_log.ensures.counts.call_count in omega (arith, n, i.counted);
       within = omega arith;
       replays = known _ _ i.kept i.replays c.in-Ok.ensures.found
           (λ o so_far found. next-replayed c.args.mark c.loop-before.before (c.loop-before.before + 1) c.args.floor c.args.memory.now c.loop-before.memory o (omega arith) so_far c.in-Ok.log c.append_next.new.memory found (omega (arith, l)) (rw (c.if-not-branch.false, c.batches.ensures) at e.appended));

@@ -1,7 +1,7 @@
-use Rattle.std.proofs.Common.{◌∙◌, ap, rules}
+use Rattle.std.proofs.Common.{◌∙◌, ap, arith, rules}
 use Rattle.std.proofs.lemmas.Result.{err_from_is_err_and}
 use Rattle.slate_model.specs.Open.{latest_tick}
-use Rattle.slate_writer.proofs.Openings.{found_view, has_logs, none_modelled, opened_modelled, opens_err, opens_ok, puts_modelled, recovered_at, recovered_modelled, recovery_modelled}
+use Rattle.slate_writer.proofs.Openings.{calls-of, found_view, has_logs, none_modelled, opened_modelled, opens_err, opens_ok, puts_modelled, recovered_at, recovered_modelled, recovery_modelled}
 use Rattle.slate_writer.proofs.states.WriterState.open.Goals as goal
 
 pub returns-in_err-view-clause-opens : goal.returns-in_err-view-clause-opens
@@ -34,3 +34,9 @@ returns-clause-opens g c =
 pub returns-clause-replays : goal.returns-clause-replays
 returns-clause-replays g c =
     has_logs c.in_ok-view.view c.in_ok-view.last c.in_ok-memory.memory c.in_ok-view.ensures.where_modelled c.in_ok-view.ensures.kept c.in_ok-put_opening.ensures.where_modelled c.in_ok-memory.ensures.where_modelled
+
+pub returns-in_err-memory-clause-calls : goal.returns-in_err-memory-clause-calls
+returns-in_err-memory-clause-calls g c =
+    let p = err_from_is_err_and c.from_residual-in_err-memory.result c.from_residual-in_err-memory.ensures.1 in
+    rw (p.1, p.2) (calls-of c.in_ok-view.view c.in_ok-view.last _ _ _ _ (let found = c.in_ok-view.ensures.counted in let puts = c.in_ok-put_opening.ensures.counted in omega (arith, found, puts)) c.in_err-memory.ensures.calls
+    c.in_err-memory.ensures.ended_early _ c.in_ok-view.ensures.where_modelled)

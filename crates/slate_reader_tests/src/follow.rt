@@ -1,9 +1,9 @@
-// Tests of readers whose log files are whole or have gaps, and of closed readers.
+// Tests of readers whose log files are whole or have gaps, of their scans, and of closed readers.
 use crate::replay::{Logs, store_of};
 use slate_errors::SlateError;
 use slate_follow::{DbReaderMode, DbReaderOptions, FollowerState, PollAnswer};
 use slate_store::{Manifest, MemoryStore, Store};
-use slate_types::{ConcatOperator, FixedPrefix, Seq};
+use slate_types::{Batch, ByteRange, ConcatOperator, FixedPrefix, IterationOrder, Seq, WriteBatch};
 use std::alloc::Global;
 use std::test::Fail;
 
@@ -63,22 +63,129 @@ fn missing_logs(rt: HostRuntime) -> Result<(), Fail> {
     Ok(())
 }
 
+// Puts a log file of one batch, whose number is its id, which puts a value under keys of one letter.
+fn put_log(
+    alloc: Global,
+    store: &mut MemoryStore,
+    number: u64,
+    keys: &[u8],
+    value: &[u8],
+) -> Result<(), Fail> {
+    let mut written = WriteBatch::new(alloc);
+    for key in keys {
+        written.put(alloc, &[*key], value)?;
+    }
+    let batch = Batch {
+        number,
+        create_ts: 0,
+        ops: written.ops,
+    };
+    store.put_log(alloc, number, &[batch])?;
+    Ok(())
+}
+
+// A reader's rows whose keys have a prefix, as `key=value@number`, with a blank after each.
+fn scanned(
+    alloc: Global,
+    store: &mut MemoryStore,
+    follower: &FollowerState,
+    prefix: &[u8],
+    order: IterationOrder,
+) -> Result<Vec<u8>, Fail> {
+    let range = ByteRange::prefix(alloc, prefix)?;
+    let rows = follower.scan(alloc, store, &range, order, NO_OPERATOR)?;
+    let mut text = Vec::new(alloc);
+    for row in rows.into_rows(alloc)?.as_slice() {
+        text.extend_from_slice(row.key.as_slice())?;
+        text.push(b'=')?;
+        text.extend_from_slice(row.value.as_slice())?;
+        text.extend_from_slice(&[b'@', b'0' + (row.seq % 10) as u8, b' '])?;
+    }
+    Ok(text)
+}
+
+// A database of two batches.
+fn two_batches(alloc: Global) -> Result<MemoryStore, Fail> {
+    let mut store = database(alloc, &[])?;
+    put_log(alloc, &mut store, 1, b"ab", b"x")?;
+    put_log(alloc, &mut store, 2, b"bc", b"y")?;
+    Ok(store)
+}
+
+// What a reader scans before a poll, and after it.
+fn scanned_by_polls(
+    alloc: Global,
+    store: &mut MemoryStore,
+    follower: &mut FollowerState,
+    prefix: &[u8],
+    order: IterationOrder,
+) -> Result<(Vec<u8>, Vec<u8>), Fail> {
+    let old = scanned(alloc, store, follower, prefix, order)?;
+    follower.poll(alloc, store, NO_EXTRACTOR, 1)?;
+    Ok((old, scanned(alloc, store, follower, prefix, order)?))
+}
+
+// The same, where a third batch was put since the opening.
+fn scanned_twice(
+    alloc: Global,
+    prefix: &[u8],
+    order: IterationOrder,
+) -> Result<(Vec<u8>, Vec<u8>), Fail> {
+    let mut store = two_batches(alloc)?;
+    let (mut follower, _) = open(alloc, &mut store)?;
+    put_log(alloc, &mut store, 3, b"ad", b"z")?;
+    scanned_by_polls(alloc, &mut store, &mut follower, prefix, order)
+}
+
+// A scan gives the newest row of each key, in the order asked for, of what the last poll took.
+#[test]
+fn scans(rt: HostRuntime) -> Result<(), Fail> {
+    let (up, down) = (IterationOrder::Ascending, IterationOrder::Descending);
+    for (prefix, order, old, new) in [
+        (
+            b"".as_slice(),
+            up,
+            b"a=x@1 b=y@2 c=y@2 ".as_slice(),
+            b"a=z@3 b=y@2 c=y@2 d=z@3 ".as_slice(),
+        ),
+        (
+            b"".as_slice(),
+            down,
+            b"c=y@2 b=y@2 a=x@1 ".as_slice(),
+            b"d=z@3 c=y@2 b=y@2 a=z@3 ".as_slice(),
+        ),
+        (
+            b"a".as_slice(),
+            up,
+            b"a=x@1 ".as_slice(),
+            b"a=z@3 ".as_slice(),
+        ),
+    ] {
+        let found = scanned_twice(rt.alloc(), prefix, order)?;
+        assert_eq!(rt; (found.0.as_slice(), found.1.as_slice()), (old, new));
+    }
+    Ok(())
+}
+
 fn is_closed<A: Drop>(answer: Result<A, SlateError>) -> bool {
     matches!(answer, Err(SlateError::Closed))
 }
 
-// Whether a reader that is closed answers so to a get and to a poll.
-fn closes(alloc: Global, store: &mut MemoryStore, mut follower: FollowerState) -> (bool, bool) {
+// Whether a reader that is closed answers so to a get, to a scan and to a poll.
+fn closes(alloc: Global, store: &mut MemoryStore, mut follower: FollowerState) -> [bool; 3] {
     follower.close(store);
-    let read = is_closed(follower.get(alloc, store, b"a", NO_OPERATOR));
-    let polled = is_closed(follower.poll(alloc, store, NO_EXTRACTOR, 1));
-    (read, polled)
+    let order = IterationOrder::Ascending;
+    [
+        is_closed(follower.get(alloc, store, b"a", NO_OPERATOR)),
+        is_closed(follower.scan(alloc, store, &ByteRange::full(), order, NO_OPERATOR)),
+        is_closed(follower.poll(alloc, store, NO_EXTRACTOR, 1)),
+    ]
 }
 
 #[test]
 fn closed(rt: HostRuntime) -> Result<(), Fail> {
     let mut store = database(rt.alloc(), &[])?;
     let (follower, _) = open(rt.alloc(), &mut store)?;
-    assert_eq!(rt; closes(rt.alloc(), &mut store, follower), (true, true));
+    assert_eq!(rt; closes(rt.alloc(), &mut store, follower), [true; 3]);
     Ok(())
 }

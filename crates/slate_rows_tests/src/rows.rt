@@ -426,6 +426,65 @@ fn faults(rt: HostRuntime) -> Result<(), Fail> {
     Ok(())
 }
 
+// Four rows from a key up; or, from the greatest key down, one row and the fault after it.
+fn rows_from(alloc: Global, low: &[u8], whole: bool) -> Result<DbIterator, NoMemory> {
+    let range = from(alloc, low)?;
+    if whole {
+        return four_rows(alloc, &range);
+    }
+    let batches = [older_merges(alloc)?, newer_merges(alloc)?];
+    let order = IterationOrder::Descending;
+    scan(alloc, &batches, None, &range, order, NONE)
+}
+
+fn row_text(alloc: Global, rows: &[KeyValue]) -> Result<Vec<u8>, NoMemory> {
+    let mut text = Vec::new(alloc);
+    for row in rows {
+        write_row(&mut text, row)?;
+    }
+    Ok(text)
+}
+
+// What taking so many rows, a seek of a key and the rest gives.
+fn taken(
+    alloc: Global,
+    rows: DbIterator,
+    count: u64,
+    key: &[u8],
+) -> Result<(Vec<u8>, Option<SeekFault>), NoMemory> {
+    match rows.into_rows_with_seek(alloc, count, key) {
+        Ok(rows) => Ok((row_text(alloc, rows.as_slice())?, None)),
+        Err(fault) => Ok((Vec::new(alloc), Some(fault))),
+    }
+}
+
+// A fault that comes among the first rows is answered before the seek is refused, and one at the end after it.
+#[test]
+fn taken_rows(rt: HostRuntime) -> Result<(), Fail> {
+    let alloc = rt.alloc();
+    let missing = Some(SeekFault::Stored(ReadFault::MergeOperatorMissing));
+    let less = Some(SeekFault::LessThanLastReturned);
+    let all = b"k1=v1@1 k2=v2@1 k3=v3@1 k4=v4@1 ".as_slice();
+    for (low, whole, count, key, want, fault) in [
+        (b"".as_slice(), true, 0, b"k1".as_slice(), all, None),
+        (b"", true, 2, b"k4", b"k1=v1@1 k2=v2@1 k4=v4@1 ", None),
+        (b"", true, 9, b"k5", all, None),
+        (b"", true, 2, b"k2", b"", less),
+        (b"k2", true, 1, b"k1", b"", Some(SeekFault::OutOfRange)),
+        (b"b", false, 0, b"a", b"", Some(SeekFault::OutOfRange)),
+        (b"b", false, 2, b"a", b"", missing),
+        (b"b", false, 1, b"d", b"", missing),
+    ] {
+        let (text, refusal) = taken(alloc, rows_from(alloc, low, whole)?, count, key)?;
+        assert_eq!(rt; (text.as_slice(), refusal), (want, fault));
+    }
+    let rows = rows_from(alloc, b"k2", true)?.into_rows(alloc)?;
+    assert_eq!(rt; row_text(alloc, rows.as_slice())?.as_slice(), &all[8..]);
+    let fault = rows_from(alloc, b"", false)?.into_rows(alloc).err();
+    assert_eq!(rt; fault, Some(ReadFault::MergeOperatorMissing));
+    Ok(())
+}
+
 #[test]
 fn bounds(rt: HostRuntime) {
     for (user, level, dirty, want) in [

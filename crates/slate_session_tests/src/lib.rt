@@ -4,6 +4,8 @@
 #[cfg(test)]
 mod contended;
 #[cfg(test)]
+mod scans;
+#[cfg(test)]
 mod session;
 #[cfg(test)]
 mod store;

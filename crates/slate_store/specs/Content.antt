@@ -1,8 +1,6 @@
 -- The content of a store, and which objects are sound.
 use Rattle.std.specs.Prelude.{◌≡◌, ℕ, ◌+◌, ◌-◌, ◌<◌, ◌≤◌, nat_lt, List, [], ◌∷◌, ◌++◌, length, filter, map, Option, Some, None, unwrap_or, IfSome}
 use Rattle.std.specs.List.{flat_map, AllByRecursion}
-use Rattle.std.specs.Ordering.{nat_cmp, ordering_then}
-use Rattle.std.specs.declared.cmp.Ordering.{Ordering}
 use Rattle.std.specs.Map.{lookup}
 use Rattle.std.specs.BTreeMap.{is_at}
 use Rattle.slate_types.specs.declared.batches.Batch.{Batch}
@@ -10,11 +8,7 @@ use Rattle.slate_types.specs.Line.{Line, IsLine, batches_above}
 use Rattle.slate_store.specs.declared.objects.Manifest.{Manifest}
 use Rattle.slate_store.specs.declared.objects.TableId.{TableId}
 use Rattle.slate_store.specs.declared.objects.VersionedManifest.{VersionedManifest}
-use Rattle.slate_store.specs.Objects.{Objects, ObjectsOf, latest_manifest}
-
--- tables are ordered by the epoch of their writer, and then by its count
-abbrev pub table_cmp : TableId → TableId → Ordering
-table_cmp a b = ordering_then (nat_cmp a.epoch b.epoch) (nat_cmp a.index b.index)
+use Rattle.slate_store.specs.Objects.{Objects, ObjectsOf, latest_manifest, table_cmp}
 
 -- the batches of tables, joined in this order
 abbrev pub table_batches : Objects → List TableId → List Batch

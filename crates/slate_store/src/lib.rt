@@ -11,7 +11,7 @@ mod stores;
 pub use faulty_store::{FailingCall, FaultyStore};
 pub use log_files::LogFile;
 pub use memory_store::MemoryStore;
-pub use objects::{Checkpoint, Manifest, TableId, VersionedManifest};
+pub use objects::{Checkpoint, Listing, Manifest, TableId, VersionedManifest};
 pub use reader_modes::DbReaderMode;
 pub use slate_types::{StoreError, StoreFault};
 pub use stores::Store;

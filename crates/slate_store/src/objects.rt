@@ -85,3 +85,12 @@ impl VersionedManifest {
         })
     }
 }
+
+/// The ids of all objects that a store holds. They rise where the store is sound; a `MemoryStore` always lists them so.
+#[derive(Debug, PartialEq, Eq, Drop)]
+pub struct Listing {
+    pub manifests: Seq<u64>,
+    /// The log files.
+    pub logs: Seq<u64>,
+    pub tables: Seq<TableId>,
+}

@@ -3,3 +3,8 @@ pub mod LastLog
 pub mod Faults
 pub mod Logs
 pub mod Gapless
+pub mod Entries
+pub mod Kept
+pub mod Latest
+pub mod Committed
+pub mod Logged

@@ -6,12 +6,13 @@ use Rattle.std.proofs.Common.{◌++◌, ◌-◌, ◌<◌, ◌∙◌, ◌∷◌, 
 use Rattle.std.proofs.Math.Seq.{get_or-append_seam}
 use Rattle.std.proofs.lemmas.Bool.{cases_order, eqb-true}
 use Rattle.std.proofs.lemmas.Cmp.{alike_right, nat_cmp_total, on_total, then_total, tied_itself}
+use Rattle.std.proofs.lemmas.List.Elements.{All-cons, All-nil}
 use Rattle.std.proofs.lemmas.Map.Entries.{lookup-filter-keys}
 use Rattle.std.proofs.lemmas.Option.{slice_get-get_or}
 use Rattle.std.specs.BTreeMap.{insert_entry, is_at}
 use Rattle.std.specs.Cmp.{IsTotalOrder, nat_cmp_is, unsigned_ties}
 use Rattle.std.specs.List.Sorted.{IsStrictlySortedBy}
-use Rattle.std.specs.List.{AllByRecursion, filter, slice_get}
+use Rattle.std.specs.List.{All, AllByRecursion, filter, slice_get}
 use Rattle.std.specs.Map.{keys_of, lookup}
 use Rattle.std.specs.Ordering.{is_eq, match_ordering, nat_cmp, ordering_reverse, ordering_then}
 use Rattle.std.specs.declared.cmp.Ordering.TheVariants.{Equal, Greater, Less}
@@ -65,7 +66,7 @@ tied Less h = absurd (cc)
 tied Equal h = refl
 tied Greater h = absurd (cc)
 
--- what passes of each key of a filter of entries
+-- what passes of each key passes of those that a filter of the entries leaves
 all-filter : {K X : Type 0} (P : K → Type 0) (test : K × X → Bool) (es : List (K × X)) → AllByRecursion P (keys_of es) → AllByRecursion P (keys_of (filter test es))
 all-filter P test [] all = tt
 all-filter {K} {X} P test (e ∷ es) all = elim (test e) as (λ t. AllByRecursion P (keys_of (cond t (e ∷ filter test es) (filter test es)))) [
@@ -88,6 +89,11 @@ rising-filter {X} test (e ∷ es) rising = elim (test e) as (λ t. AreRising (ma
   | true ↦ (all-filter (λ later. e.0 < later) test es rising.0, rising-filter test es rising.1)
   | false ↦ rising-filter test es rising.1
 ]
+
+-- what passes of each key of entries passes of each entry's key
+pub all-from_keys : {K X : Type 0} (P : K → Type 0) (es : List (K × X)) → AllByRecursion P (keys_of es) → All (λ e. P e.0) es
+all-from_keys P [] all = All-nil (λ e. P e.0)
+all-from_keys P (e ∷ es) all = All-cons (λ e. P e.0) e es all.0 (all-from_keys P es all.1)
 
 module _ {K : Type 0} {cmp : K → K → Ordering} (total : IsTotalOrder cmp) where
   -- under another key than the one that is put stands what stood there
@@ -114,7 +120,8 @@ module _ {K : Type 0} {cmp : K → K → Ordering} (total : IsTotalOrder cmp) wh
       lookup-filter-keys (is_at (cmp q)) (λ key. not (is_at (cmp k) key)) true
       (λ key same. ap not (ap is_eq (sym (alike_right total q key k (tied (cmp q key) same))) ∙ apart)) es
 
-  all-insert : {X : Type 0} (P : K → Type 0) (k : K) (v : X) (es : List (K × X)) → AllByRecursion P (keys_of es) → P k → AllByRecursion P (keys_of (insert_entry cmp es k v))
+  -- what passes of each key and of the one that is put passes of each after the put
+  pub all-insert : {X : Type 0} (P : K → Type 0) (k : K) (v : X) (es : List (K × X)) → AllByRecursion P (keys_of es) → P k → AllByRecursion P (keys_of (insert_entry cmp es k v))
   all-insert P k v [] all new = (new, tt)
   all-insert {X} P k v (e ∷ es) all new = elim (cmp k e.0) as (λ r. AllByRecursion P (keys_of (match_ordering r ((k, v) ∷ e ∷ es) ((e.0, v) ∷ es) (e ∷ insert_entry cmp es k v)))) [
     | Less ↦ (new, all)

@@ -8,3 +8,5 @@ pub mod Kept
 pub mod Latest
 pub mod Committed
 pub mod Logged
+pub mod Spared
+pub mod Removed

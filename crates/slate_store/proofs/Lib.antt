@@ -10,3 +10,5 @@ pub mod Committed
 pub mod Logged
 pub mod Spared
 pub mod Removed
+pub mod Parts
+pub mod Checkpointed

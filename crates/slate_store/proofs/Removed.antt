@@ -4,6 +4,7 @@ use Rattle.slate_store.proofs.Kept.{log_removal-keeps, manifest_removal-keeps, n
 use Rattle.slate_store.proofs.Latest.{its-objects, last-cons, some-versioned}
 use Rattle.slate_store.proofs.Spared.{Spares, Unmoved, spared, unmoved-then}
 use Rattle.slate_store.specs.Changes.{after_part}
+use Rattle.slate_store.specs.Checkpoints.{found}
 use Rattle.slate_store.specs.Content.{IsSound}
 use Rattle.slate_store.specs.Objects.{Change, Objects, PutLog, PutManifest, PutTable, RemoveLog, RemoveManifest, RemoveTable, changed, entry_at, last, latest_manifest, table_cmp, versioned}
 use Rattle.slate_store.specs.Sweeps.{keeps_log, keeps_manifest, keeps_table, protecting}
@@ -117,7 +118,7 @@ module _ (o : Objects) (latest : VersionedManifest) (sound : IsSound o) (is : la
       record {
         manifests = sound.manifests;
         logs = sound.logs;
-        tables = sorted-filter table_cmp (λ entry. not (is_at (table_cmp id) entry.0)) o.tables sound.tables;
+        tables = sorted-filter (λ entry. entry.0) (λ entry. not (is_at (table_cmp id) entry.0)) table_cmp o.tables sound.tables;
         epochs = All-filter (λ entry. not (is_at (table_cmp id) entry.0)) (λ table. table.0.epoch ≤ latest.manifest.writer_epoch) o.tables its.epochs;
         latest_is = is;
         above = refl;
@@ -135,7 +136,7 @@ module _ (o : Objects) (latest : VersionedManifest) (sound : IsSound o) (is : la
       let low = ltb-false mark id both.0 in
       record {
         manifests = sound.manifests;
-        logs = rising-filter (λ entry. not (is_at (nat_cmp id) entry.0)) o.logs sound.logs;
+        logs = rising-filter (λ entry. entry.0) (λ entry. not (is_at (nat_cmp id) entry.0)) o.logs sound.logs;
         tables = sound.tables;
         epochs = its.epochs;
         latest_is = is;
@@ -154,7 +155,7 @@ module _ (o : Objects) (latest : VersionedManifest) (sound : IsSound o) (is : la
       let last_is = last-filter (λ entry. not (is_at (nat_cmp id) entry.0)) (latest.id, latest.manifest) o.manifests
       (some-versioned (last o.manifests) latest is) (ap not (apart id latest.id other)) in
       record {
-        manifests = rising-filter (λ entry. not (is_at (nat_cmp id) entry.0)) o.manifests sound.manifests;
+        manifests = rising-filter (λ entry. entry.0) (λ entry. not (is_at (nat_cmp id) entry.0)) o.manifests sound.manifests;
         logs = sound.logs;
         tables = sound.tables;
         epochs = its.epochs;

@@ -12,7 +12,6 @@ use Rattle.slate_store.specs.Refusals.{KeepsContent, checkpoint_changes, planned
 use Rattle.slate_store.specs.declared.objects.Checkpoint.{Checkpoint}
 use Rattle.slate_store.specs.declared.objects.VersionedManifest.{VersionedManifest}
 use Rattle.slate_store.specs.declared.refusals.StoreRefusal.TheVariants.{InvalidDBState}
-use Rattle.slate_types.specs.Line.{end}
 use Rattle.std.proofs.Common.{◌++◌, ◌+◌, ◌∙◌, ◌∷◌, ◌≡◌, ◌≤◌, [], Bool, Err, List, None, Ok, Option, Some, ap, arith, cond, false, inl, inr, map, not, refl, subst, sym, true, ℕ}
 use Rattle.std.proofs.lemmas.Bool.{ne_eqb, or_from}
 use Rattle.std.proofs.lemmas.Cmp.{nat_eq_equiv}

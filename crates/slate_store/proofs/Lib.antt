@@ -12,3 +12,4 @@ pub mod Spared
 pub mod Removed
 pub mod Parts
 pub mod Checkpointed
+pub mod Compacted

@@ -1,6 +1,6 @@
 -- The calls on checkpoints keep sound objects sound, and their content.
 use Rattle.slate_store.proofs.Committed.{Committed, IsKeptOn, committed}
-use Rattle.slate_store.proofs.Entries.{distinct-filter}
+use Rattle.slate_store.proofs.Entries.{distinct-filter, filter-all}
 use Rattle.slate_store.proofs.Kept.{prefix-same}
 use Rattle.slate_store.proofs.Latest.{its-line, its-objects}
 use Rattle.slate_store.proofs.Parts.{part-none, part-one}
@@ -99,11 +99,6 @@ plan-keeps {A} plan made o keeps sound = by (latest_manifest o) refl where
   by (Some latest) is = planned-keeps o latest sound is (plan latest) made (keeps latest sound is)
 
 -- ---- the four plans
--- a filter that all pass
-filter-all : {X : Type 0} (xs : List X) → filter (λ _. true) xs ≡ xs
-filter-all [] = refl
-filter-all (x ∷ xs) = ap (λ rest. x ∷ rest) (filter-all xs)
-
 -- another end of a lease leaves which manifest is kept
 refreshed-ids : (id : List ℕ) (end : ℤ) (checkpoints : List Checkpoint) → kept_ids (map (refreshed id end) checkpoints) ≡ kept_ids checkpoints
 refreshed-ids id end [] = refl

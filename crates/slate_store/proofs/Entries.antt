@@ -100,6 +100,11 @@ rising-filter key test (x ∷ xs) rising = elim (test x) as (λ t. AreRising (ma
   | false ↦ rising-filter key test xs rising.1
 ]
 
+-- a filter that all pass
+pub filter-all : {X : Type 0} (xs : List X) → filter (λ _. true) xs ≡ xs
+filter-all [] = refl
+filter-all (x ∷ xs) = ap (λ rest. x ∷ rest) (filter-all xs)
+
 -- what passes of each key of entries passes of each entry's key
 pub all-from_keys : {K X : Type 0} (P : K → Type 0) (es : List (K × X)) → AllByRecursion P (keys_of es) → All (λ e. P e.0) es
 all-from_keys P [] all = All-nil (λ e. P e.0)

@@ -13,3 +13,5 @@ pub mod Removed
 pub mod Parts
 pub mod Checkpointed
 pub mod Compacted
+pub mod Swept
+pub mod Leaves

@@ -3,3 +3,4 @@ pub mod LastLog
 pub mod Faults
 pub mod Logs
 pub mod Gapless
+pub mod Removals

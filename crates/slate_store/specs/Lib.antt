@@ -1,5 +1,10 @@
 pub mod Calls
+pub mod Changes
+pub mod Checkpoints
+pub mod Compaction
 pub mod Content
 pub mod Faulty
 pub mod Logs
 pub mod Objects
+pub mod Refusals
+pub mod Sweeps

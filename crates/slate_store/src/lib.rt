@@ -6,6 +6,7 @@ mod log_files;
 mod memory_store;
 mod objects;
 mod reader_modes;
+mod refusals;
 mod stores;
 
 pub use faulty_store::{FailingCall, FaultyStore};
@@ -13,5 +14,6 @@ pub use log_files::LogFile;
 pub use memory_store::MemoryStore;
 pub use objects::{Checkpoint, Listing, Manifest, TableId, VersionedManifest};
 pub use reader_modes::DbReaderMode;
+pub use refusals::StoreRefusal;
 pub use slate_types::{StoreError, StoreFault};
 pub use stores::Store;

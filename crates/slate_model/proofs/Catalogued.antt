@@ -1,15 +1,15 @@
 -- Flushes and openings change a store's catalogue as they change its objects.
-use Rattle.std.proofs.Common.{◌≡◌, ℕ, ◌+◌, List, [], ◌∷◌, length, map, Option, Some, None, Result, Ok, Err, ◌≤◌, refl, sym, subst, ap, ◌∙◌, zero, suc}
+use Rattle.std.proofs.Common.{◌≡◌, ℕ, ◌+◌, List, [], ◌∷◌, length, map, Option, Some, None, Result, Ok, Err, ◌≤◌, refl, sym, subst, ap, ◌∙◌, zero, suc, Bool, true, false, cond, not}
 use Rattle.std.proofs.lemmas.List.{length-map}
 use Rattle.std.specs.Ordering.{nat_cmp}
 use Rattle.std.specs.declared.cmp.Ordering.{Ordering}
 use Rattle.std.specs.declared.cmp.Ordering.TheVariants.{Less, Equal, Greater}
 use Rattle.std.specs.Ordering.{match_ordering}
-use Rattle.std.specs.BTreeMap.{insert_entry}
+use Rattle.std.specs.BTreeMap.{insert_entry, is_at}
 use Rattle.slate_types.specs.declared.batches.Batch.{Batch}
 use Rattle.slate_store.specs.declared.objects.VersionedManifest.{VersionedManifest}
 use Rattle.slate_types.specs.declared.store_errors.StoreFault.TheVariants.{Unavailable}
-use Rattle.slate_store.specs.Objects.{Objects, Change, ChangeOf, PutManifest, PutLog, changed, latest_manifest, last_log, greatest}
+use Rattle.slate_store.specs.Objects.{Objects, Change, ChangeOf, PutManifest, PutLog, PutTable, RemoveManifest, RemoveLog, RemoveTable, changed, table_cmp, without, latest_manifest, last_log, greatest}
 use Rattle.slate_errors.specs.declared.errors.SlateError.{SlateError}
 use Rattle.slate_errors.specs.declared.errors.SlateError.TheVariants as errors
 use Rattle.slate_model.specs.Catalogue.{Span, span, catalogue_of}
@@ -18,14 +18,18 @@ use Rattle.slate_model.specs.Flush.{flush_changes, flush_changes_by, log_changes
 use Rattle.slate_model.specs.Open.{open_changes, next_manifest, mark_of, can_open, can_open_by, opened_manifest, Opens, OpenAnswer, OpenCause}
 use Rattle.slate_model.specs.Write.{last_number}
 
--- what a world knows of a log file under its id
-abbrev pub spanned : ℕ × List Batch → ℕ × Span
-spanned log = (log.0, span log.1)
+-- what a world knows of a log file or a table under its id
+abbrev pub spanned : {K : Type 0} → K × List Batch → K × Span
+spanned stored = (stored.0, span stored.1)
 
 -- what it knows of a change
 abbrev pub reduced : Change → ChangeOf Span
 reduced (PutManifest id manifest) = PutManifest id manifest
 reduced (PutLog id log) = PutLog id (span log)
+reduced (PutTable id table) = PutTable id (span table)
+reduced (RemoveManifest id) = RemoveManifest id
+reduced (RemoveLog id) = RemoveLog id
+reduced (RemoveTable id) = RemoveTable id
 
 same_ids : (logs : List (ℕ × List Batch)) → map (λ log. log.0) (map spanned logs) ≡ map (λ log. log.0) logs
 same_ids [] = refl
@@ -35,20 +39,34 @@ same_ids (log ∷ logs) = ap (λ ids. log.0 ∷ ids) (same_ids logs)
 pub last_log-catalogue : (mark : ℕ) (o : Objects) → last_log mark (catalogue_of o) ≡ last_log mark o
 last_log-catalogue mark o = ap (greatest mark) (same_ids o.logs)
 
-map-choice : (r : Ordering) (a b c : List (ℕ × List Batch)) → map spanned (match_ordering r a b c) ≡ match_ordering r (map spanned a) (map spanned b) (map spanned c)
+map-choice : {K : Type 0} (r : Ordering) (a b c : List (K × List Batch)) → map spanned (match_ordering r a b c) ≡ match_ordering r (map spanned a) (map spanned b) (map spanned c)
 map-choice Less a b c = refl
 map-choice Equal a b c = refl
 map-choice Greater a b c = refl
 
-map-insert : (id : ℕ) (bs : List Batch) (logs : List (ℕ × List Batch)) → map spanned (insert_entry nat_cmp logs id bs) ≡ insert_entry nat_cmp (map spanned logs) id (span bs)
-map-insert id bs [] = refl
-map-insert id bs (log ∷ logs) =
-    map-choice (nat_cmp id log.0) _ _ _
-    ∙ ap (λ rest. match_ordering (nat_cmp id log.0) ((id, span bs) ∷ map spanned (log ∷ logs)) ((log.0, span bs) ∷ map spanned logs) (spanned log ∷ rest)) (map-insert id bs logs)
+map-insert : {K : Type 0} (cmp : K → K → Ordering) (id : K) (bs : List Batch) (es : List (K × List Batch)) → map spanned (insert_entry cmp es id bs) ≡ insert_entry cmp (map spanned es) id (span bs)
+map-insert cmp id bs [] = refl
+map-insert cmp id bs (e ∷ es) =
+    map-choice (cmp id e.0) _ _ _
+    ∙ ap (λ rest. match_ordering (cmp id e.0) ((id, span bs) ∷ map spanned (e ∷ es)) ((e.0, span bs) ∷ map spanned es) (spanned e ∷ rest)) (map-insert cmp id bs es)
+
+map-kept : {K : Type 0} (b : Bool) (e : K × List Batch) (es : List (K × List Batch)) → map spanned (cond b (e ∷ es) es) ≡ cond b (spanned e ∷ map spanned es) (map spanned es)
+map-kept true e es = refl
+map-kept false e es = refl
+
+map-without : {K : Type 0} (test : K → Bool) (es : List (K × List Batch)) → map spanned (without test es) ≡ without test (map spanned es)
+map-without test [] = refl
+map-without test (e ∷ es) =
+    map-kept (not (test e.0)) e (without test es)
+    ∙ ap (λ rest. cond (not (test e.0)) (spanned e ∷ rest) rest) (map-without test es)
 
 catalogue-changed : (c : Change) (o : Objects) → catalogue_of (changed c o) ≡ changed (reduced c) (catalogue_of o)
 catalogue-changed (PutManifest id manifest) o = refl
-catalogue-changed (PutLog id log) o = ap (λ logs. record { manifests = o.manifests; logs = logs; tables = (catalogue_of o).tables }) (map-insert id log o.logs)
+catalogue-changed (PutLog id log) o = ap (λ logs. record { manifests = o.manifests; logs = logs; tables = (catalogue_of o).tables }) (map-insert nat_cmp id log o.logs)
+catalogue-changed (PutTable id table) o = ap (λ tables. record { manifests = o.manifests; logs = (catalogue_of o).logs; tables = tables }) (map-insert table_cmp id table o.tables)
+catalogue-changed (RemoveManifest id) o = refl
+catalogue-changed (RemoveLog id) o = ap (λ logs. record { manifests = o.manifests; logs = logs; tables = (catalogue_of o).tables }) (map-without (is_at (nat_cmp id)) o.logs)
+catalogue-changed (RemoveTable id) o = ap (λ tables. record { manifests = o.manifests; logs = (catalogue_of o).logs; tables = tables }) (map-without (is_at (table_cmp id)) o.tables)
 
 -- what is known after changes is what the known changes make of what was known
 pub catalogue-after : (made : ℕ) (cs : List Change) (o : Objects) → catalogue_of (after_part made cs o) ≡ after_part made (map reduced cs) (catalogue_of o)

@@ -4,3 +4,4 @@ pub mod Faults
 pub mod Logs
 pub mod Gapless
 pub mod Tries
+pub mod Removals

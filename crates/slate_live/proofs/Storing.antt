@@ -9,7 +9,7 @@ use Rattle.slate_model.specs.Handle.{Handle, unstored}
 use Rattle.slate_model.specs.Flush.{CanFlush, StoresBatches, flushed}
 use Rattle.slate_model.specs.Object.{Handle as AHandle}
 use Rattle.slate_model.proofs.Flushed.{flush_cases}
-use Rattle.slate_model.proofs.Sound.{appended, with_log}
+use Rattle.slate_store.proofs.Logged.{appended, with_log}
 use Rattle.slate_live.specs.Represents.{Holds, IsHandleAt, IsValid, IsValidHandle, up_to}
 use Rattle.slate_live.specs.World.{World, stored_after}
 use Rattle.slate_live.proofs.Changing.{valid-set}

@@ -7,7 +7,7 @@ use Rattle.slate_store.specs.Objects.{Objects, Change, latest_manifest}
 use Rattle.slate_errors.specs.declared.errors.SlateError.{SlateError}
 use Rattle.slate_model.specs.Changes.{PartMade, after_part, leaves_prefix}
 use Rattle.slate_model.specs.Flush.{StoresBatches, flush_changes, flush_changes_by}
-use Rattle.slate_model.proofs.Sound.{with_log}
+use Rattle.slate_store.proofs.Logged.{with_log}
 
 match_le : (b : Bool) (made all : ℕ) → MatchBool b (made ≤ all) (made ≡ 0) → made ≤ all
 match_le true made all h = h

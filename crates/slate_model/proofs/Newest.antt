@@ -10,8 +10,8 @@ use Rattle.slate_store.specs.declared.objects.VersionedManifest.{VersionedManife
 use Rattle.slate_store.specs.Objects.{Objects, last, latest_manifest, versioned}
 use Rattle.slate_model.specs.Changes.{after_part}
 use Rattle.slate_model.specs.Open.{found_log, next_manifest, open_changes, opened_manifest}
-use Rattle.slate_model.proofs.Entries.{last-at}
-use Rattle.slate_model.proofs.Reopened.{last-cons}
+use Rattle.slate_store.proofs.Entries.{last-at}
+use Rattle.slate_store.proofs.Latest.{last-cons}
 
 -- the last entry after one more was put is that one, or was the last before
 record IsLastOf {X : Type 0} (x : X) (es : List (ℕ × X)) (after : List (ℕ × X)) : Type 0 where

@@ -1,65 +1,32 @@
 -- An opening keeps the content of sound objects, and its replay gives the handle all of it.
-use Rattle.std.proofs.Common.{◌≡◌, ℕ, zero, suc, ◌+◌, ◌<◌, ◌≤◌, List, [], ◌∷◌, ◌++◌, length, map, max, Bool, true, false, Option, Some, None, refl, sym, subst, ap, ◌∙◌, arith, sub-one, ◌&&◌, ◌==◌}
-use Rattle.std.proofs.Math.Dec.{eqb-suc-zero}
-use Rattle.std.specs.List.{All, AllByRecursion, flat_map}
-use Rattle.std.specs.Option.{IfSome, option_map}
-use Rattle.std.proofs.lemmas.List.{append-nil, map-append}
-use Rattle.slate_types.specs.declared.batches.Batch.{Batch}
-use Rattle.slate_types.specs.Line.{AreNumberedFrom, IsLine, Line, batches_above}
-use Rattle.slate_types.proofs.Lines.{above-all}
-use Rattle.slate_store.specs.declared.objects.Manifest.{Manifest}
-use Rattle.slate_store.specs.declared.objects.VersionedManifest.{VersionedManifest}
-use Rattle.slate_store.specs.Objects.{Objects, PutManifest, PutLog, changed, empty, entry_at, greatest, is_present, last, last_log, latest_manifest, versioned}
-use Rattle.slate_store.specs.Content.{AreRising, HasItsLogs, HasItsTables, IsSound, content, content_by, logged, logs_above, number_before, table_batches}
-use Rattle.slate_store.specs.Logs.{AreWhole, BelongTo, HaveNoGap, StandsIn, batches_between}
-use Rattle.slate_store.proofs.Gapless.{between-gapless, stored-gapless}
-use Rattle.slate_store.proofs.Logs.{SameLogs, no_gap-numbered, numbered-stand, untruncated, whole-start}
+use Rattle.slate_errors.specs.declared.errors.SlateError.TheVariants.{WalTruncated}
 use Rattle.slate_errors.specs.declared.errors.SlateError.{SlateError}
-use Rattle.slate_errors.specs.declared.errors.SlateError.TheVariants as errors
 use Rattle.slate_model.specs.Changes.{after_part}
 use Rattle.slate_model.specs.Handle.{Handle}
-use Rattle.slate_model.specs.Open.{OpenFault, can_open, can_open_by, first_manifest, can_reopen, found_log, latest_tick, mark_of, next_manifest, open_changes, opened_handle, opened_manifest}
-use Rattle.slate_model.proofs.Entries.{absent, entry-below, insert-last, last-push, nil-from-last}
-use Rattle.slate_model.proofs.Sound.{appended, at_least, gapless-greatest, with_log}
-
-no_last : {X Y : Type 0} (f : X → Y) (o : Option X) → option_map f o ≡ None → o ≡ None
-no_last f None h = refl
-no_last f (Some x) h = absurd (cc)
-
--- sound objects without a manifest are none at all
-pub nothing_there : (o : Objects) → IsSound o → latest_manifest o ≡ None → o ≡ empty
-nothing_there o sound none =
-    let manifests = nil-from-last o.manifests (no_last versioned (last o.manifests) none) in
-    let others = sound.nothing none in
-    λ i. record { manifests = manifests i; logs = others.0 i; tables = others.1 i }
-
-pub last-cons : {X : Type 0} (x y : X) (xs : List X) → last (x ∷ y ∷ xs) ≡ last (y ∷ xs)
-last-cons x y xs = rw (sub-one, sub-one) refl
-
--- the last of rising ids is the greatest
-rising-last : {X : Type 0} (e : ℕ × X) (es : List (ℕ × X)) → AreRising (map (λ e. e.0) es) → last es ≡ Some e → AllByRecursion (λ id. id ≤ e.0) (map (λ e. e.0) es)
-rising-last e [] rising is = absurd (cc)
-rising-last {X} e (x ∷ []) rising is =
-    let same : x ≡ e = cc in
-    (subst (λ (y : ℕ × X). x.0 ≤ y.0) same (omega arith), tt)
-rising-last e (x ∷ y ∷ es) rising is =
-    let rest = rising-last e (y ∷ es) rising.1 (sym (last-cons x y es) ∙ is) in
-    (let below : x.0 < y.0 = (rising.0).0 in let top : y.0 ≤ e.0 = rest.0 in omega (arith, below, top), rest)
-
-all-greatest : (k n : ℕ) (ids : List ℕ) → AllByRecursion (λ id. id ≤ k) ids → greatest n ids ≤ max n k
-all-greatest k n [] h = omega arith
-all-greatest k n (x ∷ ids) h = let rest = all-greatest k n ids h.1 in let first : x ≤ k = h.0 in omega (arith, rest, first)
-
-all-push : (x id : ℕ) (ids : List ℕ) → AllByRecursion (λ later. x < later) ids → x < id → AllByRecursion (λ later. x < later) (ids ++ id ∷ [])
-all-push x id [] h less = (less, tt)
-all-push x id (y ∷ ids) h less = (h.0, all-push x id ids h.1 less)
-
--- rising ids go on by a greater one
-rising-push : (k id : ℕ) (ids : List ℕ) → AreRising ids → AllByRecursion (λ x. x ≤ k) ids → k < id → AreRising (ids ++ id ∷ [])
-rising-push k id [] rising top less = (tt, tt)
-rising-push k id (x ∷ ids) rising top less =
-    let first : x ≤ k = top.0 in
-    (all-push x id ids rising.0 (omega (arith, first, less)), rising-push k id ids rising.1 top.1 less)
+use Rattle.slate_model.specs.Open.{OpenFault, can_open, can_open_by, can_reopen, first_manifest, found_log, latest_tick, mark_of, next_manifest, open_changes, opened_handle, opened_manifest}
+use Rattle.slate_store.proofs.Committed.{committed}
+use Rattle.slate_store.proofs.Entries.{absent, entry-below, insert-last}
+use Rattle.slate_store.proofs.Gapless.{between-gapless, gapless-greatest, stored-gapless}
+use Rattle.slate_store.proofs.Kept.{prefix-same}
+use Rattle.slate_store.proofs.LastLog.{at_least}
+use Rattle.slate_store.proofs.Latest.{all-greatest, ids-within, its-line, its-objects, nothing_there}
+use Rattle.slate_store.proofs.Logged.{appended, with_log}
+use Rattle.slate_store.proofs.Logs.{SameLogs, no_gap-numbered, numbered-stand, untruncated, whole-start}
+use Rattle.slate_store.specs.Content.{HasItsObjects, IsPinned, IsSound, StoresTable, content, content_by, logged, logs_above, number_before, table_batches}
+use Rattle.slate_store.specs.Logs.{AreWhole, BelongTo, HaveNoGap, StandsIn, batches_between}
+use Rattle.slate_store.specs.Objects.{Objects, PutLog, PutManifest, changed, empty, entry_at, is_present, last_log, latest_manifest}
+use Rattle.slate_store.specs.declared.objects.Manifest.{Manifest}
+use Rattle.slate_store.specs.declared.objects.VersionedManifest.{VersionedManifest}
+use Rattle.slate_types.proofs.Lines.{above-all}
+use Rattle.slate_types.specs.Line.{AreNumberedFrom, Line, batches_above}
+use Rattle.slate_types.specs.declared.batches.Batch.{Batch}
+use Rattle.std.proofs.Common.{◌&&◌, ◌++◌, ◌+◌, ◌<◌, ◌==◌, ◌∙◌, ◌∷◌, ◌≡◌, ◌≤◌, [], Bool, List, None, Option, Some, ap, arith, false, inl, length, map, refl, subst, suc, sym, true, zero, ℕ}
+use Rattle.std.proofs.Math.Dec.{eqb-suc-zero}
+use Rattle.std.proofs.lemmas.List.Elements.{All-nil}
+use Rattle.std.proofs.lemmas.List.{append-nil}
+use Rattle.std.specs.List.Sorted.{IsStrictlySortedBy}
+use Rattle.std.specs.List.{All, IsDistinct, flat_map}
+use Rattle.slate_errors.specs.declared.errors.SlateError.TheVariants as errors
 
 -- What putting the manifest of an opening leaves: the content is the same, under that manifest.
 record Begun (o : Objects) (v : VersionedManifest) (o' : Objects) : Type 0 where
@@ -67,23 +34,33 @@ record Begun (o : Objects) (v : VersionedManifest) (o' : Objects) : Type 0 where
   content : content o' ≡ content o
   latest : latest_manifest o' ≡ Some v
 
+first_objects : HasItsObjects (changed (PutManifest 1 first_manifest) empty) (record { id = 1; manifest = first_manifest })
+unfolding IsDistinct
+first_objects =
+    record {
+      tables = record { stored = All-nil (λ id. StoresTable (changed (PutManifest 1 first_manifest) empty) id); differ = tt; joined = refl };
+      logs = record { next = omega arith; stored = λ id over below. absurd (omega arith) };
+      gapless = tt;
+      epochs = λ k d less. absurd (omega arith);
+      differ = tt;
+      pinned = All-nil (λ checkpoint. IsPinned (changed (PutManifest 1 first_manifest) empty) (record { id = 1; manifest = first_manifest }) checkpoint);
+    }
+
 begun-new : Begun empty (record { id = 1; manifest = first_manifest }) (changed (PutManifest 1 first_manifest) empty)
+unfolding IsStrictlySortedBy
 begun-new =
     record {
       sound = record {
         manifests = (tt, tt);
         nothing = λ none. absurd (cc);
-        joined = refl;
-        logs = record { gapless = tt; next = omega arith; stored = omega arith };
+        logs = tt;
+        tables = tt;
         line = tt;
+        latest = first_objects;
       };
       content = refl;
       latest = refl;
     }
-
-some-versioned : (entry : Option (ℕ × Manifest)) (latest : VersionedManifest) → option_map versioned entry ≡ Some latest → entry ≡ Some (latest.id, latest.manifest)
-some-versioned None latest h = absurd (cc)
-some-versioned (Some e) latest h = let same : versioned e ≡ latest = cc in ap (λ (v : VersionedManifest). Some (v.id, v.manifest)) same
 
 module _ (o : Objects) (latest : VersionedManifest) (sound : IsSound o) (is : latest_manifest o ≡ Some latest) where
   abbrev the_last : ℕ
@@ -95,39 +72,25 @@ module _ (o : Objects) (latest : VersionedManifest) (sound : IsSound o) (is : la
   abbrev o1 : Objects
   o1 = changed (PutManifest next.id next.manifest) o
 
-  below : AllByRecursion (λ id. id ≤ latest.id) (map (λ e. e.0) o.manifests)
-  below = rising-last (latest.id, latest.manifest) o.manifests sound.manifests (some-versioned (last o.manifests) latest is)
-
-  manifests-after : o1.manifests ≡ o.manifests ++ (next.id, next.manifest) ∷ []
-  manifests-after =
-      let top = all-greatest latest.id 0 (map (λ e. e.0) o.manifests) below in
-      insert-last next.id 0 next.manifest o.manifests (omega (arith, top))
-
-  latest-after : latest_manifest o1 ≡ Some next
-  latest-after = ap (λ es. option_map versioned (last es)) manifests-after ∙ ap (option_map versioned) (last-push o.manifests (next.id, next.manifest))
-
-  content-after : content o1 ≡ content o
-  content-after = ap (content_by o1) latest-after ∙ sym (ap (content_by o) is)
-
   begun-again : Begun o next o1
   begun-again =
-      let rising = rising-push latest.id next.id (map (λ e. e.0) o.manifests) sound.manifests below (omega arith) in
-      let logs = subst (λ x. IfSome x (λ l. HasItsLogs o l.manifest)) is sound.logs in
-      let mark = latest.manifest.replay_after_wal_id in
+      let m = latest.manifest in
+      let mark = m.replay_after_wal_id in
+      let its = its-objects o latest sound is in
       let least = at_least mark (map (λ e. e.0) o.logs) in
-      let count = gapless-greatest mark mark o.logs (omega arith) logs.gapless in
-      record {
-        sound = record {
-          manifests = subst AreRising (sym (ap (map (λ e. e.0)) manifests-after ∙ map-append (λ e. e.0) o.manifests ((next.id, next.manifest) ∷ []))) rising;
-          nothing = λ none. absurd (let some = latest-after in cc);
-          joined = subst (λ x. IfSome x (λ l. HasItsTables o1 l.manifest)) (sym latest-after) (subst (λ x. IfSome x (λ l. HasItsTables o l.manifest)) is sound.joined);
-          logs = subst (λ x. IfSome x (λ l. HasItsLogs o1 l.manifest)) (sym latest-after)
-              (record { gapless = logs.gapless; next = omega (arith, least); stored = omega (arith, count) });
-          line = subst IsLine (sym content-after) sound.line;
-        };
-        content = content-after;
-        latest = latest-after;
-      }
+      let count = gapless-greatest mark mark o.logs (omega arith) its.gapless in
+      let put = committed o latest next.manifest sound is
+      (record {
+        tables = record { stored = its.tables.stored; differ = its.tables.differ; joined = its.tables.joined };
+        logs = record { next = omega (arith, least); stored = λ id over below. stored-gapless mark o its.gapless id over (omega (arith, count)) };
+        gapless = its.gapless;
+        epoch = omega arith;
+        line = its-line o latest sound is;
+        begins = prefix-same (content_by o (Some latest)) (content_by o (Some latest)) refl;
+        differ = its.differ;
+        checkpoints = λ k d less. inl (its.pinned k d less);
+      }) in
+      record { sound = put.sound; content = put.content ∙ sym (ap (content_by o) is); latest = put.latest }
 
 -- one or both of the changes leave the content, under the manifest of the opening
 pub record Opened (o o' : Objects) : Type 0 where
@@ -141,7 +104,7 @@ fence-after o o1 v b =
     record {
       sound = put.sound;
       content = put.content ∙ (ap (λ bs. record { floor = (content o1).floor; batches = bs }) (append-nil (content o1).batches) ∙ b.content);
-      latest = b.latest;
+      latest = put.latest ∙ b.latest;
     }
 
 begun : (o : Objects) (latest : Option VersionedManifest) → IsSound o → latest_manifest o ≡ latest → Begun o (opened_manifest o) (changed (PutManifest (opened_manifest o).id (opened_manifest o).manifest) o)
@@ -172,7 +135,7 @@ opened o (suc (suc (suc made))) sound some few = absurd (omega arith)
 free-by : (o : Objects) (latest : Option VersionedManifest) (last : ℕ) → IsSound o → latest_manifest o ≡ latest → is_present (PutManifest (next_manifest latest last).id (next_manifest latest last).manifest) o ≡ false
 free-by o None last sound is = rw (nothing_there o sound is) refl
 free-by o (Some latest) last sound is =
-    let top = all-greatest latest.id 0 (map (λ e. e.0) o.manifests) (below o latest sound is) in
+    let top = all-greatest latest.id 0 (map (λ e. e.0) o.manifests) (ids-within o latest sound is) in
     rw (absent (latest.id + 1) 0 o.manifests (omega (arith, top))) refl
 
 -- what follows the first batches of a line is numbered from their end
@@ -198,18 +161,17 @@ logs-by o latest sound is =
     let m = latest.manifest in
     let mark = m.replay_after_wal_id in
     let last = last_log mark o in
-    let has = subst (λ x. IfSome x (λ l. HasItsLogs o l.manifest)) is sound.logs in
-    let joined = subst (λ x. IfSome x (λ l. HasItsTables o l.manifest)) is sound.joined in
-    let line = subst (λ x. IsLine (content_by o x)) is sound.line in
+    let its = its-objects o latest sound is in
+    let gapless = its.gapless in
     let tables = table_batches o m.tables in
-    let numbered = subst (λ n. AreNumberedFrom n (logged o m)) joined (numbered_rest (number_before tables m.last_l0_seq) tables (logged o m) line) in
-    let count = gapless-greatest mark mark o.logs (omega arith) has.gapless in
+    let numbered = subst (λ n. AreNumberedFrom n (logged o m)) its.tables.joined (numbered_rest (number_before tables m.last_l0_seq) tables (logged o m) (its-line o latest sound is)) in
+    let count = gapless-greatest mark mark o.logs (omega arith) gapless in
     let all = flat_map (λ log. log.1) (logs_above mark o) in
-    let read : batches_between mark last o ≡ all = between-gapless mark o has.gapless last (omega (arith, count)) in
+    let read : batches_between mark last o ≡ all = between-gapless mark o gapless last (omega (arith, count)) in
     record {
       numbered = numbered;
       whole = record {
-        stored = λ id over within none. stored-gapless mark o has.gapless id over (omega (arith, count)) none;
+        stored = λ id over within none. stored-gapless mark o gapless id over (omega (arith, count)) none;
         no_gap = subst (HaveNoGap m.last_l0_seq (m.last_l0_seq + length (logged o m))) (sym read) (no_gap-numbered m.last_l0_seq m.last_l0_seq all (omega arith) numbered);
       };
       belong = subst (λ xs. All (λ b. StandsIn b (line_from m.last_l0_seq (logged o m))) (batches_above m.last_l0_seq xs)) (sym read) (numbered-stand m.last_l0_seq (logged o m) numbered);

@@ -1,19 +1,21 @@
 -- Log files whose ids have no gap are those that are read one after another.
-use Rattle.std.proofs.Common.{◌≡◌, ℕ, zero, suc, ◌+◌, ◌-◌, ◌<◌, ◌≤◌, List, [], ◌∷◌, ◌++◌, length, map, take, Option, Some, None, true, refl, sym, subst, ap, ◌∙◌, arith, append_assoc, ltb, eqb-true}
-use Rattle.std.proofs.lemmas.List.{append-nil, take_all}
-use Rattle.std.specs.List.{filter, flat_map}
-use Rattle.std.specs.Ordering.{nat_cmp, is_eq}
-use Rattle.std.specs.declared.cmp.Ordering.TheVariants.{Greater, Equal}
-use Rattle.std.specs.Cmp.{nat_cmp_is, unsigned_ties}
-use Rattle.std.specs.BTreeMap.{is_at}
-use Rattle.std.proofs.lemmas.Map.Entries.{lookup-filter-keys}
-use Rattle.std.proofs.lemmas.Bool.{lt-ltb}
-use Rattle.slate_types.proofs.Prefixes.{nat_cmp-greater}
-use Rattle.slate_types.specs.declared.batches.Batch.{Batch}
-use Rattle.slate_store.specs.Objects.{Objects, entry_at, log_at}
+use Rattle.slate_store.proofs.LastLog.{at_least}
+use Rattle.slate_store.proofs.Logs.{between-next, between-none}
+use Rattle.slate_store.specs.Checkpoints.{found}
 use Rattle.slate_store.specs.Content.{AreGapless, logs_above}
 use Rattle.slate_store.specs.Logs.{batches_between}
-use Rattle.slate_store.proofs.Logs.{between-next, between-none}
+use Rattle.slate_store.specs.Objects.{Objects, entry_at, greatest, last, log_at}
+use Rattle.slate_types.proofs.Prefixes.{nat_cmp-greater}
+use Rattle.slate_types.specs.declared.batches.Batch.{Batch}
+use Rattle.std.proofs.Common.{◌++◌, ◌+◌, ◌-◌, ◌<◌, ◌∙◌, ◌∷◌, ◌≡◌, ◌≤◌, [], List, None, Option, Some, ap, append_assoc, arith, false, inl, inr, length, ltb, map, max, refl, subst, suc, sym, take, true, zero, ℕ}
+use Rattle.std.proofs.lemmas.Bool.{cases_lt, eqb-true, le-ltb, lt-ltb}
+use Rattle.std.proofs.lemmas.List.{append-nil, take_all}
+use Rattle.std.proofs.lemmas.Map.Entries.{lookup-filter-keys}
+use Rattle.std.specs.BTreeMap.{is_at}
+use Rattle.std.specs.Cmp.{nat_cmp_is, unsigned_ties}
+use Rattle.std.specs.List.{filter, flat_map}
+use Rattle.std.specs.Ordering.{is_eq, nat_cmp}
+use Rattle.std.specs.declared.cmp.Ordering.TheVariants.{Equal, Greater}
 
 -- a number that compares as another is that one
 equal : (k e : ℕ) → is_eq (nat_cmp k e) ≡ true → k ≡ e
@@ -55,6 +57,30 @@ gapless-next before (suc i) x (e ∷ es) h is =
     let rest = gapless-next e.0 i x es h.1 (subst (λ k. entry_at k es ≡ Some x) at n) in
     ap (λ xs. e.1 ++ xs) rest ∙ sym (append_assoc e.1 (flat_map (λ e. e.1) (take i es)) x)
 
+greatest-max : (n k : ℕ) (xs : List ℕ) → n ≤ k → greatest k xs ≡ max k (greatest n xs)
+greatest-max n k [] h = omega arith
+greatest-max n k (x ∷ xs) h = let e = greatest-max n k xs h in omega (arith, e)
+
+-- where the ids above a mark have no gaps, the greatest one is as far behind as there are ids
+pub gapless-greatest : {X : Type 0} (mark n : ℕ) (es : List (ℕ × X)) → mark ≤ n → AreGapless n (map (λ e. e.0) (filter (λ e. ltb mark e.0) es)) → greatest n (map (λ e. e.0) es) ≡ n + length (filter (λ e. ltb mark e.0) es)
+gapless-greatest mark n [] low h = omega arith
+gapless-greatest {X} mark n (e ∷ es) low h =
+    elim (cases_lt mark e.0) [
+      | inl above ↦
+          let yes : ltb mark e.0 ≡ true = lt-ltb mark e.0 above in
+          let g = rw yes at h in
+          let next : e.0 ≡ n + 1 = g.0 in
+          let rest = gapless-greatest mark e.0 es (omega arith) g.1 in
+          let more = greatest-max n e.0 (map (λ e. e.0) es) (omega arith) in
+          rw yes (omega (arith, rest, more, next))
+      | inr below ↦
+          let no : ltb mark e.0 ≡ false = le-ltb mark e.0 below in
+          let g = rw no at h in
+          let rest = gapless-greatest mark n es low g in
+          let least = at_least n (map (λ e. e.0) es) in
+          rw no (omega (arith, rest, least))
+    ]
+
 module _ (mark : ℕ) (o : Objects) (gapless : AreGapless mark (map (λ log. log.0) (logs_above mark o))) where
   -- each log file that the ids reach is stored
   pub stored-gapless : (id : ℕ) → mark < id → id ≤ mark + length (logs_above mark o) → log_at id o ≡ None → ⊥
@@ -69,7 +95,8 @@ module _ (mark : ℕ) (o : Objects) (gapless : AreGapless mark (map (λ log. log
       between-next mark (mark + i) o log (omega arith) found
       ∙ (ap (λ xs. xs ++ log) so_far ∙ sym (gapless-next mark i log (logs_above mark o) gapless (entry-above mark (mark + i + 1) o.logs (omega arith) ∙ found)))
 
-  between-front : (i : ℕ) → i ≤ length (logs_above mark o) → batches_between mark (mark + i) o ≡ flat_map (λ log. log.1) (take i (logs_above mark o))
+  -- the first of them in the order of their ids
+  pub between-front : (i : ℕ) → i ≤ length (logs_above mark o) → batches_between mark (mark + i) o ≡ flat_map (λ log. log.1) (take i (logs_above mark o))
   between-front zero low = between-none mark (mark + zero) o (omega arith)
   between-front (suc i) low =
       let at : mark + suc i ≡ mark + i + 1 = omega arith in

@@ -13,7 +13,7 @@ below n k [] all = omega arith
 below n k (x ∷ xs) all = let h = below n k xs all.1 in let x_le : x ≤ k = ge_from_not_lt k x all.0 in omega arith
 
 -- it is at least the number
-at_least : (n : ℕ) (xs : List ℕ) → n ≤ greatest n xs
+pub at_least : (n : ℕ) (xs : List ℕ) → n ≤ greatest n xs
 at_least n [] = omega arith
 at_least n (x ∷ xs) = let h = at_least n xs in omega arith
 

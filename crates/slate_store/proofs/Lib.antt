@@ -5,3 +5,8 @@ pub mod Logs
 pub mod Gapless
 pub mod Tries
 pub mod Removals
+pub mod Entries
+pub mod Kept
+pub mod Latest
+pub mod Committed
+pub mod Logged

@@ -12,7 +12,7 @@ use Rattle.slate_errors.specs.declared.errors.SlateError.{SlateError}
 use Rattle.slate_errors.specs.declared.errors.SlateError.TheVariants as errors
 use Rattle.slate_model.specs.Changes.{PartMade, after_part, leaves_prefix}
 use Rattle.slate_model.specs.Flush.{FindsCurrent, FlushAnswer, FlushCause, StoresBatches, StoresOnly, flush_changes, flush_changes_by}
-use Rattle.slate_model.proofs.Entries.{absent}
+use Rattle.slate_store.proofs.Entries.{absent}
 use Rattle.slate_writer.specs.Appends.{AppendsLog}
 
 -- nothing is stored under the id after the last log file

@@ -20,7 +20,7 @@ use Rattle.slate_errors.specs.declared.errors.SlateError.TheVariants as errors
 use Rattle.slate_model.specs.Changes.{after_part}
 use Rattle.slate_model.specs.Open.{IsFresh, OpenFault, Opens, OpensHandle, found_log, mark_of, latest_tick, next_manifest, open_changes, opened_handle, opened_manifest}
 use Rattle.slate_store.specs.Objects.{changed, latest_manifest}
-use Rattle.slate_model.proofs.Entries.{absent}
+use Rattle.slate_store.proofs.Entries.{absent}
 use Rattle.slate_model.proofs.Newest.{newest}
 use Rattle.slate_model.proofs.Reopened.{opened-logs, opening-logs, recovered, recovered-is}
 use Rattle.slate_model.specs.Handle.{Handle}

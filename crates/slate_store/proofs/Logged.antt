@@ -1,48 +1,24 @@
 -- Objects stay sound when a log file is stored that goes on from their content.
-use Rattle.std.proofs.Common.{◌≡◌, ℕ, ◌+◌, ◌<◌, ◌≤◌, inl, inr, List, [], ◌∷◌, ◌++◌, length, map, max, Some, true, false, sym, subst, ap, ◌∙◌, arith, length-append, append_assoc, ltb, cond}
-use Rattle.std.proofs.lemmas.List.{append-nil, length-map}
-use Rattle.std.specs.List.{filter, flat_map}
-use Rattle.std.specs.Option.{IfSome}
-use Rattle.std.proofs.lemmas.Bool.{lt-ltb, le-ltb, cases_lt}
-use Rattle.std.proofs.lemmas.List.{map-append}
-use Rattle.std.proofs.lemmas.List.Elements.{filter-append}
-use Rattle.std.proofs.lemmas.Grind.{flat_map-append}
-use Rattle.slate_types.specs.declared.batches.Batch.{Batch}
-use Rattle.slate_types.specs.Line.{AreNumberedFrom, IsLine, end, extended, batches_above}
-use Rattle.slate_types.proofs.Lines.{above-all}
+use Rattle.slate_store.proofs.Entries.{absent, insert-last}
+use Rattle.slate_store.proofs.Gapless.{gapless-greatest}
+use Rattle.slate_store.proofs.Kept.{log-keeps, logs-kept, pinned-kept, tables-kept}
+use Rattle.slate_store.proofs.LastLog.{at_least}
+use Rattle.slate_store.proofs.Latest.{all-at_most, its-objects, rising-push}
+use Rattle.slate_store.specs.Content.{AreGapless, AreRising, HasItsObjects, IsPinned, IsSound, content, content_by, logged, logs_above, number_before, table_batches}
+use Rattle.slate_store.specs.Objects.{Objects, PutLog, changed, last_log, latest_manifest}
+use Rattle.slate_store.specs.declared.objects.Checkpoint.{Checkpoint}
 use Rattle.slate_store.specs.declared.objects.Manifest.{Manifest}
 use Rattle.slate_store.specs.declared.objects.VersionedManifest.{VersionedManifest}
-use Rattle.slate_store.specs.Objects.{Objects, PutLog, changed, latest_manifest, last_log, greatest}
-use Rattle.slate_store.specs.Content.{AreGapless, HasItsLogs, HasItsTables, IsSound, content, content_by, logged, logs_above, number_before, table_batches}
-use Rattle.slate_model.proofs.Entries.{insert-last}
-
-greatest-max : (n k : ℕ) (xs : List ℕ) → n ≤ k → greatest k xs ≡ max k (greatest n xs)
-greatest-max n k [] h = omega arith
-greatest-max n k (x ∷ xs) h = let e = greatest-max n k xs h in omega (arith, e)
-
-pub at_least : (n : ℕ) (xs : List ℕ) → n ≤ greatest n xs
-at_least n [] = omega arith
-at_least n (x ∷ xs) = let h = at_least n xs in omega arith
-
--- where the ids above a mark have no gaps, the greatest one is as far behind as there are ids
-pub gapless-greatest : {X : Type 0} (mark n : ℕ) (es : List (ℕ × X)) → mark ≤ n → AreGapless n (map (λ e. e.0) (filter (λ e. ltb mark e.0) es)) → greatest n (map (λ e. e.0) es) ≡ n + length (filter (λ e. ltb mark e.0) es)
-gapless-greatest mark n [] low h = omega arith
-gapless-greatest {X} mark n (e ∷ es) low h =
-    elim (cases_lt mark e.0) [
-      | inl above ↦
-          let yes : ltb mark e.0 ≡ true = lt-ltb mark e.0 above in
-          let g = rw yes at h in
-          let next : e.0 ≡ n + 1 = g.0 in
-          let rest = gapless-greatest mark e.0 es (omega arith) g.1 in
-          let more = greatest-max n e.0 (map (λ e. e.0) es) (omega arith) in
-          rw yes (omega (arith, rest, more, next))
-      | inr below ↦
-          let no : ltb mark e.0 ≡ false = le-ltb mark e.0 below in
-          let g = rw no at h in
-          let rest = gapless-greatest mark n es low g in
-          let least = at_least n (map (λ e. e.0) es) in
-          rw no (omega (arith, rest, least))
-    ]
+use Rattle.slate_types.proofs.Lines.{above-all}
+use Rattle.slate_types.specs.Line.{AreNumberedFrom, IsLine, IsPrefix, batches_above, end, extended}
+use Rattle.slate_types.specs.declared.batches.Batch.{Batch}
+use Rattle.std.proofs.Common.{◌++◌, ◌+◌, ◌<◌, ◌∙◌, ◌∷◌, ◌≡◌, [], List, Some, ap, append_assoc, arith, cond, length, length-append, ltb, map, refl, subst, sym, true, ℕ}
+use Rattle.std.proofs.lemmas.Bool.{lt-ltb}
+use Rattle.std.proofs.lemmas.Grind.{flat_map-append}
+use Rattle.std.proofs.lemmas.List.Elements.{filter-append}
+use Rattle.std.proofs.lemmas.List.{append-nil, length-map, map-append}
+use Rattle.std.specs.List.{filter, flat_map}
+use Rattle.std.specs.Option.{IfSome}
 
 -- a line goes on by batches that are numbered from its end on
 pub numbered-append : (floor : ℕ) (xs ys : List Batch) → AreNumberedFrom floor xs → AreNumberedFrom (floor + length xs) ys → AreNumberedFrom floor (xs ++ ys)
@@ -81,25 +57,21 @@ module _ (o : Objects) (m : Manifest) (bs : List Batch) where
       ap (batches_above m.last_l0_seq) (news ∙ ap (λ xs. olds ++ xs) (append-nil bs))
       ∙ filter-append (λ b. ltb m.last_l0_seq b.number) olds bs
 
-  has_logs-after : HasItsLogs o m → HasItsLogs (with_log o m bs) m
-  has_logs-after has =
+  gapless-after : AreGapless m.replay_after_wal_id (map (λ log. log.0) (logs_above m.replay_after_wal_id o)) → AreGapless m.replay_after_wal_id (map (λ log. log.0) (logs_above m.replay_after_wal_id (with_log o m bs)))
+  gapless-after gapless =
       let ids = map (λ log. log.0) (logs_above m.replay_after_wal_id o) in
       let next = last_log m.replay_after_wal_id o + 1 in
-      let last = gapless-greatest m.replay_after_wal_id m.replay_after_wal_id o.logs (omega arith) has.gapless in
+      let last = gapless-greatest m.replay_after_wal_id m.replay_after_wal_id o.logs (omega arith) gapless in
       let ids-after : map (λ log. log.0) (logs_above m.replay_after_wal_id (with_log o m bs)) ≡ ids ++ next ∷ [] =
       ap (map (λ log. log.0)) above-after ∙ map-append (λ log. log.0) (logs_above m.replay_after_wal_id o) ((next, bs) ∷ []) in
       let count = length-map (logs_above m.replay_after_wal_id o) (λ log. log.0) in
-      let longer = ap length above-after ∙ length-append (logs_above m.replay_after_wal_id o) ((next, bs) ∷ []) in
-      record {
-        gapless = subst (AreGapless m.replay_after_wal_id) (sym ids-after) (gapless-push m.replay_after_wal_id ids next has.gapless (omega (arith, last, count)));
-        next = has.next;
-        stored = let h = has.stored in omega (arith, h, longer);
-      }
+      subst (AreGapless m.replay_after_wal_id) (sym ids-after) (gapless-push m.replay_after_wal_id ids next gapless (omega (arith, last, count)))
 
 -- Storing batches that go on from the content keeps objects sound, and appends them to the content.
 pub record Appended (o : Objects) (bs : List Batch) (o' : Objects) : Type 0 where
   pub sound : IsSound o'
   pub content : content o' ≡ extended (content o) bs
+  pub latest : latest_manifest o' ≡ latest_manifest o
 
 module _ (o : Objects) (latest : VersionedManifest) (bs : List Batch) (sound : IsSound o) (is : latest_manifest o ≡ Some latest) where
   content-is : content o ≡ content_by o (Some latest)
@@ -109,7 +81,7 @@ module _ (o : Objects) (latest : VersionedManifest) (bs : List Batch) (sound : I
   content-after next =
       let m = latest.manifest in
       let joined = table_batches o m.tables in
-      let tables : HasItsTables o m = subst (λ x. IfSome x (λ l. HasItsTables o l.manifest)) is sound.joined in
+      let tables = (its-objects o latest sound is).tables.joined in
       let after-is : content (with_log o m bs) ≡ content_by (with_log o m bs) (Some latest) = ap (content_by (with_log o m bs)) is in
       let end_is : end (content o) ≡ m.last_l0_seq + length (logged o m) =
       ap end content-is ∙ (let t = tables in let l = length-append joined (logged o m) in omega (arith, t, l)) in
@@ -123,14 +95,35 @@ module _ (o : Objects) (latest : VersionedManifest) (bs : List Batch) (sound : I
   pub appended : AreNumberedFrom (end (content o)) bs → Appended o bs (with_log o latest.manifest bs)
   appended next =
       let m = latest.manifest in
+      let id = last_log m.replay_after_wal_id o + 1 in
+      let o1 = with_log o m bs in
+      let its = its-objects o latest sound is in
       let after = content-after next in
+      let free = absent id m.replay_after_wal_id o.logs (omega arith) in
+      let begins : IsPrefix (content_by o (Some latest)) (content_by o1 (Some latest)) =
+      (bs, sym (ap (content_by o1) is) ∙ (after ∙ ap (λ l. extended l bs) content-is)) in
+      let pinned = λ (checkpoint : Checkpoint) (pinned : IsPinned o latest checkpoint).
+      pinned-kept o o1 latest latest checkpoint pinned (log-keeps o pinned.manifest id bs pinned.logs free) refl (omega arith) begins in
+      let keeps = log-keeps o m id bs its.logs free in
+      let rising = rising-push (last_log m.replay_after_wal_id o) id (map (λ e. e.0) o.logs) sound.logs (all-at_most m.replay_after_wal_id (map (λ e. e.0) o.logs)) (omega arith) in
+      let objects : HasItsObjects o1 latest =
+      record {
+        tables = tables-kept keeps its.tables;
+        logs = logs-kept keeps its.logs;
+        gapless = gapless-after o m bs its.gapless;
+        epochs = its.epochs;
+        differ = its.differ;
+        pinned = λ k d less. pinned _ (its.pinned k d less);
+      } in
       record {
         sound = record {
           manifests = sound.manifests;
+          logs = subst AreRising (sym (ap (map (λ e. e.0)) (logs-after o m bs) ∙ map-append (λ e. e.0) o.logs ((id, bs) ∷ []))) rising;
+          tables = sound.tables;
           nothing = λ none. absurd (cc (none, is));
-          joined = sound.joined;
-          logs = subst (λ x. IfSome x (λ l. HasItsLogs (with_log o m bs) l.manifest)) (sym is) (has_logs-after o m bs (subst (λ x. IfSome x (λ l. HasItsLogs o l.manifest)) is sound.logs));
           line = subst IsLine (sym after) (numbered-append (content o).floor (content o).batches bs sound.line next);
+          latest = subst (λ x. IfSome x (HasItsObjects o1)) (sym is) objects;
         };
         content = after;
+        latest = refl;
       }

@@ -1,14 +1,9 @@
 -- What the calls of a store that make several calls of it answer and leave.
-<<<<<<< HEAD
 use Rattle.std.specs.Prelude.{◌≡◌, ◌≢◌, ℕ, ◌≤◌, ◌<◌, ◌+◌, ◌⊎◌, min, Bool, true, false, List, [], ◌∷◌, length, Option, Some, None, Result, Ok, Err, IfOk, IfErr}
 use Rattle.slate_types.specs.Counts.{HasRisen, count_end}
 use Rattle.slate_types.specs.declared.store_errors.StoreError.{StoreError}
 use Rattle.slate_types.specs.declared.store_errors.StoreError.TheVariants as errors
 use Rattle.slate_types.specs.declared.store_errors.StoreFault.TheVariants as fault
-=======
-use Rattle.std.specs.Prelude.{◌≡◌, ℕ, ◌≤◌, Bool, true, false, List, [], ◌∷◌, length, Option, Some, None, Result, Ok, Err, IfOk, IfErr}
-use Rattle.slate_types.specs.declared.store_errors.StoreFault.TheVariants.{Unavailable}
->>>>>>> ba1a8f6088c884a369c8608fdb8318fe0f09cb0a
 use Rattle.slate_store.specs.declared.objects.VersionedManifest.{VersionedManifest}
 use Rattle.slate_store.specs.declared.refusals.StoreRefusal.{StoreRefusal}
 use Rattle.slate_store.specs.declared.refusals.StoreRefusal.TheVariants.{CheckpointMissing, LatestTransactionalObjectVersionMissing, Fenced, InvalidDBState, ObjectStoreError, TransactionalObjectVersionExists, TransactionalObjectTimeout, NoMemory}

@@ -173,7 +173,7 @@ where
     ensures faults { CountsFaults (S.faults store.old) (S.faults store.new) result }
     ensures tries { CountsTries (S.calls store.old) (S.calls store.new) result }
 {
-    for _tried in 0..TRIES {
+    for earlier in 0..TRIES {
         if let Some(answer) = attempt(alloc, store, change)? {
             return Ok(answer);
         }

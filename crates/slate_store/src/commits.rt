@@ -1,5 +1,5 @@
 // The calls that commit a manifest with other checkpoints.
-ghost use Rattle.std.specs.Prelude.{◌≡◌, ◌+◌, ◌≤◌, ℕ, false, IfErr, Ok, Err, None};
+ghost use Rattle.std.specs.Prelude.{◌≡◌, ◌+◌, ◌≤◌, ℕ, false, IfErr, Ok, Err, Some, None};
 ghost use Rattle.slate_types.specs.Counts.{one_more};
 ghost use Rattle.slate_store.specs.Calls.{WhereModelled};
 ghost use Rattle.slate_store.specs.Checkpoints.{to_delete, to_refresh, to_write};
@@ -13,6 +13,91 @@ use uuid::Uuid;
 
 // How often a call reads the latest manifest and puts the next one, where others put theirs first.
 const TRIES: u32 = 8;
+
+/// Commits a new checkpoint of what is stored: a manifest that keeps itself, with its tables and its log files, until the
+/// lease ends. It answers the checkpoint. SlateDB's `create_checkpoint`.
+///
+/// The lease begins at `moment` and lasts `lifetime` milliseconds, to the greatest moment at most; without a lifetime it
+/// has no end. It answers `LatestTransactionalObjectVersionMissing` where no manifest is stored, `InvalidDBState` where
+/// the latest one's id is the greatest `u64`, and `TransactionalObjectTimeout` where eight times another manifest was put
+/// first; then nothing was put. `ObjectStoreError` comes where a call of the store failed, and then the manifest may have
+/// been put. It calls the store twice for each try, and takes time linear in the manifest.
+pub fn write_checkpoint<S: Store>(
+    alloc: Global,
+    store: &mut S,
+    lifetime: Option<u64>,
+    moment: i64,
+) -> Result<Checkpoint, StoreRefusal>
+    ensures follows { WhereModelled (λ o o'. (made : ℕ) × FollowsPlan (to_write None lifetime moment) o result made o') (S.objects store.old) (S.objects store.new) }
+    ensures faults { CountsFaults (S.faults store.old) (S.faults store.new) result }
+    ensures tries { CountsTries (S.calls store.old) (S.calls store.new) result }
+{
+    let creation = Creation {
+        replaced: None,
+        lifetime,
+        moment,
+    };
+    commit(alloc, store, &creation)
+}
+
+/// Commits a new checkpoint as `write_checkpoint` does, with a lease of `lifetime` milliseconds, and takes the old one
+/// out in the same manifest, where it is there. It answers, and costs, what `write_checkpoint` does.
+pub fn replace_checkpoint<S: Store>(
+    alloc: Global,
+    store: &mut S,
+    old: Uuid,
+    lifetime: u64,
+    moment: i64,
+) -> Result<Checkpoint, StoreRefusal>
+    ensures follows { WhereModelled (λ o o'. (made : ℕ) × FollowsPlan (to_write (Some old) (Some lifetime) moment) o result made o') (S.objects store.old) (S.objects store.new) }
+    ensures faults { CountsFaults (S.faults store.old) (S.faults store.new) result }
+    ensures tries { CountsTries (S.calls store.old) (S.calls store.new) result }
+{
+    let creation = Creation {
+        replaced: Some(old),
+        lifetime: Some(lifetime),
+        moment,
+    };
+    commit(alloc, store, &creation)
+}
+
+/// Lets the lease of a checkpoint end `lifetime` milliseconds after `moment`, at the greatest moment at most, and leaves
+/// all else of it. It answers the checkpoint as it is then. SlateDB's `refresh_checkpoint`.
+///
+/// It answers `CheckpointMissing` where the latest manifest has no checkpoint with this id, and nothing was put then;
+/// else it answers, and costs, what `write_checkpoint` does.
+pub fn refresh_checkpoint<S: Store>(
+    alloc: Global,
+    store: &mut S,
+    id: Uuid,
+    lifetime: u64,
+    moment: i64,
+) -> Result<Checkpoint, StoreRefusal>
+    ensures follows { WhereModelled (λ o o'. (made : ℕ) × FollowsPlan (to_refresh id lifetime moment) o result made o') (S.objects store.old) (S.objects store.new) }
+    ensures faults { CountsFaults (S.faults store.old) (S.faults store.new) result }
+    ensures tries { CountsTries (S.calls store.old) (S.calls store.new) result }
+{
+    let renewal = Renewal {
+        id,
+        lifetime,
+        moment,
+    };
+    commit(alloc, store, &renewal)
+}
+
+/// Takes a checkpoint out of the latest manifest. Where it isn't there the answer is Ok too, and nothing is put.
+/// SlateDB's `delete_checkpoint`. It answers, and costs, what `write_checkpoint` does.
+pub fn delete_checkpoint<S: Store>(
+    alloc: Global,
+    store: &mut S,
+    id: Uuid,
+) -> Result<(), StoreRefusal>
+    ensures follows { WhereModelled (λ o o'. (made : ℕ) × FollowsPlan (to_delete id) o result made o') (S.objects store.old) (S.objects store.new) }
+    ensures faults { CountsFaults (S.faults store.old) (S.faults store.new) result }
+    ensures tries { CountsTries (S.calls store.old) (S.calls store.new) result }
+{
+    commit(alloc, store, &Deletion { id })
+}
 
 /// What a call does to the checkpoints of the latest manifest.
 trait Change {
@@ -35,6 +120,7 @@ trait Change {
 }
 
 /// A new checkpoint, in place of another or beside all.
+#[derive(Drop)]
 struct Creation {
     replaced: Option<Uuid>,
     lifetime: Option<u64>,
@@ -58,6 +144,7 @@ impl Change for Creation {
 }
 
 /// A checkpoint whose lease begins anew.
+#[derive(Drop)]
 struct Renewal {
     id: Uuid,
     lifetime: u64,
@@ -80,6 +167,7 @@ impl Change for Renewal {
 }
 
 /// A checkpoint that is taken out, where it is there.
+#[derive(Drop)]
 struct Deletion {
     id: Uuid,
 }

@@ -12,6 +12,7 @@ mod refusals;
 mod stores;
 
 pub use checkpoints::{next_with_checkpoint, next_with_end, next_without_checkpoint};
+pub use commits::{delete_checkpoint, refresh_checkpoint, replace_checkpoint, write_checkpoint};
 pub use faulty_store::{FailingCall, FaultyStore};
 pub use log_files::LogFile;
 pub use memory_store::MemoryStore;

@@ -1,5 +1,5 @@
 -- Flushes and openings change a store's catalogue as they change its objects.
-use Rattle.std.proofs.Common.{◌≡◌, ℕ, ◌+◌, Bool, true, false, not, cond, List, [], ◌∷◌, length, map, Option, Some, None, Result, Ok, Err, ◌≤◌, refl, sym, subst, ap, ◌∙◌, zero, suc}
+use Rattle.std.proofs.Common.{◌≡◌, ℕ, ◌+◌, List, [], ◌∷◌, length, map, Option, Some, None, Result, Ok, Err, ◌≤◌, refl, sym, subst, ap, ◌∙◌, zero, suc, Bool, true, false, cond, not}
 use Rattle.std.proofs.lemmas.List.{length-map}
 use Rattle.std.specs.Ordering.{nat_cmp}
 use Rattle.std.specs.declared.cmp.Ordering.{Ordering}
@@ -9,7 +9,7 @@ use Rattle.std.specs.BTreeMap.{insert_entry, is_at}
 use Rattle.slate_types.specs.declared.batches.Batch.{Batch}
 use Rattle.slate_store.specs.declared.objects.VersionedManifest.{VersionedManifest}
 use Rattle.slate_types.specs.declared.store_errors.StoreFault.TheVariants.{Unavailable}
-use Rattle.slate_store.specs.Objects.{Objects, Change, ChangeOf, PutLog, PutManifest, PutTable, RemoveLog, RemoveManifest, RemoveTable, changed, greatest, last_log, latest_manifest, table_cmp, without}
+use Rattle.slate_store.specs.Objects.{Objects, Change, ChangeOf, PutManifest, PutLog, PutTable, RemoveManifest, RemoveLog, RemoveTable, changed, table_cmp, without, latest_manifest, last_log, greatest}
 use Rattle.slate_errors.specs.declared.errors.SlateError.{SlateError}
 use Rattle.slate_errors.specs.declared.errors.SlateError.TheVariants as errors
 use Rattle.slate_model.specs.Catalogue.{Span, span, catalogue_of}
@@ -20,7 +20,7 @@ use Rattle.slate_model.specs.Write.{last_number}
 
 -- what a world knows of a log file or a table under its id
 abbrev pub spanned : {K : Type 0} → K × List Batch → K × Span
-spanned entry = (entry.0, span entry.1)
+spanned stored = (stored.0, span stored.1)
 
 -- what it knows of a change
 abbrev pub reduced : Change → ChangeOf Span
@@ -44,18 +44,21 @@ map-choice Less a b c = refl
 map-choice Equal a b c = refl
 map-choice Greater a b c = refl
 
-map-insert : {K : Type 0} (cmp : K → K → Ordering) (id : K) (bs : List Batch) (entries : List (K × List Batch)) → map spanned (insert_entry cmp entries id bs) ≡ insert_entry cmp (map spanned entries) id (span bs)
+map-insert : {K : Type 0} (cmp : K → K → Ordering) (id : K) (bs : List Batch) (es : List (K × List Batch)) → map spanned (insert_entry cmp es id bs) ≡ insert_entry cmp (map spanned es) id (span bs)
 map-insert cmp id bs [] = refl
-map-insert cmp id bs (entry ∷ entries) =
-    map-choice (cmp id entry.0) _ _ _
-    ∙ ap (λ rest. match_ordering (cmp id entry.0) ((id, span bs) ∷ map spanned (entry ∷ entries)) ((entry.0, span bs) ∷ map spanned entries) (spanned entry ∷ rest)) (map-insert cmp id bs entries)
+map-insert cmp id bs (e ∷ es) =
+    map-choice (cmp id e.0) _ _ _
+    ∙ ap (λ rest. match_ordering (cmp id e.0) ((id, span bs) ∷ map spanned (e ∷ es)) ((e.0, span bs) ∷ map spanned es) (spanned e ∷ rest)) (map-insert cmp id bs es)
 
-map-without : {K : Type 0} (test : K → Bool) (entries : List (K × List Batch)) → map spanned (without test entries) ≡ without test (map spanned entries)
+map-kept : {K : Type 0} (b : Bool) (e : K × List Batch) (es : List (K × List Batch)) → map spanned (cond b (e ∷ es) es) ≡ cond b (spanned e ∷ map spanned es) (map spanned es)
+map-kept true e es = refl
+map-kept false e es = refl
+
+map-without : {K : Type 0} (test : K → Bool) (es : List (K × List Batch)) → map spanned (without test es) ≡ without test (map spanned es)
 map-without test [] = refl
-map-without {K} test (entry ∷ entries) = by (test entry.0) (map-without test entries) where
-  by : (t : Bool) → map spanned (without test entries) ≡ without test (map spanned entries) → map spanned (cond (not t) (entry ∷ without test entries) (without test entries)) ≡ cond (not t) (spanned entry ∷ without test (map spanned entries)) (without test (map spanned entries))
-  by true later = later
-  by false later = ap (λ rest. spanned entry ∷ rest) later
+map-without test (e ∷ es) =
+    map-kept (not (test e.0)) e (without test es)
+    ∙ ap (λ rest. cond (not (test e.0)) (spanned e ∷ rest) rest) (map-without test es)
 
 catalogue-changed : (c : Change) (o : Objects) → catalogue_of (changed c o) ≡ changed (reduced c) (catalogue_of o)
 catalogue-changed (PutManifest id manifest) o = refl

@@ -1,7 +1,8 @@
 // Tests of openings that find a log file missing, with and without another handle that is opened meanwhile.
 use crate::store::write_once;
 use slate_errors::SlateError;
-use slate_store::{LogFile, Manifest, MemoryStore, Store, VersionedManifest};
+use slate_reads::Table;
+use slate_store::{Listing, LogFile, Manifest, MemoryStore, Store, TableId, VersionedManifest};
 use slate_types::{Batch, FixedPrefix, StoreError};
 use slate_writer::{WriterOptions, WriterState};
 use std::alloc::Global;
@@ -74,6 +75,41 @@ impl<S: Store> Store for Contended<S> {
     fn put_log(&mut self, alloc: Global, id: u64, batches: &[Batch]) -> Result<(), StoreError> {
         self.count_call();
         self.inner.put_log(alloc, id, batches)
+    }
+
+    fn read_manifest(&mut self, alloc: Global, id: u64) -> Result<Manifest, StoreError> {
+        self.count_call();
+        self.inner.read_manifest(alloc, id)
+    }
+
+    fn remove_manifest(&mut self, alloc: Global, id: u64) -> Result<(), StoreError> {
+        self.count_call();
+        self.inner.remove_manifest(alloc, id)
+    }
+
+    fn remove_log(&mut self, alloc: Global, id: u64) -> Result<(), StoreError> {
+        self.count_call();
+        self.inner.remove_log(alloc, id)
+    }
+
+    fn read_table(&mut self, alloc: Global, id: TableId) -> Result<Table, StoreError> {
+        self.count_call();
+        self.inner.read_table(alloc, id)
+    }
+
+    fn put_table(&mut self, alloc: Global, id: TableId, table: &Table) -> Result<(), StoreError> {
+        self.count_call();
+        self.inner.put_table(alloc, id, table)
+    }
+
+    fn remove_table(&mut self, alloc: Global, id: TableId) -> Result<(), StoreError> {
+        self.count_call();
+        self.inner.remove_table(alloc, id)
+    }
+
+    fn list(&mut self, alloc: Global) -> Result<Listing, StoreError> {
+        self.count_call();
+        self.inner.list(alloc)
     }
 }
 

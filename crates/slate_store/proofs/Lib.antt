@@ -3,6 +3,8 @@ pub mod LastLog
 pub mod Faults
 pub mod Logs
 pub mod Gapless
+pub mod Tries
+pub mod Removals
 pub mod Entries
 pub mod Kept
 pub mod Latest

@@ -29,7 +29,16 @@ Puts change (Err Failed) old new = (new ≡ old) ⊎ ((is_present change old ≡
 Puts change (Err NotFound) old new = ⊥
 Puts change (Err NoMemory) old new = new ≡ old
 
--- the refusals of a call that lists
+-- What a removal leaves: at Ok the object isn't stored, whether it was or not; Failed leaves the removal done or not
+-- done.
+abbrev pub Removes : Change → Result (Unit {0}) StoreError → Objects → Objects → Type 0
+Removes change (Ok _) old new = new ≡ changed change old
+Removes change (Err Failed) old new = (new ≡ old) ⊎ (new ≡ changed change old)
+Removes change (Err NoMemory) old new = new ≡ old
+Removes change (Err NotFound) old new = ⊥
+Removes change (Err Exists) old new = ⊥
+
+-- the refusals of a call that lists or removes
 abbrev pub IsOfList : StoreError → Type 0
 IsOfList NotFound = ⊥
 IsOfList Exists = ⊥

@@ -1,14 +1,16 @@
 -- What the calls of a store that make several calls of it answer and leave.
-use Rattle.std.specs.Prelude.{◌≡◌, ℕ, ◌≤◌, Bool, true, false, List, [], ◌∷◌, length, Option, Some, None, Result, Ok, Err, IfOk, IfErr}
-use Rattle.slate_types.specs.declared.store_errors.StoreFault.TheVariants.{Unavailable}
+use Rattle.std.specs.Prelude.{◌≡◌, ◌≢◌, ℕ, ◌≤◌, ◌<◌, ◌+◌, ◌⊎◌, min, Bool, true, false, List, [], ◌∷◌, length, Option, Some, None, Result, Ok, Err, IfOk, IfErr}
+use Rattle.slate_types.specs.Counts.{HasRisen, count_end}
+use Rattle.slate_types.specs.declared.store_errors.StoreError.{StoreError}
+use Rattle.slate_types.specs.declared.store_errors.StoreError.TheVariants as errors
+use Rattle.slate_types.specs.declared.store_errors.StoreFault.TheVariants as fault
 use Rattle.slate_store.specs.declared.objects.VersionedManifest.{VersionedManifest}
 use Rattle.slate_store.specs.declared.refusals.StoreRefusal.{StoreRefusal}
-use Rattle.slate_store.specs.declared.refusals.StoreRefusal.TheVariants.{CheckpointMissing, LatestTransactionalObjectVersionMissing, InvalidDBState, ObjectStoreError, TransactionalObjectVersionExists, TransactionalObjectTimeout, NoMemory}
-use Rattle.slate_store.specs.Calls.{HasRisen}
+use Rattle.slate_store.specs.declared.refusals.StoreRefusal.TheVariants.{CheckpointMissing, LatestTransactionalObjectVersionMissing, Fenced, InvalidDBState, ObjectStoreError, TransactionalObjectVersionExists, TransactionalObjectTimeout, NoMemory}
 use Rattle.slate_store.specs.Changes.{PartMadeBy, after_part}
 use Rattle.slate_store.specs.Checkpoints.{Plan}
 use Rattle.slate_store.specs.Content.{IsSound, content}
-use Rattle.slate_store.specs.Objects.{ChangeOf, Objects, ObjectsOf, PutManifest, is_present, latest_manifest}
+use Rattle.slate_store.specs.Objects.{ChangeOf, Objects, ObjectsOf, PutManifest, changed, is_present, latest_manifest}
 
 -- the refusals after which a prefix of a call's changes may be made: a fault of the store, an object that is there
 -- already, or want of memory
@@ -24,11 +26,49 @@ PartMade result all made = PartMadeBy leaves_prefix result all made
 -- over any store: a fault is answered only where the count of faults has risen
 pub record CountsFaults {A : Type 0} (faults faults' : ℕ) (result : Result A StoreRefusal) : Type 0 where
   pub count : faults ≤ faults'
-  pub unavailable : result ≡ Err (ObjectStoreError Unavailable) → HasRisen faults faults'
+  pub unavailable : result ≡ Err (ObjectStoreError fault.Unavailable) → HasRisen faults faults'
+
+-- what a refusal by a call of the store is to the call that made it
+abbrev pub refusal_of : StoreError → StoreRefusal
+refusal_of errors.NotFound = ObjectStoreError fault.NotFound
+refusal_of errors.Exists = TransactionalObjectVersionExists
+refusal_of errors.Failed = ObjectStoreError fault.Unavailable
+refusal_of errors.NoMemory = NoMemory
+
+-- over any store: how often a call on checkpoints calls it, twice for each of its tries. A timeout comes after all.
+pub record CountsTries {A : Type 0} (calls calls' : ℕ) (result : Result A StoreRefusal) : Type 0 where
+  pub most : calls' ≤ calls + 16
+  pub timeout : (tries : ℕ) → result ≡ Err (TransactionalObjectTimeout tries) → (tries ≡ 8) × (calls' ≡ min (calls + 16) count_end)
+  pub none_missing : result ≢ Err (ObjectStoreError fault.NotFound)
 
 -- sound objects stay sound, and their content stays
 abbrev pub KeepsContent : Objects → Objects → Type 0
 KeepsContent objects objects' = IsSound objects → IsSound objects' × (content objects' ≡ content objects)
+
+-- What a call answers that makes a plan: what it puts and answers, or why it refuses. Want of memory has no cause.
+abbrev pub GivesPlan : {A : Type 0} → Plan A → Result (Option VersionedManifest × A) StoreRefusal → Type 0
+GivesPlan plan (Ok given) = plan ≡ Ok given
+GivesPlan plan (Err NoMemory) = Unit {0}
+GivesPlan plan (Err refusal) = plan ≡ Err refusal
+
+-- the refusals of a plan
+abbrev pub IsOfPlan : StoreRefusal → Type 0
+IsOfPlan (CheckpointMissing id) = Unit {0}
+IsOfPlan InvalidDBState = Unit {0}
+IsOfPlan NoMemory = Unit {0}
+IsOfPlan refusal = ⊥
+
+-- as much of a call that always has a manifest to put
+abbrev pub GivesNext : {A : Type 0} → Plan A → Result (VersionedManifest × A) StoreRefusal → Type 0
+GivesNext plan (Ok (next, answer)) = plan ≡ Ok (Some next, answer)
+GivesNext plan (Err NoMemory) = Unit {0}
+GivesNext plan (Err refusal) = plan ≡ Err refusal
+
+-- and of one that answers nothing beside it
+abbrev pub GivesManifest : Plan (Unit {0}) → Result VersionedManifest StoreRefusal → Type 0
+GivesManifest plan (Ok next) = plan ≡ Ok (Some next, tt)
+GivesManifest plan (Err NoMemory) = Unit {0}
+GivesManifest plan (Err refusal) = plan ≡ Err refusal
 
 -- the changes of a plan: the manifest that it puts, where it puts one
 abbrev pub planned : {L A : Type 0} → Plan A → List (ChangeOf L)
@@ -57,9 +97,38 @@ CheckpointCause plan objects InvalidDBState = PlanIs plan objects (Err InvalidDB
 CheckpointCause {L} {A} plan objects (TransactionalObjectTimeout tries) =
     (tries ≡ 8) × (next : VersionedManifest) × (answer : A) × PlanIs plan objects (Ok (Some next, answer))
     × (is_present (PutManifest next.id next.manifest) objects ≡ true)
-CheckpointCause plan objects (ObjectStoreError Unavailable) = Unit {0}
+CheckpointCause plan objects (ObjectStoreError fault.Unavailable) = Unit {0}
 CheckpointCause plan objects NoMemory = Unit {0}
 CheckpointCause plan objects refusal = ⊥
+
+-- the latest manifest, or why it wasn't read
+abbrev pub FindsLatest : {L : Type 0} → ObjectsOf L → Result VersionedManifest StoreRefusal → Type 0
+FindsLatest objects (Ok latest) = latest_manifest objects ≡ Some latest
+FindsLatest objects (Err LatestTransactionalObjectVersionMissing) = latest_manifest objects ≡ None
+FindsLatest objects (Err (ObjectStoreError fault.Unavailable)) = Unit {0}
+FindsLatest objects (Err NoMemory) = Unit {0}
+FindsLatest objects (Err refusal) = ⊥
+
+-- What a put of a manifest answers and leaves: true where it was put, false where one is stored under its id.
+abbrev pub PutsManifest : VersionedManifest → Result Bool StoreRefusal → Objects → Objects → Type 0
+PutsManifest next (Ok true) objects objects' = objects' ≡ changed (PutManifest next.id next.manifest) objects
+PutsManifest next (Ok false) objects objects' = (is_present (PutManifest next.id next.manifest) objects ≡ true) × (objects' ≡ objects)
+PutsManifest next (Err (ObjectStoreError fault.Unavailable)) objects objects' =
+    (objects' ≡ objects) ⊎ (objects' ≡ changed (PutManifest next.id next.manifest) objects)
+PutsManifest next (Err NoMemory) objects objects' = objects' ≡ objects
+PutsManifest next (Err refusal) objects objects' = ⊥
+
+-- as much where there may be none to put
+abbrev pub PutsNext : Option VersionedManifest → Result Bool StoreRefusal → Objects → Objects → Type 0
+PutsNext None result objects objects' = (result ≡ Ok true) × (objects' ≡ objects)
+PutsNext (Some next) result objects objects' = PutsManifest next result objects objects'
+
+-- One try of a call on checkpoints, by what the call answers: where the manifest was there already, it is as if it were
+-- the last.
+abbrev pub tried : {A : Type 0} → Result (Option A) StoreRefusal → Result A StoreRefusal
+tried (Ok (Some answer)) = Ok answer
+tried (Ok None) = Err (TransactionalObjectTimeout 8)
+tried (Err refusal) = Err refusal
 
 -- A call on checkpoints does what its plan says, or refuses: its refusal has its cause, and the manifest was put or not.
 pub record FollowsPlan {L A : Type 0} (plan : VersionedManifest → Plan A) (objects : ObjectsOf L) (result : Result A StoreRefusal) (made : ℕ) (objects' : ObjectsOf L) : Type 0 where
@@ -67,3 +136,16 @@ pub record FollowsPlan {L A : Type 0} (plan : VersionedManifest → Plan A) (obj
   pub cause : IfErr result (CheckpointCause plan objects)
   pub part : PartMade result (length (checkpoint_changes plan objects)) made
   pub after : objects' ≡ after_part made (checkpoint_changes plan objects) objects
+
+-- what one try of it answers and leaves
+abbrev pub Tries : {A : Type 0} → (VersionedManifest → Plan A) → Result (Option A) StoreRefusal → Objects → Objects → Type 0
+Tries plan result objects objects' =
+    ((made : ℕ) × FollowsPlan plan objects (tried result) made objects') × (result ≡ Ok None → objects' ≡ objects)
+
+-- the refusals of one try
+abbrev pub IsOfTry : StoreRefusal → Type 0
+IsOfTry Fenced = ⊥
+IsOfTry (ObjectStoreError fault.NotFound) = ⊥
+IsOfTry TransactionalObjectVersionExists = ⊥
+IsOfTry (TransactionalObjectTimeout tries) = ⊥
+IsOfTry refusal = Unit {0}

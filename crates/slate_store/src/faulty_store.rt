@@ -1,7 +1,8 @@
 // Letting calls of a store fail by their numbers, made or not made.
 ghost use Rattle.std.specs.Prelude.{◌≡◌, ◌≤◌, ◌==◌, find};
 
-use crate::{LogFile, Manifest, Store, VersionedManifest};
+use crate::{Listing, LogFile, Manifest, Store, TableId, VersionedManifest};
+use slate_reads::Table;
 use slate_types::{Batch, CallCount, Seq, StoreError};
 use std::alloc::Global;
 use std::marker::Model;
@@ -117,8 +118,8 @@ fn find_call(failing: &[FailingCall], call: u64) -> Option<FailingCall>
 
 impl<S: Store> Store for FaultyStore<S> {
     ghost use Rattle.std.specs.Prelude.{◌≡◌, ◌+◌, IfSome, IfOk, IfErr};
-    ghost use Rattle.slate_store.specs.Objects.{PutManifest, PutLog, latest_manifest, last_log, log_at};
-    ghost use Rattle.slate_store.specs.Calls.{IsCall, WhereModelled, Finds, Puts, IsOfList, IsOfRead, IsOfPut};
+    ghost use Rattle.slate_store.specs.Objects.{PutManifest, PutLog, PutTable, RemoveManifest, RemoveLog, RemoveTable, latest_manifest, last_log, log_at, entry_at, table_at, listing_of};
+    ghost use Rattle.slate_store.specs.Calls.{IsCall, WhereModelled, Finds, Puts, Removes, IsOfList, IsOfRead, IsOfPut};
     ghost use Rattle.slate_store.specs.Faulty.{IsFated};
 
     ghost objects = { λ s. S.objects s.inner };
@@ -143,6 +144,22 @@ impl<S: Store> Store for FaultyStore<S> {
         fate.answer_with(self.inner.latest_manifest(alloc))
     }
 
+    fn read_manifest(&mut self, alloc: Global, id: u64) -> Result<Manifest, StoreError>
+        ensures counts { IsCall (S.faults self.old.inner + self.old.faults)
+            (S.faults self.new.inner + self.new.faults) self.old.calls self.new.calls result }
+        ensures kept { S.objects self.new.inner ≡ S.objects self.old.inner }
+        ensures found { IfSome (S.objects self.old.inner) (λ o. Finds (entry_at id o.manifests) result) }
+        ensures refusals { IfErr result IsOfRead }
+        ensures fated { IsFated self.old self.new
+            (S.calls self.old.inner) (S.calls self.new.inner) result }
+    {
+        let fate = self.fate();
+        if fate == Fate::Lost {
+            return Err(StoreError::Failed);
+        }
+        fate.answer_with(self.inner.read_manifest(alloc, id))
+    }
+
     fn put_manifest(
         &mut self,
         alloc: Global,
@@ -161,6 +178,21 @@ impl<S: Store> Store for FaultyStore<S> {
             return Err(StoreError::Failed);
         }
         fate.answer_with(self.inner.put_manifest(alloc, id, manifest))
+    }
+
+    fn remove_manifest(&mut self, alloc: Global, id: u64) -> Result<(), StoreError>
+        ensures counts { IsCall (S.faults self.old.inner + self.old.faults)
+            (S.faults self.new.inner + self.new.faults) self.old.calls self.new.calls result }
+        ensures removed { WhereModelled (Removes (RemoveManifest id) result) (S.objects self.old.inner) (S.objects self.new.inner) }
+        ensures refusals { IfErr result IsOfList }
+        ensures fated { IsFated self.old self.new
+            (S.calls self.old.inner) (S.calls self.new.inner) result }
+    {
+        let fate = self.fate();
+        if fate == Fate::Lost {
+            return Err(StoreError::Failed);
+        }
+        fate.answer_with(self.inner.remove_manifest(alloc, id))
     }
 
     fn last_log(&mut self, alloc: Global, after: u64) -> Result<u64, StoreError>
@@ -208,5 +240,82 @@ impl<S: Store> Store for FaultyStore<S> {
             return Err(StoreError::Failed);
         }
         fate.answer_with(self.inner.put_log(alloc, id, batches))
+    }
+
+    fn remove_log(&mut self, alloc: Global, id: u64) -> Result<(), StoreError>
+        ensures counts { IsCall (S.faults self.old.inner + self.old.faults)
+            (S.faults self.new.inner + self.new.faults) self.old.calls self.new.calls result }
+        ensures removed { WhereModelled (Removes (RemoveLog id) result) (S.objects self.old.inner) (S.objects self.new.inner) }
+        ensures refusals { IfErr result IsOfList }
+        ensures fated { IsFated self.old self.new
+            (S.calls self.old.inner) (S.calls self.new.inner) result }
+    {
+        let fate = self.fate();
+        if fate == Fate::Lost {
+            return Err(StoreError::Failed);
+        }
+        fate.answer_with(self.inner.remove_log(alloc, id))
+    }
+
+    fn read_table(&mut self, alloc: Global, id: TableId) -> Result<Table, StoreError>
+        ensures counts { IsCall (S.faults self.old.inner + self.old.faults)
+            (S.faults self.new.inner + self.new.faults) self.old.calls self.new.calls result }
+        ensures kept { S.objects self.new.inner ≡ S.objects self.old.inner }
+        ensures found { IfSome (S.objects self.old.inner) (λ o. Finds (table_at id o) result) }
+        ensures refusals { IfErr result IsOfRead }
+        ensures fated { IsFated self.old self.new
+            (S.calls self.old.inner) (S.calls self.new.inner) result }
+    {
+        let fate = self.fate();
+        if fate == Fate::Lost {
+            return Err(StoreError::Failed);
+        }
+        fate.answer_with(self.inner.read_table(alloc, id))
+    }
+
+    fn put_table(&mut self, alloc: Global, id: TableId, table: &Table) -> Result<(), StoreError>
+        ensures counts { IsCall (S.faults self.old.inner + self.old.faults)
+            (S.faults self.new.inner + self.new.faults) self.old.calls self.new.calls result }
+        ensures put { WhereModelled (Puts (PutTable id table.now) result) (S.objects self.old.inner) (S.objects self.new.inner) }
+        ensures refusals { IfErr result IsOfPut }
+        ensures fated { IsFated self.old self.new
+            (S.calls self.old.inner) (S.calls self.new.inner) result }
+    {
+        let fate = self.fate();
+        if fate == Fate::Lost {
+            return Err(StoreError::Failed);
+        }
+        fate.answer_with(self.inner.put_table(alloc, id, table))
+    }
+
+    fn remove_table(&mut self, alloc: Global, id: TableId) -> Result<(), StoreError>
+        ensures counts { IsCall (S.faults self.old.inner + self.old.faults)
+            (S.faults self.new.inner + self.new.faults) self.old.calls self.new.calls result }
+        ensures removed { WhereModelled (Removes (RemoveTable id) result) (S.objects self.old.inner) (S.objects self.new.inner) }
+        ensures refusals { IfErr result IsOfList }
+        ensures fated { IsFated self.old self.new
+            (S.calls self.old.inner) (S.calls self.new.inner) result }
+    {
+        let fate = self.fate();
+        if fate == Fate::Lost {
+            return Err(StoreError::Failed);
+        }
+        fate.answer_with(self.inner.remove_table(alloc, id))
+    }
+
+    fn list(&mut self, alloc: Global) -> Result<Listing, StoreError>
+        ensures counts { IsCall (S.faults self.old.inner + self.old.faults)
+            (S.faults self.new.inner + self.new.faults) self.old.calls self.new.calls result }
+        ensures kept { S.objects self.new.inner ≡ S.objects self.old.inner }
+        ensures found { IfSome (S.objects self.old.inner) (λ o. IfOk result (λ listing. listing ≡ listing_of o)) }
+        ensures refusals { IfErr result IsOfList }
+        ensures fated { IsFated self.old self.new
+            (S.calls self.old.inner) (S.calls self.new.inner) result }
+    {
+        let fate = self.fate();
+        if fate == Fate::Lost {
+            return Err(StoreError::Failed);
+        }
+        fate.answer_with(self.inner.list(alloc))
     }
 }

@@ -1,6 +1,8 @@
 //! The objects of a store, and the store itself: manifests and log files under rising ids.
 #![tactic(auto)]
 
+mod checkpoints;
+mod commits;
 mod faulty_store;
 mod log_files;
 mod memory_store;
@@ -9,6 +11,8 @@ mod reader_modes;
 mod refusals;
 mod stores;
 
+pub use checkpoints::{next_with_checkpoint, next_with_end, next_without_checkpoint};
+pub use commits::{delete_checkpoint, refresh_checkpoint, replace_checkpoint, write_checkpoint};
 pub use faulty_store::{FailingCall, FaultyStore};
 pub use log_files::LogFile;
 pub use memory_store::MemoryStore;

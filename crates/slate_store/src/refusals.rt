@@ -1,5 +1,8 @@
 // Why the calls refuse that make several calls of a store.
-use slate_types::StoreFault;
+ghost use Rattle.std.specs.Prelude.{◌≡◌};
+ghost use Rattle.slate_store.specs.Refusals.{refusal_of};
+
+use slate_types::{StoreError, StoreFault};
 use uuid::Uuid;
 
 /// Why a call on the checkpoints, the tables or all objects of a store refuses.
@@ -21,4 +24,17 @@ pub enum StoreRefusal {
     TransactionalObjectTimeout { tries: u32 },
     /// The memory ran out.
     NoMemory,
+}
+
+impl From<StoreError> for StoreRefusal {
+    ghost from_gives = { λ error refusal. refusal ≡ refusal_of error };
+
+    fn from(error: StoreError) -> StoreRefusal {
+        match error {
+            StoreError::NotFound => StoreRefusal::ObjectStoreError(StoreFault::NotFound),
+            StoreError::Exists => StoreRefusal::TransactionalObjectVersionExists,
+            StoreError::Failed => StoreRefusal::ObjectStoreError(StoreFault::Unavailable),
+            StoreError::NoMemory => StoreRefusal::NoMemory,
+        }
+    }
 }

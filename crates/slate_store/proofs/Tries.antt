@@ -1,0 +1,110 @@
+-- One try of a call on checkpoints, from what it reads and puts.
+use Rattle.std.proofs.Common.{◌≡◌, ◌⊎◌, inl, inr, ℕ, zero, ◌≤◌, List, ◌∷◌, [], length, Option, Some, None, Bool, true, false, Result, Ok, Err, refl, sym, ap, subst, ◌∙◌, arith}
+use Rattle.slate_types.specs.declared.store_errors.StoreFault.TheVariants as fault
+use Rattle.slate_types.specs.Modelled.{WhereModelled}
+use Rattle.slate_types.proofs.Modelled.{modelled_as, modelled_then}
+use Rattle.slate_store.specs.declared.objects.VersionedManifest.{VersionedManifest}
+use Rattle.slate_store.specs.declared.refusals.StoreRefusal.{StoreRefusal}
+use Rattle.slate_store.specs.declared.refusals.StoreRefusal.TheVariants.{CheckpointMissing, LatestTransactionalObjectVersionMissing, Fenced, InvalidDBState, ObjectStoreError, TransactionalObjectVersionExists, TransactionalObjectTimeout, NoMemory}
+use Rattle.slate_store.specs.Checkpoints.{Plan}
+use Rattle.slate_types.specs.declared.batches.Batch.{Batch}
+use Rattle.slate_store.specs.Changes.{after_part}
+use Rattle.slate_store.specs.Objects.{Objects, PutManifest, changed, latest_manifest}
+use Rattle.slate_store.specs.Refusals.{CheckpointCause, FindsLatest, FollowsPlan, GivesPlan, IsOfPlan, PartMade, PutsManifest, PutsNext, Tries, checkpoint_changes, planned, planned_after, tried}
+
+-- what a try answers by whether its manifest was put
+abbrev pub given : {A : Type 0} → A → Result Bool StoreRefusal → Result (Option A) StoreRefusal
+given answer (Ok true) = Ok (Some answer)
+given answer (Ok false) = Ok None
+given answer (Err e) = Err e
+
+none_made : (A : Type 0) (e : StoreRefusal) (n : ℕ) → PartMade {A = A} (Err e) n 0
+none_made A (CheckpointMissing id) n = refl
+none_made A LatestTransactionalObjectVersionMissing n = refl
+none_made A Fenced n = refl
+none_made A InvalidDBState n = refl
+none_made A (ObjectStoreError f) n = omega arith
+none_made A TransactionalObjectVersionExists n = omega arith
+none_made A (TransactionalObjectTimeout tries) n = refl
+none_made A NoMemory n = omega arith
+
+module _ {A : Type 0} (plan : VersionedManifest → Plan A) (o : Objects) where
+  -- nothing was put
+  refused : (e : StoreRefusal) → CheckpointCause plan o e → Tries plan (Err e) o o
+  refused e cause = ((zero, record { answer = tt; cause = cause; part = none_made A e _; after = refl }), λ none. absurd (cc))
+
+  unread : (e : StoreRefusal) → FindsLatest o (Err e) → CheckpointCause plan o e
+  unread LatestTransactionalObjectVersionMissing h = h
+  unread (ObjectStoreError fault.Unavailable) h = tt
+  unread NoMemory h = tt
+  unread e h = absurd h
+
+  unplanned : (e : StoreRefusal) (latest : VersionedManifest) → latest_manifest o ≡ Some latest → GivesPlan (plan latest) (Err e) → IsOfPlan e → CheckpointCause plan o e
+  unplanned (CheckpointMissing id) latest is gives of = (latest, is, gives)
+  unplanned InvalidDBState latest is gives of = (latest, is, gives)
+  unplanned NoMemory latest is gives of = tt
+  unplanned e latest is gives of = absurd of
+
+  -- what a plan puts, and what the call answers by whether it was put
+  module _ (latest : VersionedManifest) (answer : A) (is : latest_manifest o ≡ Some latest) where
+    changes-are : (next : Option VersionedManifest) → plan latest ≡ Ok (next, answer) → checkpoint_changes {L = List Batch} plan o ≡ planned (Ok (next, answer))
+    changes-are next gives = ap (planned_after plan) is ∙ ap planned gives
+
+    nothing_put : (next : Option VersionedManifest) (o' : Objects) → plan latest ≡ Ok (next, answer) → planned {L = List Batch} (Ok (next, answer)) ≡ [] → o' ≡ o → Tries plan (Ok (Some answer)) o o'
+    nothing_put next o' gives none same =
+        (
+          (
+            zero,
+            record {
+              answer = (next, (latest, is, gives));
+              cause = tt;
+              part = sym (ap length (changes-are next gives ∙ none));
+              after = same;
+            }
+          ),
+          λ no. absurd (cc)
+        )
+
+    module _ (next : VersionedManifest) (gives : plan latest ≡ Ok (Some next, answer)) where
+      one : length (checkpoint_changes {L = List Batch} plan o) ≡ 1
+      one = ap length (changes-are (Some next) gives)
+
+      put_one : (o' : Objects) → o' ≡ changed (PutManifest next.id next.manifest) o → o' ≡ after_part 1 (checkpoint_changes plan o) o
+      put_one o' is_put = is_put ∙ ap (λ cs. after_part 1 cs o) (sym (changes-are (Some next) gives))
+
+      put_or_not : (r : Result Bool StoreRefusal) (o' : Objects) → PutsManifest next r o o' → Tries plan (given answer r) o o'
+      put_or_not (Ok true) o' h =
+          (
+            (1, record { answer = (Some next, (latest, is, gives)); cause = tt; part = sym one; after = put_one o' h }),
+            λ no. absurd (cc)
+          )
+      put_or_not (Ok false) o' h =
+          ((zero, record { answer = tt; cause = (refl, next, answer, (latest, is, gives), h.0); part = refl; after = h.1 }), λ none. h.1)
+      put_or_not (Err (ObjectStoreError fault.Unavailable)) o' h =
+          elim h [
+            | inl same ↦ ((zero, record { answer = tt; cause = tt; part = omega arith; after = same }), λ no. absurd (cc))
+            | inr put ↦ ((1, record { answer = tt; cause = tt; part = omega (arith, one); after = put_one o' put }), λ no. absurd (cc))
+          ]
+      put_or_not (Err NoMemory) o' h = ((zero, record { answer = tt; cause = tt; part = omega arith; after = h }), λ no. absurd (cc))
+      put_or_not (Err e) o' h = absurd h
+
+    put_next : (next : Option VersionedManifest) (r : Result Bool StoreRefusal) (o' : Objects) → plan latest ≡ Ok (next, answer) → PutsNext next r o o' → Tries plan (given answer r) o o'
+    put_next None r o' gives h = subst (λ x. Tries plan (given answer x) o o') (sym h.0) (nothing_put None o' gives refl h.1)
+    put_next (Some next) r o' gives h = put_or_not next gives r o' h
+
+-- the three ends of a try, over any store
+module _ {A : Type 0} (plan : VersionedManifest → Plan A) {a b : Option Objects} where
+  pub without_latest : (e : StoreRefusal) → WhereModelled (λ o o'. (o' ≡ o) × FindsLatest o (Err e)) a b → WhereModelled (Tries plan (Err e)) a b
+  without_latest e found =
+      modelled_as (Tries plan (Err e)) found (λ o o' h. subst (λ x. Tries plan (Err e) o x) (sym h.0) (refused plan o e (unread plan o e h.1)))
+
+  module _ (latest : VersionedManifest) (found : WhereModelled (λ o o'. (o' ≡ o) × FindsLatest o (Ok latest)) a b) where
+    pub without_plan : (e : StoreRefusal) → GivesPlan (plan latest) (Err e) → IsOfPlan e → WhereModelled (Tries plan (Err e)) a b
+    without_plan e gives of =
+        modelled_as (Tries plan (Err e)) found
+        (λ o o' h. subst (λ x. Tries plan (Err e) o x) (sym h.0) (refused plan o e (unplanned plan o e latest h.1 gives of)))
+
+    pub with_plan : {c : Option Objects} (next : Option VersionedManifest) (answer : A) (r : Result Bool StoreRefusal) → plan latest ≡ Ok (next, answer) → WhereModelled (PutsNext next r) b c → WhereModelled (Tries plan (given answer r)) a c
+    with_plan next answer r gives puts =
+        modelled_then (Tries plan (given answer r)) found puts
+        (λ o o' o2 h put. put_next plan o latest answer h.1 next r o2 gives (subst (λ x. PutsNext next r x o2) h.0 put))

@@ -1,0 +1,270 @@
+// The calls that commit a manifest with other checkpoints.
+ghost use Rattle.std.specs.Prelude.{◌≡◌, ◌+◌, ◌≤◌, ℕ, false, IfErr, Ok, Err, Some, None};
+ghost use Rattle.slate_types.specs.Counts.{one_more};
+ghost use Rattle.slate_store.specs.Calls.{WhereModelled};
+ghost use Rattle.slate_store.specs.Checkpoints.{to_delete, to_refresh, to_write};
+ghost use Rattle.slate_store.specs.Refusals.{CountsFaults, CountsTries, FindsLatest, FollowsPlan, IsOfTry, PutsNext, Tries};
+
+use crate::checkpoints::{find, next_with_checkpoint, next_with_end, next_without_checkpoint};
+use crate::{Checkpoint, Store, StoreRefusal, VersionedManifest};
+use slate_types::StoreError;
+use std::alloc::Global;
+use uuid::Uuid;
+
+// How often a call reads the latest manifest and puts the next one, where others put theirs first.
+const TRIES: u32 = 8;
+
+/// Commits a new checkpoint of what is stored: a manifest that keeps itself, with its tables and its log files, until the
+/// lease ends. It answers the checkpoint. SlateDB's `create_checkpoint`.
+///
+/// The lease begins at `moment` and lasts `lifetime` milliseconds, to the greatest moment at most; without a lifetime it
+/// has no end. It answers `LatestTransactionalObjectVersionMissing` where no manifest is stored, `InvalidDBState` where
+/// the latest one's id is the greatest `u64`, and `TransactionalObjectTimeout` where eight times another manifest was put
+/// first; then nothing was put. `ObjectStoreError` comes where a call of the store failed, and then the manifest may have
+/// been put. It calls the store twice for each try, and takes time linear in the manifest.
+pub fn write_checkpoint<S: Store>(
+    alloc: Global,
+    store: &mut S,
+    lifetime: Option<u64>,
+    moment: i64,
+) -> Result<Checkpoint, StoreRefusal>
+    ensures follows { WhereModelled (λ o o'. (made : ℕ) × FollowsPlan (to_write None lifetime moment) o result made o') (S.objects store.old) (S.objects store.new) }
+    ensures faults { CountsFaults (S.faults store.old) (S.faults store.new) result }
+    ensures tries { CountsTries (S.calls store.old) (S.calls store.new) result }
+{
+    let creation = Creation {
+        replaced: None,
+        lifetime,
+        moment,
+    };
+    commit(alloc, store, &creation)
+}
+
+/// Commits a new checkpoint as `write_checkpoint` does, with a lease of `lifetime` milliseconds, and takes the old one
+/// out in the same manifest, where it is there. It answers, and costs, what `write_checkpoint` does.
+pub fn replace_checkpoint<S: Store>(
+    alloc: Global,
+    store: &mut S,
+    old: Uuid,
+    lifetime: u64,
+    moment: i64,
+) -> Result<Checkpoint, StoreRefusal>
+    ensures follows { WhereModelled (λ o o'. (made : ℕ) × FollowsPlan (to_write (Some old) (Some lifetime) moment) o result made o') (S.objects store.old) (S.objects store.new) }
+    ensures faults { CountsFaults (S.faults store.old) (S.faults store.new) result }
+    ensures tries { CountsTries (S.calls store.old) (S.calls store.new) result }
+{
+    let creation = Creation {
+        replaced: Some(old),
+        lifetime: Some(lifetime),
+        moment,
+    };
+    commit(alloc, store, &creation)
+}
+
+/// Lets the lease of a checkpoint end `lifetime` milliseconds after `moment`, at the greatest moment at most, and leaves
+/// all else of it. It answers the checkpoint as it is then. SlateDB's `refresh_checkpoint`.
+///
+/// It answers `CheckpointMissing` where the latest manifest has no checkpoint with this id, and nothing was put then;
+/// else it answers, and costs, what `write_checkpoint` does.
+pub fn refresh_checkpoint<S: Store>(
+    alloc: Global,
+    store: &mut S,
+    id: Uuid,
+    lifetime: u64,
+    moment: i64,
+) -> Result<Checkpoint, StoreRefusal>
+    ensures follows { WhereModelled (λ o o'. (made : ℕ) × FollowsPlan (to_refresh id lifetime moment) o result made o') (S.objects store.old) (S.objects store.new) }
+    ensures faults { CountsFaults (S.faults store.old) (S.faults store.new) result }
+    ensures tries { CountsTries (S.calls store.old) (S.calls store.new) result }
+{
+    let renewal = Renewal {
+        id,
+        lifetime,
+        moment,
+    };
+    commit(alloc, store, &renewal)
+}
+
+/// Takes a checkpoint out of the latest manifest. Where it isn't there the answer is Ok too, and nothing is put.
+/// SlateDB's `delete_checkpoint`. It answers, and costs, what `write_checkpoint` does.
+pub fn delete_checkpoint<S: Store>(
+    alloc: Global,
+    store: &mut S,
+    id: Uuid,
+) -> Result<(), StoreRefusal>
+    ensures follows { WhereModelled (λ o o'. (made : ℕ) × FollowsPlan (to_delete id) o result made o') (S.objects store.old) (S.objects store.new) }
+    ensures faults { CountsFaults (S.faults store.old) (S.faults store.new) result }
+    ensures tries { CountsTries (S.calls store.old) (S.calls store.new) result }
+{
+    commit(alloc, store, &Deletion { id })
+}
+
+/// What a call does to the checkpoints of the latest manifest.
+trait Change {
+    type Answer;
+
+    ghost use Rattle.slate_store.specs.declared.objects.VersionedManifest.{VersionedManifest as AnyManifest};
+    ghost use Rattle.slate_store.specs.Checkpoints.{Plan};
+    ghost use Rattle.slate_store.specs.Refusals.{GivesPlan, IsOfPlan};
+
+    ghost plan: { Self → AnyManifest → Plan Self.Answer };
+
+    /// The manifest to be put after the latest one, where one is, and what the call answers then.
+    fn next(
+        &self,
+        alloc: Global,
+        latest: &VersionedManifest,
+    ) -> Result<(Option<VersionedManifest>, Self::Answer), StoreRefusal>
+        ensures plan { GivesPlan (plan self.now latest.now) result }
+        ensures refusals { IfErr result IsOfPlan };
+}
+
+/// A new checkpoint, in place of another or beside all.
+#[derive(Drop)]
+struct Creation {
+    replaced: Option<Uuid>,
+    lifetime: Option<u64>,
+    moment: i64,
+}
+
+impl Change for Creation {
+    type Answer = Checkpoint;
+
+    ghost plan = { λ c. to_write c.replaced c.lifetime c.moment };
+
+    fn next(
+        &self,
+        alloc: Global,
+        latest: &VersionedManifest,
+    ) -> Result<(Option<VersionedManifest>, Checkpoint), StoreRefusal> {
+        let (next, checkpoint) =
+            next_with_checkpoint(alloc, latest, self.replaced, self.lifetime, self.moment)?;
+        Ok((Some(next), checkpoint))
+    }
+}
+
+/// A checkpoint whose lease begins anew.
+#[derive(Drop)]
+struct Renewal {
+    id: Uuid,
+    lifetime: u64,
+    moment: i64,
+}
+
+impl Change for Renewal {
+    type Answer = Checkpoint;
+
+    ghost plan = { λ r. to_refresh r.id r.lifetime r.moment };
+
+    fn next(
+        &self,
+        alloc: Global,
+        latest: &VersionedManifest,
+    ) -> Result<(Option<VersionedManifest>, Checkpoint), StoreRefusal> {
+        let (next, checkpoint) = next_with_end(alloc, latest, self.id, self.lifetime, self.moment)?;
+        Ok((Some(next), checkpoint))
+    }
+}
+
+/// A checkpoint that is taken out, where it is there.
+#[derive(Drop)]
+struct Deletion {
+    id: Uuid,
+}
+
+impl Change for Deletion {
+    type Answer = ();
+
+    ghost plan = { λ d. to_delete d.id };
+
+    fn next(
+        &self,
+        alloc: Global,
+        latest: &VersionedManifest,
+    ) -> Result<(Option<VersionedManifest>, ()), StoreRefusal> {
+        if find(latest, self.id).is_none() {
+            return Ok((None, ()));
+        }
+        Ok((Some(next_without_checkpoint(alloc, latest, self.id)?), ()))
+    }
+}
+
+/// The latest manifest.
+fn latest_of<S: Store>(alloc: Global, store: &mut S) -> Result<VersionedManifest, StoreRefusal>
+    ensures found { WhereModelled (λ o o'. (o' ≡ o) × FindsLatest o result) (S.objects store.old) (S.objects store.new) }
+    ensures faults { CountsFaults (S.faults store.old) (S.faults store.new) result }
+    ensures calls { S.calls store.new ≡ one_more (S.calls store.old) }
+    ensures refusals { IfErr result IsOfTry }
+{
+    match store.latest_manifest(alloc) {
+        Ok(Some(latest)) => Ok(latest),
+        Ok(None) => Err(StoreRefusal::LatestTransactionalObjectVersionMissing),
+        Err(error) => Err(StoreRefusal::from(error)),
+    }
+}
+
+/// Puts a manifest, where there is one, and answers whether it did: where one is stored under its id, it didn't.
+fn put_next<S: Store>(
+    alloc: Global,
+    store: &mut S,
+    next: Option<VersionedManifest>,
+) -> Result<bool, StoreRefusal>
+    ensures puts { WhereModelled (PutsNext next result) (S.objects store.old) (S.objects store.new) }
+    ensures faults { CountsFaults (S.faults store.old) (S.faults store.new) result }
+    ensures calls { S.calls store.new ≤ S.calls store.old + 1 }
+    ensures again { result ≡ Ok false → S.calls store.new ≡ one_more (S.calls store.old) }
+    ensures refusals { IfErr result IsOfTry }
+{
+    let Some(next) = next else {
+        return Ok(true);
+    };
+    match store.put_manifest(alloc, next.id, &next.manifest) {
+        Ok(()) => Ok(true),
+        Err(StoreError::Exists) => Ok(false),
+        Err(error) => Err(StoreRefusal::from(error)),
+    }
+}
+
+/// Reads the latest manifest and puts the one that follows it by a change. It answers None where a manifest is stored
+/// already under that one's id.
+fn attempt<S: Store, C: Change>(
+    alloc: Global,
+    store: &mut S,
+    change: &C,
+) -> Result<Option<C::Answer>, StoreRefusal>
+where
+    C::Answer: Drop,
+    ensures follows { WhereModelled (Tries (C.plan change.now) result) (S.objects store.old) (S.objects store.new) }
+    ensures faults { CountsFaults (S.faults store.old) (S.faults store.new) result }
+    ensures calls { S.calls store.new ≤ S.calls store.old + 2 }
+    ensures again { result ≡ Ok None → S.calls store.new ≡ one_more (one_more (S.calls store.old)) }
+    ensures refusals { IfErr result IsOfTry }
+{
+    let latest = latest_of(alloc, store)?;
+    let (next, answer) = change.next(alloc, &latest)?;
+    if put_next(alloc, store, next)? {
+        Ok(Some(answer))
+    } else {
+        Ok(None)
+    }
+}
+
+/// Commits a change, in as many tries as there are.
+fn commit<S: Store, C: Change>(
+    alloc: Global,
+    store: &mut S,
+    change: &C,
+) -> Result<C::Answer, StoreRefusal>
+where
+    C::Answer: Drop,
+    ensures follows { WhereModelled (λ o o'. (made : ℕ) × FollowsPlan (C.plan change.now) o result made o') (S.objects store.old) (S.objects store.new) }
+    ensures faults { CountsFaults (S.faults store.old) (S.faults store.new) result }
+    ensures tries { CountsTries (S.calls store.old) (S.calls store.new) result }
+{
+    for earlier in 0..TRIES {
+        if let Some(answer) = attempt(alloc, store, change)? {
+            return Ok(answer);
+        }
+    }
+    Err(StoreRefusal::TransactionalObjectTimeout { tries: TRIES })
+}

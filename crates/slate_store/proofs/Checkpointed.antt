@@ -8,11 +8,12 @@ use Rattle.slate_store.specs.Changes.{after_part}
 use Rattle.slate_store.specs.Checkpoints.{Plan, found, has_id, lease_end, new_checkpoint, puts_next, refreshed, to_delete, to_end, to_refresh, to_take_out, to_write, with_checkpoints, without_id}
 use Rattle.slate_store.specs.Content.{IsSound, content, content_by}
 use Rattle.slate_store.specs.Objects.{Objects, PutManifest, changed, latest_manifest}
-use Rattle.slate_store.specs.Refusals.{KeepsContent, checkpoint_changes, planned, planned_after}
+use Rattle.slate_store.specs.Refusals.{FollowsPlan, KeepsContent, checkpoint_changes, planned, planned_after}
 use Rattle.slate_store.specs.declared.objects.Checkpoint.{Checkpoint}
 use Rattle.slate_store.specs.declared.objects.VersionedManifest.{VersionedManifest}
 use Rattle.slate_store.specs.declared.refusals.StoreRefusal.TheVariants.{InvalidDBState}
-use Rattle.std.proofs.Common.{◌++◌, ◌+◌, ◌∙◌, ◌∷◌, ◌≡◌, ◌≤◌, [], Bool, Err, List, None, Ok, Option, Some, ap, arith, cond, false, inl, inr, map, not, refl, subst, sym, true, ℕ}
+use Rattle.slate_store.specs.declared.refusals.StoreRefusal.{StoreRefusal}
+use Rattle.std.proofs.Common.{◌++◌, ◌+◌, ◌∙◌, ◌∷◌, ◌≡◌, ◌≤◌, [], Bool, Err, List, None, Ok, Option, Result, Some, ap, arith, cond, false, inl, inr, map, not, refl, subst, sym, true, ℕ}
 use Rattle.std.proofs.lemmas.Bool.{ne_eqb, or_from}
 use Rattle.std.proofs.lemmas.Cmp.{nat_eq_equiv}
 use Rattle.std.proofs.lemmas.List.Elements.{All-filter, All-head, All-map, All-push, All-tail, All-weaker}
@@ -154,3 +155,14 @@ refresh-keeps id lifetime moment made o = plan-keeps (to_refresh id lifetime mom
 
 pub delete-keeps : (id : List ℕ) (made : ℕ) (o : Objects) → KeepsContent o (after_part made (checkpoint_changes (to_delete id) o) o)
 delete-keeps id made o = plan-keeps (to_delete id) made o (λ latest sound is. take_out o latest sound is id (found id latest))
+
+-- ---- and so do the calls that follow them
+module _ {o o' : Objects} {made : ℕ} where
+  pub writes-keep : {result : Result Checkpoint StoreRefusal} (replaced : Option (List ℕ)) (lifetime : Option ℕ) (moment : ℤ) → FollowsPlan (to_write replaced lifetime moment) o result made o' → KeepsContent o o'
+  writes-keep replaced lifetime moment follows = subst (KeepsContent o) (sym follows.after) (write-keeps replaced lifetime moment made o)
+
+  pub refreshes-keep : {result : Result Checkpoint StoreRefusal} (id : List ℕ) (lifetime : ℕ) (moment : ℤ) → FollowsPlan (to_refresh id lifetime moment) o result made o' → KeepsContent o o'
+  refreshes-keep id lifetime moment follows = subst (KeepsContent o) (sym follows.after) (refresh-keeps id lifetime moment made o)
+
+  pub deletes-keep : {result : Result (Unit {0}) StoreRefusal} (id : List ℕ) → FollowsPlan (to_delete id) o result made o' → KeepsContent o o'
+  deletes-keep id follows = subst (KeepsContent o) (sym follows.after) (delete-keeps id made o)

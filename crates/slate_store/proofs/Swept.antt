@@ -7,10 +7,11 @@ use Rattle.slate_store.specs.Checkpoints.{is_expired, with_checkpoints}
 use Rattle.slate_store.specs.Content.{IsSound, content, content_by}
 use Rattle.slate_store.specs.Objects.{Objects, PutManifest, RemoveLog, RemoveManifest, RemoveTable, changed, changed_all, latest_manifest}
 use Rattle.slate_store.specs.Refusals.{KeepsContent}
-use Rattle.slate_store.specs.Sweeps.{has_expired, keeps_log, keeps_manifest, keeps_table, protecting, removals, sweep_changes, sweep_changes_by}
+use Rattle.slate_store.specs.Sweeps.{Sweeps, has_expired, keeps_log, keeps_manifest, keeps_table, protecting, removals, sweep_changes, sweep_changes_by}
 use Rattle.slate_store.specs.declared.objects.Checkpoint.{Checkpoint}
 use Rattle.slate_store.specs.declared.objects.VersionedManifest.{VersionedManifest}
-use Rattle.std.proofs.Common.{◌++◌, ◌∙◌, ◌∷◌, ◌≡◌, [], Bool, List, None, Option, Some, ap, cond, false, map, not, refl, subst, sym, true, ℕ}
+use Rattle.slate_store.specs.declared.refusals.StoreRefusal.{StoreRefusal}
+use Rattle.std.proofs.Common.{◌++◌, ◌∙◌, ◌∷◌, ◌≡◌, [], Bool, List, None, Option, Result, Some, ap, cond, false, map, not, refl, subst, sym, true, ℕ}
 use Rattle.std.proofs.lemmas.Bool.{not-true}
 use Rattle.std.proofs.lemmas.List.Elements.{All-append, All-map, All-weaker, filter_passes}
 use Rattle.std.specs.List.{All, filter}
@@ -61,3 +62,6 @@ sweep-keeps moment made o sound = by (latest_manifest o) refl where
   by : (found : Option VersionedManifest) → latest_manifest o ≡ found → let cs = sweep_changes_by moment o found in IsSound (after_part made cs o) × (content (after_part made cs o) ≡ content o)
   by None is = let P : Objects → Type 0 = λ o'. IsSound o' × (content o' ≡ content o) in subst P (sym (part-none made o)) (sound, refl)
   by (Some latest) is = swept-keeps moment made o latest sound is (has_expired moment latest)
+
+pub sweeps-keep : {moment : ℤ} {made : ℕ} {o o' : Objects} {result : Result ℕ StoreRefusal} → Sweeps moment o result made o' → KeepsContent o o'
+sweeps-keep {moment} {made} {o} sweeps = subst (KeepsContent o) (sym sweeps.after) (sweep-keeps moment made o)

@@ -6,12 +6,13 @@ use Rattle.std.proofs.Common.{◌++◌, ◌-◌, ◌<◌, ◌∙◌, ◌∷◌, 
 use Rattle.std.proofs.Math.Seq.{get_or-append_seam}
 use Rattle.std.proofs.lemmas.Bool.{cases_order, eqb-true}
 use Rattle.std.proofs.lemmas.Cmp.{alike_right, nat_cmp_total, on_total, then_total, tied_itself}
+use Rattle.std.proofs.lemmas.List.Elements.{All-cons, All-nil}
 use Rattle.std.proofs.lemmas.Map.Entries.{lookup-filter-keys}
 use Rattle.std.proofs.lemmas.Option.{slice_get-get_or}
 use Rattle.std.specs.BTreeMap.{insert_entry, is_at}
 use Rattle.std.specs.Cmp.{IsTotalOrder, nat_cmp_is, unsigned_ties}
 use Rattle.std.specs.List.Sorted.{IsStrictlySortedBy}
-use Rattle.std.specs.List.{AllByRecursion, filter, slice_get}
+use Rattle.std.specs.List.{All, AllByRecursion, IsDistinct, filter, slice_get}
 use Rattle.std.specs.Map.{keys_of, lookup}
 use Rattle.std.specs.Ordering.{is_eq, match_ordering, nat_cmp, ordering_reverse, ordering_then}
 use Rattle.std.specs.declared.cmp.Ordering.TheVariants.{Equal, Greater, Less}
@@ -65,29 +66,49 @@ tied Less h = absurd (cc)
 tied Equal h = refl
 tied Greater h = absurd (cc)
 
--- what passes of each key of a filter of entries
-all-filter : {K X : Type 0} (P : K → Type 0) (test : K × X → Bool) (es : List (K × X)) → AllByRecursion P (keys_of es) → AllByRecursion P (keys_of (filter test es))
-all-filter P test [] all = tt
-all-filter {K} {X} P test (e ∷ es) all = elim (test e) as (λ t. AllByRecursion P (keys_of (cond t (e ∷ filter test es) (filter test es)))) [
-  | true ↦ (all.0, all-filter P test es all.1)
-  | false ↦ all-filter P test es all.1
+module _ {X K : Type 0} (key : X → K) (test : X → Bool) where
+  -- what passes of each key passes of those that a filter leaves
+  all-filter : (P : K → Type 0) (xs : List X) → AllByRecursion P (map key xs) → AllByRecursion P (map key (filter test xs))
+  all-filter P [] all = tt
+  all-filter P (x ∷ xs) all = elim (test x) as (λ t. AllByRecursion P (map key (cond t (x ∷ filter test xs) (filter test xs)))) [
+    | true ↦ (all.0, all-filter P xs all.1)
+    | false ↦ all-filter P xs all.1
+  ]
+
+  -- keys in order stay so in a filter
+  pub sorted-filter : (cmp : K → K → Ordering) (xs : List X) → IsStrictlySortedBy cmp (map key xs) → IsStrictlySortedBy cmp (map key (filter test xs))
+  unfolding IsStrictlySortedBy
+  sorted-filter cmp [] sorted = tt
+  sorted-filter cmp (x ∷ xs) sorted = elim (test x) as (λ t. IsStrictlySortedBy cmp (map key (cond t (x ∷ filter test xs) (filter test xs)))) [
+    | true ↦ (all-filter (λ y. cmp (key x) y ≡ Less) xs sorted.0, sorted-filter cmp xs sorted.1)
+    | false ↦ sorted-filter cmp xs sorted.1
+  ]
+
+  -- and keys that differ do
+  pub distinct-filter : (eq : K → K → Bool) (xs : List X) → IsDistinct eq (map key xs) → IsDistinct eq (map key (filter test xs))
+  unfolding IsDistinct
+  distinct-filter eq [] differ = tt
+  distinct-filter eq (x ∷ xs) differ = elim (test x) as (λ t. IsDistinct eq (map key (cond t (x ∷ filter test xs) (filter test xs)))) [
+    | true ↦ (all-filter (λ y. eq (key x) y ≡ false) xs differ.0, distinct-filter eq xs differ.1)
+    | false ↦ distinct-filter eq xs differ.1
+  ]
+
+pub rising-filter : {X : Type 0} (key : X → ℕ) (test : X → Bool) (xs : List X) → AreRising (map key xs) → AreRising (map key (filter test xs))
+rising-filter key test [] rising = tt
+rising-filter key test (x ∷ xs) rising = elim (test x) as (λ t. AreRising (map key (cond t (x ∷ filter test xs) (filter test xs)))) [
+  | true ↦ (all-filter key test (λ later. key x < later) xs rising.0, rising-filter key test xs rising.1)
+  | false ↦ rising-filter key test xs rising.1
 ]
 
--- keys in order stay so in a filter
-pub sorted-filter : {K X : Type 0} (cmp : K → K → Ordering) (test : K × X → Bool) (es : List (K × X)) → IsStrictlySortedBy cmp (keys_of es) → IsStrictlySortedBy cmp (keys_of (filter test es))
-unfolding IsStrictlySortedBy
-sorted-filter cmp test [] sorted = tt
-sorted-filter {K} {X} cmp test (e ∷ es) sorted = elim (test e) as (λ t. IsStrictlySortedBy cmp (keys_of (cond t (e ∷ filter test es) (filter test es)))) [
-  | true ↦ (all-filter (λ y. cmp e.0 y ≡ Less) test es sorted.0, sorted-filter cmp test es sorted.1)
-  | false ↦ sorted-filter cmp test es sorted.1
-]
+-- a filter that all pass
+pub filter-all : {X : Type 0} (xs : List X) → filter (λ _. true) xs ≡ xs
+filter-all [] = refl
+filter-all (x ∷ xs) = ap (λ rest. x ∷ rest) (filter-all xs)
 
-pub rising-filter : {X : Type 0} (test : ℕ × X → Bool) (es : List (ℕ × X)) → AreRising (map (λ e. e.0) es) → AreRising (map (λ e. e.0) (filter test es))
-rising-filter test [] rising = tt
-rising-filter {X} test (e ∷ es) rising = elim (test e) as (λ t. AreRising (map (λ e. e.0) (cond t (e ∷ filter test es) (filter test es)))) [
-  | true ↦ (all-filter (λ later. e.0 < later) test es rising.0, rising-filter test es rising.1)
-  | false ↦ rising-filter test es rising.1
-]
+-- what passes of each key of entries passes of each entry's key
+pub all-from_keys : {K X : Type 0} (P : K → Type 0) (es : List (K × X)) → AllByRecursion P (keys_of es) → All (λ e. P e.0) es
+all-from_keys P [] all = All-nil (λ e. P e.0)
+all-from_keys P (e ∷ es) all = All-cons (λ e. P e.0) e es all.0 (all-from_keys P es all.1)
 
 module _ {K : Type 0} {cmp : K → K → Ordering} (total : IsTotalOrder cmp) where
   -- under another key than the one that is put stands what stood there
@@ -114,7 +135,8 @@ module _ {K : Type 0} {cmp : K → K → Ordering} (total : IsTotalOrder cmp) wh
       lookup-filter-keys (is_at (cmp q)) (λ key. not (is_at (cmp k) key)) true
       (λ key same. ap not (ap is_eq (sym (alike_right total q key k (tied (cmp q key) same))) ∙ apart)) es
 
-  all-insert : {X : Type 0} (P : K → Type 0) (k : K) (v : X) (es : List (K × X)) → AllByRecursion P (keys_of es) → P k → AllByRecursion P (keys_of (insert_entry cmp es k v))
+  -- what passes of each key and of the one that is put passes of each after the put
+  pub all-insert : {X : Type 0} (P : K → Type 0) (k : K) (v : X) (es : List (K × X)) → AllByRecursion P (keys_of es) → P k → AllByRecursion P (keys_of (insert_entry cmp es k v))
   all-insert P k v [] all new = (new, tt)
   all-insert {X} P k v (e ∷ es) all new = elim (cmp k e.0) as (λ r. AllByRecursion P (keys_of (match_ordering r ((k, v) ∷ e ∷ es) ((e.0, v) ∷ es) (e ∷ insert_entry cmp es k v)))) [
     | Less ↦ (new, all)

@@ -116,7 +116,8 @@ table-keeps o m id bs has free =
       logs = λ q over below. refl;
     }
 
-not-any : {X : Type 0} (test : X → Bool) (xs : List X) → list_any test xs ≡ false → All (λ x. test x ≡ false) xs
+-- where a test passes none of a list, it fails at each
+pub not-any : {X : Type 0} (test : X → Bool) (xs : List X) → list_any test xs ≡ false → All (λ x. test x ≡ false) xs
 not-any test [] none = All-nil (λ x. test x ≡ false)
 not-any test (x ∷ xs) none = let both = or_parts (test x) (list_any test xs) none in All-cons (λ x. test x ≡ false) x xs both.0 (not-any test xs both.1)
 

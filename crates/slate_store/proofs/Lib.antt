@@ -10,3 +10,10 @@ pub mod Kept
 pub mod Latest
 pub mod Committed
 pub mod Logged
+pub mod Spared
+pub mod Removed
+pub mod Parts
+pub mod Checkpointed
+pub mod Compacted
+pub mod Swept
+pub mod Leaves

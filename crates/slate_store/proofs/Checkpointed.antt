@@ -8,11 +8,14 @@ use Rattle.slate_store.specs.Changes.{after_part}
 use Rattle.slate_store.specs.Checkpoints.{Plan, found, has_id, lease_end, new_checkpoint, puts_next, refreshed, to_delete, to_end, to_refresh, to_take_out, to_write, with_checkpoints, without_id}
 use Rattle.slate_store.specs.Content.{IsSound, content, content_by}
 use Rattle.slate_store.specs.Objects.{Objects, PutManifest, changed, latest_manifest}
-use Rattle.slate_store.specs.Refusals.{KeepsContent, checkpoint_changes, planned, planned_after}
+use Rattle.slate_store.specs.Refusals.{FollowsPlan, KeepsContent, checkpoint_changes, planned, planned_after}
+use Rattle.slate_types.specs.Modelled.{WhereModelled}
+use Rattle.slate_types.proofs.Modelled.{modelled_as}
 use Rattle.slate_store.specs.declared.objects.Checkpoint.{Checkpoint}
 use Rattle.slate_store.specs.declared.objects.VersionedManifest.{VersionedManifest}
+use Rattle.slate_store.specs.declared.refusals.StoreRefusal.{StoreRefusal}
 use Rattle.slate_store.specs.declared.refusals.StoreRefusal.TheVariants.{InvalidDBState}
-use Rattle.std.proofs.Common.{◌++◌, ◌+◌, ◌∙◌, ◌∷◌, ◌≡◌, ◌≤◌, [], Bool, Err, List, None, Ok, Option, Some, ap, arith, cond, false, inl, inr, map, not, refl, subst, sym, true, ℕ}
+use Rattle.std.proofs.Common.{◌++◌, ◌+◌, ◌∙◌, ◌∷◌, ◌≡◌, ◌≤◌, [], Bool, Err, List, None, Ok, Option, Result, Some, ap, arith, cond, false, inl, inr, map, not, refl, subst, sym, true, ℕ}
 use Rattle.std.proofs.lemmas.Bool.{ne_eqb, or_from}
 use Rattle.std.proofs.lemmas.Cmp.{nat_eq_equiv}
 use Rattle.std.proofs.lemmas.List.Elements.{All-filter, All-head, All-map, All-push, All-tail, All-weaker}
@@ -154,3 +157,7 @@ refresh-keeps id lifetime moment made o = plan-keeps (to_refresh id lifetime mom
 
 pub delete-keeps : (id : List ℕ) (made : ℕ) (o : Objects) → KeepsContent o (after_part made (checkpoint_changes (to_delete id) o) o)
 delete-keeps id made o = plan-keeps (to_delete id) made o (λ latest sound is. take_out o latest sound is id (found id latest))
+
+-- what a call on checkpoints left keeps them sound, over a store that is modelled
+pub followed-keeps : {A : Type 0} (plan : VersionedManifest → Plan A) {r : Result A StoreRefusal} {a b : Option Objects} → ((made : ℕ) (o : Objects) → KeepsContent o (after_part made (checkpoint_changes plan o) o)) → WhereModelled (λ o o'. (made : ℕ) × FollowsPlan plan o r made o') a b → WhereModelled KeepsContent a b
+followed-keeps plan keeps follows = modelled_as KeepsContent follows (λ o o' f. subst (KeepsContent o) (sym f.1.after) (keeps f.0 o))

@@ -9,10 +9,12 @@ use Rattle.slate_store.specs.Checkpoints.{Plan, found, has_id, lease_end, new_ch
 use Rattle.slate_store.specs.Content.{IsSound, content, content_by}
 use Rattle.slate_store.specs.Objects.{Objects, PutManifest, changed, latest_manifest}
 use Rattle.slate_store.specs.Refusals.{FollowsPlan, KeepsContent, checkpoint_changes, planned, planned_after}
+use Rattle.slate_types.specs.Modelled.{WhereModelled}
+use Rattle.slate_types.proofs.Modelled.{modelled_as}
 use Rattle.slate_store.specs.declared.objects.Checkpoint.{Checkpoint}
 use Rattle.slate_store.specs.declared.objects.VersionedManifest.{VersionedManifest}
-use Rattle.slate_store.specs.declared.refusals.StoreRefusal.TheVariants.{InvalidDBState}
 use Rattle.slate_store.specs.declared.refusals.StoreRefusal.{StoreRefusal}
+use Rattle.slate_store.specs.declared.refusals.StoreRefusal.TheVariants.{InvalidDBState}
 use Rattle.std.proofs.Common.{◌++◌, ◌+◌, ◌∙◌, ◌∷◌, ◌≡◌, ◌≤◌, [], Bool, Err, List, None, Ok, Option, Result, Some, ap, arith, cond, false, inl, inr, map, not, refl, subst, sym, true, ℕ}
 use Rattle.std.proofs.lemmas.Bool.{ne_eqb, or_from}
 use Rattle.std.proofs.lemmas.Cmp.{nat_eq_equiv}
@@ -156,13 +158,6 @@ refresh-keeps id lifetime moment made o = plan-keeps (to_refresh id lifetime mom
 pub delete-keeps : (id : List ℕ) (made : ℕ) (o : Objects) → KeepsContent o (after_part made (checkpoint_changes (to_delete id) o) o)
 delete-keeps id made o = plan-keeps (to_delete id) made o (λ latest sound is. take_out o latest sound is id (found id latest))
 
--- ---- and so do the calls that follow them
-module _ {o o' : Objects} {made : ℕ} where
-  pub writes-keep : {result : Result Checkpoint StoreRefusal} (replaced : Option (List ℕ)) (lifetime : Option ℕ) (moment : ℤ) → FollowsPlan (to_write replaced lifetime moment) o result made o' → KeepsContent o o'
-  writes-keep replaced lifetime moment follows = subst (KeepsContent o) (sym follows.after) (write-keeps replaced lifetime moment made o)
-
-  pub refreshes-keep : {result : Result Checkpoint StoreRefusal} (id : List ℕ) (lifetime : ℕ) (moment : ℤ) → FollowsPlan (to_refresh id lifetime moment) o result made o' → KeepsContent o o'
-  refreshes-keep id lifetime moment follows = subst (KeepsContent o) (sym follows.after) (refresh-keeps id lifetime moment made o)
-
-  pub deletes-keep : {result : Result (Unit {0}) StoreRefusal} (id : List ℕ) → FollowsPlan (to_delete id) o result made o' → KeepsContent o o'
-  deletes-keep id follows = subst (KeepsContent o) (sym follows.after) (delete-keeps id made o)
+-- what a call on checkpoints left keeps them sound, over a store that is modelled
+pub followed-keeps : {A : Type 0} (plan : VersionedManifest → Plan A) {r : Result A StoreRefusal} {a b : Option Objects} → ((made : ℕ) (o : Objects) → KeepsContent o (after_part made (checkpoint_changes plan o) o)) → WhereModelled (λ o o'. (made : ℕ) × FollowsPlan plan o r made o') a b → WhereModelled KeepsContent a b
+followed-keeps plan keeps follows = modelled_as KeepsContent follows (λ o o' f. subst (KeepsContent o) (sym f.1.after) (keeps f.0 o))

@@ -3,7 +3,7 @@ ghost use Rattle.std.specs.Prelude.{◌≡◌, ◌+◌, ◌≤◌, ℕ, false, I
 ghost use Rattle.slate_types.specs.Counts.{one_more};
 ghost use Rattle.slate_store.specs.Calls.{WhereModelled};
 ghost use Rattle.slate_store.specs.Checkpoints.{to_delete, to_refresh, to_write};
-ghost use Rattle.slate_store.specs.Refusals.{CountsFaults, CountsTries, FindsLatest, FollowsPlan, IsOfTry, PutsNext, Tries};
+ghost use Rattle.slate_store.specs.Refusals.{CountsFaults, CountsTries, FindsLatest, FollowsPlan, IsOfTry, KeepsContent, PutsNext, Tries};
 
 use crate::checkpoints::{find, next_with_checkpoint, next_with_end, next_without_checkpoint};
 use crate::{Checkpoint, Store, StoreRefusal, VersionedManifest};
@@ -29,6 +29,7 @@ pub fn write_checkpoint<S: Store>(
     moment: i64,
 ) -> Result<Checkpoint, StoreRefusal>
     ensures follows { WhereModelled (λ o o'. (made : ℕ) × FollowsPlan (to_write None lifetime moment) o result made o') (S.objects store.old) (S.objects store.new) }
+    ensures sound { WhereModelled KeepsContent (S.objects store.old) (S.objects store.new) }
     ensures faults { CountsFaults (S.faults store.old) (S.faults store.new) result }
     ensures tries { CountsTries (S.calls store.old) (S.calls store.new) result }
 {
@@ -50,6 +51,7 @@ pub fn replace_checkpoint<S: Store>(
     moment: i64,
 ) -> Result<Checkpoint, StoreRefusal>
     ensures follows { WhereModelled (λ o o'. (made : ℕ) × FollowsPlan (to_write (Some old) (Some lifetime) moment) o result made o') (S.objects store.old) (S.objects store.new) }
+    ensures sound { WhereModelled KeepsContent (S.objects store.old) (S.objects store.new) }
     ensures faults { CountsFaults (S.faults store.old) (S.faults store.new) result }
     ensures tries { CountsTries (S.calls store.old) (S.calls store.new) result }
 {
@@ -74,6 +76,7 @@ pub fn refresh_checkpoint<S: Store>(
     moment: i64,
 ) -> Result<Checkpoint, StoreRefusal>
     ensures follows { WhereModelled (λ o o'. (made : ℕ) × FollowsPlan (to_refresh id lifetime moment) o result made o') (S.objects store.old) (S.objects store.new) }
+    ensures sound { WhereModelled KeepsContent (S.objects store.old) (S.objects store.new) }
     ensures faults { CountsFaults (S.faults store.old) (S.faults store.new) result }
     ensures tries { CountsTries (S.calls store.old) (S.calls store.new) result }
 {
@@ -93,6 +96,7 @@ pub fn delete_checkpoint<S: Store>(
     id: Uuid,
 ) -> Result<(), StoreRefusal>
     ensures follows { WhereModelled (λ o o'. (made : ℕ) × FollowsPlan (to_delete id) o result made o') (S.objects store.old) (S.objects store.new) }
+    ensures sound { WhereModelled KeepsContent (S.objects store.old) (S.objects store.new) }
     ensures faults { CountsFaults (S.faults store.old) (S.faults store.new) result }
     ensures tries { CountsTries (S.calls store.old) (S.calls store.new) result }
 {

@@ -94,6 +94,9 @@ pins-same o checkpoints k d less m found = (found, refl)
 pub pins-after : (o o' : Objects) (latest : VersionedManifest) → latest_manifest o' ≡ Some latest → All (ReadsSame o o') latest.manifest.checkpoints → KeepsPins o o'
 pins-after o o' latest is pins = subst (λ x. IfSome x (λ latest. All (ReadsSame o o') latest.manifest.checkpoints)) (sym is) pins
 
+pub pins-of : (o o' : Objects) (latest : VersionedManifest) → latest_manifest o' ≡ Some latest → KeepsPins o o' → All (ReadsSame o o') latest.manifest.checkpoints
+pins-of o o' latest is pins = subst (λ x. IfSome x (λ latest. All (ReadsSame o o') latest.manifest.checkpoints)) is pins
+
 pub pins-kept : (o : Objects) → KeepsPins o o
 pins-kept o = by (latest_manifest o) where
   by : (found : Option VersionedManifest) → IfSome found (λ latest. All (ReadsSame o o) latest.manifest.checkpoints)

@@ -3,7 +3,7 @@ use Rattle.slate_store.proofs.Entries.{absent, apart, insert-last, last-push, lo
 use Rattle.slate_store.proofs.Gapless.{between-front, gapless-greatest}
 use Rattle.slate_store.proofs.Kept.{Stays, logs-kept, manifest-keeps, pinned-kept, pins-after, tables-kept}
 use Rattle.slate_store.proofs.Latest.{all-greatest, ids-within, its-objects, rising-push}
-use Rattle.slate_store.specs.Checkpoints.{checkpoint_id, found}
+use Rattle.slate_store.specs.Checkpoints.{checkpoint_id}
 use Rattle.slate_store.specs.Content.{AreGapless, AreRising, HasItsLogs, HasItsObjects, HasItsTables, IsPinned, IsSound, ReadsSame, content, content_by, logged, logs_above, number_before, pinned_content, table_batches}
 use Rattle.slate_store.specs.Logs.{batches_between}
 use Rattle.slate_store.specs.Objects.{Objects, PutManifest, changed, entry_at, last, latest_manifest, log_at, versioned}

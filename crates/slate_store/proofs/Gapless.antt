@@ -4,7 +4,7 @@ use Rattle.slate_store.proofs.Logs.{between-next, between-none}
 use Rattle.slate_store.specs.Checkpoints.{found}
 use Rattle.slate_store.specs.Content.{AreGapless, logs_above}
 use Rattle.slate_store.specs.Logs.{batches_between}
-use Rattle.slate_store.specs.Objects.{Objects, entry_at, greatest, last, log_at}
+use Rattle.slate_store.specs.Objects.{Objects, entry_at, greatest, log_at}
 use Rattle.slate_types.proofs.Prefixes.{nat_cmp-greater}
 use Rattle.slate_types.specs.declared.batches.Batch.{Batch}
 use Rattle.std.proofs.Common.{◌++◌, ◌+◌, ◌-◌, ◌<◌, ◌∙◌, ◌∷◌, ◌≡◌, ◌≤◌, [], List, None, Option, Some, ap, append_assoc, arith, false, inl, inr, length, ltb, map, max, refl, subst, suc, sym, take, true, zero, ℕ}

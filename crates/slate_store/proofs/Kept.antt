@@ -1,7 +1,6 @@
 -- What a manifest names stays, where the tables and log files that it names stay.
 use Rattle.slate_store.proofs.Entries.{apart, lookup-insert_other, lookup-without, same_table, table_total, tied}
 use Rattle.slate_store.proofs.Logs.{between-same}
-use Rattle.slate_store.specs.Checkpoints.{found}
 use Rattle.slate_store.specs.Content.{HasItsLogs, HasItsTables, IsPinned, IsSound, KeepsPins, ReadsSame, StoresTable, content, content_by, number_before, pinned_content, table_batches}
 use Rattle.slate_store.specs.Logs.{batches_between}
 use Rattle.slate_store.specs.Objects.{Objects, PutLog, PutManifest, PutTable, RemoveLog, RemoveManifest, RemoveTable, changed, entry_at, latest_manifest, log_at, table_at, table_cmp}

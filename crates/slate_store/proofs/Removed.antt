@@ -1,10 +1,9 @@
 -- Objects stay sound, with the same content, when what isn't protected is removed.
 use Rattle.slate_store.proofs.Entries.{apart, lookup-without, rising-filter, sorted-filter}
-use Rattle.slate_store.proofs.Kept.{log_removal-keeps, manifest_removal-keeps, not-any, stays, table_removal-keeps}
+use Rattle.slate_store.proofs.Kept.{log_removal-keeps, manifest_removal-keeps, not-any, table_removal-keeps}
 use Rattle.slate_store.proofs.Latest.{its-objects, last-cons, some-versioned}
 use Rattle.slate_store.proofs.Spared.{Spares, Unmoved, spared, unmoved, unmoved-then}
 use Rattle.slate_store.specs.Changes.{after_part}
-use Rattle.slate_store.specs.Checkpoints.{found}
 use Rattle.slate_store.specs.Content.{IsSound}
 use Rattle.slate_store.specs.Objects.{Change, Objects, PutLog, PutManifest, PutTable, RemoveLog, RemoveManifest, RemoveTable, changed, entry_at, last, latest_manifest, table_cmp, versioned}
 use Rattle.slate_store.specs.Sweeps.{keeps_log, keeps_manifest, keeps_table, protecting}

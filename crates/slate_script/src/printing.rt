@@ -270,7 +270,7 @@ fn write_replies(out: &mut Vec<u8>, replies: &[Reply]) -> Result<(), NoMemory>
 }
 
 /// Writes the text of replies at the end, in order, each with its newline. Where memory runs out, nothing was written.
-/// It takes time in proportion to the text.
+/// It takes time in proportion to the text, and that of `list_segments` for each status.
 pub fn print_replies(out: &mut Vec<u8>, replies: &[Reply]) -> Result<(), NoMemory>
     ensures ok { OnOk result (out.new.items ≡ out.old.items ++ replies_text replies.now) }
     ensures err { OnErr result (out.new.items ≡ out.old.items) }

@@ -14,7 +14,7 @@ use std::alloc::Global;
 impl WriterState {
     /// Stores the accepted batches that aren't stored yet, as one log file; where there are none, it puts nothing.
     /// After Ok all accepted batches are durable. It calls the store three times at most, and takes time linear in the
-    /// batches that it puts.
+    /// batches that it puts, and in the manifest that it reads and compares with the present one.
     ///
     /// On a closed handle it answers `Closed` or the error that closed it, and touches no store. A handle that keeps
     /// no log answers `WalDisabled`. `Fenced`, where another handle opened since, and every fault of the store

@@ -7,12 +7,12 @@ use Rattle.slate_model.specs.Open.{OpenFault, can_open, can_open_by, can_reopen,
 use Rattle.slate_store.proofs.Committed.{committed}
 use Rattle.slate_store.proofs.Entries.{absent, entry-below, insert-last}
 use Rattle.slate_store.proofs.Gapless.{between-gapless, gapless-greatest, stored-gapless}
-use Rattle.slate_store.proofs.Kept.{prefix-same}
+use Rattle.slate_store.proofs.Kept.{pins-after, pins-of, pins-then, prefix-same}
 use Rattle.slate_store.proofs.LastLog.{at_least}
 use Rattle.slate_store.proofs.Latest.{all-greatest, ids-within, its-line, its-objects, nothing_there}
 use Rattle.slate_store.proofs.Logged.{appended, with_log}
 use Rattle.slate_store.proofs.Logs.{SameLogs, no_gap-numbered, numbered-stand, untruncated, whole-start}
-use Rattle.slate_store.specs.Content.{HasItsObjects, IsPinned, IsSound, StoresTable, content, content_by, logged, logs_above, number_before, table_batches}
+use Rattle.slate_store.specs.Content.{HasItsObjects, IsPinned, IsSound, KeepsPins, ReadsSame, StoresTable, content, content_by, logged, logs_above, number_before, table_batches}
 use Rattle.slate_store.specs.Logs.{AreWhole, BelongTo, HaveNoGap, StandsIn, batches_between}
 use Rattle.slate_store.specs.Objects.{Objects, PutLog, PutManifest, changed, empty, entry_at, is_present, last_log, latest_manifest}
 use Rattle.slate_store.specs.declared.objects.Manifest.{Manifest}
@@ -28,11 +28,13 @@ use Rattle.std.specs.List.Sorted.{IsStrictlySortedBy}
 use Rattle.std.specs.List.{All, IsDistinct, flat_map}
 use Rattle.slate_errors.specs.declared.errors.SlateError.TheVariants as errors
 
--- What putting the manifest of an opening leaves: the content is the same, under that manifest.
+-- What putting the manifest of an opening leaves: the content is the same, under that manifest, and checkpoints keep
+-- what they kept.
 record Begun (o : Objects) (v : VersionedManifest) (o' : Objects) : Type 0 where
   sound : IsSound o'
   content : content o' ≡ content o
   latest : latest_manifest o' ≡ Some v
+  pins : All (ReadsSame o o') v.manifest.checkpoints
 
 first_objects : HasItsObjects (changed (PutManifest 1 first_manifest) empty) (record { id = 1; manifest = first_manifest })
 unfolding IsDistinct
@@ -60,6 +62,7 @@ begun-new =
       };
       content = refl;
       latest = refl;
+      pins = All-nil (λ checkpoint. ReadsSame empty (changed (PutManifest 1 first_manifest) empty) checkpoint);
     }
 
 module _ (o : Objects) (latest : VersionedManifest) (sound : IsSound o) (is : latest_manifest o ≡ Some latest) where
@@ -90,13 +93,14 @@ module _ (o : Objects) (latest : VersionedManifest) (sound : IsSound o) (is : la
         differ = its.differ;
         checkpoints = λ k d less. inl (its.pinned k d less);
       }) in
-      record { sound = put.sound; content = put.content ∙ sym (ap (content_by o) is); latest = put.latest }
+      record { sound = put.sound; content = put.content ∙ sym (ap (content_by o) is); latest = put.latest; pins = put.pins next.manifest.checkpoints }
 
--- one or both of the changes leave the content, under the manifest of the opening
+-- one or both of the changes leave the content, under the manifest of the opening, and what checkpoints keep
 pub record Opened (o o' : Objects) : Type 0 where
   pub sound : IsSound o'
   pub content : content o' ≡ content o
   pub latest : latest_manifest o' ≡ Some (opened_manifest o)
+  pub pins : KeepsPins o o'
 
 fence-after : (o o1 : Objects) (v : VersionedManifest) → Begun o v o1 → Begun o v (with_log o1 v.manifest [])
 fence-after o o1 v b =
@@ -105,6 +109,7 @@ fence-after o o1 v b =
       sound = put.sound;
       content = put.content ∙ (ap (λ bs. record { floor = (content o1).floor; batches = bs }) (append-nil (content o1).batches) ∙ b.content);
       latest = put.latest ∙ b.latest;
+      pins = pins-then o o1 (with_log o1 v.manifest []) v.manifest.checkpoints b.pins (pins-of o1 (with_log o1 v.manifest []) v (put.latest ∙ b.latest) put.pins);
     }
 
 begun : (o : Objects) (latest : Option VersionedManifest) → IsSound o → latest_manifest o ≡ latest → Begun o (opened_manifest o) (changed (PutManifest (opened_manifest o).id (opened_manifest o).manifest) o)
@@ -118,17 +123,20 @@ mark-kept : (latest : Option VersionedManifest) (last : ℕ) → (next_manifest 
 mark-kept None last = refl
 mark-kept (Some latest) last = refl
 
+opened-by : (o o' : Objects) → Begun o (opened_manifest o) o' → Opened o o'
+opened-by o o' b = record { sound = b.sound; content = b.content; latest = b.latest; pins = pins-after o o' (opened_manifest o) b.latest b.pins }
+
 pub opened : (o : Objects) (made : ℕ) → IsSound o → 0 < made → made ≤ 2 → Opened o (after_part made (open_changes (λ xs. xs) o) o)
 opened o zero sound some few = absurd (omega arith)
 opened o (suc zero) sound some few =
     let b = begun o (latest_manifest o) sound refl in
-    record { sound = b.sound; content = b.content; latest = b.latest }
+    opened-by o (changed (PutManifest (opened_manifest o).id (opened_manifest o).manifest) o) b
 opened o (suc (suc zero)) sound some few =
     let v = opened_manifest o in
     let o1 = changed (PutManifest v.id v.manifest) o in
     let b = fence-after o o1 v (begun o (latest_manifest o) sound refl) in
     let same : with_log o1 v.manifest [] ≡ changed (PutLog (found_log o + 1) []) o1 = ap (λ mark. changed (PutLog (last_log mark o + 1) []) o1) (mark-kept (latest_manifest o) (found_log o)) in
-    subst (Opened o) same (record { sound = b.sound; content = b.content; latest = b.latest })
+    subst (Opened o) same (opened-by o (with_log o1 v.manifest []) b)
 opened o (suc (suc (suc made))) sound some few = absurd (omega arith)
 
 -- the id of the manifest of an opening is free

@@ -1,21 +1,21 @@
--- The calls on checkpoints keep sound objects sound, and their content.
-use Rattle.slate_store.proofs.Committed.{Committed, IsKeptOn, committed}
+-- The calls on checkpoints keep sound objects sound, their content, and what their checkpoints keep.
+use Rattle.slate_store.proofs.Committed.{Committed, IsKeptOn, committed, stays-committed}
 use Rattle.slate_store.proofs.Entries.{distinct-filter, filter-all}
-use Rattle.slate_store.proofs.Kept.{prefix-same}
+use Rattle.slate_store.proofs.Kept.{Stays, prefix-same, stays}
 use Rattle.slate_store.proofs.Latest.{its-line, its-objects}
 use Rattle.slate_store.proofs.Parts.{part-none, part-one}
+use Rattle.slate_store.specs.Calls.{WhereModelled}
 use Rattle.slate_store.specs.Changes.{after_part}
 use Rattle.slate_store.specs.Checkpoints.{Plan, found, has_id, lease_end, new_checkpoint, puts_next, refreshed, to_delete, to_end, to_refresh, to_take_out, to_write, with_checkpoints, without_id}
-use Rattle.slate_store.specs.Content.{IsSound, content, content_by}
+use Rattle.slate_store.specs.Content.{IsSound, content_by}
 use Rattle.slate_store.specs.Objects.{Objects, PutManifest, changed, latest_manifest}
 use Rattle.slate_store.specs.Refusals.{FollowsPlan, KeepsContent, checkpoint_changes, planned, planned_after}
-use Rattle.slate_types.specs.Modelled.{WhereModelled}
-use Rattle.slate_types.proofs.Modelled.{modelled_as}
 use Rattle.slate_store.specs.declared.objects.Checkpoint.{Checkpoint}
 use Rattle.slate_store.specs.declared.objects.VersionedManifest.{VersionedManifest}
-use Rattle.slate_store.specs.declared.refusals.StoreRefusal.{StoreRefusal}
 use Rattle.slate_store.specs.declared.refusals.StoreRefusal.TheVariants.{InvalidDBState}
-use Rattle.std.proofs.Common.{◌++◌, ◌+◌, ◌∙◌, ◌∷◌, ◌≡◌, ◌≤◌, [], Bool, Err, List, None, Ok, Option, Result, Some, ap, arith, cond, false, inl, inr, map, not, refl, subst, sym, true, ℕ}
+use Rattle.slate_store.specs.declared.refusals.StoreRefusal.{StoreRefusal}
+use Rattle.slate_types.proofs.Modelled.{modelled_as}
+use Rattle.std.proofs.Common.{◌++◌, ◌+◌, ◌∷◌, ◌≡◌, ◌≤◌, [], Bool, Err, List, None, Ok, Option, Result, Some, ap, arith, cond, false, inl, inr, map, not, refl, subst, sym, true, ℕ}
 use Rattle.std.proofs.lemmas.Bool.{ne_eqb, or_from}
 use Rattle.std.proofs.lemmas.Cmp.{nat_eq_equiv}
 use Rattle.std.proofs.lemmas.List.Elements.{All-filter, All-head, All-map, All-push, All-tail, All-weaker}
@@ -84,21 +84,21 @@ puts_next-keeps o latest checkpoints answer differ kept = by (nat_lt latest.id 1
   by false = tt
 
 module _ {A : Type 0} (o : Objects) (latest : VersionedManifest) (sound : IsSound o) (is : latest_manifest o ≡ Some latest) where
-  planned-keeps : (plan : Plan A) (made : ℕ) → KeepsAll o latest plan → IsSound (after_part made (planned plan) o) × (content (after_part made (planned plan) o) ≡ content o)
+  planned-keeps : (plan : Plan A) (made : ℕ) → KeepsAll o latest plan → Stays o (after_part made (planned plan) o)
   planned-keeps (Ok (Some next, answer)) made keeps =
-      let P : Objects → Type 0 = λ o'. IsSound o' × (content o' ≡ content o) in
       let put = recheckpointed o latest sound is keeps.0 keeps.2 keeps.3 in
       let same : changed (PutManifest next.id next.manifest) o ≡ changed (PutManifest (latest.id + 1) (with_checkpoints keeps.0 latest).manifest) o =
       ap (λ (v : VersionedManifest). changed (PutManifest v.id v.manifest) o) keeps.1 in
-      part-one P (PutManifest next.id next.manifest) o made (sound, refl) (subst P (sym same) (put.sound, put.content ∙ sym (ap (content_by o) is)))
-  planned-keeps (Ok (None, answer)) made keeps = let P : Objects → Type 0 = λ o'. IsSound o' × (content o' ≡ content o) in subst P (sym (part-none made o)) (sound, refl)
-  planned-keeps (Err refusal) made keeps = let P : Objects → Type 0 = λ o'. IsSound o' × (content o' ≡ content o) in subst P (sym (part-none made o)) (sound, refl)
+      part-one (Stays o) (PutManifest next.id next.manifest) o made (stays o sound)
+      (subst (Stays o) (sym same) (stays-committed o _ latest (with_checkpoints keeps.0 latest) is refl put))
+  planned-keeps (Ok (None, answer)) made keeps = subst (Stays o) (sym (part-none made o)) (stays o sound)
+  planned-keeps (Err refusal) made keeps = subst (Stays o) (sym (part-none made o)) (stays o sound)
 
 -- a plan that keeps checkpoints keeps the content, wherever it is broken off
 pub plan-keeps : {A : Type 0} (plan : VersionedManifest → Plan A) (made : ℕ) (o : Objects) → ((latest : VersionedManifest) → IsSound o → latest_manifest o ≡ Some latest → KeepsAll o latest (plan latest)) → KeepsContent o (after_part made (checkpoint_changes plan o) o)
 plan-keeps {A} plan made o keeps sound = by (latest_manifest o) refl where
-  by : (found : Option VersionedManifest) → latest_manifest o ≡ found → IsSound (after_part made (planned_after plan found) o) × (content (after_part made (planned_after plan found) o) ≡ content o)
-  by None is = let P : Objects → Type 0 = λ o'. IsSound o' × (content o' ≡ content o) in subst P (sym (part-none made o)) (sound, refl)
+  by : (found : Option VersionedManifest) → latest_manifest o ≡ found → Stays o (after_part made (planned_after plan found) o)
+  by None is = subst (Stays o) (sym (part-none made o)) (stays o sound)
   by (Some latest) is = planned-keeps o latest sound is (plan latest) made (keeps latest sound is)
 
 -- ---- the four plans

@@ -1,23 +1,24 @@
 -- Objects stay sound when a manifest is put after the latest one.
 use Rattle.slate_store.proofs.Entries.{absent, apart, insert-last, last-push, lookup-insert_other, lookup-insert_same}
 use Rattle.slate_store.proofs.Gapless.{between-front, gapless-greatest}
-use Rattle.slate_store.proofs.Kept.{logs-kept, manifest-keeps, pinned-kept, tables-kept}
+use Rattle.slate_store.proofs.Kept.{Stays, logs-kept, manifest-keeps, pinned-kept, pins-after, tables-kept}
 use Rattle.slate_store.proofs.Latest.{all-greatest, ids-within, its-objects, rising-push}
-use Rattle.slate_store.specs.Checkpoints.{checkpoint_id}
-use Rattle.slate_store.specs.Content.{AreGapless, AreRising, HasItsLogs, HasItsObjects, HasItsTables, IsPinned, IsSound, content, content_by, logs_above, number_before, pinned_content, table_batches}
+use Rattle.slate_store.specs.Checkpoints.{checkpoint_id, found}
+use Rattle.slate_store.specs.Content.{AreGapless, AreRising, HasItsLogs, HasItsObjects, HasItsTables, IsPinned, IsSound, ReadsSame, content, content_by, logged, logs_above, number_before, pinned_content, table_batches}
 use Rattle.slate_store.specs.Logs.{batches_between}
 use Rattle.slate_store.specs.Objects.{Objects, PutManifest, changed, entry_at, last, latest_manifest, log_at, versioned}
 use Rattle.slate_store.specs.declared.objects.Checkpoint.{Checkpoint}
 use Rattle.slate_store.specs.declared.objects.Manifest.{Manifest}
 use Rattle.slate_store.specs.declared.objects.VersionedManifest.{VersionedManifest}
 use Rattle.slate_types.specs.Line.{IsLine, IsPrefix, batches_above}
-use Rattle.std.proofs.Common.{◌++◌, ◌+◌, ◌-◌, ◌∙◌, ◌∷◌, ◌≡◌, ◌≤◌, ◌⊎◌, [], None, Some, ap, append_assoc, arith, drop, inl, inr, length, ltb, map, subst, sym, take, ℕ}
+use Rattle.slate_types.specs.declared.batches.Batch.{Batch}
+use Rattle.std.proofs.Common.{◌++◌, ◌+◌, ◌-◌, ◌∙◌, ◌∷◌, ◌≡◌, ◌≤◌, ◌⊎◌, [], List, None, Some, ap, append_assoc, arith, drop, inl, inr, length, ltb, map, refl, subst, sym, take, ℕ}
 use Rattle.std.proofs.lemmas.Bool.{cases_lt}
 use Rattle.std.proofs.lemmas.Cmp.{nat_cmp_total}
 use Rattle.std.proofs.lemmas.Grind.{flat_map-append}
 use Rattle.std.proofs.lemmas.List.Elements.{All-weaker, filter-append}
 use Rattle.std.proofs.lemmas.List.{map-append, take-append-drop}
-use Rattle.std.specs.List.{All, IsDistinct, flat_map}
+use Rattle.std.specs.List.{All, IsDistinct, flat_map, slice_index_or}
 use Rattle.std.specs.Option.{IfSome, option_map}
 use Rattle.std.specs.Prelude.{nat_eq}
 
@@ -41,11 +42,12 @@ pub record MayFollow (o : Objects) (latest : VersionedManifest) (m : Manifest) :
   pub differ : IsDistinct nat_eq (map (λ checkpoint. checkpoint.manifest_id) m.checkpoints)
   pub checkpoints : All (IsKeptOn o latest) m.checkpoints
 
--- What the put leaves: the content by that manifest, which is the latest one.
+-- What the put leaves: the content by that manifest, which is the latest one; and checkpoints keep what they kept.
 pub record Committed (o : Objects) (next : VersionedManifest) (o' : Objects) : Type 0 where
   pub sound : IsSound o'
   pub latest : latest_manifest o' ≡ Some next
   pub content : content o' ≡ content_by o (Some next)
+  pub pins : (checkpoints : List Checkpoint) → All (ReadsSame o o') checkpoints
 
 -- ---- the log files of a manifest at the moment of its put are the first of those above its mark
 between-begins : (mark i : ℕ) (o : Objects) → AreGapless mark (map (λ log. log.0) (logs_above mark o)) → i ≤ length (logs_above mark o) → flat_map (λ log. log.1) (logs_above mark o) ≡ batches_between mark (mark + i) o ++ flat_map (λ log. log.1) (drop i (logs_above mark o))
@@ -70,6 +72,10 @@ stored-within o m has gapless =
           let count = gapless-greatest mark mark o.logs (omega arith) gapless in
           absent (mark + length (logs_above mark o) + 1) mark o.logs (omega (arith, count))
 
+-- a line begins one with more batches
+prefix-more : (floor : ℕ) (joined front later all : List Batch) → all ≡ front ++ later → IsPrefix (record { floor = floor; batches = joined ++ front }) (record { floor = floor; batches = joined ++ all })
+prefix-more floor joined front later all parts = (later, ap (λ bs. record { floor = floor; batches = bs }) (ap (λ bs. joined ++ bs) parts ∙ sym (append_assoc joined front later)))
+
 -- what a manifest names when it is put begins what it names then and later
 pinned-begins : (o : Objects) (latest : VersionedManifest) (m : Manifest) → HasItsLogs o m → AreGapless m.replay_after_wal_id (map (λ log. log.0) (logs_above m.replay_after_wal_id o)) → IsPrefix (pinned_content o m) (content_by o (Some (after latest m)))
 pinned-begins o latest m has gapless =
@@ -79,14 +85,12 @@ pinned-begins o latest m has gapless =
     let within = stored-within o m has gapless in
     let next = has.next in
     let joined = table_batches o m.tables in
+    let front = batches_between mark (m.next_wal_id - 1) o in
     let later = flat_map (λ log. log.1) (drop i (logs_above mark o)) in
     let at : mark + i ≡ m.next_wal_id - 1 = omega arith in
-    let parts = between-begins mark i o gapless (omega arith) ∙ ap (λ k. batches_between mark k o ++ later) at in
-    let split = ap (batches_above n) parts ∙ filter-append (λ b. ltb n b.number) (batches_between mark (m.next_wal_id - 1) o) later in (
-      batches_above n later,
-      ap (λ bs. record { floor = number_before joined n; batches = joined ++ bs }) split
-          ∙ ap (λ bs. record { floor = number_before joined n; batches = bs }) (sym (append_assoc joined (batches_above n (batches_between mark (m.next_wal_id - 1) o)) (batches_above n later))),
-    )
+    let parts : flat_map (λ log. log.1) (logs_above mark o) ≡ front ++ later = between-begins mark i o gapless (omega arith) ∙ ap (λ k. batches_between mark k o ++ later) at in
+    let split : logged o m ≡ batches_above n front ++ batches_above n later = ap (batches_above n) parts ∙ filter-append (λ b. ltb n b.number) front later in
+    prefix-more (number_before joined n) joined (batches_above n front) (batches_above n later) (logged o m) split
 
 module _ (o : Objects) (latest : VersionedManifest) (m : Manifest) (sound : IsSound o) (is : latest_manifest o ≡ Some latest) (may : MayFollow o latest m) where
   abbrev next : VersionedManifest
@@ -130,6 +134,13 @@ module _ (o : Objects) (latest : VersionedManifest) (m : Manifest) (sound : IsSo
   pinned-on checkpoint (inl pinned) = pinned-old checkpoint pinned
   pinned-on checkpoint (inr new) = pinned-new checkpoint new.0 new.1
 
+  reads-after : (checkpoint : Checkpoint) → ReadsSame o o1 checkpoint
+  reads-after checkpoint m' found =
+      let top = all-greatest latest.id 0 (map (λ e. e.0) o.manifests) (ids-within o latest sound is) in
+      let free : entry_at next.id o.manifests ≡ None = absent next.id 0 o.manifests (omega (arith, top)) in
+      let other = apart checkpoint.manifest_id next.id (λ same. let none : entry_at checkpoint.manifest_id o.manifests ≡ None = ap (λ k. entry_at k o.manifests) same ∙ free in absurd (cc (none, found))) in
+      (lookup-insert_other nat_cmp_total checkpoint.manifest_id next.id m o.manifests other ∙ found, refl)
+
   pub committed : Committed o next o1
   committed =
       let its = its-objects o latest sound is in
@@ -156,4 +167,10 @@ module _ (o : Objects) (latest : VersionedManifest) (m : Manifest) (sound : IsSo
         };
         latest = latest-after;
         content = content-after;
+        pins = λ checkpoints k d less m' found. reads-after (slice_index_or checkpoints k d) m' found;
       }
+
+-- where it names the same content, all stays
+pub stays-committed : (o o' : Objects) (latest next : VersionedManifest) → latest_manifest o ≡ Some latest → content_by o (Some next) ≡ content_by o (Some latest) → Committed o next o' → Stays o o'
+stays-committed o o' latest next is same put =
+    (put.sound, put.content ∙ (same ∙ sym (ap (content_by o) is)), pins-after o o' next put.latest (put.pins next.manifest.checkpoints))

@@ -1,21 +1,22 @@
--- A compaction keeps sound objects sound, and their content, wherever it is broken off.
+-- A compaction keeps sound objects sound, their content, and what their checkpoints keep, wherever it is broken off.
 use Rattle.slate_store.proofs.Committed.{Committed, committed}
 use Rattle.slate_store.proofs.Entries.{lookup-insert_same, table_total}
-use Rattle.slate_store.proofs.Kept.{prefix-same}
+use Rattle.slate_store.proofs.Kept.{Stays, pins-after, pins-then, prefix-same, stays}
 use Rattle.slate_store.proofs.Latest.{its-line, its-objects}
 use Rattle.slate_store.proofs.Parts.{part-more, part-none, part-one}
 use Rattle.slate_store.proofs.Spared.{Unmoved, tabled}
 use Rattle.slate_store.specs.Changes.{after_part}
-use Rattle.slate_store.specs.Compaction.{compact_changes, compact_changes_by, tables_at, with_table}
-use Rattle.slate_store.specs.Content.{HasItsTables, IsSound, StoresTable, content, content_by, logged, number_before, table_batches}
+use Rattle.slate_store.specs.Compaction.{Compacts, compact_changes, compact_changes_by, tables_at, with_table}
+use Rattle.slate_store.specs.Content.{HasItsTables, IsSound, StoresTable, content_by, logged, number_before, table_batches}
 use Rattle.slate_store.specs.Objects.{Objects, PutManifest, PutTable, changed, latest_manifest, table_at}
 use Rattle.slate_store.specs.Refusals.{KeepsContent}
 use Rattle.slate_store.specs.declared.objects.Manifest.{Manifest}
 use Rattle.slate_store.specs.declared.objects.TableId.{TableId}
 use Rattle.slate_store.specs.declared.objects.VersionedManifest.{VersionedManifest}
+use Rattle.slate_store.specs.declared.refusals.StoreRefusal.{StoreRefusal}
 use Rattle.slate_types.specs.Line.{IsLine}
 use Rattle.slate_types.specs.declared.batches.Batch.{Batch}
-use Rattle.std.proofs.Common.{◌++◌, ◌+◌, ◌<◌, ◌∙◌, ◌∷◌, ◌≡◌, ◌≤◌, [], Bool, List, None, Option, Some, ap, arith, cond, false, inl, length, refl, subst, sym, true, ℕ}
+use Rattle.std.proofs.Common.{◌++◌, ◌+◌, ◌<◌, ◌∙◌, ◌∷◌, ◌≡◌, ◌≤◌, [], Bool, List, None, Option, Result, Some, ap, arith, cond, false, inl, length, refl, subst, suc, sym, true, zero, ℕ}
 use Rattle.std.proofs.lemmas.Bool.{ltb-false}
 use Rattle.std.proofs.lemmas.List.Elements.{All-cons, All-head, All-nil}
 use Rattle.std.proofs.lemmas.List.{append-nil}
@@ -97,25 +98,37 @@ module _ (o : Objects) (id : TableId) (latest : VersionedManifest) (sound : IsSo
         checkpoints = λ k d less. inl (its.pinned k d less);
       })
 
-  pub joined-keeps : (made : ℕ) → IsSound (after_part made (PutTable id whole ∷ PutManifest next.id next.manifest ∷ []) o) × (content (after_part made (PutTable id whole ∷ PutManifest next.id next.manifest ∷ []) o) ≡ content o)
+  pub joined-keeps : (made : ℕ) → Stays o (after_part made (PutTable id whole ∷ PutManifest next.id next.manifest ∷ []) o)
   joined-keeps made =
-      let P : Objects → Type 0 = λ o'. IsSound o' × (content o' ≡ content o) in
       let after = joined-committed in
-      part-more P (PutTable id whole) (PutManifest next.id next.manifest ∷ []) o made (sound, refl)
-      (λ part. part-one P (PutManifest next.id next.manifest) o1 part (put.sound, put.content)
-      (after.sound, after.content ∙ (content-same ∙ sym (ap (content_by o) is))))
+      part-more (Stays o) (PutTable id whole) (PutManifest next.id next.manifest ∷ []) o made (stays o sound)
+      (λ part. part-one (Stays o) (PutManifest next.id next.manifest) o1 part
+      (put.sound, put.content, pins-after o o1 latest is-after (put.pins latest is)) (
+        after.sound,
+        after.content ∙ (content-same ∙ sym (ap (content_by o) is)),
+        pins-after o (changed (PutManifest next.id next.manifest) o1) next after.latest
+            (pins-then o o1 (changed (PutManifest next.id next.manifest) o1) next.manifest.checkpoints (put.pins latest is) (after.pins next.manifest.checkpoints)),
+      ))
 
--- Into a table under an id that isn't stored, by an epoch that isn't above the latest manifest's.
-pub compaction-keeps : (id : TableId) (made : ℕ) (o : Objects) → ((latest : VersionedManifest) → latest_manifest o ≡ Some latest → id.epoch ≤ latest.manifest.writer_epoch) → table_at id o ≡ None → KeepsContent o (after_part made (compact_changes (flat_map (λ batches. batches)) id o) o)
-compaction-keeps id made o low free sound = by (latest_manifest o) refl where
+compaction-part : (id : TableId) (made : ℕ) (o : Objects) → ((latest : VersionedManifest) → latest_manifest o ≡ Some latest → id.epoch ≤ latest.manifest.writer_epoch) → table_at id o ≡ None → KeepsContent o (after_part made (compact_changes (flat_map (λ batches. batches)) id o) o)
+compaction-part id made o low free sound = by (latest_manifest o) refl where
   several : (latest : VersionedManifest) → latest_manifest o ≡ Some latest → (t : Bool) → nat_lt (length latest.manifest.tables) 2 ≡ t →
       let cs = cond t [] (PutTable id (flat_map (λ bs. bs) (tables_at o latest.manifest.tables)) ∷ PutManifest (with_table id latest).id (with_table id latest).manifest ∷ []) in
-      IsSound (after_part made cs o) × (content (after_part made cs o) ≡ content o)
-  several latest is true few = let P : Objects → Type 0 = λ o'. IsSound o' × (content o' ≡ content o) in subst P (sym (part-none made o)) (sound, refl)
+      Stays o (after_part made cs o)
+  several latest is true few = subst (Stays o) (sym (part-none made o)) (stays o sound)
   several latest is false many =
       let two = ltb-false (length latest.manifest.tables) 2 many in
       joined-keeps o id latest sound is (low latest is) free (omega arith) made
 
-  by : (found : Option VersionedManifest) → latest_manifest o ≡ found → let cs = compact_changes_by (flat_map (λ batches. batches)) id o found in IsSound (after_part made cs o) × (content (after_part made cs o) ≡ content o)
-  by None is = let P : Objects → Type 0 = λ o'. IsSound o' × (content o' ≡ content o) in subst P (sym (part-none made o)) (sound, refl)
+  by : (found : Option VersionedManifest) → latest_manifest o ≡ found → let cs = compact_changes_by (flat_map (λ batches. batches)) id o found in Stays o (after_part made cs o)
+  by None is = subst (Stays o) (sym (part-none made o)) (stays o sound)
   by (Some latest) is = several latest is (nat_lt (length latest.manifest.tables) 2) refl
+
+-- Into a table under an id that isn't stored, by an epoch that isn't above the latest manifest's.
+pub compaction-keeps : (id : TableId) (made : ℕ) (o : Objects) → ((latest : VersionedManifest) → latest_manifest o ≡ Some latest → id.epoch ≤ latest.manifest.writer_epoch) → (0 < made → table_at id o ≡ None) → KeepsContent o (after_part made (compact_changes (flat_map (λ batches. batches)) id o) o)
+compaction-keeps id zero o low free sound = stays o sound
+compaction-keeps id (suc made) o low free sound = compaction-part id (suc made) o low (free (omega arith)) sound
+
+pub compacts-keep : {epoch index index' made : ℕ} {o o' : Objects} {result : Result VersionedManifest StoreRefusal} → Compacts epoch index index' o result made o' → ((latest : VersionedManifest) → latest_manifest o ≡ Some latest → epoch ≤ latest.manifest.writer_epoch) → (0 < made → table_at (record { epoch = epoch; index = index }) o ≡ None) → KeepsContent o o'
+compacts-keep {epoch} {index} {index'} {made} {o} {o'} {result} compacts low free =
+    subst (KeepsContent o) (sym compacts.after) (compaction-keeps (record { epoch = epoch; index = index }) made o low free)

@@ -1,23 +1,24 @@
 -- What a manifest names stays, where the tables and log files that it names stay.
 use Rattle.slate_store.proofs.Entries.{apart, lookup-insert_other, lookup-without, same_table, table_total, tied}
 use Rattle.slate_store.proofs.Logs.{between-same}
-use Rattle.slate_store.specs.Content.{HasItsLogs, HasItsTables, IsPinned, StoresTable, content_by, number_before, pinned_content, table_batches}
+use Rattle.slate_store.specs.Checkpoints.{found}
+use Rattle.slate_store.specs.Content.{HasItsLogs, HasItsTables, IsPinned, IsSound, KeepsPins, ReadsSame, StoresTable, content, content_by, number_before, pinned_content, table_batches}
 use Rattle.slate_store.specs.Logs.{batches_between}
-use Rattle.slate_store.specs.Objects.{Objects, PutLog, PutManifest, PutTable, RemoveLog, RemoveManifest, RemoveTable, changed, entry_at, log_at, table_at, table_cmp}
+use Rattle.slate_store.specs.Objects.{Objects, PutLog, PutManifest, PutTable, RemoveLog, RemoveManifest, RemoveTable, changed, entry_at, latest_manifest, log_at, table_at, table_cmp}
 use Rattle.slate_store.specs.declared.objects.Checkpoint.{Checkpoint}
 use Rattle.slate_store.specs.declared.objects.Manifest.{Manifest}
 use Rattle.slate_store.specs.declared.objects.TableId.{TableId}
 use Rattle.slate_store.specs.declared.objects.VersionedManifest.{VersionedManifest}
 use Rattle.slate_types.specs.Line.{IsPrefix, Line, batches_above, extended}
 use Rattle.slate_types.specs.declared.batches.Batch.{Batch}
-use Rattle.std.proofs.Common.{◌++◌, ◌+◌, ◌-◌, ◌<◌, ◌∙◌, ◌∷◌, ◌≡◌, ◌≤◌, [], Bool, List, None, Some, ap, append_assoc, arith, false, length, refl, subst, sym, ℕ}
+use Rattle.std.proofs.Common.{◌++◌, ◌+◌, ◌-◌, ◌<◌, ◌∙◌, ◌∷◌, ◌≡◌, ◌≤◌, [], Bool, List, None, Option, Some, ap, append_assoc, arith, false, length, refl, subst, sym, ℕ}
 use Rattle.std.proofs.lemmas.Bool.{false_from_ne_true, or_parts}
 use Rattle.std.proofs.lemmas.Cmp.{nat_cmp_total}
 use Rattle.std.proofs.lemmas.List.Elements.{All-cons, All-head, All-nil, All-tail}
 use Rattle.std.proofs.lemmas.List.{append-nil}
 use Rattle.std.specs.BTreeMap.{is_at}
 use Rattle.std.specs.List.{All, list_any}
-use Rattle.std.specs.Option.{unwrap_or}
+use Rattle.std.specs.Option.{IfSome, unwrap_or}
 use Rattle.std.specs.Ordering.{eq_by_cmp}
 
 -- two facts of the elements of a list, one after the other
@@ -76,6 +77,44 @@ pinned-kept o o' latest next checkpoint pinned keeps same later begins =
       begins = subst (λ l. IsPrefix l (content_by o' (Some next))) (sym (pinned_content-kept keeps pinned.logs))
           (prefix-then (pinned_content o pinned.manifest) (content_by o (Some latest)) (content_by o' (Some next)) pinned.begins begins);
     }
+
+-- ---- what checkpoints keep
+pub reads-then : (a b c : Objects) (checkpoint : Checkpoint) → ReadsSame a b checkpoint → ReadsSame b c checkpoint → ReadsSame a c checkpoint
+reads-then a b c checkpoint first second m found =
+    let there = first m found in
+    let later = second m there.0 in
+    (later.0, later.1 ∙ there.1)
+
+pub pins-then : (a b c : Objects) (checkpoints : List Checkpoint) → All (ReadsSame a b) checkpoints → All (ReadsSame b c) checkpoints → All (ReadsSame a c) checkpoints
+pins-then a b c checkpoints = all-both (ReadsSame a b) (ReadsSame b c) (ReadsSame a c) checkpoints (reads-then a b c)
+
+pub pins-same : (o : Objects) (checkpoints : List Checkpoint) → All (ReadsSame o o) checkpoints
+pins-same o checkpoints k d less m found = (found, refl)
+
+pub pins-after : (o o' : Objects) (latest : VersionedManifest) → latest_manifest o' ≡ Some latest → All (ReadsSame o o') latest.manifest.checkpoints → KeepsPins o o'
+pins-after o o' latest is pins = subst (λ x. IfSome x (λ latest. All (ReadsSame o o') latest.manifest.checkpoints)) (sym is) pins
+
+pub pins-of : (o o' : Objects) (latest : VersionedManifest) → latest_manifest o' ≡ Some latest → KeepsPins o o' → All (ReadsSame o o') latest.manifest.checkpoints
+pins-of o o' latest is pins = subst (λ x. IfSome x (λ latest. All (ReadsSame o o') latest.manifest.checkpoints)) is pins
+
+pub pins-kept : (o : Objects) → KeepsPins o o
+pins-kept o = by (latest_manifest o) where
+  by : (found : Option VersionedManifest) → IfSome found (λ latest. All (ReadsSame o o) latest.manifest.checkpoints)
+  by None = tt
+  by (Some latest) = pins-same o latest.manifest.checkpoints
+
+-- a checkpoint that is pinned keeps what it kept
+pub pinned-reads : (o o' : Objects) (latest : VersionedManifest) (checkpoint : Checkpoint) (pinned : IsPinned o latest checkpoint) → Keeps o o' pinned.manifest → entry_at checkpoint.manifest_id o'.manifests ≡ entry_at checkpoint.manifest_id o.manifests → ReadsSame o o' checkpoint
+pinned-reads o o' latest checkpoint pinned keeps same m found =
+    let one : pinned.manifest ≡ m = let kept = pinned.kept in cc (kept, found) in
+    (same ∙ found, subst (λ m. pinned_content o' m ≡ pinned_content o m) one (pinned_content-kept keeps pinned.logs))
+
+-- what stays by a call: sound objects, their content, and what their checkpoints keep
+abbrev pub Stays : Objects → Objects → Type 0
+Stays o o' = IsSound o' × (content o' ≡ content o) × KeepsPins o o'
+
+pub stays : (o : Objects) → IsSound o → Stays o o
+stays o sound = (sound, refl, pins-kept o)
 
 -- ---- which changes keep what a manifest names
 pub manifest-keeps : (o : Objects) (m : Manifest) (id : ℕ) (put : Manifest) → Keeps o (changed (PutManifest id put) o) m

@@ -6,12 +6,18 @@ use Rattle.slate_store.specs.declared.objects.Manifest.{Manifest}
 use Rattle.slate_store.specs.declared.objects.VersionedManifest.{VersionedManifest}
 use Rattle.slate_types.specs.Line.{IsLine}
 use Rattle.std.proofs.Common.{◌++◌, ◌<◌, ◌∙◌, ◌∷◌, ◌≡◌, ◌≤◌, [], List, None, Option, Some, ap, arith, map, max, refl, sub-one, subst, sym, ℕ}
+use Rattle.std.specs.List.Sorted.{IsStrictlySortedBy}
 use Rattle.std.specs.List.{AllByRecursion}
 use Rattle.std.specs.Option.{IfSome, option_map}
 
 no_last : {X Y : Type 0} (f : X → Y) (o : Option X) → option_map f o ≡ None → o ≡ None
 no_last f None h = refl
 no_last f (Some x) h = absurd (cc)
+
+-- an empty store is sound
+pub empty-sound : IsSound empty
+unfolding IsStrictlySortedBy
+empty-sound = record { manifests = tt; logs = tt; tables = tt; nothing = λ none. (refl, refl); line = tt; latest = tt }
 
 -- sound objects without a manifest are none at all
 pub nothing_there : (o : Objects) → IsSound o → latest_manifest o ≡ None → o ≡ empty

@@ -1,10 +1,10 @@
 -- Objects stay sound when a log file is stored that goes on from their content.
 use Rattle.slate_store.proofs.Entries.{absent, insert-last}
 use Rattle.slate_store.proofs.Gapless.{gapless-greatest}
-use Rattle.slate_store.proofs.Kept.{log-keeps, logs-kept, pinned-kept, tables-kept}
+use Rattle.slate_store.proofs.Kept.{log-keeps, logs-kept, pinned-kept, pinned-reads, pins-after, tables-kept}
 use Rattle.slate_store.proofs.LastLog.{at_least}
 use Rattle.slate_store.proofs.Latest.{all-at_most, its-objects, rising-push}
-use Rattle.slate_store.specs.Content.{AreGapless, AreRising, HasItsObjects, IsPinned, IsSound, content, content_by, logged, logs_above, number_before, table_batches}
+use Rattle.slate_store.specs.Content.{AreGapless, AreRising, HasItsObjects, IsPinned, IsSound, KeepsPins, ReadsSame, content, content_by, logged, logs_above, number_before, table_batches}
 use Rattle.slate_store.specs.Objects.{Objects, PutLog, changed, last_log, latest_manifest}
 use Rattle.slate_store.specs.declared.objects.Checkpoint.{Checkpoint}
 use Rattle.slate_store.specs.declared.objects.Manifest.{Manifest}
@@ -15,7 +15,7 @@ use Rattle.slate_types.specs.declared.batches.Batch.{Batch}
 use Rattle.std.proofs.Common.{◌++◌, ◌+◌, ◌<◌, ◌∙◌, ◌∷◌, ◌≡◌, [], List, Some, ap, append_assoc, arith, cond, length, length-append, ltb, map, refl, subst, sym, true, ℕ}
 use Rattle.std.proofs.lemmas.Bool.{lt-ltb}
 use Rattle.std.proofs.lemmas.Grind.{flat_map-append}
-use Rattle.std.proofs.lemmas.List.Elements.{filter-append}
+use Rattle.std.proofs.lemmas.List.Elements.{All-weaker, filter-append}
 use Rattle.std.proofs.lemmas.List.{append-nil, length-map, map-append}
 use Rattle.std.specs.List.{filter, flat_map}
 use Rattle.std.specs.Option.{IfSome}
@@ -67,11 +67,13 @@ module _ (o : Objects) (m : Manifest) (bs : List Batch) where
       let count = length-map (logs_above m.replay_after_wal_id o) (λ log. log.0) in
       subst (AreGapless m.replay_after_wal_id) (sym ids-after) (gapless-push m.replay_after_wal_id ids next gapless (omega (arith, last, count)))
 
--- Storing batches that go on from the content keeps objects sound, and appends them to the content.
+-- Storing batches that go on from the content keeps objects sound, and what checkpoints keep, and appends them to the
+-- content.
 pub record Appended (o : Objects) (bs : List Batch) (o' : Objects) : Type 0 where
   pub sound : IsSound o'
   pub content : content o' ≡ extended (content o) bs
   pub latest : latest_manifest o' ≡ latest_manifest o
+  pub pins : KeepsPins o o'
 
 module _ (o : Objects) (latest : VersionedManifest) (bs : List Batch) (sound : IsSound o) (is : latest_manifest o ≡ Some latest) where
   content-is : content o ≡ content_by o (Some latest)
@@ -104,6 +106,8 @@ module _ (o : Objects) (latest : VersionedManifest) (bs : List Batch) (sound : I
       (bs, sym (ap (content_by o1) is) ∙ (after ∙ ap (λ l. extended l bs) content-is)) in
       let pinned = λ (checkpoint : Checkpoint) (pinned : IsPinned o latest checkpoint).
       pinned-kept o o1 latest latest checkpoint pinned (log-keeps o pinned.manifest id bs pinned.logs free) refl (omega arith) begins in
+      let reads = λ (checkpoint : Checkpoint) (pinned : IsPinned o latest checkpoint).
+      pinned-reads o o1 latest checkpoint pinned (log-keeps o pinned.manifest id bs pinned.logs free) refl in
       let keeps = log-keeps o m id bs its.logs free in
       let rising = rising-push (last_log m.replay_after_wal_id o) id (map (λ e. e.0) o.logs) sound.logs (all-at_most m.replay_after_wal_id (map (λ e. e.0) o.logs)) (omega arith) in
       let objects : HasItsObjects o1 latest =
@@ -126,4 +130,5 @@ module _ (o : Objects) (latest : VersionedManifest) (bs : List Batch) (sound : I
         };
         content = after;
         latest = refl;
+        pins = pins-after o o1 latest is (All-weaker (IsPinned o latest) (ReadsSame o o1) reads m.checkpoints its.pinned);
       }

@@ -1,8 +1,8 @@
 -- Objects stay sound, with the same content, when what isn't protected is removed.
 use Rattle.slate_store.proofs.Entries.{apart, lookup-without, rising-filter, sorted-filter}
-use Rattle.slate_store.proofs.Kept.{log_removal-keeps, manifest_removal-keeps, not-any, table_removal-keeps}
+use Rattle.slate_store.proofs.Kept.{log_removal-keeps, manifest_removal-keeps, not-any, stays, table_removal-keeps}
 use Rattle.slate_store.proofs.Latest.{its-objects, last-cons, some-versioned}
-use Rattle.slate_store.proofs.Spared.{Spares, Unmoved, spared, unmoved-then}
+use Rattle.slate_store.proofs.Spared.{Spares, Unmoved, spared, unmoved, unmoved-then}
 use Rattle.slate_store.specs.Changes.{after_part}
 use Rattle.slate_store.specs.Checkpoints.{found}
 use Rattle.slate_store.specs.Content.{IsSound}
@@ -181,8 +181,8 @@ all-spare : (latest : VersionedManifest) (o o' : Objects) (cs : List Change) →
 all-spare latest o o' cs same = All-weaker (IsSpare latest o) (IsSpare latest o') (λ c. spare-by latest o o' c same) cs
 
 pub removed-part : (made : ℕ) (cs : List Change) (o : Objects) (latest : VersionedManifest) → IsSound o → latest_manifest o ≡ Some latest → All (IsSpare latest o) cs → Unmoved o (after_part made cs o)
-removed-part zero cs o latest sound is spare = record { sound = sound; content = refl; latest = refl }
-removed-part (suc made) [] o latest sound is spare = record { sound = sound; content = refl; latest = refl }
+removed-part zero cs o latest sound is spare = unmoved o sound
+removed-part (suc made) [] o latest sound is spare = unmoved o sound
 removed-part (suc made) (c ∷ cs) o latest sound is spare =
     let first = All-head (IsSpare latest o) c cs spare in
     let one = removed o latest sound is c first in

@@ -1,9 +1,9 @@
 -- Objects stay sound, with the same content, by a change that spares what the latest manifest and those that its
 -- checkpoints keep name.
 use Rattle.slate_store.proofs.Entries.{all-from_keys, all-insert, sorted-insert, table_total}
-use Rattle.slate_store.proofs.Kept.{Keeps, all-both, batches-kept, logs-kept, pinned-kept, prefix-same, table-keeps, tables-kept}
+use Rattle.slate_store.proofs.Kept.{Keeps, all-both, batches-kept, logs-kept, pinned-kept, pinned-reads, pins-same, pins-then, prefix-same, stays, table-keeps, tables-kept}
 use Rattle.slate_store.proofs.Latest.{its-objects}
-use Rattle.slate_store.specs.Content.{AreGapless, AreRising, HasItsLogs, HasItsObjects, HasItsTables, IsPinned, IsSound, content, content_by, logged, logs_above, number_before, table_batches}
+use Rattle.slate_store.specs.Content.{AreGapless, AreRising, HasItsLogs, HasItsObjects, HasItsTables, IsPinned, IsSound, ReadsSame, content, content_by, logged, logs_above, number_before, table_batches}
 use Rattle.slate_store.specs.Objects.{Objects, PutTable, changed, entry_at, latest_manifest, table_at, table_cmp}
 use Rattle.slate_store.specs.declared.objects.Checkpoint.{Checkpoint}
 use Rattle.slate_store.specs.declared.objects.Manifest.{Manifest}
@@ -19,14 +19,24 @@ use Rattle.std.specs.List.{All, flat_map}
 use Rattle.std.specs.Map.{keys_of}
 use Rattle.std.specs.Option.{IfSome}
 
--- sound objects with the same content and the same latest manifest
+-- sound objects with the same content and the same latest manifest, whose checkpoints keep what they kept
 pub record Unmoved (o o' : Objects) : Type 0 where
   pub sound : IsSound o'
   pub content : content o' ≡ content o
   pub latest : latest_manifest o' ≡ latest_manifest o
+  pub pins : (latest : VersionedManifest) → latest_manifest o ≡ Some latest → All (ReadsSame o o') latest.manifest.checkpoints
 
 pub unmoved-then : (a b c : Objects) → Unmoved a b → Unmoved b c → Unmoved a c
-unmoved-then a b c first second = record { sound = second.sound; content = second.content ∙ first.content; latest = second.latest ∙ first.latest }
+unmoved-then a b c first second =
+    record {
+      sound = second.sound;
+      content = second.content ∙ first.content;
+      latest = second.latest ∙ first.latest;
+      pins = λ latest is. pins-then a b c latest.manifest.checkpoints (first.pins latest is) (second.pins latest (first.latest ∙ is));
+    }
+
+pub unmoved : (o : Objects) → IsSound o → Unmoved o o
+unmoved o sound = record { sound = sound; content = refl; latest = refl; pins = λ latest is. pins-same o latest.manifest.checkpoints }
 
 -- a manifest that is kept stays, and what it names
 pub record StaysKept (o o' : Objects) (checkpoint : Checkpoint) : Type 0 where
@@ -59,6 +69,9 @@ module _ (o o' : Objects) (latest : VersionedManifest) (sound : IsSound o) (is :
       pinned-kept o o' latest latest checkpoint pinned (stays.keeps pinned.manifest pinned.kept pinned.tables pinned.logs) stays.entry (omega arith)
       (prefix-same (content_by o (Some latest)) (content_by o' (Some latest)) content_by-spared)
 
+  reads-spared : (checkpoint : Checkpoint) → StaysKept o o' checkpoint → IsPinned o latest checkpoint → ReadsSame o o' checkpoint
+  reads-spared checkpoint stays pinned = pinned-reads o o' latest checkpoint pinned (stays.keeps pinned.manifest pinned.kept pinned.tables pinned.logs) stays.entry
+
   pub spared : Unmoved o o'
   spared =
       let its = its-objects o latest sound is in
@@ -83,6 +96,9 @@ module _ (o o' : Objects) (latest : VersionedManifest) (sound : IsSound o) (is :
         };
         content = same;
         latest = spares.latest_is ∙ sym is;
+        pins = λ found at.
+            subst (λ (v : VersionedManifest). All (ReadsSame o o') v.manifest.checkpoints) (let same : latest ≡ found = cc (is, at) in same)
+            (all-both (StaysKept o o') (IsPinned o latest) (ReadsSame o o') m.checkpoints reads-spared spares.kept its.pinned);
       }
 
 -- ---- a put of a table

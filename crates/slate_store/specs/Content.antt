@@ -111,3 +111,13 @@ pub record IsSound (objects : Objects) : Type 0 where
   pub nothing : latest_manifest objects ≡ None → (objects.logs ≡ []) × (objects.tables ≡ [])
   pub line : IsLine (content objects)
   pub latest : IfSome (latest_manifest objects) (HasItsObjects objects)
+
+-- where the manifest that a checkpoint keeps was stored, it is stored still, and what it named when it was put is as it was
+abbrev pub ReadsSame : Objects → Objects → Checkpoint → Type 0
+ReadsSame objects objects' checkpoint =
+    (manifest : Manifest) → entry_at checkpoint.manifest_id objects.manifests ≡ Some manifest →
+    (entry_at checkpoint.manifest_id objects'.manifests ≡ Some manifest) × (pinned_content objects' manifest ≡ pinned_content objects manifest)
+
+-- each checkpoint that there is afterwards keeps what it kept
+abbrev pub KeepsPins : Objects → Objects → Type 0
+KeepsPins objects objects' = IfSome (latest_manifest objects') (λ latest. All (ReadsSame objects objects') latest.manifest.checkpoints)

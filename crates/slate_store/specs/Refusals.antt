@@ -1,5 +1,5 @@
 -- What the calls of a store that make several calls of it answer and leave.
-use Rattle.std.specs.Prelude.{◌≡◌, ◌≢◌, ℕ, ◌≤◌, ◌<◌, ◌+◌, ◌⊎◌, min, Bool, true, false, List, [], ◌∷◌, length, Option, Some, None, Result, Ok, Err, IfOk, IfErr}
+use Rattle.std.specs.Prelude.{◌≡◌, ◌≢◌, ℕ, ◌≤◌, ◌+◌, ◌⊎◌, min, Bool, true, false, List, [], ◌∷◌, length, Option, Some, None, Result, Ok, Err, IfOk, IfErr}
 use Rattle.slate_types.specs.Counts.{HasRisen, count_end}
 use Rattle.slate_types.specs.declared.store_errors.StoreError.{StoreError}
 use Rattle.slate_types.specs.declared.store_errors.StoreError.TheVariants as errors
@@ -9,7 +9,7 @@ use Rattle.slate_store.specs.declared.refusals.StoreRefusal.{StoreRefusal}
 use Rattle.slate_store.specs.declared.refusals.StoreRefusal.TheVariants.{CheckpointMissing, LatestTransactionalObjectVersionMissing, Fenced, InvalidDBState, ObjectStoreError, TransactionalObjectVersionExists, TransactionalObjectTimeout, NoMemory}
 use Rattle.slate_store.specs.Changes.{PartMadeBy, after_part}
 use Rattle.slate_store.specs.Checkpoints.{Plan}
-use Rattle.slate_store.specs.Content.{IsSound, content}
+use Rattle.slate_store.specs.Content.{IsSound, KeepsPins, content}
 use Rattle.slate_store.specs.Objects.{ChangeOf, Objects, ObjectsOf, PutManifest, changed, is_present, latest_manifest}
 
 -- the refusals after which a prefix of a call's changes may be made: a fault of the store, an object that is there
@@ -41,9 +41,9 @@ pub record CountsTries {A : Type 0} (calls calls' : ℕ) (result : Result A Stor
   pub timeout : (tries : ℕ) → result ≡ Err (TransactionalObjectTimeout tries) → (tries ≡ 8) × (calls' ≡ min (calls + 16) count_end)
   pub none_missing : result ≢ Err (ObjectStoreError fault.NotFound)
 
--- sound objects stay sound, and their content stays
+-- sound objects stay sound, their content stays, and so does what their checkpoints keep
 abbrev pub KeepsContent : Objects → Objects → Type 0
-KeepsContent objects objects' = IsSound objects → IsSound objects' × (content objects' ≡ content objects)
+KeepsContent objects objects' = IsSound objects → IsSound objects' × (content objects' ≡ content objects) × KeepsPins objects objects'
 
 -- What a call answers that makes a plan: what it puts and answers, or why it refuses. Want of memory has no cause.
 abbrev pub GivesPlan : {A : Type 0} → Plan A → Result (Option VersionedManifest × A) StoreRefusal → Type 0

@@ -1,14 +1,27 @@
 -- What a reader keeps in memory, and the follower that it represents.
-use Rattle.std.specs.Prelude.{◌+◌, ◌<◌, ◌^◌, length}
+use Rattle.std.specs.Prelude.{◌≡◌, ◌+◌, ◌<◌, ◌^◌, [], length}
 use Rattle.slate_types.specs.Line.{AreNumberedFrom}
-use Rattle.slate_model.specs.Follower.{Follower}
+use Rattle.slate_model.specs.Follower.{Follower, rebuilt}
+use Rattle.slate_follow.specs.declared.rebuilds.Rebuilt.TheInside.{Inside as Rebuilt}
 use Rattle.slate_follow.specs.declared.states.FollowerState.TheInside.{Inside}
 
 -- the follower that the fields represent
 abbrev pub kept_follower : Inside → Follower
-kept_follower a = record { view = a.view; line = record { floor = a.floor; batches = a.memory }; result = a.closed }
+kept_follower a =
+    record { view = a.status.manifest; line = record { floor = a.floor; batches = a.memory }; result = a.status.result }
 
--- the batches in memory are numbered from the floor on
+-- the batches in memory are numbered from the floor on, its number is that of the last one, and none is in a segment
 pub record IsKept (a : Inside) : Type 0 where
   pub numbered : AreNumberedFrom a.floor a.memory
   pub fits : a.floor + length a.memory < 2 ^ 64
+  pub number : a.status.durable ≡ a.floor + length a.memory
+  pub unsegmented : a.status.segments ≡ []
+
+-- the follower that what was built makes
+abbrev pub rebuilt_follower : Rebuilt → Follower
+rebuilt_follower a = rebuilt a.view (record { floor = a.view.manifest.last_l0_seq; batches = a.memory })
+
+-- its batches are numbered from the last number in tables on
+pub record IsRebuilt (a : Rebuilt) : Type 0 where
+  pub numbered : AreNumberedFrom a.view.manifest.last_l0_seq a.memory
+  pub fits : a.view.manifest.last_l0_seq + length a.memory < 2 ^ 64

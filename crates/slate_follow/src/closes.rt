@@ -17,11 +17,11 @@ impl FollowerState {
         ensures closed { self.new ≡ closed_follower self.old }
         ensures store { store.new ≡ store.old }
     {
-        let fault = match self.closed.read() {
+        let fault = match self.closed() {
             Some(Err(fault)) => Some(SlateError::from(fault)),
             _ => None,
         };
-        self.closed.write(Ok(()));
+        self.status.report_closed(Ok(()));
         Ended {
             fault,
             tasks: Ending::new(),

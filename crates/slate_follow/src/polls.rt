@@ -37,7 +37,8 @@ impl FollowerState {
         ensures replays { IfOk result (λ p. IfSome (S.objects store.old) (λ o. ReplaysLatest true o p.0 p.1)) }
         ensures calls { IfSome (S.objects store.old) (λ o. CallsRebuilding o (S.calls store.old) (S.calls store.new)) }
     {
-        rebuild(alloc, store, true)
+        let (rebuilt, answer) = rebuild(alloc, store, true)?;
+        Ok((FollowerState::new(alloc, rebuilt), answer))
     }
 
     /// Takes all that is stored by now: from then on the reader sees the batches of the log files above the latest
@@ -64,11 +65,11 @@ impl FollowerState {
         ensures count { S.faults store.old ≤ S.faults store.new }
         ensures untouched { self.old.result ≢ None → (self.new ≡ self.old) × (store.new ≡ store.old) }
     {
-        if let Some(result) = self.closed.read() {
+        if let Some(result) = self.closed() {
             return Err(SlateError::of_closed(result));
         }
         let (rebuilt, answer) = rebuild(alloc, store, false)?;
-        *self = rebuilt;
+        self.take(rebuilt);
         Ok(answer)
     }
 }

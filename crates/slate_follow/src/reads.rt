@@ -34,7 +34,7 @@ impl FollowerState {
             AnswersRead (read_at merge self.now.line.batches (Some (number self.now)) key.now) result }
         ensures store { store.new ≡ store.old }
     {
-        if let Some(result) = self.closed.read() {
+        if let Some(result) = self.closed() {
             return Err(SlateError::of_closed(result));
         }
         let memory = std::slice::from_ref(&self.memory);

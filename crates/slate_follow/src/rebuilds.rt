@@ -2,41 +2,65 @@
 ghost use Rattle.std.specs.Prelude.{◌≡◌, ◌+◌, ◌-◌, ◌<◌, ◌≤◌, ◌^◌, length, IfOk, IfErr, IfSome};
 ghost use Rattle.slate_types.specs.Line.{AreNumberedFrom};
 ghost use Rattle.slate_store.specs.Objects.{last_log};
-ghost use Rattle.slate_model.specs.Follower.{Rebuilds, can_follow};
+ghost use Rattle.slate_model.specs.Follower.{Rebuilds, can_follow, number};
 ghost use Rattle.slate_model.specs.Known.{CountsFaults, IsContent, known};
 ghost use Rattle.slate_follow.specs.Rebuilding.{CallsRebuilding, FindsView, GiveBatches, IsOfReplay, ReplaysLatest};
 
-use crate::{FollowerState, PollAnswer};
-use slate_errors::{CloseCell, SlateError};
+use crate::PollAnswer;
+use slate_errors::SlateError;
 use slate_reads::IndexedTable;
 use slate_replay::{Replayed, recover};
 use slate_store::{Store, VersionedManifest};
 use std::alloc::Global;
+use std::marker::Model;
 
-/// A follower of what is stored, and whether its log files were whole.
+/// What a reader goes by: a manifest, and the batches of its log files.
+#[derive(Drop)]
+pub(crate) struct Rebuilt {
+    pub(crate) view: VersionedManifest,
+    pub(crate) memory: IndexedTable,
+}
+
+impl Model for Rebuilt {
+    ghost use Rattle.slate_model.specs.Follower.{Follower};
+
+    ghost Value = { Follower };
+
+    ghost use Rattle.slate_follow.specs.Kept.{rebuilt_follower, IsRebuilt};
+
+    ghost view = { rebuilt_follower };
+
+    ghost invariant = { IsRebuilt };
+}
+
+impl Rebuilt {
+    /// The number of its last batch.
+    pub(crate) fn number(&self) -> u64
+        ensures { result ≡ number self.now }
+    {
+        self.view.manifest.last_l0_seq + self.memory.batches().len() as u64
+    }
+}
+
+/// What a reader goes by of what is stored, and whether the log files were whole.
 pub(crate) fn rebuild<S: Store>(
     alloc: Global,
     store: &mut S,
     opening: bool,
-) -> Result<(FollowerState, PollAnswer), SlateError>
+) -> Result<(Rebuilt, PollAnswer), SlateError>
     ensures rebuilds { Rebuilds (IsContent (S.objects store.old)) opening (known S.objects S.faults store.old) result (known S.objects S.faults store.new) }
     ensures replays { IfOk result (λ p. IfSome (S.objects store.old) (λ o. ReplaysLatest opening o p.0 p.1)) }
     ensures calls { IfSome (S.objects store.old) (λ o. CallsRebuilding o (S.calls store.old) (S.calls store.new)) }
 {
     let view = find_view(alloc, store, opening)?;
     let (memory, replayed) = replay_logs(alloc, store, &view)?;
-    let follower = FollowerState {
-        floor: view.manifest.last_l0_seq,
-        memory,
-        view,
-        closed: CloseCell::new(),
-    };
-    let at = follower.number();
+    let rebuilt = Rebuilt { view, memory };
+    let at = rebuilt.number();
     let answer = match replayed {
         Replayed::Whole => PollAnswer::Whole { at },
         Replayed::Truncated(_) => PollAnswer::Truncated { at },
     };
-    Ok((follower, answer))
+    Ok((rebuilt, answer))
 }
 
 /// The latest manifest, where the database can be followed by it.

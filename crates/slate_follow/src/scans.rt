@@ -39,7 +39,7 @@ impl FollowerState {
             AnswersScan (BeginsScanOf self.now merge range.now order) result }
         ensures store { store.new ≡ store.old }
     {
-        if let Some(result) = self.closed.read() {
+        if let Some(result) = self.closed() {
             return Err(SlateError::of_closed(result));
         }
         let memory = std::slice::from_ref(&self.memory);

@@ -1,10 +1,14 @@
 // What a reader that follows a database keeps.
-ghost use Rattle.std.specs.Prelude.{◌≡◌};
+ghost use Rattle.std.specs.Prelude.{◌≡◌, None, IfOk};
 ghost use Rattle.slate_model.specs.Follower.{number};
+ghost use Rattle.slate_status.specs.Records.{status_by};
 
-use slate_errors::CloseCell;
+use crate::rebuilds::Rebuilt;
+use slate_errors::CloseFault;
 use slate_reads::IndexedTable;
-use slate_store::VersionedManifest;
+use slate_status::{DbStatus, StatusRecord};
+use slate_types::NoMemory;
+use std::alloc::Global;
 use std::marker::Model;
 
 /// A reader that follows a database, without the store that it follows. SlateDB's `DbReader`, as a plain value.
@@ -14,8 +18,7 @@ use std::marker::Model;
 pub struct FollowerState {
     pub(crate) floor: u64,
     pub(crate) memory: IndexedTable,
-    pub(crate) view: VersionedManifest,
-    pub(crate) closed: CloseCell,
+    pub(crate) status: StatusRecord,
 }
 
 impl Model for FollowerState {
@@ -31,10 +34,49 @@ impl Model for FollowerState {
 }
 
 impl FollowerState {
+    /// A reader that was opened with what was built.
+    pub(crate) fn new(alloc: Global, rebuilt: Rebuilt) -> FollowerState
+        ensures { result ≡ rebuilt }
+    {
+        let number = rebuilt.number();
+        FollowerState {
+            floor: rebuilt.view.manifest.last_l0_seq,
+            memory: rebuilt.memory,
+            status: StatusRecord::new(alloc, number, rebuilt.view),
+        }
+    }
+
+    /// Takes what was built in place of what it saw. A reader that is open becomes what was built.
+    pub(crate) fn take(&mut self, rebuilt: Rebuilt)
+        ensures { self.old.result ≡ None → self.new ≡ rebuilt }
+    {
+        let number = rebuilt.number();
+        self.floor = rebuilt.view.manifest.last_l0_seq;
+        self.memory = rebuilt.memory;
+        self.status.report_view(number, rebuilt.view);
+    }
+
     /// The number of the last batch that it sees. It takes constant time.
     pub fn number(&self) -> u64
         ensures { result ≡ number self.now }
     {
-        self.floor + self.memory.batches().len() as u64
+        self.status.durable()
+    }
+
+    /// The result with which it closed, or None while it is open.
+    pub fn closed(&self) -> Option<Result<(), CloseFault>>
+        ensures { result ≡ self.now.result }
+    {
+        self.status.result()
+    }
+
+    /// A copy of what it reports of itself: the number of the last batch that it sees, the manifest that it goes by
+    /// (the latest, when it was opened or last polled), and why it closed, where it did. It is answered of a closed
+    /// reader, too, and changes nothing. None of its batches is in a segment yet. It takes time and memory linear in
+    /// the manifest. SlateDB's `DbReader::status`.
+    pub fn status(&self, alloc: Global) -> Result<DbStatus, NoMemory>
+        ensures { IfOk result (λ status. status ≡ status_by (number self.now) self.now.view self.now.result) }
+    {
+        self.status.status(alloc)
     }
 }

@@ -29,15 +29,16 @@ use Rattle.slate_model.specs.Open.{OpenAnswer}
 use Rattle.slate_model.specs.Read.{AnswersRead, AnswersScan}
 use Rattle.slate_model.specs.Write.{Writes, accepted_moment, batch_refusal, clock_refusal, last_number, number_refusal, write_refusal}
 use Rattle.slate_model.proofs.Reduced.{modelled}
+use Rattle.slate_status.specs.declared.statuses.DbStatus.{DbStatus}
 use Rattle.slate_script.specs.declared.commands.Command.{Command}
 use Rattle.slate_script.specs.declared.replies.Reply.{Reply}
 use Rattle.slate_script.specs.declared.replies.Reply.TheVariants as replies
 use Rattle.slate_live.specs.declared.states.Write.{Write}
-use Rattle.slate_live.specs.Calls.{Call, Write as WriteCall, Merge as MergeCall, Flush, Get, Scan, Seek, Close, Poll, Nothing, call_of, Target, NewHandle, NewFollower, OfWrite, OfObject, target_of}
+use Rattle.slate_live.specs.Calls.{Call, Write as WriteCall, Merge as MergeCall, Flush, Get, Scan, Seek, Close, Poll, Status, Nothing, call_of, Target, NewHandle, NewFollower, OfWrite, OfObject, target_of}
 use Rattle.slate_live.specs.Commands.{ActsOn, DoesBy, asked_reply, write_reply}
 use Rattle.slate_live.specs.Followers.{FollowerActs}
 use Rattle.slate_live.specs.Handles.{HandleActs, MergesTo, WritesTo, pending_reply}
-use Rattle.slate_live.specs.Replies.{IsRead, closed_reply, ended_reply, follower_ended_reply, followed_reply, found_reply, polled_reply, refusal, reply_to}
+use Rattle.slate_live.specs.Replies.{AnswersStatus, IsRead, closed_reply, ended_reply, follower_ended_reply, followed_reply, found_reply, polled_reply, refusal, reply_to}
 use Rattle.slate_live.specs.Represents.{IsValid}
 use Rattle.slate_live.specs.Scans.{IsTaken, Takes, scanned, sought}
 use Rattle.slate_live.specs.Settings.{Settings}
@@ -219,6 +220,11 @@ closed-follower-reply : (fault : Option SlateError) (reply : Reply) → fault �
 closed-follower-reply None reply none is = subst IsOkOrNoMemory (sym is) tt
 closed-follower-reply (Some error) reply none is = absurd (cc)
 
+-- a status is refused nothing
+status-completes : (status : DbStatus) (reply : Reply) → AnswersStatus status reply → IsOkOrNoMemory reply
+status-completes status reply (inl is) = subst IsOkOrNoMemory (sym is) tt
+status-completes status reply (inr is) = subst IsOkOrNoMemory (sym is) tt
+
 -- the object that a valid command names
 by-object : {G : Type 0} (object : Option Object) (of_handle : Handle → Type 0) (of_follower : Follower → Type 0) → AtObject object of_handle of_follower → ((h : Handle) → object ≡ Some (AHandle h) → of_handle h → G) → ((f : Follower) → object ≡ Some (AFollower f) → of_follower f → G) → G
 by-object None of_handle of_follower at f g = absurd at
@@ -244,6 +250,7 @@ module _ (settings : Settings) (w w' : World) (valid : IsValid w) (command : Com
   handle-completes n (Seek range take key order remote) h h' can a = take-completes h.result (sought range take key) reply can a.0
   handle-completes n (Close t) h h' can a = close-completes w w' made h h' h.result t (a.0).ended reply refl can (a.0).does (a.0).replied calm
   handle-completes n Poll h h' can a = absurd can
+  handle-completes n Status h h' can a = status-completes _ reply a.0
   handle-completes n Nothing h h' can a = absurd can
 
   -- a follower that may be asked this
@@ -257,6 +264,7 @@ module _ (settings : Settings) (w w' : World) (valid : IsValid w) (command : Com
   follower-completes n (Close t) f f' at can a = closed-follower-reply (recorded_fault f.result) reply can a.0
   follower-completes n Poll f f' at can a =
       subst IsOkOrNoMemory (sym (a.0).replied) (poll-reply w w' f' (a.0).result (((a.0).does).rebuilds can) (valid.followers n f at).followed calm)
+  follower-completes n Status f f' at can a = status-completes _ reply a.0
   follower-completes n Nothing f f' at can a = absurd can
 
   object-completes : (n : ℕ) (call : Call) → call_of command.action ≡ call → AtObject (slice_get w.objects n) (CanAsk settings.merge w command.moment command.second call) (CanAskFollower settings.merge w call) → ActsOn (by_catalogue w.stored) settings.merge n command made (slice_get w.objects n) (state_of w) reply (state_of w') → IsOkOrNoMemory reply

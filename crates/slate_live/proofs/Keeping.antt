@@ -20,15 +20,16 @@ use Rattle.slate_model.specs.Known.{Known}
 use Rattle.slate_model.specs.Object.{Object, Handle as AHandle, Follower as AFollower}
 use Rattle.slate_model.specs.Write.{Writes, next_batch, written}
 use Rattle.slate_script.specs.declared.commands.Command.{Command}
+use Rattle.slate_status.specs.declared.statuses.DbStatus.{DbStatus}
 use Rattle.slate_script.specs.declared.replies.Reply.{Reply}
 use Rattle.slate_script.specs.declared.replies.Reply.TheVariants as replies
 use Rattle.slate_live.specs.declared.states.Write.{Write}
-use Rattle.slate_live.specs.Calls.{Call, Write as WriteCall, Merge as MergeCall, Flush, Get, Scan, Seek, Close, Poll, Nothing, call_of, Target, NewHandle, NewFollower, OfWrite, OfObject, target_of}
+use Rattle.slate_live.specs.Calls.{Call, Write as WriteCall, Merge as MergeCall, Flush, Get, Scan, Seek, Close, Poll, Status, Nothing, call_of, Target, NewHandle, NewFollower, OfWrite, OfObject, target_of}
 use Rattle.slate_live.specs.Commands.{Acts, ActsOn, DoesBy, asked_reply, write_reply}
 use Rattle.slate_live.specs.Confirmed.{StandsIn}
 use Rattle.slate_live.specs.Followers.{FollowerActs}
 use Rattle.slate_live.specs.Handles.{HandleActs, MergesTo, noted, pending_reply}
-use Rattle.slate_live.specs.Replies.{closed_reply, followed_reply, follower_closed_reply, found_reply, polled_reply, refusal, reply_to}
+use Rattle.slate_live.specs.Replies.{AnswersStatus, closed_reply, followed_reply, follower_closed_reply, found_reply, polled_reply, refusal, reply_to}
 use Rattle.slate_live.specs.Represents.{IsHandleAt}
 use Rattle.slate_live.specs.Rising.{Rise, Rises}
 use Rattle.slate_live.specs.Settings.{Settings}
@@ -142,6 +143,10 @@ numbers-closed vs (Some errors.Closed) tasks = tt
 numbers-closed vs None tasks = tt
 numbers-closed vs (Some e) tasks = tt
 
+numbers-status : (vs : List Write) (status : DbStatus) {reply : Reply} → AnswersStatus status reply → Numbers vs reply
+numbers-status vs status (inl is) = numbers-by vs is tt
+numbers-status vs status (inr is) = numbers-by vs is tt
+
 numbers-follower-closed : (vs : List Write) (fault : Option SlateError) (tasks : List TaskName) → Numbers vs (follower_closed_reply fault tasks)
 numbers-follower-closed vs None tasks = tt
 numbers-follower-closed vs (Some e) tasks = tt
@@ -186,6 +191,7 @@ module _ (xs ys : List Object) (rise : Rise xs ys) (ws vs : List Write) where
   handle-keeps merge n moment second (Seek range take key order remote) made h h' before after reply at set_is a =
       keeps-by xs ys rise ws vs reply a.3 (numbers-by vs (a.0).replied (numbers-to vs _ (a.0).result (λ x. tt)))
   handle-keeps merge n moment second Poll made h h' before after reply at set_is a = keeps-by xs ys rise ws vs reply a.3 (numbers-by vs a.0 tt)
+  handle-keeps merge n moment second Status made h h' before after reply at set_is a = keeps-by xs ys rise ws vs reply a.3 (numbers-status vs _ a.0)
   handle-keeps merge n moment second Nothing made h h' before after reply at set_is a = keeps-by xs ys rise ws vs reply a.3 (numbers-by vs a.0 tt)
 
   follower-keeps : (stored : Line) (rows : Follower → List Batch) (merge : Option Merge) (call : Call) (made : ℕ) (f f' : Follower) (before after : Known Span) (reply : Reply) → FollowerActs (λ line. line ≡ stored) rows merge call made f before ws reply f' after vs → Keeps xs ws reply ys vs
@@ -201,6 +207,7 @@ module _ (xs ys : List Object) (rise : Rise xs ys) (ws vs : List Write) where
   follower-keeps stored rows merge (WriteCall ops) made f f' before after reply a = keeps-by xs ys rise ws vs reply a.3 (numbers-by vs a.0 tt)
   follower-keeps stored rows merge (MergeCall op) made f f' before after reply a = keeps-by xs ys rise ws vs reply a.3 (numbers-by vs a.0 tt)
   follower-keeps stored rows merge Flush made f f' before after reply a = keeps-by xs ys rise ws vs reply a.3 (numbers-by vs a.0 tt)
+  follower-keeps stored rows merge Status made f f' before after reply a = keeps-by xs ys rise ws vs reply a.3 (numbers-status vs _ a.0)
   follower-keeps stored rows merge Nothing made f f' before after reply a = keeps-by xs ys rise ws vs reply a.3 (numbers-by vs a.0 tt)
 
 module _ (settings : Settings) (w w' : World) (command : Command) (made : ℕ) (reply : Reply) (rise : Rise w.objects w'.objects) where

@@ -21,7 +21,7 @@ use Rattle.slate_model.proofs.Reduced.{catalogued, closes-reduced, flushes-reduc
 use Rattle.slate_script.specs.declared.commands.Command.{Command}
 use Rattle.slate_script.specs.declared.replies.Reply.{Reply}
 use Rattle.slate_live.specs.declared.states.Write.{Write}
-use Rattle.slate_live.specs.Calls.{Call, Write as WriteCall, Merge as MergeCall, Flush, Get, Scan, Seek, Close, Poll, Nothing, call_of}
+use Rattle.slate_live.specs.Calls.{Call, Write as WriteCall, Merge as MergeCall, Flush, Get, Scan, Seek, Close, Poll, Status, Nothing, call_of}
 use Rattle.slate_live.specs.Commands.{Acts}
 use Rattle.slate_live.specs.Followers.{FollowerActs, GetsFromFollower, IsPlainScanAt}
 use Rattle.slate_live.specs.Handles.{HandleActs}
@@ -42,6 +42,7 @@ module _ (o o' : Objects) (f f' : ℕ) (made : ℕ) (writes writes' : List Write
   handle-known merge n moment second (Scan range order remote) h h' a = (a.0, a.1, untouched-known made o o' f f' a.2, a.3)
   handle-known merge n moment second (Seek range take key order remote) h h' a = (a.0, a.1, untouched-known made o o' f f' a.2, a.3)
   handle-known merge n moment second Poll h h' a = (a.0, a.1, untouched-known made o o' f f' a.2, a.3)
+  handle-known merge n moment second Status h h' a = (a.0, a.1, untouched-known made o o' f f' a.2, a.3)
   handle-known merge n moment second Nothing h h' a = (a.0, a.1, untouched-known made o o' f f' a.2, a.3)
 
   module _ (stored : Line) (is_sound : IsSound o) (is_stored : content o ≡ stored) (numbered : IsLine stored) where
@@ -78,6 +79,7 @@ module _ (o o' : Objects) (f f' : ℕ) (made : ℕ) (writes writes' : List Write
     follower-known merge (WriteCall ops) g g' front a = (a.0, a.1, untouched-known made o o' f f' a.2, a.3)
     follower-known merge (MergeCall op) g g' front a = (a.0, a.1, untouched-known made o o' f f' a.2, a.3)
     follower-known merge Flush g g' front a = (a.0, a.1, untouched-known made o o' f f' a.2, a.3)
+    follower-known merge Status g g' front a = (a.0, a.1, untouched-known made o o' f f' a.2, a.3)
     follower-known merge Nothing g g' front a = (a.0, a.1, untouched-known made o o' f f' a.2, a.3)
 
     -- what an object does

@@ -22,7 +22,7 @@ use Rattle.slate_model.specs.Write.{Writes}
 use Rattle.slate_model.proofs.Reduced.{holding}
 use Rattle.slate_script.specs.declared.replies.Reply.{Reply}
 use Rattle.slate_live.specs.declared.states.Write.{Write}
-use Rattle.slate_live.specs.Calls.{Call, Write as WriteCall, Merge as MergeCall, Flush, Get, Scan, Seek, Close, Poll, Nothing}
+use Rattle.slate_live.specs.Calls.{Call, Write as WriteCall, Merge as MergeCall, Flush, Get, Scan, Seek, Close, Poll, Status, Nothing}
 use Rattle.slate_live.specs.Followers.{FollowerActs}
 use Rattle.slate_live.specs.Handles.{HandleActs, MergesTo}
 use Rattle.slate_live.specs.Represents.{Holds, IsFollowerAt, IsHandleAt, IsValid, IsValidHandle, IsValidFollower}
@@ -143,6 +143,8 @@ module _ (w : World) (o : Objects) (is_sound : IsSound o) (holds : Holds o w) (v
       untouched-leads n h h' there (ap (λ (x : Handle). x.epoch) a.1) batches made store a.2 (same-valid n h h' there a.1)
   handle-leads merge n moment second Poll made h writes reply h' store writes' batches there is_stored a =
       untouched-leads n h h' there (ap (λ (x : Handle). x.epoch) a.1) batches made store a.2 (same-valid n h h' there a.1)
+  handle-leads merge n moment second Status made h writes reply h' store writes' batches there is_stored a =
+      untouched-leads n h h' there (ap (λ (x : Handle). x.epoch) a.1) batches made store a.2 (same-valid n h h' there a.1)
   handle-leads merge n moment second Nothing made h writes reply h' store writes' batches there is_stored a =
       untouched-leads n h h' there (ap (λ (x : Handle). x.epoch) a.1) batches made store a.2 (same-valid n h h' there a.1)
 
@@ -196,4 +198,5 @@ module _ (w : World) (o : Objects) (is_sound : IsSound o) (holds : Holds o w) (v
   follower-leads merge n (WriteCall ops) made f writes reply f' store writes' batches there a = follower-kept n f f' batches made store there (a.2).0 (kept-objects (a.2).1) (front-same n f f' there a.1)
   follower-leads merge n (MergeCall op) made f writes reply f' store writes' batches there a = follower-kept n f f' batches made store there (a.2).0 (kept-objects (a.2).1) (front-same n f f' there a.1)
   follower-leads merge n Flush made f writes reply f' store writes' batches there a = follower-kept n f f' batches made store there (a.2).0 (kept-objects (a.2).1) (front-same n f f' there a.1)
+  follower-leads merge n Status made f writes reply f' store writes' batches there a = follower-kept n f f' batches made store there (a.2).0 (kept-objects (a.2).1) (front-same n f f' there a.1)
   follower-leads merge n Nothing made f writes reply f' store writes' batches there a = follower-kept n f f' batches made store there (a.2).0 (kept-objects (a.2).1) (front-same n f f' there a.1)

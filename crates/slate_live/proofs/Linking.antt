@@ -63,7 +63,8 @@ Names action n =
     ⊎ (((range : ByteRange) × (order : IterationOrder) × (remote : Bool) × (action ≡ actions.Scan n range order remote))
     ⊎ (((range : ByteRange) × (take : ℕ) × (key : List ℕ) × (order : IterationOrder) × (remote : Bool) × (action ≡ actions.Seek n range take key order remote))
     ⊎ (((options : Option CloseOptions) × (action ≡ actions.Close n options))
-    ⊎ (action ≡ actions.Poll n)))))))))
+    ⊎ ((action ≡ actions.Poll n)
+    ⊎ (action ≡ actions.Status n))))))))))
 
 pub names-object : (action : Action) (n : ℕ) → Names action n → target_of action ≡ OfObject n
 names-object action n (inl put) = ap target_of put.3
@@ -75,4 +76,5 @@ names-object action n (inr (inr (inr (inr (inr (inl get)))))) = ap target_of get
 names-object action n (inr (inr (inr (inr (inr (inr (inl scan))))))) = ap target_of scan.3
 names-object action n (inr (inr (inr (inr (inr (inr (inr (inl seek)))))))) = ap target_of seek.5
 names-object action n (inr (inr (inr (inr (inr (inr (inr (inr (inl close))))))))) = ap target_of close.1
-names-object action n (inr (inr (inr (inr (inr (inr (inr (inr (inr poll))))))))) = ap target_of poll
+names-object action n (inr (inr (inr (inr (inr (inr (inr (inr (inr (inl poll)))))))))) = ap target_of poll
+names-object action n (inr (inr (inr (inr (inr (inr (inr (inr (inr (inr status)))))))))) = ap target_of status

@@ -26,7 +26,7 @@ use Rattle.slate_model.specs.Write.{Writes, accepted_moment}
 use Rattle.slate_script.specs.declared.commands.Command.{Command}
 use Rattle.slate_script.specs.declared.replies.Reply.{Reply}
 use Rattle.slate_live.specs.declared.states.Write.{Write}
-use Rattle.slate_live.specs.Calls.{Call, Write as WriteCall, Merge as MergeCall, Flush, Get, Scan, Seek, Close, Poll, Nothing, call_of, Target, NewHandle, NewFollower, OfWrite, OfObject, target_of}
+use Rattle.slate_live.specs.Calls.{Call, Write as WriteCall, Merge as MergeCall, Flush, Get, Scan, Seek, Close, Poll, Status, Nothing, call_of, Target, NewHandle, NewFollower, OfWrite, OfObject, target_of}
 use Rattle.slate_live.specs.Commands.{Acts, ActsOn, DoesBy}
 use Rattle.slate_live.specs.Followers.{FollowerActs}
 use Rattle.slate_live.specs.Handles.{HandleActs, MergesTo}
@@ -103,6 +103,7 @@ handle-rises summary merge n moment second (Get key remote) made h before writes
 handle-rises summary merge n moment second (Scan range order remote) made h before writes reply h' after writes' low a = rises-same h h' a.1
 handle-rises summary merge n moment second (Seek range take key order remote) made h before writes reply h' after writes' low a = rises-same h h' a.1
 handle-rises summary merge n moment second Poll made h before writes reply h' after writes' low a = rises-same h h' a.1
+handle-rises summary merge n moment second Status made h before writes reply h' after writes' low a = rises-same h h' a.1
 handle-rises summary merge n moment second Nothing made h before writes reply h' after writes' low a = rises-same h h' a.1
 
 follower-same : (f f' : Follower) → f' ≡ f → FollowerRises f f'
@@ -140,6 +141,7 @@ follower-rises stored rows merge (Seek range take key order remote) made f o bef
 follower-rises stored rows merge (WriteCall ops) made f o before writes reply f' after writes' at front a = follower-same f f' a.1
 follower-rises stored rows merge (MergeCall op) made f o before writes reply f' after writes' at front a = follower-same f f' a.1
 follower-rises stored rows merge Flush made f o before writes reply f' after writes' at front a = follower-same f f' a.1
+follower-rises stored rows merge Status made f o before writes reply f' after writes' at front a = follower-same f f' a.1
 follower-rises stored rows merge Nothing made f o before writes reply f' after writes' at front a = follower-same f f' a.1
 
 rises-refl : (x : Object) → Rises x x

@@ -110,6 +110,7 @@ sees-action settings batch w w' command made (actions.Get n key remote) reply is
 sees-action settings batch w w' command made (actions.Scan n range order remote) reply is stands d = tt
 sees-action settings batch w w' command made (actions.Seek n range take key order remote) reply is stands d = tt
 sees-action settings batch w w' command made (actions.Close n options) reply is stands d = tt
+sees-action settings batch w w' command made (actions.Status n) reply is stands d = tt
 sees-action settings batch w w' command made (actions.Await n) reply is stands d = tt
 
 -- what is stored is seen by each opening and each poll

@@ -31,6 +31,7 @@ target_of (actions.Scan n range order remote) = OfObject n
 target_of (actions.Seek n range take key order remote) = OfObject n
 target_of (actions.Close n options) = OfObject n
 target_of (actions.Poll n) = OfObject n
+target_of (actions.Status n) = OfObject n
 
 abbrev pub put_op : List ℕ → List ℕ → Option ℤ → KeyOp
 put_op key value expire = record { key = key; op = Put value expire }
@@ -64,6 +65,7 @@ pub data Call : Type 0 where
   Seek : (range : ByteRange) → (take : ℕ) → (key : List ℕ) → (order : IterationOrder) → (remote : Bool) → Call
   Close : (flush_type : Option FlushType) → Call
   Poll : Call
+  Status : Call
   Nothing : Call
 
 abbrev pub call_of : Action → Call
@@ -77,6 +79,7 @@ call_of (actions.Scan n range order remote) = Scan range order remote
 call_of (actions.Seek n range take key order remote) = Seek range take key order remote
 call_of (actions.Close n options) = Close (flush_of_close options)
 call_of (actions.Poll n) = Poll
+call_of (actions.Status n) = Status
 call_of action = Nothing
 
 -- how often what is asked of an object calls the store at most, where a poll replays so many log files

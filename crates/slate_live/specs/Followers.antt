@@ -13,12 +13,14 @@ use Rattle.slate_model.specs.Close.{closed_follower, ended, recorded_fault}
 use Rattle.slate_model.specs.declared.answers.PollAnswer.{PollAnswer}
 use Rattle.slate_model.specs.Follower.{Follower, Polls, number}
 use Rattle.slate_model.specs.Known.{Known, Untouched}
+use Rattle.slate_status.specs.declared.statuses.DbStatus.{DbStatus}
+use Rattle.slate_status.specs.Records.{status_by}
 use Rattle.slate_script.specs.declared.replies.Reply.{Reply}
 use Rattle.slate_script.specs.declared.replies.Reply.TheVariants as replies
 use Rattle.slate_live.specs.declared.states.Write.{Write}
-use Rattle.slate_live.specs.Calls.{Call, Get, Scan, Seek, Close, Poll}
+use Rattle.slate_live.specs.Calls.{Call, Get, Scan, Seek, Close, Poll, Status}
 use Rattle.slate_live.specs.Scans.{IsTaken, scanned, sought}
-use Rattle.slate_live.specs.Replies.{IsRead, follower_ended_reply, found_reply, polled_reply, reply_to}
+use Rattle.slate_live.specs.Replies.{AnswersStatus, IsRead, follower_ended_reply, found_reply, polled_reply, reply_to}
 
 -- a read of a key: the plain read of these batches at the follower's number
 abbrev pub GetsFromFollower : Option Merge → List Batch → List ℕ → Follower → Reply → Type 0
@@ -34,6 +36,10 @@ ScansFollower merge rows range order follower reply = IsTaken follower.result (I
 abbrev pub SeeksFollower : Option Merge → List Batch → ByteRange → ℕ → List ℕ → IterationOrder → Follower → Reply → Type 0
 SeeksFollower merge rows range take key order follower reply =
     IsTaken follower.result (IsPlainScanAt merge rows range order follower) (sought range take key) reply
+
+-- the status of a follower: the number of the last batch that it sees, the manifest that it goes by, and why it closed
+abbrev pub follower_status : Follower → DbStatus
+follower_status follower = status_by (number follower) follower.view follower.result
 
 pub record PollsFollower {L : Type 0} (is_stored : Line → Type 0) (old : Follower) (before : Known L) (reply : Reply) (new : Follower) (after : Known L) : Type 0 where
   pub result : Result PollAnswer SlateError
@@ -54,5 +60,7 @@ module _ {L : Type 0} (is_stored : Line → Type 0) (rows : Follower → List Ba
       (reply ≡ follower_ended_reply (ended (recorded_fault old.result))) × (new ≡ closed_follower old) × Untouched made before after × (writes' ≡ writes)
   FollowerActs Poll made old before writes reply new after writes' =
       PollsFollower is_stored old before reply new after × (made ≡ 0) × (writes' ≡ writes)
+  FollowerActs Status made old before writes reply new after writes' =
+      AnswersStatus (follower_status old) reply × (new ≡ old) × Untouched made before after × (writes' ≡ writes)
   FollowerActs call made old before writes reply new after writes' =
       (reply ≡ replies.Unknown) × (new ≡ old) × Untouched made before after × (writes' ≡ writes)

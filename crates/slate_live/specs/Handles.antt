@@ -22,12 +22,14 @@ use Rattle.slate_model.specs.Flush.{Flushes}
 use Rattle.slate_model.specs.Handle.{CloseResult, Handle, accepted}
 use Rattle.slate_model.specs.Known.{Known, Untouched}
 use Rattle.slate_model.specs.Write.{Writes}
+use Rattle.slate_status.specs.declared.statuses.DbStatus.{DbStatus}
+use Rattle.slate_status.specs.Records.{status_by}
 use Rattle.slate_script.specs.declared.replies.Reply.{Reply}
 use Rattle.slate_script.specs.declared.replies.Reply.TheVariants as replies
 use Rattle.slate_live.specs.declared.states.Write.{Write}
-use Rattle.slate_live.specs.Calls.{Call, Write as WriteCall, Merge as MergeCall, Flush, Get, Scan, Seek, Close}
+use Rattle.slate_live.specs.Calls.{Call, Write as WriteCall, Merge as MergeCall, Flush, Get, Scan, Seek, Close, Status}
 use Rattle.slate_live.specs.Scans.{IsTaken, scanned, sought}
-use Rattle.slate_live.specs.Replies.{IsRead, ended_reply, found_reply, reply_to}
+use Rattle.slate_live.specs.Replies.{AnswersStatus, IsRead, ended_reply, found_reply, reply_to}
 
 abbrev pub level_of : Bool → DurabilityLevel
 level_of true = Remote
@@ -75,6 +77,10 @@ abbrev pub SeeksFrom : Option MergeFunction → ByteRange → ℕ → List ℕ �
 SeeksFrom merge range take key order remote handle reply =
     IsTaken handle.result (IsPlainScan merge range order remote handle) (sought range take key) reply
 
+-- the status of a handle: its durable number, the manifest that it goes by, and why it closed
+abbrev pub handle_status : Handle → DbStatus
+handle_status handle = status_by handle.durable handle.view handle.result
+
 -- a merge of one operand: without an operator it is refused before all else
 abbrev pub MergesTo : Option MergeFunction → ℕ → KeyOp → ℤ → Option ℤ → Handle → List Write → Reply → Handle → List Write → Type 0
 MergesTo None n op moment second old writes reply new writes' =
@@ -99,6 +105,8 @@ module _ {L : Type 0} (summary : List Batch → L) (merge : Option MergeFunction
       SeeksFrom merge range take key order remote old reply × (new ≡ old) × Untouched made before after × (writes' ≡ writes)
   HandleActs (Close flush_type) made old before writes reply new after writes' =
       ClosesHandle summary made flush_type old before reply new after × (writes' ≡ writes)
+  HandleActs Status made old before writes reply new after writes' =
+      AnswersStatus (handle_status old) reply × (new ≡ old) × Untouched made before after × (writes' ≡ writes)
   HandleActs call made old before writes reply new after writes' =
       (reply ≡ replies.Unknown) × (new ≡ old) × Untouched made before after × (writes' ≡ writes)
 

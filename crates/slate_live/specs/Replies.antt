@@ -1,5 +1,5 @@
 -- The replies to what operations answer.
-use Rattle.std.specs.Prelude.{◌≡◌, ℕ, List, true, false, Option, Some, None, Result, Ok, Err}
+use Rattle.std.specs.Prelude.{◌≡◌, ◌⊎◌, ℕ, List, true, false, Option, Some, None, Result, Ok, Err}
 use Rattle.slate_types.specs.declared.batches.KeyValue.{KeyValue}
 use Rattle.slate_types.specs.declared.read_faults.ReadFault.{ReadFault}
 use Rattle.slate_errors.specs.declared.endings.Ended.{Ended}
@@ -10,6 +10,7 @@ use Rattle.slate_model.specs.declared.answers.PollAnswer.{PollAnswer}
 use Rattle.slate_model.specs.declared.answers.PollAnswer.TheVariants.{Whole, Truncated}
 use Rattle.slate_model.specs.Handle.{CloseResult}
 use Rattle.slate_model.specs.Read.{Reads}
+use Rattle.slate_status.specs.declared.statuses.DbStatus.{DbStatus}
 use Rattle.slate_script.specs.declared.replies.Reply.{Reply}
 use Rattle.slate_script.specs.declared.replies.Reply.TheVariants as replies
 
@@ -40,6 +41,10 @@ followed_reply object (Truncated at) = replies.Follower object false at
 abbrev pub polled_reply : PollAnswer → Reply
 polled_reply (Whole at) = replies.Polled true at
 polled_reply (Truncated at) = replies.Polled false at
+
+-- this status is answered, unless memory ran out
+abbrev pub AnswersStatus : DbStatus → Reply → Type 0
+AnswersStatus status reply = (reply ≡ replies.Status status) ⊎ (reply ≡ replies.NoMemory)
 
 -- the reply to a close that finds this error and ends these tasks: one of a handle that closed cleanly is refused
 abbrev pub closed_reply : Option SlateError → List TaskName → Reply

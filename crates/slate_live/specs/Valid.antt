@@ -26,7 +26,7 @@ use Rattle.slate_script.specs.declared.replies.Reply.{Reply}
 use Rattle.slate_script.specs.declared.replies.Reply.TheVariants as replies
 use Rattle.slate_live.specs.Confirmed.{IsBatchOf, Sees, StandsIn}
 use Rattle.slate_model.specs.Object.{Object, Handle as AHandle, Follower as AFollower}
-use Rattle.slate_live.specs.Calls.{Call, Write as WriteCall, Merge, Flush, Get, Scan, Seek, Close, Poll, Target, NewHandle, NewFollower, OfWrite, OfObject, call_of, target_of}
+use Rattle.slate_live.specs.Calls.{Call, Write as WriteCall, Merge, Flush, Get, Scan, Seek, Close, Poll, Status, Target, NewHandle, NewFollower, OfWrite, OfObject, call_of, target_of}
 use Rattle.slate_live.specs.Followers.{IsPlainScanAt}
 use Rattle.slate_live.specs.Handles.{IsPlainScan, cut}
 use Rattle.slate_live.specs.Scans.{scanned, sought}
@@ -89,7 +89,7 @@ CanRead {A} closed plain = (closed ≡ None) × (found : A) × (plain ≡ Ok fou
 abbrev pub CanTake : CloseResult → (Iteration → Type 0) → (Iteration → Result (List KeyValue) SlateError) → Type 0
 CanTake closed is_plain taken = (closed ≡ None) × ((it : Iteration) → is_plain it → (rows : List KeyValue) × (taken it ≡ Ok rows))
 
--- what a handle may be asked
+-- what a handle may be asked; its status always
 abbrev pub CanAsk : Option MergeFunction → World → ℤ → Option ℤ → Call → Handle → Type 0
 CanAsk merge w moment second (WriteCall ops) handle = CanWrite ops moment second handle
 CanAsk merge w moment second (Merge op) handle = (merge ≢ None) × CanWrite (op ∷ []) moment second handle
@@ -100,9 +100,10 @@ CanAsk merge w moment second (Scan range order remote) handle =
 CanAsk merge w moment second (Seek range take key order remote) handle =
     CanTake handle.result (IsPlainScan merge range order remote handle) (sought range take key)
 CanAsk merge w moment second (Close flush_type) handle = CanClose handle.result flush_type w handle
+CanAsk merge w moment second Status handle = Unit {0}
 CanAsk merge w moment second call handle = ⊥
 
--- what a follower may be asked
+-- what a follower may be asked; its status always
 abbrev pub CanAskFollower : Option MergeFunction → World → Call → Follower → Type 0
 CanAskFollower merge w (Get key remote) follower = CanRead follower.result (read_at merge w.stored.batches (Some (number follower)) key)
 CanAskFollower merge w (Scan range order remote) follower =
@@ -111,6 +112,7 @@ CanAskFollower merge w (Seek range take key order remote) follower =
     CanTake follower.result (IsPlainScanAt merge w.stored.batches range order follower) (sought range take key)
 CanAskFollower merge w (Close flush_type) follower = recorded_fault follower.result ≡ None
 CanAskFollower merge w Poll follower = follower.result ≡ None
+CanAskFollower merge w Status follower = Unit {0}
 CanAskFollower merge w call follower = ⊥
 
 -- a write that is durable

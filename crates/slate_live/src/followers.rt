@@ -7,10 +7,10 @@ ghost use Rattle.slate_model.specs.Known.{IsContent, known};
 ghost use Rattle.slate_model.specs.Open.{replayed_logs};
 ghost use Rattle.slate_live.specs.declared.states.Write.{Write};
 ghost use Rattle.slate_live.specs.Calls.{call_of, most_asked};
-ghost use Rattle.slate_live.specs.Followers.{FollowerActs, GetsFromFollower, PollsFollower, ScansFollower, SeeksFollower};
-ghost use Rattle.slate_live.specs.Replies.{follower_ended_reply};
+ghost use Rattle.slate_live.specs.Followers.{FollowerActs, GetsFromFollower, PollsFollower, ScansFollower, SeeksFollower, follower_status};
+ghost use Rattle.slate_live.specs.Replies.{AnswersStatus, follower_ended_reply};
 
-use crate::handles::{read_reply, refusal};
+use crate::handles::{read_reply, refusal, status_reply};
 use crate::scans::{all_rows, rows_reply, rows_with_seek};
 use bytes::Bytes;
 use slate_errors::Ended;
@@ -58,6 +58,7 @@ pub(crate) fn act<S: Store, M: MergeOperator, E: PrefixExtractor>(
         ),
         Action::Poll { .. } => poll(follower, alloc, store, extractor, command.moment),
         Action::Close { .. } => ended_reply(follower.close(store)),
+        Action::Status { .. } => status(follower, alloc),
         _ => Reply::Unknown,
     }
 }
@@ -130,6 +131,13 @@ fn poll<S: Store, E: PrefixExtractor>(
         Ok(PollAnswer::Truncated { at }) => Reply::Polled { whole: false, at },
         Err(error) => refusal(error),
     }
+}
+
+/// What a reader reports of itself.
+fn status(follower: &FollowerState, alloc: Global) -> Reply
+    ensures { AnswersStatus (follower_status follower.now) result }
+{
+    status_reply(follower.status(alloc))
 }
 
 /// The reply to a close of a reader: an error that was recorded is answered again.

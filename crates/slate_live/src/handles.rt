@@ -1,5 +1,5 @@
 // What commands do to a handle that writes.
-ghost use Rattle.std.specs.Prelude.{◌≡◌, ◌≤◌, ℕ, ◌+◌, [], ◌∷◌, ◌++◌, true, false, None, Option, IfOk, IsTrue, ◌↔◌};
+ghost use Rattle.std.specs.Prelude.{◌≡◌, ◌≤◌, ℕ, ◌+◌, [], ◌∷◌, ◌++◌, true, false, None, Option, IfErr, IfOk, IsTrue, ◌↔◌};
 ghost use Rattle.std.specs.Option.{option_copied};
 ghost use Rattle.slate_types.specs.Operator.{Merge};
 ghost use Rattle.slate_reads.specs.Read.{IsOperator};
@@ -8,8 +8,8 @@ ghost use Rattle.slate_model.specs.Read.{Scans};
 ghost use Rattle.slate_model.specs.Write.{Writes};
 ghost use Rattle.slate_script.specs.Built.{IsBuilt, closes_without_table, puts_no_table};
 ghost use Rattle.slate_live.specs.Calls.{call_of, flush_of_close, most_asked, ops_of};
-ghost use Rattle.slate_live.specs.Handles.{ClosesHandle, FlushesHandle, GetsFrom, HandleActs, IsPlainScan, ScansFrom, SeeksFrom, WritesTo, durable_reply, level_of, noted};
-ghost use Rattle.slate_live.specs.Replies.{ended_reply, found_reply, refusal, reply_to};
+ghost use Rattle.slate_live.specs.Handles.{ClosesHandle, FlushesHandle, GetsFrom, HandleActs, IsPlainScan, ScansFrom, SeeksFrom, WritesTo, durable_reply, handle_status, level_of, noted};
+ghost use Rattle.slate_live.specs.Replies.{AnswersStatus, ended_reply, found_reply, refusal, reply_to};
 
 use crate::scans::{all_rows, rows_reply, rows_with_seek};
 use crate::states::Write;
@@ -17,6 +17,7 @@ use bytes::Bytes;
 use slate_errors::{Ended, SlateError};
 use slate_rows::DbIterator;
 use slate_script::{Action, Command, Reply};
+use slate_status::DbStatus;
 use slate_store::Store;
 use slate_types::{
     ByteRange, CloseOptions, DurabilityLevel, FlushType, IterationOrder, KeyOp, KeyValue,
@@ -80,6 +81,7 @@ pub(crate) fn act<S: Store, M: MergeOperator, E: PrefixExtractor>(
             operator,
         ),
         Action::Close { options, .. } => close(writer, alloc, store, *options),
+        Action::Status { .. } => status(writer, alloc),
         _ => Reply::Unknown,
     }
 }
@@ -326,6 +328,24 @@ fn close<S: Store>(
 {
     let options = options.unwrap_or_default();
     ended_reply(writer.close(alloc, store, &options))
+}
+
+/// What a handle reports of itself.
+fn status(writer: &WriterState, alloc: Global) -> Reply
+    ensures { AnswersStatus (handle_status writer.now) result }
+{
+    status_reply(writer.status(alloc))
+}
+
+/// The reply to a question for a status.
+pub(crate) fn status_reply(answer: Result<DbStatus, NoMemory>) -> Reply
+    ensures ok { IfOk answer (λ status. result ≡ Reply.Status status) }
+    ensures err { IfErr answer (λ _. result ≡ Reply.NoMemory) }
+{
+    match answer {
+        Ok(status) => Reply::Status(status),
+        Err(_) => Reply::NoMemory,
+    }
 }
 
 /// Whether it says that the object was closed by a call.

@@ -108,7 +108,8 @@ impl LiveState {
             | Action::Scan { object: number, .. }
             | Action::Seek { object: number, .. }
             | Action::Close { object: number, .. }
-            | Action::Poll { follower: number } => {
+            | Action::Poll { follower: number }
+            | Action::Status { object: number } => {
                 self.act(alloc, store, *number, operator, extractor, command)
             }
         }

@@ -70,7 +70,15 @@ await_form (w ∷ []) = do
   Some (actions.Await write)
 await_form fields = None
 
--- the command of a name and the fields behind it, where that opens, flushes, closes, polls or asks for a write
+-- status O
+abbrev pub status_form : List (List ℕ) → Option Action
+status_form (o ∷ []) = do
+  object ← number_of o
+  Some (actions.Status object)
+status_form fields = None
+
+-- the command of a name and the fields behind it, where that opens, flushes, closes, polls, or asks for a write or a
+-- status
 abbrev pub other_of : List ℕ → List (List ℕ) → Option Action
 other_of name fields =
     if bytes_eq name (codes "open") then open_form fields
@@ -79,7 +87,8 @@ other_of name fields =
     else (if bytes_eq name (codes "follow") then follow_form fields
     else (if bytes_eq name (codes "poll") then poll_form fields
     else (if bytes_eq name (codes "await") then await_form fields
-    else None)))))
+    else (if bytes_eq name (codes "status") then status_form fields
+    else None))))))
 
 -- the action that a name and the fields after it spell
 abbrev pub action_of : List ℕ → List (List ℕ) → Option Action

@@ -5,9 +5,13 @@ use Rattle.std.specs.List.{flat_map}
 use Rattle.slate_types.specs.declared.batches.KeyValue.{KeyValue}
 use Rattle.slate_text.specs.Words.{word_text}
 use Rattle.slate_errors.specs.Texts.{error_text}
+use Rattle.slate_errors.specs.declared.closing.CloseReason.{CloseReason}
+use Rattle.slate_errors.specs.declared.closing.CloseReason.TheVariants as reasons
 use Rattle.slate_errors.specs.declared.endings.TaskName.{TaskName}
 use Rattle.slate_errors.specs.declared.endings.TaskName.TheVariants as tasks
 use Rattle.slate_errors.specs.declared.errors.SlateError.{SlateError}
+use Rattle.slate_status.specs.declared.statuses.DbStatus.{DbStatus}
+use Rattle.slate_status.specs.Segments.{segments_of}
 use Rattle.slate_script.specs.declared.replies.Reply.{Reply}
 use Rattle.slate_script.specs.declared.replies.Reply.TheVariants as replies
 
@@ -50,6 +54,31 @@ fault_text (Some error) = codes "error " ++ error_text error ++ codes "; "
 abbrev pub poll_text : Bool → ℕ → List ℕ
 poll_text whole at = (if whole then codes "whole at " else codes "truncated at ") ++ decimal at
 
+-- why something closed, or that it is open
+abbrev pub reason_text : Option CloseReason → List ℕ
+reason_text None = codes "none"
+reason_text (Some reasons.Clean) = codes "clean"
+reason_text (Some reasons.Fenced) = codes "fenced"
+reason_text (Some reasons.Panic) = codes "panic"
+
+-- the reason of a status, before the prefixes of its segments
+abbrev pub because_text : Option CloseReason → List ℕ
+because_text reason = codes " reason " ++ reason_text reason ++ codes " segments"
+
+-- what stands before those prefixes: the durable number, the id of the manifest, and the reason
+abbrev pub standing_text : DbStatus → List ℕ
+standing_text status =
+    codes "status durable " ++ decimal status.durable_seq
+    ++ codes " manifest " ++ decimal status.current_manifest.id
+    ++ because_text status.close_reason
+
+-- prefixes as byte words, each after a space
+abbrev pub prefixes_text : List (List ℕ) → List ℕ
+prefixes_text prefixes = flat_map (λ prefix. codes " " ++ word_text prefix) prefixes
+
+abbrev pub status_text : DbStatus → List ℕ
+status_text status = standing_text status ++ prefixes_text (segments_of status)
+
 -- a reply without the newline at its end
 abbrev pub reply_words : Reply → List ℕ
 reply_words (replies.Handle object) = codes "handle " ++ decimal object
@@ -63,6 +92,7 @@ reply_words replies.Durable = codes "durable"
 reply_words replies.Pending = codes "pending"
 reply_words (replies.Polled whole at) = poll_text whole at
 reply_words (replies.Ended fault tasks) = fault_text fault ++ codes "ended" ++ tasks_text tasks
+reply_words (replies.Status status) = status_text status
 reply_words (replies.Refused error) = codes "error " ++ error_text error
 reply_words replies.Unknown = codes "error unknown object"
 reply_words replies.NoMemory = codes "error no memory"

@@ -84,6 +84,10 @@ pub enum Action {
     Await {
         write: u64,
     },
+    /// Asks an object, open or closed, what it reports of itself.
+    Status {
+        object: u64,
+    },
 }
 
 /// One command of a script, with its moment and its second moment in milliseconds.

@@ -2,7 +2,7 @@
 ghost use Rattle.std.specs.Prelude.{◌≡◌, true, IfOk, IfSome};
 ghost use Rattle.slate_script.specs.Built.{IsBuilt, puts_no_table};
 ghost use Rattle.slate_script.specs.declared.commands.Command.{Command};
-ghost use Rattle.slate_script.specs.Forms.{open_form, flush_type_of, flush_form, close_options_of, close_form, follow_form, poll_form, await_form, other_of, action_of, command_of, line_of};
+ghost use Rattle.slate_script.specs.Forms.{open_form, flush_type_of, flush_form, close_options_of, close_form, follow_form, poll_form, await_form, status_form, other_of, action_of, command_of, line_of};
 
 use crate::fields::cut_fields;
 use crate::queries::read_query;
@@ -128,7 +128,19 @@ fn read_await(fields: &[Bytes]) -> Option<Action>
     Some(Action::Await { write })
 }
 
-// The command of a name and the fields behind it, where that opens, flushes, closes, polls or asks for a write.
+fn read_status(fields: &[Bytes]) -> Option<Action>
+    ensures form { result ≡ status_form fields.now }
+    ensures built { IfSome result IsBuilt }
+{
+    let [object] = fields else {
+        return None;
+    };
+    let object = read_number(object.as_slice())?;
+    Some(Action::Status { object })
+}
+
+// The command of a name and the fields behind it, where that opens, flushes, closes, polls, or asks for a write or a
+// status.
 fn read_other(name: &[u8], fields: &[Bytes]) -> Option<Action>
     ensures form { result ≡ other_of name.now fields.now }
     ensures built { IfSome result IsBuilt }
@@ -145,6 +157,8 @@ fn read_other(name: &[u8], fields: &[Bytes]) -> Option<Action>
         read_poll(fields)
     } else if name == b"await".as_slice() {
         read_await(fields)
+    } else if name == b"status".as_slice() {
+        read_status(fields)
     } else {
         None
     }

@@ -1,11 +1,12 @@
 // Writing replies as text.
-ghost use Rattle.std.specs.Prelude.{◌≡◌, ◌++◌, ◌∷◌, length, take, decimal, OnOk, OnErr};
+ghost use Rattle.std.specs.Prelude.{◌≡◌, ◌++◌, ◌∷◌, length, map, take, decimal, OnOk, OnErr};
 ghost use Rattle.std.specs.List.{flat_map};
 ghost use Rattle.slate_text.specs.Words.{word_text};
-ghost use Rattle.slate_script.specs.Replies.{expiry_text, fault_text, poll_text, row_text, rows_text, stamp_text, task_text, tasks_text, reply_words, reply_text, replies_text};
+ghost use Rattle.slate_script.specs.Replies.{because_text, expiry_text, fault_text, poll_text, prefixes_text, reason_text, row_text, rows_text, stamp_text, standing_text, task_text, tasks_text, reply_words, reply_text, replies_text};
 
 use crate::Reply;
-use slate_errors::{Ending, SlateError, TaskName, write_error};
+use slate_errors::{CloseReason, Ending, SlateError, TaskName, write_error};
+use slate_status::{DbStatus, SegmentPrefix};
 use slate_text::{cut_back, write_byte_word, write_number, write_signed, write_text};
 use slate_types::{KeyValue, NoMemory};
 
@@ -178,6 +179,54 @@ fn write_follower(out: &mut Vec<u8>, object: u64, whole: bool, at: u64) -> Resul
     write_poll(out, whole, at)
 }
 
+fn reason_name(reason: Option<CloseReason>) -> &'static str
+    ensures { result.now ≡ reason_text reason }
+{
+    match reason {
+        None => "none",
+        Some(CloseReason::Clean) => "clean",
+        Some(CloseReason::Fenced) => "fenced",
+        Some(CloseReason::Panic) => "panic",
+    }
+}
+
+fn write_because(out: &mut Vec<u8>, reason: Option<CloseReason>) -> Result<(), NoMemory>
+    ensures ok { OnOk result (out.new.items ≡ out.old.items ++ because_text reason) }
+    ensures err { OnErr result (take (length out.old.items) out.new.items ≡ out.old.items) }
+{
+    write_text(out, " reason ")?;
+    write_text(out, reason_name(reason))?;
+    write_text(out, " segments")
+}
+
+fn write_standing(out: &mut Vec<u8>, status: &DbStatus) -> Result<(), NoMemory>
+    ensures ok { OnOk result (out.new.items ≡ out.old.items ++ standing_text status.now) }
+    ensures err { OnErr result (take (length out.old.items) out.new.items ≡ out.old.items) }
+{
+    write_labelled(out, "status durable ", status.durable_seq)?;
+    write_labelled(out, " manifest ", status.current_manifest.id)?;
+    write_because(out, status.close_reason)
+}
+
+fn write_segments(out: &mut Vec<u8>, segments: &[SegmentPrefix]) -> Result<(), NoMemory>
+    ensures ok { OnOk result (out.new.items ≡ out.old.items ++ prefixes_text (map (λ segment. segment.prefix) segments.now)) }
+    ensures err { OnErr result (take (length out.old.items) out.new.items ≡ out.old.items) }
+{
+    for segment in segments {
+        write_shown(out, " ", segment.prefix.as_slice())?;
+    }
+    Ok(())
+}
+
+fn write_status(out: &mut Vec<u8>, status: &DbStatus) -> Result<(), NoMemory>
+    ensures ok { OnOk result (out.new.items ≡ out.old.items ++ reply_words (Reply.Status status.now)) }
+    ensures err { OnErr result (take (length out.old.items) out.new.items ≡ out.old.items) }
+{
+    let segments = status.list_segments(*out.allocator())?;
+    write_standing(out, status)?;
+    write_segments(out, segments.as_slice())
+}
+
 fn write_words(out: &mut Vec<u8>, reply: &Reply) -> Result<(), NoMemory>
     ensures ok { OnOk result (out.new.items ≡ out.old.items ++ reply_words reply.now) }
     ensures err { OnErr result (take (length out.old.items) out.new.items ≡ out.old.items) }
@@ -194,6 +243,7 @@ fn write_words(out: &mut Vec<u8>, reply: &Reply) -> Result<(), NoMemory>
         Reply::Pending => write_text(out, "pending"),
         Reply::Polled { whole, at } => write_poll(out, *whole, *at),
         Reply::Ended { fault, tasks } => write_ended(out, fault, tasks),
+        Reply::Status(status) => write_status(out, status),
         Reply::Refused(error) => write_refused(out, error),
         Reply::Unknown => write_text(out, "error unknown object"),
         Reply::NoMemory => write_text(out, "error no memory"),
@@ -220,7 +270,7 @@ fn write_replies(out: &mut Vec<u8>, replies: &[Reply]) -> Result<(), NoMemory>
 }
 
 /// Writes the text of replies at the end, in order, each with its newline. Where memory runs out, nothing was written.
-/// It takes time in proportion to the text.
+/// It takes time in proportion to the text, and that of `list_segments` for each status.
 pub fn print_replies(out: &mut Vec<u8>, replies: &[Reply]) -> Result<(), NoMemory>
     ensures ok { OnOk result (out.new.items ≡ out.old.items ++ replies_text replies.now) }
     ensures err { OnErr result (out.new.items ≡ out.old.items) }

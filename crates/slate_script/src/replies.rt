@@ -1,5 +1,6 @@
 // The replies to commands.
 use slate_errors::{Ending, SlateError};
+use slate_status::DbStatus;
 use slate_types::{KeyValue, Seq};
 
 /// The reply to a command.
@@ -43,6 +44,8 @@ pub enum Reply {
         fault: Option<SlateError>,
         tasks: Ending,
     },
+    /// What an object reports of itself.
+    Status(DbStatus),
     /// The command was refused, or failed.
     Refused(SlateError),
     /// No object or write of the kind that the command names is there.

@@ -1,10 +1,12 @@
 // Tests of script lines, of whole scripts, and of the text of replies.
 use bytes::Bytes;
-use slate_errors::{Ending, SlateError, TaskName};
+use slate_errors::{CloseReason, Ending, SlateError, TaskName};
 use slate_script::{
     Action, Command, LineAnswer, Options, Reply, RunOptions, ScriptFault, print_replies, read_line,
     read_script, read_words, script_fields,
 };
+use slate_status::DbStatus;
+use slate_store::{Manifest, VersionedManifest};
 use slate_types::{ConcatOperator, KeyValue, NoMemory, Seq};
 use std::alloc::Global;
 use std::test::Fail;
@@ -184,6 +186,60 @@ fn printed_readers(rt: HostRuntime) -> Result<(), Fail> {
     ];
     let want = "follower 7 whole at 0\ntruncated at 12\ndurable\npending\n";
     assert_eq!(rt; printed(rt.alloc(), &replies)?.as_slice(), want.as_bytes());
+    Ok(())
+}
+
+// A status of a durable number 12 and a manifest 3.
+fn status(
+    alloc: Global,
+    close_reason: Option<CloseReason>,
+    stored: &[&'static str],
+    unstored: &[&'static str],
+) -> Result<Reply, Fail> {
+    let manifest = Manifest {
+        writer_epoch: 1,
+        initialized: true,
+        tables: Seq::of(Vec::new(alloc)),
+        last_l0_seq: 0,
+        last_tick: 0,
+        replay_after_wal_id: 0,
+        next_wal_id: 1,
+        checkpoints: Seq::of(Vec::new(alloc)),
+        segments: Seq::of(prefixes(alloc, stored)?),
+        extractor_name: None,
+    };
+    Ok(Reply::Status(DbStatus {
+        durable_seq: 12,
+        current_manifest: VersionedManifest { id: 3, manifest },
+        memtable_segments: Seq::of(prefixes(alloc, unstored)?),
+        close_reason,
+    }))
+}
+
+fn prefixes(alloc: Global, texts: &[&'static str]) -> Result<Vec<Bytes>, Fail> {
+    let mut prefixes = Vec::with_capacity(alloc, texts.len())?;
+    for text in texts {
+        prefixes.push(Bytes::from_static(text.as_bytes()))?;
+    }
+    Ok(prefixes)
+}
+
+// The prefixes of both are shown rising, each once, as byte words.
+#[test]
+fn printed_statuses(rt: HostRuntime) -> Result<(), Fail> {
+    let alloc = rt.alloc();
+    let replies = [
+        status(alloc, None, &[], &[])?,
+        status(alloc, Some(CloseReason::Clean), &[], &["b"])?,
+        status(alloc, Some(CloseReason::Fenced), &["c d", "", "a"], &[])?,
+        status(alloc, Some(CloseReason::Panic), &["b", "a"], &["a", "ab"])?,
+    ];
+    let want = "\
+        status durable 12 manifest 3 reason none segments\n\
+        status durable 12 manifest 3 reason clean segments b\n\
+        status durable 12 manifest 3 reason fenced segments % a c%20d\n\
+        status durable 12 manifest 3 reason panic segments a ab b\n";
+    assert_eq!(rt; printed(alloc, &replies)?.as_slice(), want.as_bytes());
     Ok(())
 }
 

@@ -1,5 +1,5 @@
 -- The record of a database's status, and what a report makes of it.
-use Rattle.std.specs.Prelude.{◌≡◌, ◌≢◌, ℕ, max, Bool, true, false, nat_lt, nat_le, if◌then◌else◌, List, Option, Some, None, Result, Ok, Err, unwrap_or}
+use Rattle.std.specs.Prelude.{◌≡◌, ◌≢◌, ℕ, max, Bool, true, false, nat_lt, nat_le, if◌then◌else◌, List, [], Option, Some, None, Result, Ok, Err, unwrap_or}
 use Rattle.std.specs.Option.{option_map}
 use Rattle.slate_types.specs.Counts.{one_more}
 use Rattle.slate_store.specs.declared.objects.VersionedManifest.{VersionedManifest}
@@ -24,6 +24,17 @@ abbrev pub reason_for : Result (Unit {0}) CloseFault → CloseReason
 reason_for (Ok _) = Clean
 reason_for (Err fault) = reason_of (kind_of (error_of_fault fault))
 
+-- the status of something with this durable number and manifest, which closed with this result or is open; none of its
+-- batches outside of tables is in a segment
+abbrev pub status_by : ℕ → VersionedManifest → Option (Result (Unit {0}) CloseFault) → DbStatus
+status_by durable manifest result =
+    record {
+      durable_seq = durable;
+      current_manifest = manifest;
+      memtable_segments = [];
+      close_reason = option_map reason_for result;
+    }
+
 -- the status that a record reports
 abbrev pub status_of : Record → DbStatus
 status_of r =
@@ -44,6 +55,10 @@ newer present manifest = if nat_lt manifest.id present.id then present else mani
 
 abbrev pub with_manifest : VersionedManifest → Record → Record
 with_manifest manifest r = record r { manifest = newer r.manifest manifest }
+
+-- the record of what was read
+abbrev pub with_view : ℕ → VersionedManifest → Record → Record
+with_view number manifest r = record r { durable = number; manifest = manifest }
 
 abbrev pub with_segments : List (List ℕ) → Record → Record
 with_segments prefixes r = record r { segments = prefixes }

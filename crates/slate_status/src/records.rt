@@ -35,7 +35,7 @@ impl Model for StatusRecord {
 }
 
 impl StatusRecord {
-    ghost use Rattle.slate_status.specs.Records.{Record, Reports, Takes, risen, status_of, with_durable, with_manifest, with_segments, with_result, durable_answer};
+    ghost use Rattle.slate_status.specs.Records.{Record, Reports, Takes, durable_answer, risen, status_of, with_durable, with_manifest, with_result, with_segments, with_view};
     ghost use Rattle.slate_status.specs.Segments.{AreRising, IsUnion};
 
     /// The record of version 0, of this durable number and manifest, without a prefix and a result. It takes no memory.
@@ -56,6 +56,20 @@ impl StatusRecord {
         ensures { result ≡ self.now.version }
     {
         self.version
+    }
+
+    /// The batches up to this number are durable. It takes no memory.
+    pub fn durable(&self) -> u64
+        ensures { result ≡ self.now.durable }
+    {
+        self.durable
+    }
+
+    /// The manifest, which isn't copied.
+    pub fn manifest(&self) -> &VersionedManifest
+        ensures { result.now ≡ self.now.manifest }
+    {
+        &self.manifest
     }
 
     /// A copy of the status. Its prefixes are rising, each there once.
@@ -110,6 +124,19 @@ impl StatusRecord {
         self.report(changed)
     }
 
+    /// Reports a durable number and a manifest as they were read, as one change, also where one of them is lower than
+    /// the present one. Where both equal the present ones, nothing changes. The manifest is moved in and compared with
+    /// the present one; it takes no memory.
+    pub fn report_view(&mut self, durable: u64, manifest: VersionedManifest) -> bool
+        ensures reports { Reports self.old (with_view durable manifest self.old) self.new result }
+        ensures view { self.new ≡ record (with_view durable manifest self.old) { version = self.new.version } }
+    {
+        let changed = durable != self.durable || !is_same_manifest(&manifest, &self.manifest);
+        self.durable = durable;
+        self.manifest = manifest;
+        self.report(changed)
+    }
+
     /// Reports the prefixes of the segments that batches outside of tables are in, rising, each once. Prefixes that
     /// equal the present ones change nothing. It takes no memory.
     pub fn report_memtable_segments(&mut self, prefixes: Seq<Bytes>) -> bool
@@ -156,7 +183,8 @@ impl StatusRecord {
 
     /// Reports the result with which it closed. The first one stays, and later ones change nothing. It takes no memory.
     pub fn report_closed(&mut self, outcome: Result<(), CloseFault>) -> bool
-        ensures { Reports self.old (with_result outcome self.old) self.new result }
+        ensures reports { Reports self.old (with_result outcome self.old) self.new result }
+        ensures closed { self.new ≡ record (with_result outcome self.old) { version = self.new.version } }
     {
         let first = self.closed.write(outcome);
         self.report(first)
@@ -203,6 +231,7 @@ impl StatusRecord {
     fn report(&mut self, changed: bool) -> bool
         ensures answer { result ≡ changed }
         ensures version { self.new ≡ (if changed then risen self.old else self.old) }
+        ensures others { self.new ≡ record self.old { version = self.new.version } }
     {
         if changed {
             self.version = self.version.saturating_add(1);

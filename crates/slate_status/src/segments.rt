@@ -3,7 +3,7 @@ ghost use Rattle.std.specs.Prelude.{◌≡◌, ◌++◌, IfOk, IsTrue, All, Cont
 ghost use Rattle.std.specs.Ordering.{nat_cmp};
 ghost use Rattle.std.specs.Cmp.Lexicographic.{slice_cmp};
 ghost use Rattle.std.specs.BTreeSet.{IsFromIterResult};
-ghost use Rattle.slate_status.specs.Segments.{IsUnion};
+ghost use Rattle.slate_status.specs.Segments.{IsUnion, union_of};
 
 use bytes::Bytes;
 use slate_types::NoMemory;
@@ -44,7 +44,8 @@ pub(crate) fn union(
     first: &[Bytes],
     second: &[Bytes],
 ) -> Result<Vec<Bytes>, NoMemory>
-    ensures { IfOk result (λ prefixes. IsUnion first.now second.now prefixes.items) }
+    ensures union { IfOk result (λ prefixes. IsUnion first.now second.now prefixes.items) }
+    ensures set { IfOk result (λ prefixes. prefixes.items ≡ union_of first.now second.now) }
 {
     let mut all = copies(alloc, first)?;
     all.append(&mut copies(alloc, second)?)?;

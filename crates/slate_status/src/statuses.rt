@@ -1,6 +1,6 @@
 // The status of a database, its segments, and the answers to a wait.
 ghost use Rattle.std.specs.Prelude.{◌≡◌, IfOk, map};
-ghost use Rattle.slate_status.specs.Segments.{IsUnion};
+ghost use Rattle.slate_status.specs.Segments.{IsUnion, segments_of};
 
 use crate::SegmentPrefix;
 use crate::segments::{segments_of, union};
@@ -27,8 +27,9 @@ impl DbStatus {
     /// The segments of the manifest's tables and of the batches outside of them, by rising prefix, each once. It takes
     /// n log n comparisons, for n prefixes in both.
     pub fn list_segments(&self, alloc: Global) -> Result<Seq<SegmentPrefix>, NoMemory>
-        ensures { IfOk result (λ segments. IsUnion self.now.current_manifest.manifest.segments self.now.memtable_segments
+        ensures union { IfOk result (λ segments. IsUnion self.now.current_manifest.manifest.segments self.now.memtable_segments
             (map (λ segment. segment.prefix) segments)) }
+        ensures set { IfOk result (λ segments. map (λ segment. segment.prefix) segments ≡ segments_of self.now) }
     {
         let stored = self.current_manifest.manifest.segments.as_slice();
         let prefixes = union(alloc, stored, self.memtable_segments.as_slice())?;

@@ -464,6 +464,26 @@ fn older_manifest(rt: HostRuntime) -> Result<(), NoMemory> {
     Ok(())
 }
 
+// Whether the version rose at two reports of a durable number and a manifest that are lower than the present ones, the
+// version, and what the record has after them.
+fn report_lower(alloc: Global) -> Result<([bool; 2], [u64; 3]), NoMemory> {
+    let mut record = StatusRecord::new(alloc, 9, manifest(alloc, 5, b"")?);
+    let answers = [
+        record.report_view(8, manifest(alloc, 3, b"")?),
+        record.report_view(8, manifest(alloc, 3, b"")?),
+    ];
+    let numbers = [record.version(), record.durable(), record.manifest().id];
+    Ok((answers, numbers))
+}
+
+#[test]
+fn lower_view(rt: HostRuntime) -> Result<(), NoMemory> {
+    let (answers, numbers) = report_lower(rt.alloc())?;
+    assert_eq!(rt; answers, [true, false]);
+    assert_eq!(rt; numbers, [1, 8, 3]);
+    Ok(())
+}
+
 // What the report of an opening, made twice, and one of segments, made twice too, answer; then the version, the
 // durable number, the id of the manifest and the segments.
 fn report_opening(alloc: Global) -> Result<([bool; 4], [u64; 3], Vec<u8>), NoMemory> {

@@ -1,5 +1,6 @@
 -- Appending a log file is what a flush of its batches does.
 use Rattle.std.proofs.Common.{◌≡◌, ℕ, ◌+◌, ◌≤◌, ◌==◌, Bool, true, false, MatchBool, List, [], ◌∷◌, length, Some, Result, Ok, Err, refl, sym, subst, ap, ◌∙◌, inl, inr, arith}
+use Rattle.std.proofs.Math.Dec.{eqb-suc-zero}
 use Rattle.slate_types.specs.declared.batches.Batch.{Batch}
 use Rattle.slate_store.specs.declared.objects.VersionedManifest.{VersionedManifest}
 use Rattle.slate_types.specs.declared.store_errors.StoreFault.TheVariants.{Unavailable}
@@ -13,7 +14,7 @@ use Rattle.slate_errors.specs.declared.errors.SlateError.TheVariants as errors
 use Rattle.slate_model.specs.Changes.{PartMade, after_part, leaves_prefix}
 use Rattle.slate_model.specs.Flush.{FindsCurrent, FlushAnswer, FlushCause, StoresBatches, StoresOnly, flush_changes, flush_changes_by}
 use Rattle.slate_store.proofs.Entries.{absent}
-use Rattle.slate_writer.specs.Appends.{AppendsLog}
+use Rattle.slate_writer.specs.Appends.{AppendsLog, StoresCurrent}
 
 -- nothing is stored under the id after the last log file
 pub next_log_free : (mark : ℕ) (bs : List Batch) (o : Objects) → is_present (PutLog (last_log mark o + 1) bs) o ≡ false
@@ -65,6 +66,20 @@ module _ (epoch : ℕ) (b : Batch) (bs : List Batch) (o o' : Objects) (view late
 pub stores_some : (epoch : ℕ) (batches : List Batch) (o o' : Objects) (view latest : VersionedManifest) (r : Result (Unit {0}) SlateError) → (length batches == 0) ≡ false → FindsCurrent epoch o (Ok latest) → AppendsLog latest.manifest.replay_after_wal_id batches r o o' → Stores epoch batches o r view latest o'
 stores_some epoch [] o o' view latest r some found h = absurd (cc)
 stores_some epoch (b ∷ bs) o o' view latest r some found h = stores_appended epoch b bs o o' view latest found.0 found.1 r h
+
+-- where there are none, nothing is stored
+pub stores_nothing : (batches : List Batch) (o : Objects) (latest : VersionedManifest) → (length batches == 0) ≡ true → StoresCurrent latest batches (Ok tt) o o
+stores_nothing [] o latest none epoch view found = (
+  0,
+  record {
+    answer = found;
+    part = sym (ap (λ m. length (flush_changes_by (λ (xs : List Batch). xs) [] o m)) found.0);
+    only = tt;
+    current = λ above. absurd (omega (arith, above));
+    after = refl;
+  },
+)
+stores_nothing (b ∷ bs) o latest none epoch view found = absurd (let no = eqb-suc-zero (length bs) in cc)
 
 -- a flush that answers an error, and goes by its old view, may have stored nothing
 part_none : (b : Bool) (all made : ℕ) → made ≡ 0 → MatchBool b (made ≤ all) (made ≡ 0)

@@ -1,5 +1,5 @@
 -- What a handle keeps in memory, and the handle of the model that it represents.
-use Rattle.std.specs.Prelude.{◌+◌, ◌<◌, ◌≤◌, ◌^◌, length}
+use Rattle.std.specs.Prelude.{◌≡◌, ◌+◌, ◌<◌, ◌≤◌, ◌^◌, [], length}
 use Rattle.slate_types.specs.Line.{AreNumberedFrom}
 use Rattle.slate_model.specs.Handle.{Handle}
 use Rattle.slate_writer.specs.declared.states.WriterState.TheInside.{Inside}
@@ -11,16 +11,18 @@ kept_handle a =
       keeps_log = a.keeps_log;
       limit = a.limit;
       line = record { floor = a.floor; batches = a.memory };
-      durable = a.durable;
+      durable = a.status.durable;
       epoch = a.epoch;
       tick = a.tick;
-      view = a.view;
-      result = a.closed;
+      view = a.status.manifest;
+      result = a.status.result;
     }
 
--- the batches in memory are numbered from the floor on, and those that aren't stored are among them
+-- the batches in memory are numbered from the floor on, those that aren't stored are among them, and none is in a
+-- segment
 pub record IsKept (a : Inside) : Type 0 where
   pub numbered : AreNumberedFrom a.floor a.memory
   pub fits : a.floor + length a.memory < 2 ^ 64
-  pub durable : a.durable ≤ a.floor + length a.memory
-  pub in_memory : a.floor ≤ a.durable
+  pub durable : a.status.durable ≤ a.floor + length a.memory
+  pub in_memory : a.floor ≤ a.status.durable
+  pub unsegmented : a.status.segments ≡ []

@@ -30,11 +30,11 @@ impl WriterState {
         ensures untouched { (CanFlush self.old → ⊥) → store.new ≡ store.old }
         ensures unflushed { options.now.flush_type ≡ None → store.new ≡ store.old }
     {
-        match self.closed.read() {
+        match self.closed() {
             Some(Ok(())) => ended(Some(SlateError::Closed)),
             Some(Err(_)) => ended(None),
             None => {
-                self.closed.write(Ok(()));
+                self.status.report_closed(Ok(()));
                 match options.flush_type {
                     None => ended(None),
                     Some(_) if !self.keeps_log => ended(Some(SlateError::WalDisabled)),

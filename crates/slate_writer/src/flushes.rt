@@ -1,9 +1,9 @@
 // Flushing a handle's batches to a log file.
 ghost use Rattle.std.specs.Prelude.{◌≡◌, ◌+◌, ◌≤◌, ℕ, IfSome};
 ghost use Rattle.slate_store.specs.Calls.{WhereModelled};
-ghost use Rattle.slate_model.specs.Flush.{CanFlush, FindsCurrent, Flushes, Stores, StoresBatches, flushed, recorded};
+ghost use Rattle.slate_model.specs.Flush.{CanFlush, FindsCurrent, Flushes, Stores, flushed, recorded};
 ghost use Rattle.slate_model.specs.Known.{CountsFaults, known};
-ghost use Rattle.slate_writer.specs.Appends.{AppendsLog};
+ghost use Rattle.slate_writer.specs.Appends.{AppendsLog, StoresCurrent};
 
 use crate::WriterState;
 use slate_errors::{CloseFault, SlateError};
@@ -14,7 +14,7 @@ use std::alloc::Global;
 impl WriterState {
     /// Stores the accepted batches that aren't stored yet, as one log file; where there are none, it puts nothing.
     /// After Ok all accepted batches are durable. It calls the store three times at most, and takes time linear in the
-    /// batches that it puts.
+    /// batches that it puts, and in the manifest that it reads and compares with the present one.
     ///
     /// On a closed handle it answers `Closed` or the error that closed it, and touches no store. A handle that keeps
     /// no log answers `WalDisabled`. `Fenced`, where another handle opened since, and every fault of the store
@@ -36,7 +36,7 @@ impl WriterState {
         ensures calls { S.calls store.new ≤ S.calls store.old + 3 }
         ensures untouched { (CanFlush self.old → ⊥) → store.new ≡ store.old }
     {
-        if let Some(result) = self.closed.read() {
+        if let Some(result) = self.closed() {
             return Err(SlateError::of_closed(result));
         }
         if !self.keeps_log {
@@ -46,14 +46,15 @@ impl WriterState {
             Ok(()) => Ok(()),
             Err(error) => {
                 if let Some(outcome) = recorded(&error) {
-                    self.closed.write(outcome);
+                    self.status.report_closed(outcome);
                 }
                 Err(error)
             }
         }
     }
 
-    /// Stores the accepted batches that aren't stored yet, and records nothing.
+    /// Stores the accepted batches that aren't stored yet, and reports the manifest by which it did, where the handle's
+    /// epoch is still current. It reports no close.
     pub(crate) fn store_unstored<S: Store>(
         &mut self,
         alloc: Global,
@@ -63,31 +64,40 @@ impl WriterState {
         ensures stored { (made : ℕ) × Stores (λ batches. batches) made self.old self.new.view (known S.objects S.faults store.old) result (known S.objects S.faults store.new) }
         ensures calls { S.calls store.new ≤ S.calls store.old + 3 }
     {
-        let unstored = (self.durable - self.floor) as usize;
+        let latest = current_manifest(alloc, store, self.epoch)?;
+        let durable = self.durable();
+        let accepted = self.accepted();
+        let unstored = (durable - self.floor) as usize;
         let batches = &self.memory.batches()[unstored..];
-        store_batches(alloc, store, self.epoch, batches, &mut self.view)?;
-        self.durable = self.accepted();
-        Ok(())
+        match store_batches(alloc, store, &latest, batches) {
+            Ok(()) => {
+                self.status.report_view(accepted, latest);
+                Ok(())
+            }
+            Err(error) => {
+                self.status.report_view(durable, latest);
+                Err(error)
+            }
+        }
     }
 }
 
-/// Stores batches as one log file, where the handle's epoch is still current. `view` is then the latest manifest.
+/// Stores batches as the log file after the last one under the latest manifest; where there are none, it puts nothing.
+/// By a handle whose epoch is current this is a flush of these batches.
 fn store_batches<S: Store>(
     alloc: Global,
     store: &mut S,
-    epoch: u64,
+    latest: &VersionedManifest,
     batches: &[Batch],
-    view: &mut VersionedManifest,
 ) -> Result<(), SlateError>
     ensures faults { CountsFaults (S.faults store.old) (S.faults store.new) result }
-    ensures calls { S.calls store.new ≤ S.calls store.old + 3 }
-    ensures where_modelled { WhereModelled (λ o o'. (made : ℕ) × StoresBatches (λ batches. batches) epoch batches.now o result view.old view.new made o') (S.objects store.old) (S.objects store.new) }
+    ensures calls { S.calls store.new ≤ S.calls store.old + 2 }
+    ensures where_modelled { WhereModelled (StoresCurrent latest.now batches.now result) (S.objects store.old) (S.objects store.new) }
 {
-    *view = current_manifest(alloc, store, epoch)?;
     if batches.is_empty() {
         return Ok(());
     }
-    append_log(alloc, store, view.manifest.replay_after_wal_id, batches)
+    append_log(alloc, store, latest.manifest.replay_after_wal_id, batches)
 }
 
 /// The latest manifest, where a handle of this epoch may still write by it.

@@ -12,9 +12,10 @@ ghost use Rattle.slate_replay.specs.Replay.{calls_after};
 ghost use Rattle.slate_writer.specs.Opening.{CallsOpening, FindsLog, FindsNext, HasLogs, PutsOpening, Recovers, recovery_calls};
 
 use crate::WriterState;
-use slate_errors::{CloseCell, SlateError};
+use slate_errors::SlateError;
 use slate_reads::IndexedTable;
 use slate_replay::Replayed;
+use slate_status::StatusRecord;
 use slate_store::{Manifest, Store, StoreError, VersionedManifest};
 use slate_types::{Batch, PrefixExtractor, Seq};
 use std::alloc::Global;
@@ -83,16 +84,15 @@ impl WriterState {
         put_opening(alloc, store, &view, last + 1)?;
         let memory = recover(alloc, store, &view, last)?;
         let floor = view.manifest.last_l0_seq;
+        let durable = floor + memory.batches().len() as u64;
         Ok(WriterState {
             keeps_log: options.wal_enabled,
             limit: options.max_unflushed_bytes,
             floor,
-            durable: floor + memory.batches().len() as u64,
             epoch: view.manifest.writer_epoch,
             tick: latest_tick(view.manifest.last_tick, memory.batches()),
             memory,
-            view,
-            closed: CloseCell::new(),
+            status: StatusRecord::new(alloc, durable, view),
         })
     }
 }

@@ -38,12 +38,12 @@ impl WriterState {
             (read_bound snapshot self.now.durable (accepted self.now) options.now.durability_filter options.now.dirty) key.now) result }
         ensures store { store.new ≡ store.old }
     {
-        if let Some(result) = self.closed.read() {
+        if let Some(result) = self.closed() {
             return Err(SlateError::of_closed(result));
         }
         let bound = prepare_max_seq(
             snapshot,
-            self.durable,
+            self.durable(),
             self.accepted(),
             options.durability_filter,
             options.dirty,

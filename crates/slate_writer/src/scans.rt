@@ -42,12 +42,12 @@ impl WriterState {
             AnswersScan (BeginsScanOf self.now merge snapshot options.now range.now) result }
         ensures store { store.new ≡ store.old }
     {
-        if let Some(result) = self.closed.read() {
+        if let Some(result) = self.closed() {
             return Err(SlateError::of_closed(result));
         }
         let bound = prepare_max_seq(
             snapshot,
-            self.durable,
+            self.durable(),
             self.accepted(),
             options.durability_filter,
             options.dirty,

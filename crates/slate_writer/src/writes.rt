@@ -70,7 +70,7 @@ impl WriterState {
         ensures fits { IfOk result (λ w. accepted self.now + 1 < 2 ^ 64) }
         ensures refused { IfErr result (λ e. (e ≡ SlateError.NoMemory) ⊎ (write_refusal self.now batch.now.ops moment second ≡ Some e)) }
     {
-        if let Some(result) = self.closed.read() {
+        if let Some(result) = self.closed() {
             return Err(SlateError::of_closed(result));
         }
         if let Some(error) = batch_refusal(alloc, batch)? {

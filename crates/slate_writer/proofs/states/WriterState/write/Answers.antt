@@ -24,4 +24,5 @@ invariant_of-self-2 g c =
       fits = simp length-append (omega arith);
       durable = simp length-append (omega (arith, c.self.invariant.durable));
       in_memory = c.self.invariant.in_memory;
+      unsegmented = c.self.invariant.unsegmented;
     })

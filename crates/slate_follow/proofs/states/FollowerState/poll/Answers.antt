@@ -1,0 +1,7 @@
+use Rattle.std.proofs.Common.{rules, ◌≡◌, None}
+use Rattle.slate_follow.proofs.states.FollowerState.poll.Goals as goal
+
+pub returns-clause-polls : goal.returns-clause-polls
+returns-clause-polls g c =
+    let open_now : c.args.self.now.result ≡ None = search rules in
+    rw (c.take.ensures open_now) (record { closed = rw open_now tt; failed = tt; rebuilds = λ _. c.in_ok-rebuilt.ensures.rebuilds })

@@ -25,7 +25,7 @@ use Rattle.std.specs.Option.{option_to_list, unwrap_or}
 use Rattle.std.specs.Prelude.{nat_lt}
 
 -- the tables that are stored, joined in order, are the batches of the tables
-joined-batches : (o : Objects) (ids : List TableId) → flat_map (λ bs. bs) (tables_at o ids) ≡ table_batches o ids
+pub joined-batches : (o : Objects) (ids : List TableId) → flat_map (λ bs. bs) (tables_at o ids) ≡ table_batches o ids
 joined-batches o [] = refl
 joined-batches o (id ∷ ids) = by (table_at id o) (joined-batches o ids) where
   by : (table : Option (List Batch)) → flat_map (λ bs. bs) (tables_at o ids) ≡ table_batches o ids → flat_map (λ bs. bs) (option_to_list table ++ tables_at o ids) ≡ unwrap_or table [] ++ table_batches o ids

@@ -13,7 +13,13 @@ pub mod Logged
 pub mod Spared
 pub mod Removed
 pub mod Parts
+pub mod Making
+pub mod Listed
+pub mod Expiring
 pub mod Checkpointed
 pub mod Compacted
 pub mod Swept
 pub mod Leaves
+pub mod Sweeping
+pub mod Joining
+pub mod Compacting

@@ -1,5 +1,5 @@
 -- One try of a call on checkpoints, from what it reads and puts.
-use Rattle.std.proofs.Common.{◌≡◌, ◌⊎◌, inl, inr, ℕ, zero, ◌≤◌, List, ◌∷◌, [], length, Option, Some, None, Bool, true, false, Result, Ok, Err, refl, sym, ap, subst, ◌∙◌, arith}
+use Rattle.std.proofs.Common.{◌≡◌, inl, inr, ℕ, zero, List, [], length, Option, Some, None, Bool, true, false, Result, Ok, Err, refl, sym, ap, subst, ◌∙◌, arith}
 use Rattle.slate_types.specs.declared.store_errors.StoreFault.TheVariants as fault
 use Rattle.slate_types.specs.Modelled.{WhereModelled}
 use Rattle.slate_types.proofs.Modelled.{modelled_as, modelled_then}
@@ -10,7 +10,7 @@ use Rattle.slate_store.specs.Checkpoints.{Plan}
 use Rattle.slate_types.specs.declared.batches.Batch.{Batch}
 use Rattle.slate_store.specs.Changes.{after_part}
 use Rattle.slate_store.specs.Objects.{Objects, PutManifest, changed, latest_manifest}
-use Rattle.slate_store.specs.Refusals.{CheckpointCause, FindsLatest, FollowsPlan, GivesPlan, IsOfPlan, PartMade, PutsManifest, PutsNext, Tries, checkpoint_changes, planned, planned_after, tried}
+use Rattle.slate_store.specs.Refusals.{CheckpointCause, FindsLatest, GivesPlan, IsOfPlan, PartMade, PutsManifest, PutsNext, Tries, checkpoint_changes, planned, planned_after}
 
 -- what a try answers by whether its manifest was put
 abbrev pub given : {A : Type 0} → A → Result Bool StoreRefusal → Result (Option A) StoreRefusal
@@ -51,19 +51,18 @@ module _ {A : Type 0} (plan : VersionedManifest → Plan A) (o : Objects) where
     changes-are next gives = ap (planned_after plan) is ∙ ap planned gives
 
     nothing_put : (next : Option VersionedManifest) (o' : Objects) → plan latest ≡ Ok (next, answer) → planned {L = List Batch} (Ok (next, answer)) ≡ [] → o' ≡ o → Tries plan (Ok (Some answer)) o o'
-    nothing_put next o' gives none same =
-        (
-          (
-            zero,
-            record {
-              answer = (next, (latest, is, gives));
-              cause = tt;
-              part = sym (ap length (changes-are next gives ∙ none));
-              after = same;
-            }
-          ),
-          λ no. absurd (cc)
-        )
+    nothing_put next o' gives none same = (
+      (
+        zero,
+        record {
+          answer = (next, (latest, is, gives));
+          cause = tt;
+          part = sym (ap length (changes-are next gives ∙ none));
+          after = same;
+        },
+      ),
+      λ no. absurd (cc),
+    )
 
     module _ (next : VersionedManifest) (gives : plan latest ≡ Ok (Some next, answer)) where
       one : length (checkpoint_changes {L = List Batch} plan o) ≡ 1
@@ -73,11 +72,10 @@ module _ {A : Type 0} (plan : VersionedManifest → Plan A) (o : Objects) where
       put_one o' is_put = is_put ∙ ap (λ cs. after_part 1 cs o) (sym (changes-are (Some next) gives))
 
       put_or_not : (r : Result Bool StoreRefusal) (o' : Objects) → PutsManifest next r o o' → Tries plan (given answer r) o o'
-      put_or_not (Ok true) o' h =
-          (
-            (1, record { answer = (Some next, (latest, is, gives)); cause = tt; part = sym one; after = put_one o' h }),
-            λ no. absurd (cc)
-          )
+      put_or_not (Ok true) o' h = (
+        (1, record { answer = (Some next, (latest, is, gives)); cause = tt; part = sym one; after = put_one o' h }),
+        λ no. absurd (cc),
+      )
       put_or_not (Ok false) o' h =
           ((zero, record { answer = tt; cause = (refl, next, answer, (latest, is, gives), h.0); part = refl; after = h.1 }), λ none. h.1)
       put_or_not (Err (ObjectStoreError fault.Unavailable)) o' h =

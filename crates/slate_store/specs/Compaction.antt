@@ -69,4 +69,5 @@ pub record Compacts (epoch index index' : ℕ) (objects : Objects) (result : Res
   pub part : PartMade result (length (compact_changes (flat_map (λ batches. batches)) (record { epoch = epoch; index = index }) objects)) made
   pub counted : (index' ≡ index) ⊎ (index' ≡ index + 1)
   pub used : 0 < made → index' ≡ index + 1
+  pub free : 0 < made → table_at (record { epoch = epoch; index = index }) objects ≡ None
   pub after : objects' ≡ after_part made (compact_changes (flat_map (λ batches. batches)) (record { epoch = epoch; index = index }) objects) objects

@@ -8,3 +8,4 @@ pub mod Logs
 pub mod Objects
 pub mod Refusals
 pub mod Sweeps
+pub mod Steps

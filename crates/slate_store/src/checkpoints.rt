@@ -34,7 +34,9 @@ pub fn next_with_checkpoint(
     if let Some(replaced) = replaced {
         take_out(&mut checkpoints, replaced);
     }
-    checkpoints.push(checkpoint).map_err(|_full| StoreRefusal::NoMemory)?;
+    checkpoints
+        .push(checkpoint)
+        .map_err(|_full| StoreRefusal::NoMemory)?;
     Ok((with_checkpoints(latest, id, checkpoints)?, checkpoint))
 }
 
@@ -106,13 +108,10 @@ fn has_id(checkpoint: &Checkpoint, id: Uuid) -> bool
 }
 
 // The id of the manifest after this one.
-fn next_id(latest: &VersionedManifest) -> Result<u64, StoreRefusal>
+pub(crate) fn next_id(latest: &VersionedManifest) -> Result<u64, StoreRefusal>
     ensures { result ≡ (if nat_lt latest.now.id u64.MAX then Ok (latest.now.id + 1) else Err StoreRefusal.InvalidDBState) }
 {
-    latest
-        .id
-        .checked_add(1)
-        .ok_or(StoreRefusal::InvalidDBState)
+    latest.id.checked_add(1).ok_or(StoreRefusal::InvalidDBState)
 }
 
 // The end of a lease of so many milliseconds, at most the greatest moment.
@@ -169,7 +168,7 @@ fn with_end(checkpoint: &Checkpoint, id: Uuid, end: i64) -> Checkpoint
 }
 
 // The manifest under this id with all of the latest one but its checkpoints, which are these.
-fn with_checkpoints(
+pub(crate) fn with_checkpoints(
     latest: &VersionedManifest,
     id: u64,
     checkpoints: Vec<Checkpoint>,

@@ -141,8 +141,13 @@ impl Change for Creation {
         alloc: Global,
         latest: &VersionedManifest,
     ) -> Result<(Option<VersionedManifest>, Checkpoint), StoreRefusal> {
-        let (next, checkpoint) =
-            next_with_checkpoint(alloc, latest, self.replaced, self.lifetime, self.moment)?;
+        let (next, checkpoint) = next_with_checkpoint(
+            alloc,
+            latest,
+            self.replaced,
+            self.lifetime,
+            self.moment,
+        )?;
         Ok((Some(next), checkpoint))
     }
 }
@@ -194,7 +199,10 @@ impl Change for Deletion {
 }
 
 /// The latest manifest.
-fn latest_of<S: Store>(alloc: Global, store: &mut S) -> Result<VersionedManifest, StoreRefusal>
+pub(crate) fn latest_of<S: Store>(
+    alloc: Global,
+    store: &mut S,
+) -> Result<VersionedManifest, StoreRefusal>
     ensures found { WhereModelled (λ o o'. (o' ≡ o) × FindsLatest o result) (S.objects store.old) (S.objects store.new) }
     ensures faults { CountsFaults (S.faults store.old) (S.faults store.new) result }
     ensures calls { S.calls store.new ≡ one_more (S.calls store.old) }

@@ -3,6 +3,7 @@
 
 mod checkpoints;
 mod commits;
+mod compactions;
 mod faulty_store;
 mod log_files;
 mod memory_store;
@@ -10,9 +11,11 @@ mod objects;
 mod reader_modes;
 mod refusals;
 mod stores;
+mod sweeps;
 
 pub use checkpoints::{next_with_checkpoint, next_with_end, next_without_checkpoint};
 pub use commits::{delete_checkpoint, refresh_checkpoint, replace_checkpoint, write_checkpoint};
+pub use compactions::compact_tables;
 pub use faulty_store::{FailingCall, FaultyStore};
 pub use log_files::LogFile;
 pub use memory_store::MemoryStore;
@@ -21,3 +24,4 @@ pub use reader_modes::DbReaderMode;
 pub use refusals::StoreRefusal;
 pub use slate_types::{StoreError, StoreFault};
 pub use stores::Store;
+pub use sweeps::sweep;

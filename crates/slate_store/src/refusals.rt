@@ -2,7 +2,7 @@
 ghost use Rattle.std.specs.Prelude.{◌≡◌};
 ghost use Rattle.slate_store.specs.Refusals.{refusal_of};
 
-use slate_types::{StoreError, StoreFault};
+use slate_types::{NoMemory, StoreError, StoreFault};
 use uuid::Uuid;
 
 /// Why a call on the checkpoints, the tables or all objects of a store refuses.
@@ -36,5 +36,15 @@ impl From<StoreError> for StoreRefusal {
             StoreError::Failed => StoreRefusal::ObjectStoreError(StoreFault::Unavailable),
             StoreError::NoMemory => StoreRefusal::NoMemory,
         }
+    }
+}
+
+impl From<NoMemory> for StoreRefusal {
+    ghost use Rattle.slate_store.specs.declared.refusals.StoreRefusal.TheVariants.{NoMemory as OutOfMemory};
+
+    ghost from_gives = { λ _ refusal. refusal ≡ OutOfMemory };
+
+    fn from(_error: NoMemory) -> StoreRefusal {
+        StoreRefusal::NoMemory
     }
 }

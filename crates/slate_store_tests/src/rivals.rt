@@ -115,7 +115,10 @@ fn written_after(alloc: Global, others: u64) -> Result<(Result<u64, StoreRefusal
         calls: 0,
     };
     let written = write_checkpoint(alloc, &mut store, None, 0);
-    Ok((written.map(|checkpoint| checkpoint.manifest_id), store.calls))
+    Ok((
+        written.map(|checkpoint| checkpoint.manifest_id),
+        store.calls,
+    ))
 }
 
 // Each manifest that another puts first takes a try of two calls. After eight the call gives up.
@@ -123,7 +126,11 @@ fn written_after(alloc: Global, others: u64) -> Result<(Result<u64, StoreRefusal
 fn others_come_first(rt: HostRuntime) -> Result<(), Fail> {
     for others in 0..8 {
         let written = (Ok(2 + others), 2 * (others + 1));
-        assert_eq!(rt; written_after(rt.alloc(), others)?, written, "after {others}");
+        assert_eq!(rt;
+            written_after(rt.alloc(), others)?,
+            written,
+            "after {others}"
+        );
     }
     let timeout = Err(StoreRefusal::TransactionalObjectTimeout { tries: 8 });
     assert_eq!(rt; written_after(rt.alloc(), 8)?, (timeout, 16));

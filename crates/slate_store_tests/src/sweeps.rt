@@ -14,7 +14,11 @@ fn tables_are_joined(rt: HostRuntime) -> Result<(), Fail> {
         let before = numbers(rt.alloc(), &mut store)?;
         let mut index = 10;
         let compacted = compact_tables(rt.alloc(), &mut store, 1, &mut index)?;
-        assert_eq!(rt; compacted.manifest.tables.as_slice().len(), left, "{tables} tables");
+        assert_eq!(rt;
+            compacted.manifest.tables.as_slice().len(),
+            left,
+            "{tables} tables"
+        );
         assert_eq!(rt; index, 10 + raised, "{tables} tables");
         assert_eq!(rt; numbers(rt.alloc(), &mut store)?, before, "{tables} tables");
     }
@@ -62,7 +66,8 @@ fn leases_are_refreshed(rt: HostRuntime) -> Result<(), Fail> {
     assert_eq!(rt; (refreshed.id, refreshed.manifest_id), (leased.id, 2));
     assert_eq!(rt; (refreshed.create_ms, refreshed.expire_ms), (0, Some(190)));
     let latest = store.latest_manifest(rt.alloc())?;
-    let kept = latest.map(|latest| latest.manifest.checkpoints.as_slice() == [refreshed].as_slice());
+    let kept = latest.map(|latest| latest.manifest.checkpoints.as_slice()
+        == [refreshed].as_slice());
     assert_eq!(rt; kept, Some(true));
     delete_checkpoint(rt.alloc(), &mut store, leased.id)?;
     let missing = refresh_checkpoint(rt.alloc(), &mut store, leased.id, 100, 90);

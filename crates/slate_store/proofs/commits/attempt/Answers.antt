@@ -1,4 +1,4 @@
-use Rattle.std.proofs.Common.{rules, ◌≡◌}
+use Rattle.std.proofs.Common.{rules}
 use Rattle.slate_store.proofs.Tries.{with_plan, without_latest, without_plan}
 use Rattle.slate_store.proofs.commits.attempt.Goals as goal
 
@@ -16,6 +16,6 @@ returns-in_err-put_next-clause-follows g c =
     search (rules, all)
 
 pub returns-clause-follows : goal.returns-clause-follows
-returns-clause-follows g c = 
+returns-clause-follows g c =
     let all = with_plan (g.C.Change.plan c.args.change.now) c.in_ok-latest.latest c.in_ok-latest.ensures.found c.in_ok-next.next c.in_ok-next.answer _ c.in_ok-next.ensures.plan c.in_ok-put_next.ensures.puts in
     search (rules, all)

@@ -1,0 +1,19 @@
+use Rattle.std.proofs.Common.{rules, refl, arith, get_or}
+use Rattle.slate_store.specs.Objects.{RemoveLog}
+use Rattle.slate_store.proofs.Making.{one-more, one-refused}
+use Rattle.slate_store.proofs.sweeps.remove_logs.Goals as goal
+
+pub returns-in_err-remove_log-clause-made : goal.returns-in_err-remove_log-clause-made
+returns-in_err-remove_log-clause-made g c =
+    let i = c.loop-id.invariant in
+    let all = one-refused (λ id. RemoveLog id) c.args.ids.now c.loop-id.id-index 0 (get_or c.args.ids.now c.loop-id.id-index 0) c.in_err-remove_log.field-0.0 c.loop-id-test.true refl i.removed c.in_err-remove_log.ensures.removed in
+    search (rules, all)
+
+pub loop-id-preserved : goal.loop-id-preserved
+loop-id-preserved g c =
+    let i = c.loop-id.invariant in
+    let faults = c.in_ok-remove_log.ensures.counts.fault_count in
+    record {
+      removed = one-more (λ id. RemoveLog id) c.args.ids.now c.loop-id.id-index 0 (get_or c.args.ids.now c.loop-id.id-index 0) c.loop-id-test.true refl i.removed c.in_ok-remove_log.ensures.removed;
+      faults = omega (arith, i.faults, faults);
+    }

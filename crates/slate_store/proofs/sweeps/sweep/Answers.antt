@@ -1,0 +1,36 @@
+use Rattle.std.proofs.Common.{rules, sym, subst, ℕ, Ok, Err, ◌≡◌}
+use Rattle.slate_types.specs.Modelled.{WhereModelled}
+use Rattle.slate_store.specs.Steps.{TakesOut}
+use Rattle.slate_store.specs.Sweeps.{without_expired}
+use Rattle.slate_store.proofs.Sweeping.{Begun, begins, keeps-sound, not-taken, swept-after}
+use Rattle.slate_store.proofs.sweeps.sweep.Goals as goal
+
+pub returns-in_err-take_out_expired-clause-sweeps : goal.returns-in_err-take_out_expired-clause-sweeps
+returns-in_err-take_out_expired-clause-sweeps g c =
+    let e = c.in_err-take_out_expired.field-0.0 in
+    let taken : WhereModelled (λ o o'. (made : ℕ) × TakesOut c.args.moment c.in_ok-latest.latest o (Err e) made o') (g.S.Store.objects c.latest_of.new.store) (g.S.Store.objects c.take_out_expired.new.store) = search rules in
+    let all = not-taken c.args.moment c.in_ok-latest.latest e c.in_ok-latest.ensures.found taken in
+    search (rules, all)
+
+pub returns-in_err-take_out_expired-clause-sound : goal.returns-in_err-take_out_expired-clause-sound
+returns-in_err-take_out_expired-clause-sound g c =
+    let e = c.in_err-take_out_expired.field-0.0 in
+    let taken : WhereModelled (λ o o'. (made : ℕ) × TakesOut c.args.moment c.in_ok-latest.latest o (Err e) made o') (g.S.Store.objects c.latest_of.new.store) (g.S.Store.objects c.take_out_expired.new.store) = search rules in
+    let all = not-taken c.args.moment c.in_ok-latest.latest e c.in_ok-latest.ensures.found taken in
+    keeps-sound c.args.moment (Err e) all
+
+pub returns-clause-sweeps : goal.returns-clause-sweeps
+returns-clause-sweeps g c =
+    let taken : WhereModelled (λ o o'. (made : ℕ) × TakesOut c.args.moment c.in_ok-latest.latest o (Ok c.in_ok-take_out_expired.field-0) made o') (g.S.Store.objects c.latest_of.new.store) (g.S.Store.objects c.take_out_expired.new.store) = search rules in
+    let begun = subst (λ v. WhereModelled (λ o o'. Begun c.args.moment c.in_ok-latest.latest o o' × (v ≡ without_expired c.args.moment c.in_ok-latest.latest)) (g.S.Store.objects c.args.store.now) (g.S.Store.objects c.take_out_expired.new.store)) (sym c.unwrap_or-latest.ensures)
+    (begins c.args.moment c.in_ok-latest.latest c.in_ok-take_out_expired.field-0 c.in_ok-latest.ensures.found taken) in
+    let all = swept-after c.args.moment c.in_ok-latest.latest c.unwrap_or-latest.result c.remove_unprotected.result begun c.remove_unprotected.ensures.removes in
+    search (rules, all)
+
+pub returns-clause-sound : goal.returns-clause-sound
+returns-clause-sound g c =
+    let taken : WhereModelled (λ o o'. (made : ℕ) × TakesOut c.args.moment c.in_ok-latest.latest o (Ok c.in_ok-take_out_expired.field-0) made o') (g.S.Store.objects c.latest_of.new.store) (g.S.Store.objects c.take_out_expired.new.store) = search rules in
+    let begun = subst (λ v. WhereModelled (λ o o'. Begun c.args.moment c.in_ok-latest.latest o o' × (v ≡ without_expired c.args.moment c.in_ok-latest.latest)) (g.S.Store.objects c.args.store.now) (g.S.Store.objects c.take_out_expired.new.store)) (sym c.unwrap_or-latest.ensures)
+    (begins c.args.moment c.in_ok-latest.latest c.in_ok-take_out_expired.field-0 c.in_ok-latest.ensures.found taken) in
+    let all = swept-after c.args.moment c.in_ok-latest.latest c.unwrap_or-latest.result c.remove_unprotected.result begun c.remove_unprotected.ensures.removes in
+    keeps-sound c.args.moment c.remove_unprotected.result all

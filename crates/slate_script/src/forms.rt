@@ -2,7 +2,8 @@
 ghost use Rattle.std.specs.Prelude.{◌≡◌, true, IfOk, IfSome};
 ghost use Rattle.slate_script.specs.Built.{IsBuilt, puts_no_table};
 ghost use Rattle.slate_script.specs.declared.commands.Command.{Command};
-ghost use Rattle.slate_script.specs.Forms.{open_form, flush_type_of, flush_form, close_options_of, close_form, follow_form, poll_form, await_form, status_form, other_of, action_of, command_of, line_of};
+ghost use Rattle.slate_script.specs.Forms.{open_form, flush_type_of, flush_form, close_options_of, close_form, follow_form, poll_form, await_form, status_form};
+ghost use Rattle.slate_script.specs.Forms.{other_of, action_of, command_of, line_of};
 
 use crate::fields::cut_fields;
 use crate::queries::read_query;

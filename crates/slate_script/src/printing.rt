@@ -2,7 +2,8 @@
 ghost use Rattle.std.specs.Prelude.{◌≡◌, ◌++◌, ◌∷◌, length, map, take, decimal, OnOk, OnErr};
 ghost use Rattle.std.specs.List.{flat_map};
 ghost use Rattle.slate_text.specs.Words.{word_text};
-ghost use Rattle.slate_script.specs.Replies.{because_text, expiry_text, fault_text, poll_text, prefixes_text, reason_text, row_text, rows_text, stamp_text, standing_text, task_text, tasks_text, reply_words, reply_text, replies_text};
+ghost use Rattle.slate_script.specs.Replies.{because_text, prefixes_text, reason_text, standing_text};
+ghost use Rattle.slate_script.specs.Replies.{expiry_text, fault_text, poll_text, row_text, rows_text, stamp_text, task_text, tasks_text, reply_words, reply_text, replies_text};
 
 use crate::Reply;
 use slate_errors::{CloseReason, Ending, SlateError, TaskName, write_error};

@@ -87,7 +87,11 @@ fn failing_calls(rt: HostRuntime) -> Result<(), Fail> {
                 };
                 assert_eq!(rt; made, expected, "{call:?} failing at {at}");
                 assert_eq!(rt; count, at.min(calls), "{call:?} failing at {at}");
-                assert_eq!(rt; left.as_slice(), [1, 2, 3, 4].as_slice(), "{call:?} failing at {at}");
+                assert_eq!(rt;
+                    left.as_slice(),
+                    [1, 2, 3, 4].as_slice(),
+                    "{call:?} failing at {at}"
+                );
             }
         }
     }

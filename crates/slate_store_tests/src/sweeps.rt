@@ -49,7 +49,10 @@ fn leases_protect_up_to_their_end(rt: HostRuntime) -> Result<(), Fail> {
     assert_eq!(rt; counts(rt.alloc(), &mut store)?, (2, 1, 3));
     assert_eq!(rt; sweep(rt.alloc(), &mut store, 101)?, 3);
     assert_eq!(rt; counts(rt.alloc(), &mut store)?, (2, 1, 1));
-    assert_eq!(rt; numbers(rt.alloc(), &mut store)?.as_slice(), [1, 2, 3].as_slice());
+    assert_eq!(rt;
+        numbers(rt.alloc(), &mut store)?.as_slice(),
+        [1, 2, 3].as_slice()
+    );
     delete_checkpoint(rt.alloc(), &mut store, unending.id)?;
     delete_checkpoint(rt.alloc(), &mut store, unending.id)?;
     assert_eq!(rt; sweep(rt.alloc(), &mut store, 101)?, 2);

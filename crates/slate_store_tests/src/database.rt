@@ -1,7 +1,7 @@
 // A small database, and what is read of it.
-use slate_reads::Table;
+use slate_reads::{IndexedTable, Table};
 use slate_store::{Manifest, MemoryStore, Store, StoreError, TableId};
-use slate_types::{Batch, Seq};
+use slate_types::{Batch, NoMemory, Seq};
 use std::alloc::Global;
 use std::test::Fail;
 
@@ -20,6 +20,15 @@ fn one_batch(alloc: Global, number: u64) -> Result<Vec<Batch>, Fail> {
     Ok(batches)
 }
 
+/// A table of one batch with this number.
+fn one_table(alloc: Global, number: u64) -> Result<Table, NoMemory> {
+    let mut table = IndexedTable::new(alloc);
+    if table.push(batch(alloc, number)).is_err() {
+        return Err(NoMemory);
+    }
+    Table::new(alloc, table).map_err(|_table| NoMemory)
+}
+
 /// A database of the epoch 1 with so many tables of one batch each, whose last number is in the log file 2.
 pub fn database(alloc: Global, tables: u8) -> Result<MemoryStore, Fail> {
     let mut store = MemoryStore::new(alloc);
@@ -29,8 +38,7 @@ pub fn database(alloc: Global, tables: u8) -> Result<MemoryStore, Fail> {
             epoch: 1,
             index: u64::from(index),
         };
-        let batches = one_batch(alloc, u64::from(index) + 1)?;
-        store.put_table(alloc, id, &Table::of_batches(alloc, &batches)?)?;
+        store.put_table(alloc, id, &one_table(alloc, u64::from(index) + 1)?)?;
         ids.push(id)?;
     }
     let manifest = Manifest {

@@ -1,0 +1,5 @@
+mod Greatest
+mod Each
+mod Folders
+mod Calls
+mod Found

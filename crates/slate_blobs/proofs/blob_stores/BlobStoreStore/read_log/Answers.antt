@@ -1,0 +1,15 @@
+use Rattle.std.proofs.Common.{rules, ◌≡◌, Err}
+use Rattle.slate_objects.specs.Objects.{log_in}
+use Rattle.slate_blobs.proofs.Found.{decoded-ok, log-found, log-refused}
+use Rattle.slate_blobs.proofs.blob_stores.BlobStoreStore.read_log.Goals as goal
+
+pub returns-in_err-bytes-clause-found : goal.returns-in_err-bytes-clause-found
+returns-in_err-bytes-clause-found g c =
+    let error : c.from_residual.result ≡ Err c.in_err-bytes.field-0.0 = search rules in
+    log-refused (g.N.Blobs.held c.args.self.now.manifests) (g.N.Blobs.held c.args.self.now.logs) (g.T.Blobs.held c.args.self.now.tables) c.args.id c.from_residual.result c.in_err-bytes.field-0.0 error c.in_err-bytes.ensures.found
+
+pub returns-clause-found : goal.returns-clause-found
+returns-clause-found g c =
+    let decoded = decoded-ok c.decode_log.result (log_in c.in_ok-bytes.bytes) c.in_ok-batches.batches c.in_ok-batches.ensures.answer c.decode_log.ensures.read in
+    let log : c.in_ok-log.log ≡ c.in_ok-batches.batches = search rules in
+    log-found (g.N.Blobs.held c.args.self.now.manifests) (g.N.Blobs.held c.args.self.now.logs) (g.T.Blobs.held c.args.self.now.tables) c.args.id c.in_ok-bytes.bytes c.in_ok-batches.batches c.in_ok-log.log log c.in_ok-bytes.ensures.found decoded

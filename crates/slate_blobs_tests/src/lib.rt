@@ -1,0 +1,7 @@
+//! Tests of blobs, and of a store over them, from outside.
+#![tactic(auto)]
+
+#[cfg(test)]
+mod failing;
+#[cfg(test)]
+mod stores;

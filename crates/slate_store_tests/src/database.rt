@@ -21,7 +21,7 @@ fn one_batch(alloc: Global, number: u64) -> Result<Vec<Batch>, Fail> {
 }
 
 /// A table of one batch with this number.
-fn one_table(alloc: Global, number: u64) -> Result<Table, NoMemory> {
+pub fn one_table(alloc: Global, number: u64) -> Result<Table, NoMemory> {
     let mut table = IndexedTable::new(alloc);
     if table.push(batch(alloc, number)).is_err() {
         return Err(NoMemory);

@@ -1,8 +1,8 @@
 // Tests of compactions, and of sweeps under checkpoints.
-use crate::database::{counts, database, numbers};
+use crate::database::{counts, database, numbers, one_table};
 use slate_store::{
-    Store, StoreRefusal, compact_tables, delete_checkpoint, refresh_checkpoint, sweep,
-    write_checkpoint,
+    MemoryStore, Store, StoreRefusal, TableId, compact_tables, delete_checkpoint,
+    refresh_checkpoint, sweep, write_checkpoint,
 };
 use std::test::Fail;
 
@@ -77,5 +77,28 @@ fn leases_are_refreshed(rt: HostRuntime) -> Result<(), Fail> {
     assert_eq!(rt; missing, Err(StoreRefusal::CheckpointMissing(leased.id)));
     let longest = write_checkpoint(rt.alloc(), &mut store, Some(u64::MAX), 0)?;
     assert_eq!(rt; longest.expire_ms, Some(i64::MAX));
+    Ok(())
+}
+
+// A store in memory lists its objects in rising order, in whatever order they were put.
+#[test]
+fn objects_are_listed_in_rising_order(rt: HostRuntime) -> Result<(), Fail> {
+    let mut store = MemoryStore::new(rt.alloc());
+    for id in [3, 1, 2] {
+        store.put_log(rt.alloc(), id, &[])?;
+    }
+    for (epoch, index) in [(2, 0), (1, 1), (1, 0)] {
+        let table = one_table(rt.alloc(), 1)?;
+        store.put_table(rt.alloc(), TableId { epoch, index }, &table)?;
+    }
+    let listing = store.list(rt.alloc())?;
+    assert_eq!(rt; listing.logs.as_slice(), [1, 2, 3].as_slice());
+    let first = TableId { epoch: 1, index: 0 };
+    let second = TableId { epoch: 1, index: 1 };
+    let third = TableId { epoch: 2, index: 0 };
+    assert_eq!(rt;
+        listing.tables.as_slice(),
+        [first, second, third].as_slice()
+    );
     Ok(())
 }

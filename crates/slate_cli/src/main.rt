@@ -1,21 +1,27 @@
-//! The program `slate`: runs a script from standard input over a fresh store in memory, and prints its replies.
+//! The program `slate`: runs a script from standard input over a fresh store in memory, or over a directory, and prints
+//! its replies.
 #![tactic(auto)]
 
 mod streams;
 
-use slate_live::{Finished, Outcome, session};
-use slate_store::MemoryStore;
+use slate_directory::open_directory;
+use slate_live::{Outcome, session};
+use slate_script::read_words;
+use slate_store::{MemoryStore, Store};
 use std::process::ExitCode;
 use std::{env, io};
 use streams::Counted;
 
 const HELP: &str = "\
 slate reads a script of timed commands from standard input, runs it over a fresh
-store in memory, and prints a reply per command.
+store in memory or over a directory, and prints a reply per command.
 
-usage: slate [--merge concat] < SCRIPT
+usage: slate [--store DIR] [--merge concat] < SCRIPT
        slate --help | --version
 
+With --store DIR the database is kept in the directory DIR, which is made where
+it isn't there: what a flush answered is there for later runs, also after a
+crash. Any number of runs may use one directory at once.
 With --merge concat the operands of a key are appended; without it a merge is
 refused.
 
@@ -28,18 +34,20 @@ Lines that are empty or begin with # hold no command.
 
 exit status: 0 each command was answered, by its result or its error; 2 a line
 was refused; 3 read fault; 4 write fault; 5 no memory; 6 script too long; 64
-words refused
+words refused; 74 the directory can't be used
 ";
 
 const VERSION: &str = "slate 0.1.0\n";
 
+/// The exit status where the directory can't be used.
+const NO_DIRECTORY: u8 = 74;
+
 fn main(rt: HostRuntime) -> ExitCode {
-    let outcome = match read_arguments(&rt) {
+    let status = match read_arguments(&rt) {
         Ok(words) => answer(&rt, words.as_slice()),
-        Err(error) => outcome_of(error.kind()),
+        Err(error) => report(&rt, outcome_of(error.kind())),
     };
-    report(&rt, outcome);
-    ExitCode::from(outcome.status())
+    ExitCode::from(status)
 }
 
 /// The words of the command line, without the program's name.
@@ -48,40 +56,58 @@ fn read_arguments(rt: &HostRuntime) -> io::Result<Vec<String>> {
     Ok(words)
 }
 
-/// What the program does with these words, and how that ended.
-fn answer(rt: &HostRuntime, words: &[String]) -> Outcome {
-    if let [word] = words {
-        match word.as_str() {
-            "--help" => return print(rt, HELP),
-            "--version" => return print(rt, VERSION),
-            _ => {}
+/// Does what these words ask for. It answers the exit status.
+fn answer(rt: &HostRuntime, words: &[String]) -> u8 {
+    match words {
+        [word] if word.as_str() == "--help" => print(rt, HELP),
+        [word] if word.as_str() == "--version" => print(rt, VERSION),
+        [word, path, others @ ..] if word.as_str() == "--store" => {
+            run_over_directory(rt, path.as_str(), others)
+        }
+        _ => run_session(rt, words, &mut MemoryStore::new(rt.alloc())),
+    }
+}
+
+/// Runs the script from standard input over a directory, which isn't touched where the words spell no options. It
+/// answers the exit status.
+fn run_over_directory(rt: &HostRuntime, path: &str, words: &[String]) -> u8 {
+    if read_words(words).is_none() {
+        return report(rt, Outcome::WordsRefused);
+    }
+    match open_directory(*rt, rt.alloc(), path) {
+        Ok(mut store) => run_session(rt, words, &mut store),
+        Err(error) if error.kind() == io::ErrorKind::OutOfMemory => report(rt, Outcome::NoMemory),
+        Err(error) => {
+            let _ = eprintln!(rt; "slate: the directory {path:?} can't be used: {error}");
+            NO_DIRECTORY
         }
     }
-    run_session(rt, words).outcome()
 }
 
-/// Runs the script from standard input over a fresh store in memory.
-fn run_session(rt: &HostRuntime, words: &[String]) -> Finished {
+/// Runs the script from standard input over a store. It answers the exit status.
+fn run_session<S: Store>(rt: &HostRuntime, words: &[String], store: &mut S) -> u8 {
     let mut source = Counted::new(rt.stdin());
     let mut sink = Counted::new(rt.stdout());
-    let mut store = MemoryStore::new(rt.alloc());
-    session(rt.alloc(), words, &mut source, &mut sink, &mut store)
+    let finished = session(rt.alloc(), words, &mut source, &mut sink, store);
+    report(rt, finished.outcome())
 }
 
-/// Prints a text.
-fn print(rt: &HostRuntime, text: &str) -> Outcome {
+/// Prints a text. It answers the exit status.
+fn print(rt: &HostRuntime, text: &str) -> u8 {
     if rt.print(text).is_ok() {
-        Outcome::Done
+        report(rt, Outcome::Done)
     } else {
-        Outcome::WriteFault
+        report(rt, Outcome::WriteFault)
     }
 }
 
-/// Says on standard error how the program ended, unless all is done. Nothing more can be done where that fails.
-fn report(rt: &HostRuntime, outcome: Outcome) {
+/// Says on standard error how the program ended, unless all is done. Nothing more can be done where that fails. It
+/// answers the exit status.
+fn report(rt: &HostRuntime, outcome: Outcome) -> u8 {
     if outcome != Outcome::Done {
         let _ = eprintln!(rt; "slate: {outcome}");
     }
+    outcome.status()
 }
 
 /// How the program ends whose words can't be read: for want of memory, or since one isn't UTF-8.

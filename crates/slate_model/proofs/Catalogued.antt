@@ -1,6 +1,6 @@
--- Flushes and openings change a store's catalogue as they change its objects.
-use Rattle.std.proofs.Common.{◌≡◌, ℕ, ◌+◌, List, [], ◌∷◌, length, map, Option, Some, None, Result, Ok, Err, ◌≤◌, refl, sym, subst, ap, ◌∙◌, zero, suc, Bool, true, false, cond, not}
-use Rattle.std.proofs.lemmas.List.{length-map}
+-- Operations change a store's catalogue as they change its objects.
+use Rattle.std.proofs.Common.{◌≡◌, ℕ, ◌+◌, List, [], ◌∷◌, length, map, Option, Some, None, Result, Ok, Err, refl, sym, ap, ◌∙◌, zero, suc, Bool, true, false, cond, not, ◌++◌, take, flat_map, option_to_list, option_map, ltb}
+use Rattle.std.proofs.lemmas.List.{take-map, map-append}
 use Rattle.std.specs.Ordering.{nat_cmp}
 use Rattle.std.specs.declared.cmp.Ordering.{Ordering}
 use Rattle.std.specs.declared.cmp.Ordering.TheVariants.{Less, Equal, Greater}
@@ -9,14 +9,19 @@ use Rattle.std.specs.BTreeMap.{insert_entry, is_at}
 use Rattle.slate_types.specs.declared.batches.Batch.{Batch}
 use Rattle.slate_store.specs.declared.objects.VersionedManifest.{VersionedManifest}
 use Rattle.slate_types.specs.declared.store_errors.StoreFault.TheVariants.{Unavailable}
-use Rattle.slate_store.specs.Objects.{Objects, Change, ChangeOf, PutManifest, PutLog, PutTable, RemoveManifest, RemoveLog, RemoveTable, changed, table_cmp, without, latest_manifest, last_log, greatest}
+use Rattle.slate_store.specs.Objects.{Objects, Change, ChangeOf, PutManifest, PutLog, PutTable, RemoveManifest, RemoveLog, RemoveTable, changed, table_cmp, without, latest_manifest, last_log, greatest, table_at}
 use Rattle.slate_errors.specs.declared.errors.SlateError.{SlateError}
 use Rattle.slate_errors.specs.declared.errors.SlateError.TheVariants as errors
-use Rattle.slate_model.specs.Catalogue.{Span, span, catalogue_of}
-use Rattle.slate_model.specs.Changes.{PartMade, after_part}
-use Rattle.slate_model.specs.Flush.{flush_changes, flush_changes_by, log_changes, FlushAnswer, FlushCause, StoresBatches}
+use Rattle.slate_model.specs.Catalogue.{Span, span, catalogue_of, joined_span, joined_two}
+use Rattle.slate_model.specs.Changes.{after_part}
 use Rattle.slate_model.specs.Open.{open_changes, next_manifest, mark_of, can_open, can_open_by, opened_manifest, Opens, OpenAnswer, OpenCause}
-use Rattle.slate_model.specs.Write.{last_number}
+use Rattle.slate_types.specs.declared.options.FlushType.{FlushType}
+use Rattle.slate_types.specs.declared.options.FlushType.TheVariants.{Wal, MemTable}
+use Rattle.slate_model.specs.Flush.{ManifestCause, flush_changes, flush_changes_by, flush_changes_under, has_untabled, log_changes, table_changes, tables_put}
+use Rattle.slate_store.specs.declared.objects.TableId.{TableId}
+use Rattle.slate_store.specs.Compaction.{compact_changes, compact_changes_by, tables_at, with_table}
+use Rattle.slate_model.specs.Handle.{Handle, to_log}
+use Rattle.std.proofs.lemmas.Map.Made.{lookup-map_values}
 
 -- what a world knows of a log file or a table under its id
 abbrev pub spanned : {K : Type 0} → K × List Batch → K × Span
@@ -79,15 +84,86 @@ log_changes-known : (bs : List Batch) (last : ℕ) → map reduced (log_changes 
 log_changes-known [] last = refl
 log_changes-known (b ∷ bs) last = refl
 
-flush_by-known : (bs : List Batch) (o : Objects) (latest : Option VersionedManifest) → map reduced (flush_changes_by (λ xs. xs) bs o latest) ≡ flush_changes_by span bs (catalogue_of o) latest
-flush_by-known bs o None = refl
-flush_by-known bs o (Some latest) =
-    log_changes-known bs (last_log latest.manifest.replay_after_wal_id o)
-    ∙ ap (log_changes span bs) (sym (last_log-catalogue latest.manifest.replay_after_wal_id o))
+map-cond : {X Y : Type 0} (f : X → Y) (b : Bool) (xs : List X) → map f (cond b xs []) ≡ cond b (map f xs) []
+map-cond f true xs = refl
+map-cond f false xs = refl
+
+flush_under-known : (t : FlushType) (h : Handle) (latest : VersionedManifest) (last : ℕ) → map reduced (flush_changes_under (λ xs. xs) t h latest last) ≡ flush_changes_under span t h latest last
+flush_under-known Wal h latest last = log_changes-known (to_log h) last
+flush_under-known MemTable h latest last =
+    let tables = table_changes (λ xs. xs) h latest last in
+    map-cond reduced (has_untabled h latest.manifest) (log_changes (λ xs. xs) (to_log h) last ++ tables)
+    ∙ ap (λ cs. cond (has_untabled h latest.manifest) cs [])
+    (map-append reduced (log_changes (λ xs. xs) (to_log h) last) tables ∙ ap (λ cs. cs ++ table_changes span h latest last) (log_changes-known (to_log h) last))
+
+flush_by-known : (t : FlushType) (h : Handle) (o : Objects) (latest : Option VersionedManifest) → map reduced (flush_changes_by (λ xs. xs) t h o latest) ≡ flush_changes_by span t h (catalogue_of o) latest
+flush_by-known t h o None = refl
+flush_by-known t h o (Some latest) =
+    flush_under-known t h latest (last_log latest.manifest.replay_after_wal_id o)
+    ∙ ap (flush_changes_under span t h latest) (sym (last_log-catalogue latest.manifest.replay_after_wal_id o))
 
 -- the changes of a flush, as they are known
-pub flush_changes-known : (bs : List Batch) (o : Objects) → map reduced (flush_changes (λ xs. xs) bs o) ≡ flush_changes span bs (catalogue_of o)
-flush_changes-known bs o = flush_by-known bs o (latest_manifest o)
+pub flush_changes-known : (t : FlushType) (h : Handle) (o : Objects) → map reduced (flush_changes (λ xs. xs) t h o) ≡ flush_changes span t h (catalogue_of o)
+flush_changes-known t h o = flush_by-known t h o (latest_manifest o)
+
+-- as many tables are put by changes as they are known
+pub tables_put-known : (cs : List Change) → tables_put (map reduced cs) ≡ tables_put cs
+tables_put-known [] = refl
+tables_put-known (PutManifest id m ∷ cs) = tables_put-known cs
+tables_put-known (PutLog id log ∷ cs) = tables_put-known cs
+tables_put-known (PutTable id table ∷ cs) = ap (λ n. n + 1) (tables_put-known cs)
+tables_put-known (RemoveManifest id ∷ cs) = tables_put-known cs
+tables_put-known (RemoveLog id ∷ cs) = tables_put-known cs
+tables_put-known (RemoveTable id ∷ cs) = tables_put-known cs
+
+pub tables_part-known : (made : ℕ) (cs : List Change) → tables_put (take made (map reduced cs)) ≡ tables_put (take made cs)
+tables_part-known made cs = ap tables_put (take-map reduced made cs) ∙ tables_put-known (take made cs)
+
+span-append : (xs ys : List Batch) → span (xs ++ ys) ≡ joined_two (span xs) (span ys)
+span-append [] ys = refl
+span-append (x ∷ []) [] = refl
+span-append (x ∷ []) (y ∷ ys) = refl
+span-append (x ∷ z ∷ xs) ys = by ys (span-append (z ∷ xs) ys) where
+  by : (ys : List Batch) → span ((z ∷ xs) ++ ys) ≡ joined_two (span (z ∷ xs)) (span ys) → span (x ∷ (z ∷ xs) ++ ys) ≡ joined_two (span (x ∷ z ∷ xs)) (span ys)
+  by [] same = ap (option_map (λ (s : ℕ × ℕ). (x.number, s.1))) same
+  by (y ∷ ys) same = ap (option_map (λ (s : ℕ × ℕ). (x.number, s.1))) same
+
+-- tables that are joined, as they are known
+pub joined-known : (tables : List (List Batch)) → span (flat_map (λ bs. bs) tables) ≡ joined_span (map span tables)
+joined-known [] = refl
+joined-known (table ∷ tables) =
+    span-append table (flat_map (λ bs. bs) tables) ∙ ap (joined_two (span table)) (joined-known tables)
+
+-- a table under an id is known
+pub table-known : (id : TableId) (o : Objects) → table_at id (catalogue_of o) ≡ option_map span (table_at id o)
+table-known id o = lookup-map_values span (is_at (table_cmp id)) o.tables
+
+list-known : (table : Option (List Batch)) → option_to_list (option_map span table) ≡ map span (option_to_list table)
+list-known None = refl
+list-known (Some table) = refl
+
+tables-known : (o : Objects) (ids : List TableId) → tables_at (catalogue_of o) ids ≡ map span (tables_at o ids)
+tables-known o [] = refl
+tables-known o (id ∷ ids) =
+    ap (λ table. option_to_list table ++ tables_at (catalogue_of o) ids) (table-known id o)
+    ∙ (ap (λ xs. xs ++ tables_at (catalogue_of o) ids) (list-known (table_at id o))
+    ∙ (ap (λ xs. map span (option_to_list (table_at id o)) ++ xs) (tables-known o ids)
+    ∙ sym (map-append span (option_to_list (table_at id o)) (tables_at o ids))))
+
+compact_by-known : (id : TableId) (o : Objects) (latest : Option VersionedManifest) → map reduced (compact_changes_by (flat_map (λ bs. bs)) id o latest) ≡ compact_changes_by joined_span id (catalogue_of o) latest
+compact_by-known id o None = refl
+compact_by-known id o (Some latest) =
+    by (ltb (length latest.manifest.tables) 2)
+    (joined-known (tables_at o latest.manifest.tables) ∙ ap joined_span (sym (tables-known o latest.manifest.tables))) where
+      by : (few : Bool) → span (flat_map (λ bs. bs) (tables_at o latest.manifest.tables)) ≡ joined_span (tables_at (catalogue_of o) latest.manifest.tables) →
+          map reduced (cond few [] (PutTable id (flat_map (λ bs. bs) (tables_at o latest.manifest.tables)) ∷ PutManifest (with_table id latest).id (with_table id latest).manifest ∷ []))
+          ≡ cond few [] (PutTable id (joined_span (tables_at (catalogue_of o) latest.manifest.tables)) ∷ PutManifest (with_table id latest).id (with_table id latest).manifest ∷ [])
+      by true same = refl
+      by false same = ap (λ table. PutTable id table ∷ PutManifest (with_table id latest).id (with_table id latest).manifest ∷ []) same
+
+-- the changes of a compaction, as they are known
+pub compact_changes-known : (id : TableId) (o : Objects) → map reduced (compact_changes (flat_map (λ bs. bs)) id o) ≡ compact_changes joined_span id (catalogue_of o)
+compact_changes-known id o = compact_by-known id o (latest_manifest o)
 
 -- and those of an opening
 pub open_changes-known : (o : Objects) → map reduced (open_changes (λ xs. xs) o) ≡ open_changes span (catalogue_of o)
@@ -99,28 +175,12 @@ open_changes-known o =
 pub can_open-known : (o : Objects) → can_open (catalogue_of o) ≡ can_open o
 can_open-known o = ap (can_open_by (latest_manifest o)) (last_log-catalogue (mark_of (latest_manifest o)) o)
 
-cause-known : (epoch : ℕ) (bs : List Batch) (o : Objects) (e : SlateError) → FlushCause epoch bs o e → FlushCause epoch bs (catalogue_of o) e
-cause-known epoch bs o errors.LatestTransactionalObjectVersionMissing h = h
-cause-known epoch bs o errors.Fenced h = h
-cause-known epoch bs o errors.InvalidDBState h = (h.0, h.1, h.2, subst (λ n. last_number ≤ n) (sym (last_log-catalogue h.0.manifest.replay_after_wal_id o)) h.3)
-cause-known epoch bs o (errors.ObjectStoreError Unavailable) h = tt
-cause-known epoch bs o errors.NoMemory h = tt
-cause-known epoch bs o e h = absurd h
-
-answer-known : (epoch : ℕ) (bs : List Batch) (o : Objects) (r : Result (Unit {0}) SlateError) (view view' : VersionedManifest) → FlushAnswer epoch bs o r view view' → FlushAnswer epoch bs (catalogue_of o) r view view'
-answer-known epoch bs o (Ok x) view view' h = h
-answer-known epoch bs o (Err e) view view' h = (cause-known epoch bs o e h.0, h.1)
-
--- a flush of the objects is a flush of what is known of them
-pub stores-known : {epoch : ℕ} {bs : List Batch} {o : Objects} {r : Result (Unit {0}) SlateError} {view view' : VersionedManifest} {made : ℕ} {o' : Objects} → StoresBatches (λ xs. xs) epoch bs o r view view' made o' → StoresBatches span epoch bs (catalogue_of o) r view view' made (catalogue_of o')
-stores-known {epoch} {bs} {o} {r} {view} {view'} {made} {o'} s =
-    record {
-      answer = answer-known epoch bs o r view view' s.answer;
-      part = subst (λ n. PartMade r n made) (sym (length-map (flush_changes (λ xs. xs) bs o) reduced) ∙ ap length (flush_changes-known bs o)) s.part;
-      only = s.only;
-      current = s.current;
-      after = ap catalogue_of s.after ∙ (catalogue-after made (flush_changes (λ xs. xs) bs o) o ∙ ap (λ cs. after_part made cs (catalogue_of o)) (flush_changes-known bs o));
-    }
+pub manifest_cause-known : (epoch : ℕ) (o : Objects) (e : SlateError) → ManifestCause epoch o e → ManifestCause epoch (catalogue_of o) e
+manifest_cause-known epoch o errors.LatestTransactionalObjectVersionMissing h = h
+manifest_cause-known epoch o errors.Fenced h = h
+manifest_cause-known epoch o (errors.ObjectStoreError Unavailable) h = tt
+manifest_cause-known epoch o errors.NoMemory h = tt
+manifest_cause-known epoch o e h = absurd h
 
 open_cause-known : (unsound : SlateError → Type 0) (o : Objects) (e : SlateError) → (unsound e → ⊥) → OpenCause unsound o e → OpenCause (λ _. ⊥) (catalogue_of o) e
 open_cause-known unsound o errors.InvalidDBState none h = can_open-known o ∙ h

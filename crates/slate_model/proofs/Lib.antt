@@ -1,5 +1,16 @@
+pub mod Adding
 pub mod Catalogued
+pub mod Compacting
 pub mod Flushed
+pub mod Flushing
+pub mod Free
+pub mod Keeping
+pub mod Moving
 pub mod Newest
+pub mod Opening
+pub mod Prefixes
 pub mod Reopened
 pub mod Reduced
+pub mod Tabled
+pub mod Viewing
+pub mod Writing

@@ -1,29 +1,44 @@
 -- What an operation does to the objects of a store it does to what a world knows of them.
-use Rattle.std.proofs.Common.{◌≡◌, ℕ, Bool, true, false, List, Option, Some, None, Result, Ok, Err, refl, sym, subst, ap, ◌∙◌}
+use Rattle.std.proofs.Common.{◌≡◌, ℕ, Bool, true, false, List, Option, Some, None, Result, Ok, Err, refl, sym, subst, ap, ◌∙◌, ◌≤◌, ◌+◌, inl, inr, length, map, take, cond, ltb, flat_map, option_map, arith}
 use Rattle.std.specs.Option.{IfSome}
 use Rattle.std.specs.Result.{IfOk, IfErr}
 use Rattle.slate_types.specs.declared.batches.Batch.{Batch}
 use Rattle.slate_types.specs.declared.options.FlushType.{FlushType}
 use Rattle.slate_types.specs.Line.{Line}
-use Rattle.slate_types.specs.declared.store_errors.StoreFault.TheVariants.{Unavailable}
+use Rattle.slate_types.specs.declared.store_errors.StoreFault.TheVariants.{Unavailable, NotFound}
 use Rattle.slate_store.specs.Calls.{WhereModelled}
 use Rattle.slate_store.specs.declared.objects.VersionedManifest.{VersionedManifest}
 use Rattle.slate_store.specs.Content.{IsSound, content}
-use Rattle.slate_store.specs.Objects.{Objects, ObjectsOf, latest_manifest}
+use Rattle.slate_store.specs.Objects.{Objects, ObjectsOf, latest_manifest, last_log}
 use Rattle.slate_errors.specs.declared.endings.Ended.{Ended}
 use Rattle.slate_errors.specs.declared.errors.SlateError.{SlateError}
 use Rattle.slate_errors.specs.declared.errors.SlateError.TheVariants as errors
+use Rattle.slate_types.specs.declared.read_faults.ReadFault.TheVariants as reads
 use Rattle.slate_errors.specs.Errors.{closed_error}
-use Rattle.slate_model.specs.Catalogue.{Span, catalogue_of, span}
+use Rattle.slate_model.specs.Catalogue.{Span, catalogue_of, span, Catalogue, joined_span}
 use Rattle.slate_model.specs.declared.answers.PollAnswer.{PollAnswer}
-use Rattle.slate_model.specs.Close.{Closes, ended, fault_again}
-use Rattle.slate_model.specs.Flush.{Flushes, Stores}
+use Rattle.slate_model.specs.Close.{Closes, ended, fault_again, closing_flush}
 use Rattle.slate_model.specs.Follower.{FollowCause, Follower, Polls, Rebuilds, SeesAll, built, can_follow}
-use Rattle.slate_model.specs.Handle.{Handle}
+use Rattle.slate_model.specs.Handle.{Handle, CloseResult, accepted, kept_handle, line_above, next_table}
 use Rattle.slate_model.specs.Known.{IsContent, Known, Untouched}
-use Rattle.slate_model.specs.Open.{OpenFault, OpensHandle, opened_handle, opened_manifest}
-use Rattle.slate_model.proofs.Catalogued.{opened_manifest-known, opens-known, stores-known}
 use Rattle.slate_model.proofs.Reopened.{no-fault}
+use Rattle.slate_model.proofs.Catalogued.{reduced, catalogue-after, flush_changes-known, last_log-catalogue, tables_part-known, tables_put-known, compact_changes-known, manifest_cause-known, table-known, opens-known, opened_manifest-known}
+use Rattle.slate_model.specs.Flush.{CanFlush, DurableAfter, FlushAnswer, FlushCause, Flushes, FlushesOnly, IsFlushed, StoresBatches, Stores, flush_changes, flush_changes_by, flush_result, flush_view, grows, has_ids, next_flushed, tables_put}
+use Rattle.slate_model.specs.Open.{IsFresh, OpenFault, OpensHandle, opened_handle, opened_manifest, Opens}
+use Rattle.slate_store.specs.declared.objects.TableId.{TableId}
+use Rattle.slate_types.specs.declared.read_faults.ReadFault.{ReadFault}
+use Rattle.slate_model.specs.Stores.{JoinFault, Stands, by_catalogue, by_objects}
+use Rattle.slate_model.specs.Knowledge.{Knowledge}
+use Rattle.slate_model.specs.Refresh.{CompactAnswer, CompactCause, Compacts, JoinsTables, RefreshAnswer, Refreshes}
+use Rattle.slate_model.specs.Read.{AnswersRead, Reads}
+use Rattle.slate_model.specs.Tables.{AreStored}
+use Rattle.slate_model.proofs.Keeping.{accepted-kept, changes-kept, ids-kept, line_above-twice, view-kept, log_for-kept}
+use Rattle.slate_model.specs.Changes.{PartMade, after_part}
+use Rattle.slate_types.specs.declared.options.FlushType.TheVariants.{Wal, MemTable}
+use Rattle.std.proofs.lemmas.List.{length-map}
+use Rattle.std.specs.Prelude.{nat_le}
+use Rattle.slate_store.specs.Compaction.{compact_changes}
+use Rattle.std.proofs.lemmas.Bool.{ltb-true}
 
 -- what a world knows of a store that holds these objects
 abbrev pub holding : Objects → ℕ → Known (List Batch)
@@ -65,37 +80,253 @@ if_ok : {A : Type 0} {P Q : A → Type 0} (r : Result A SlateError) → ((a : A)
 if_ok (Ok x) f h = f x h
 if_ok (Err e) f h = tt
 
-pub stores-reduced : (made : ℕ) (h : Handle) (view : VersionedManifest) (r : Result (Unit {0}) SlateError) (o o' : Objects) (f f' : ℕ) → Stores (λ xs. xs) made h view (holding o f) r (holding o' f') → Stores span made h view (catalogued o f) r (catalogued o' f')
-stores-reduced made h view r o o' f f' s = record {
-  faults = s.faults;
-  objects = as_modelled (catalogue_of o) (catalogue_of o') (stores-known (modelled o o' s.objects));
+-- the handle of a world that the code keeps as this one, where this one was a part of that
+abbrev pub whole : Handle → Handle → Handle
+whole h k = record k { line = h.line }
+
+-- What is said of the handle that the code keeps is said of the whole one, and is known of the objects.
+module _ (x : Option Objects) (stored : Line) (c : Catalogue) (h : Handle) (o : Objects) (tabled : h.view.manifest.last_l0_seq ≤ h.durable)
+    (ahead : (latest : VersionedManifest) → latest_manifest o ≡ Some latest → h.view.manifest.last_l0_seq ≤ latest.manifest.last_l0_seq) where
+  changes_by-kept : (t : FlushType) (latest : Option VersionedManifest) → latest_manifest o ≡ latest → flush_changes_by (λ xs. xs) t (kept_handle h) o latest ≡ flush_changes_by (λ xs. xs) t h o latest
+  changes_by-kept t None is = refl
+  changes_by-kept t (Some latest) is = changes-kept h tabled latest (last_log latest.manifest.replay_after_wal_id o) (ahead latest is) (λ xs. xs) t
+
+  flush_changes-kept : (t : FlushType) → flush_changes (λ xs. xs) t (kept_handle h) o ≡ flush_changes (λ xs. xs) t h o
+  flush_changes-kept t = changes_by-kept t (latest_manifest o) refl
+
+  -- the changes of a flush of the kept handle are known as those of the whole one
+  flush_changes-same : (t : FlushType) → map reduced (flush_changes (λ xs. xs) t (kept_handle h) o) ≡ flush_changes span t h (catalogue_of o)
+  flush_changes-same t = ap (map reduced) (flush_changes-kept t) ∙ flush_changes-known t h o
+
+  module _ (t : FlushType) (unset : Stands (flush_changes (λ xs. xs) t (kept_handle h) o) o → ⊥) where
+    flush_cause-known : (e : SlateError) → FlushCause (Stands (flush_changes (λ xs. xs) t (kept_handle h) o) o) t (kept_handle h) o e → FlushCause ⊥ t h (catalogue_of o) e
+    flush_cause-known errors.InvalidDBState i =
+        let mark = i.0.manifest.replay_after_wal_id in
+        (i.0, i.1, ap (has_ids t h i.0) (last_log-catalogue mark o) ∙ (sym (ids-kept h tabled i.0 (last_log mark o) (ahead i.0 i.1.0) t) ∙ i.2))
+    flush_cause-known errors.TransactionalObjectVersionExists i = unset i
+    flush_cause-known errors.LatestTransactionalObjectVersionMissing i = i
+    flush_cause-known errors.Fenced i = i
+    flush_cause-known (errors.ObjectStoreError Unavailable) i = tt
+    flush_cause-known errors.NoMemory i = tt
+    flush_cause-known e i = absurd i
+
+    flush_answer-known : (r : Result (Unit {0}) SlateError) (view : VersionedManifest) → FlushAnswer (Stands (flush_changes (λ xs. xs) t (kept_handle h) o) o) t (kept_handle h) o r view → FlushAnswer ⊥ t h (catalogue_of o) r view
+    flush_answer-known (Ok _) view i =
+        let mark = i.0.manifest.replay_after_wal_id in
+        (i.0, i.1, i.2 ∙ (view-kept h tabled i.0 (last_log mark o) (ahead i.0 i.1.0) t ∙ ap (flush_view t h i.0) (sym (last_log-catalogue mark o))))
+    flush_answer-known (Err e) view i = (flush_cause-known e i.0, i.1)
+
+    pub stores-known : {r : Result (Unit {0}) SlateError} {k : Handle} {made : ℕ} {o' : Objects} → StoresBatches (by_objects x) t (kept_handle h) o r k made o' → StoresBatches (by_catalogue stored c) t h (catalogue_of o) r (whole h k) made (catalogue_of o')
+    stores-known {r} {k} {made} {o'} s =
+        let cs = flush_changes (λ xs. xs) t (kept_handle h) o in
+        let same = flush_changes-same t in
+        let count : length cs ≡ length (flush_changes span t h (catalogue_of o)) = sym (length-map cs reduced) ∙ ap length same in
+        let part : tables_put (take made cs) ≡ tables_put (take made (flush_changes span t h (catalogue_of o))) = sym (tables_part-known made cs) ∙ ap (λ ds. tables_put (take made ds)) same in
+        let all : tables_put cs ≡ tables_put (flush_changes span t h (catalogue_of o)) = sym (tables_put-known cs) ∙ ap tables_put same in
+        record {
+          answer = flush_answer-known r k.view s.answer;
+          part = subst (λ n. PartMade r n made) count s.part;
+          only = subst (λ n. FlushesOnly r n made) count s.only;
+          current = s.current;
+          counted = (subst (λ n. h.counter + n ≤ k.counter) part s.counted.0, subst (λ n. k.counter ≤ h.counter + n) all s.counted.1);
+          after = ap catalogue_of s.after ∙ (catalogue-after made cs o ∙ ap (λ ds. after_part made ds (catalogue_of o)) same);
+        }
+
+  flush_view-rises : (t : FlushType) (latest : VersionedManifest) (last : ℕ) → latest_manifest o ≡ Some latest → h.view.manifest.last_l0_seq ≤ (flush_view t (kept_handle h) latest last).manifest.last_l0_seq
+  flush_view-rises Wal latest last is = ahead latest is
+  flush_view-rises MemTable latest last is = by (ltb latest.manifest.last_l0_seq (accepted (kept_handle h))) refl where
+    by : (some : Bool) → ltb latest.manifest.last_l0_seq (accepted (kept_handle h)) ≡ some → h.view.manifest.last_l0_seq ≤ (cond some (next_flushed (kept_handle h) latest last) latest).manifest.last_l0_seq
+    by true above = let less = ltb-true latest.manifest.last_l0_seq (accepted (kept_handle h)) above in let low = ahead latest is in omega (arith, less, low)
+    by false above = ahead latest is
+
+  -- the last number in tables of the view doesn't fall
+  pub stores-rises : (t : FlushType) {r : Result (Unit {0}) SlateError} {k : Handle} {made : ℕ} {o' : Objects} → StoresBatches (by_objects x) t (kept_handle h) o r k made o' → h.view.manifest.last_l0_seq ≤ k.view.manifest.last_l0_seq
+  stores-rises t {r = Ok x} {k = k} s =
+      let a = s.answer in
+      subst (λ (v : VersionedManifest). h.view.manifest.last_l0_seq ≤ v.manifest.last_l0_seq) (sym a.2) (flush_view-rises t a.0 (last_log a.0.manifest.replay_after_wal_id o) a.1.0)
+  stores-rises t {r = Err e} {k = k} s = elim s.answer.1 [
+    | inl same ↦ subst (λ (v : VersionedManifest). h.view.manifest.last_l0_seq ≤ v.manifest.last_l0_seq) (sym same) (omega arith)
+    | inr current ↦ ahead k.view current.0
+  ]
+
+-- A handle that is as the kept one moved it is kept of the whole one that moved so.
+pub kept-whole : (h k : Handle) → h.view.manifest.last_l0_seq ≤ k.view.manifest.last_l0_seq → k.line ≡ line_above k.view.manifest.last_l0_seq (kept_handle h).line → k ≡ kept_handle (whole h k)
+kept-whole h k rises line =
+    ap (λ l. record k { line = l }) (line ∙ line_above-twice h.view.manifest.last_l0_seq k.view.manifest.last_l0_seq h.line rises)
+
+durable-whole : (made : ℕ) (h : Handle) (r : Result (Unit {0}) SlateError) (durable : ℕ) → DurableAfter (nat_le (grows h) made) (kept_handle h) r durable → DurableAfter (nat_le (grows h) made) h r durable
+durable-whole made h (Ok _) durable d = d ∙ accepted-kept h
+durable-whole made h (Err errors.NoMemory) durable d = d ∙ ap (λ n. cond (nat_le (grows h) made) n h.durable) (accepted-kept h)
+durable-whole made h (Err e) durable d = elim d [
+  | inl old ↦ inl old
+  | inr new ↦ inr (new.0, new.1 ∙ accepted-kept h)
+]
+
+pub flushed-whole : (made : ℕ) (r : Result (Unit {0}) SlateError) (closed : CloseResult) (h k : Handle) → IsFlushed kept_handle made r closed (kept_handle h) k → IsFlushed (λ a. a) made r closed h (whole h k)
+flushed-whole made r closed h k s = record {
+  same = ap (λ (a : Handle). record a { line = h.line }) s.same;
+  durable = durable-whole made h r k.durable s.durable;
+  counter = s.counter;
 }
 
-pub flushes-reduced : (made : ℕ) (h h' : Handle) (r : Result (Unit {0}) SlateError) (o o' : Objects) (f f' : ℕ) → Flushes (λ xs. xs) made h (holding o f) r h' (holding o' f') → Flushes span made h (catalogued o f) r h' (catalogued o' f')
-flushes-reduced made h h' r o o' f f' s = record {
-  closed = if_some {Q = λ q. (r ≡ Err (closed_error q)) × (h' ≡ h) × Untouched made (catalogued o f) (catalogued o' f')} h.result (λ q c. (c.0, c.1, untouched-known made o o' f f' c.2)) s.closed;
-  disabled = λ live keeps. let d = s.disabled live keeps in (d.0, d.1, untouched-known made o o' f f' d.2);
-  stored = λ can. let d = s.stored can in (d.0, stores-reduced made h h'.view r o o' f f' d.1);
+kept-known : (o o' : Objects) (f f' : ℕ) → (holding o' f').objects ≡ (holding o f).objects → (catalogued o' f').objects ≡ (catalogued o f).objects
+kept-known o o' f f' same = ap (λ x. Some (catalogue_of x)) (some-same o' o same)
+
+-- a flush of the kept handle is one of the whole one
+module _ (stored : Line) (h : Handle) (o o' : Objects) (f f' : ℕ) (tabled : h.view.manifest.last_l0_seq ≤ h.durable)
+    (ahead : (latest : VersionedManifest) → latest_manifest o ≡ Some latest → h.view.manifest.last_l0_seq ≤ latest.manifest.last_l0_seq) where
+  abbrev world : Knowledge Span
+  world = by_catalogue stored (catalogue_of o)
+
+  abbrev Unset : FlushType → Type 0
+  Unset t = Stands (flush_changes (λ xs. xs) t (kept_handle h) o) o → ⊥
+
+  stores-reduced : (made : ℕ) (t : FlushType) (k : Handle) (r : Result (Unit {0}) SlateError) → Unset t → Stores (by_objects (Some o)) made t (kept_handle h) (holding o f) r k (holding o' f') → Stores world made t h (catalogued o f) r (whole h k) (catalogued o' f')
+  stores-reduced made t k r unset s = record {
+    faults = s.faults;
+    objects = as_modelled (catalogue_of o) (catalogue_of o') (stores-known (Some o) stored (catalogue_of o) h o tabled ahead t unset (modelled o o' s.objects));
+  }
+
+  can-kept : (t : FlushType) → CanFlush t h → CanFlush t (kept_handle h)
+  can-kept t can = (can.0, log_for-kept h t ∙ can.1)
+
+  pub flushes-reduced : (made : ℕ) (t : FlushType) (k : Handle) (r : Result (Unit {0}) SlateError) → Unset t → Flushes (by_objects (Some o)) made t (kept_handle h) (holding o f) r k (holding o' f') → Flushes world made t h (catalogued o f) r (whole h k) (catalogued o' f')
+  flushes-reduced made t k r unset s = record {
+    closed = if_some {Q = λ q. (r ≡ Err (closed_error q)) × (whole h k ≡ h) × Untouched made (catalogued o f) (catalogued o' f')} h.result (λ q c. (c.0, ap (whole h) c.1, untouched-known made o o' f f' c.2)) s.closed;
+    disabled = λ live keeps. let d = s.disabled live (log_for-kept h t ∙ keeps) in (d.0, ap (whole h) d.1, untouched-known made o o' f f' d.2);
+    flushed = λ can. flushed-whole made r (flush_result r) h k (s.flushed (can-kept t can));
+    stored = λ can. stores-reduced made t k r unset (s.stored (can-kept t can));
+  }
+
+  pub closes-reduced : (made : ℕ) (flush_type : Option FlushType) (k : Handle) (e : Ended) → ((t : FlushType) → flush_type ≡ Some t → Unset t) → Closes (by_objects (Some o)) made flush_type (kept_handle h) (holding o f) e k (holding o' f') → Closes world made flush_type h (catalogued o f) e (whole h k) (catalogued o' f')
+  closes-reduced made flush_type k e unset s = record {
+    again = if_some {Q = λ q. (e ≡ ended (fault_again q)) × (whole h k ≡ h) × Untouched made (catalogued o f) (catalogued o' f')} h.result (λ q c. (c.0, ap (whole h) c.1, untouched-known made o o' f f' c.2)) s.again;
+    unflushed = λ live none. let d = s.unflushed live none in (d.0, ap (whole h) d.1, untouched-known made o o' f f' d.2);
+    disabled = λ t some live keeps. let d = s.disabled t some live (log_for-kept h t ∙ keeps) in (d.0, ap (whole h) d.1, untouched-known made o o' f f' d.2);
+    flushed = λ t some can. let d = s.flushed t some (can-kept t can) in (d.0, flushed-whole made (closing_flush e.fault) (Some (Ok tt)) h k d.1);
+    stored = λ t some can. stores-reduced made t k (closing_flush e.fault) (unset t some) (s.stored t some (can-kept t can));
+  }
+
+  refresh_answer-known : (r : Result (Unit {0}) SlateError) (view : VersionedManifest) → RefreshAnswer (kept_handle h) o r view → RefreshAnswer h (catalogue_of o) r view
+  refresh_answer-known (Ok _) view a = a
+  refresh_answer-known (Err e) view a = (manifest_cause-known h.epoch o e a.0, a.1)
+
+  pub refreshes-reduced : (k : Handle) (r : Result (Unit {0}) SlateError) → Refreshes (by_objects (Some o)) (kept_handle h) (holding o f) r k (holding o' f') → Refreshes world h (catalogued o f) r (whole h k) (catalogued o' f')
+  refreshes-reduced k r s = record {
+    closed = if_some {Q = λ q. (r ≡ Err (closed_error q)) × (whole h k ≡ h) × (catalogued o' f' ≡ catalogued o f)} h.result (λ q c. (c.0, ap (whole h) c.1, same-known o o' f f' c.2)) s.closed;
+    refreshed = λ live. let d = s.refreshed live in record {
+      faults = d.faults;
+      kept = kept-known o o' f f' d.kept;
+      same = ap (whole h) d.same;
+      answer = refresh_answer-known r k.view d.answer;
+    };
+  }
+
+  module _ (joins : (e : SlateError) → JoinFault (next_table h) o e → ⊥) where
+    compact_cause-known : (e : SlateError) → CompactCause (JoinFault (next_table h) o) (kept_handle h) o e → CompactCause (λ e. ⊥) h (catalogue_of o) e
+    compact_cause-known errors.InvalidDBState c = elim c [
+      | inl used ↦ inl used
+      | inr unsound ↦ absurd (joins errors.InvalidDBState unsound)
+    ]
+    compact_cause-known errors.TransactionalObjectVersionExists c = joins errors.TransactionalObjectVersionExists c
+    compact_cause-known (errors.ObjectStoreError NotFound) c = joins (errors.ObjectStoreError NotFound) c
+    compact_cause-known errors.LatestTransactionalObjectVersionMissing c = c
+    compact_cause-known errors.Fenced c = c
+    compact_cause-known (errors.ObjectStoreError Unavailable) c = tt
+    compact_cause-known errors.NoMemory c = tt
+    compact_cause-known e c = absurd c
+
+    compact_answer-known : (r : Result (Unit {0}) SlateError) (view : VersionedManifest) → CompactAnswer (JoinFault (next_table h) o) (kept_handle h) o r view → CompactAnswer (λ e. ⊥) h (catalogue_of o) r view
+    compact_answer-known (Ok _) view a = a
+    compact_answer-known (Err e) view a = (compact_cause-known e a.0, a.1)
+
+    joins-known : (made : ℕ) (k : Handle) (r : Result (Unit {0}) SlateError) → JoinsTables (by_objects (Some o)) (kept_handle h) o r k made o' → JoinsTables world h (catalogue_of o) r (whole h k) made (catalogue_of o')
+    joins-known made k r s =
+        let cs = compact_changes (flat_map (λ bs. bs)) (next_table h) o in
+        let ds = compact_changes joined_span (next_table h) (catalogue_of o) in
+        let same = compact_changes-known (next_table h) o in
+        let part : tables_put (take made cs) ≡ tables_put (take made ds) = sym (tables_part-known made cs) ∙ ap (λ xs. tables_put (take made xs)) same in
+        let all : tables_put cs ≡ tables_put ds = sym (tables_put-known cs) ∙ ap tables_put same in
+        record {
+          answer = compact_answer-known r k.view s.answer;
+          part = subst (λ n. PartMade r n made) (sym (length-map cs reduced) ∙ ap length same) s.part;
+          current = s.current;
+          counted = (subst (λ n. h.counter + n ≤ k.counter) part s.counted.0, subst (λ n. k.counter ≤ h.counter + n) all s.counted.1);
+          after = ap catalogue_of s.after ∙ (catalogue-after made cs o ∙ ap (λ xs. after_part made xs (catalogue_of o)) same);
+        }
+
+    pub compacts-reduced : (made : ℕ) (k : Handle) (r : Result (Unit {0}) SlateError) → Compacts (by_objects (Some o)) made (kept_handle h) (holding o f) r k (holding o' f') → Compacts world made h (catalogued o f) r (whole h k) (catalogued o' f')
+    compacts-reduced made k r s = record {
+      closed = if_some {Q = λ q. (r ≡ Err (closed_error q)) × (whole h k ≡ h) × Untouched made (catalogued o f) (catalogued o' f')} h.result (λ q c. (c.0, ap (whole h) c.1, untouched-known made o o' f f' c.2)) s.closed;
+      compacted = λ live. let d = s.compacted live in record {
+        faults = d.faults;
+        same = ap (whole h) d.same;
+        counter = d.counter;
+        objects = as_modelled (catalogue_of o) (catalogue_of o') (joins-known made k r (modelled o o' d.objects));
+      };
+    }
+
+stored-known : (o : Objects) (ids : List TableId) → AreStored (catalogue_of o) ids → AreStored o ids
+stored-known o ids stored k d less none = stored k d less (table-known _ o ∙ ap (option_map span) none)
+
+-- what is read by these batches is read by those of a world
+abbrev pub ReadsAs : {A : Type 0} → (List Batch → Type 0) → (List Batch → Result A ReadFault → Type 0) → (List Batch → Type 0) → (List Batch → Result A ReadFault → Type 0) → Type 0
+ReadsAs {A} has P has' P' = (rows : List Batch) (a : Result A ReadFault) → has rows → P rows a → (rows' : List Batch) × has' rows' × P' rows' a
+
+read-answers : {A : Type 0} {has has' : List Batch → Type 0} {P P' : List Batch → Result A ReadFault → Type 0} → ReadsAs has P has' P' → (r : Result A SlateError) → AnswersRead has P r → AnswersRead has' P' r
+read-answers reads_as (Ok found) a = reads_as a.0 (Ok found) a.1 a.2
+read-answers reads_as (Err errors.MergeOperatorMissing) a = reads_as a.0 (Err reads.MergeOperatorMissing) a.1 a.2
+read-answers reads_as (Err errors.MergeOperatorError) a = reads_as a.0 (Err reads.MergeOperatorError) a.1 a.2
+read-answers reads_as (Err errors.ChecksumMismatch) a = reads_as a.0 (Err reads.ChecksumMismatch) a.1 a.2
+read-answers reads_as (Err (errors.ObjectStoreError fault)) a = tt
+read-answers reads_as (Err errors.NoMemory) a = tt
+read-answers reads_as (Err e) a = absurd a
+
+-- a read of what the code has of the batches is one of them
+pub reads-reduced : {A : Type 0} {has has' : List Batch → Type 0} {P P' : List Batch → Result A ReadFault → Type 0} → ReadsAs has P has' P' →
+    (closed : CloseResult) (tables : List TableId) (r : Result A SlateError) (o o' : Objects) (f f' : ℕ) → Reads closed tables has P (holding o f) r (holding o' f') → Reads closed tables has' P' (catalogued o f) r (catalogued o' f')
+reads-reduced reads_as closed tables r o o' f f' s = record {
+  closed = if_some {Q = λ q. (r ≡ Err (closed_error q)) × (catalogued o' f' ≡ catalogued o f)} closed (λ q c. (c.0, same-known o o' f f' c.1)) s.closed;
+  read = λ live. let d = s.read live in record {
+    faults = d.faults;
+    kept = kept-known o o' f f' d.kept;
+    missing = λ none stored. d.missing none (stored-known o tables stored);
+    alone = λ none. let a = d.alone none in (same-known o o' f f' a.0, a.1);
+    plain = read-answers reads_as r d.plain;
+  };
 }
 
-pub closes-reduced : (made : ℕ) (flush_type : Option FlushType) (h h' : Handle) (e : Ended) (o o' : Objects) (f f' : ℕ) → Closes (λ xs. xs) made flush_type h (holding o f) e h' (holding o' f') → Closes span made flush_type h (catalogued o f) e h' (catalogued o' f')
-closes-reduced made flush_type h h' e o o' f f' s = record {
-  again = if_some {Q = λ q. (e ≡ ended (fault_again q)) × (h' ≡ h) × Untouched made (catalogued o f) (catalogued o' f')} h.result (λ q c. (c.0, c.1, untouched-known made o o' f f' c.2)) s.again;
-  unflushed = λ live none. let d = s.unflushed live none in (d.0, d.1, untouched-known made o o' f f' d.2);
-  disabled = λ live some keeps. let d = s.disabled live some keeps in (d.0, d.1, untouched-known made o o' f f' d.2);
-  stored = λ can some. let d = s.stored can some in (d.0, d.1, stores-reduced made h h'.view _ o o' f f' d.2);
-}
+-- the whole handle that an opening gave of which the code keeps a part
+abbrev pub opened-whole : Bool → ℕ → Line → VersionedManifest → Result Handle SlateError → Result Handle SlateError
+opened-whole keeps_log limit stored view (Ok k) = Ok (opened_handle keeps_log limit view stored)
+opened-whole keeps_log limit stored view (Err e) = Err e
+
+fresh-opened : (keeps_log : Bool) (limit : ℕ) (stored : Line) (view : VersionedManifest) → IsFresh keeps_log limit (kept_handle (opened_handle keeps_log limit view stored)) → IsFresh keeps_log limit (opened_handle keeps_log limit view stored)
+fresh-opened keeps_log limit stored view fresh =
+    record { keeps = refl; limit_is = refl; unclosed = refl; epoch = refl; counter = refl; durable = refl; tabled = fresh.tabled }
+
+opened-known : (keeps_log : Bool) (limit : ℕ) (stored : Line) (k : Handle) (made : ℕ) (o o' : Objects) → IsSound o → Opens (λ xs. xs) (OpenFault o) o (Ok k) made o' → Opens span (λ _. ⊥) (catalogue_of o) (Ok (opened_handle keeps_log limit (opened_manifest o) stored)) made (catalogue_of o')
+opened-known keeps_log limit stored k made o o' sound q =
+    opens-known (OpenFault o) o (Ok (opened_handle keeps_log limit (opened_manifest o) stored)) made o' (λ e. no-fault o e sound)
+    (record { answer = q.answer; part = q.part; only = q.only; can = q.can; after = q.after })
 
 -- an opening of sound objects, whose handle sees what is stored
-pub opens-reduced : (stored : Line) (made : ℕ) (keeps_log : Bool) (limit : ℕ) (r : Result Handle SlateError) (o o' : Objects) (f f' : ℕ) → IsSound o → content o ≡ stored → OpensHandle (λ xs. xs) OpenFault (IsContent (Some o)) made keeps_log limit (holding o f) r (holding o' f') → OpensHandle span (λ _ _. ⊥) (λ line. line ≡ stored) made keeps_log limit (catalogued o f) r (catalogued o' f')
-opens-reduced stored made keeps_log limit r o o' f f' sound is s = record {
-  opens = as_modelled (catalogue_of o) (catalogue_of o') (opens-known (OpenFault o) o r made o' (λ e. no-fault o e sound) (modelled o o' s.opens));
+pub opens-reduced : (stored : Line) (made : ℕ) (keeps_log : Bool) (limit : ℕ) (r : Result Handle SlateError) (o o' : Objects) (f f' : ℕ) → IsSound o → content o ≡ stored → OpensHandle (by_objects (Some o)) made keeps_log limit (holding o f) r (holding o' f') → OpensHandle (by_catalogue stored (catalogue_of o)) made keeps_log limit (catalogued o f) (opened-whole keeps_log limit stored (opened_manifest o) r) (catalogued o' f')
+opens-reduced stored made keeps_log limit (Ok k) o o' f f' sound is s = record {
+  opens = as_modelled (catalogue_of o) (catalogue_of o') (opened-known keeps_log limit stored k made o o' sound (modelled o o' s.opens));
+  faults = record { count = s.faults.count; unavailable = λ no. absurd (cc); none_missing = λ no. absurd (cc) };
+  fresh = fresh-opened keeps_log limit stored (opened_manifest o) (subst (λ (k : Handle). IsFresh keeps_log limit k) (s.handle o stored refl (o, refl, sound, sym is)) s.fresh);
+  view = λ c at. sym (opened_manifest-known o) ∙ ap opened_manifest (some-same (catalogue_of o) c at);
+  handle = λ c line at stored_is.
+      ap (λ l. opened_handle keeps_log limit (opened_manifest o) l) (sym stored_is)
+      ∙ ap (λ m. opened_handle keeps_log limit m line) (sym (opened_manifest-known o) ∙ ap opened_manifest (some-same (catalogue_of o) c at));
+}
+opens-reduced stored made keeps_log limit (Err e) o o' f f' sound is s = record {
+  opens = as_modelled (catalogue_of o) (catalogue_of o') (opens-known (OpenFault o) o (Err e) made o' (λ e. no-fault o e sound) (modelled o o' s.opens));
   faults = s.faults;
-  fresh = s.fresh;
-  view = if_ok r (λ h same c at. same o refl ∙ sym (opened_manifest-known o) ∙ ap opened_manifest (some-same (catalogue_of o) c at)) s.view;
-  handle = if_ok r (λ h same c line at stored_is.
-      same o line refl (o, refl, sound, stored_is ∙ sym is)
-      ∙ ap (λ m. opened_handle keeps_log limit m line) (sym (opened_manifest-known o) ∙ ap opened_manifest (some-same (catalogue_of o) c at))) s.handle;
+  fresh = tt;
+  view = tt;
+  handle = tt;
 }
 
 follow_cause-known : (opening : Bool) (o : Objects) (e : SlateError) → FollowCause opening o e → FollowCause opening (catalogue_of o) e
@@ -108,9 +339,6 @@ follow_cause-known opening o e h = absurd h
 if_err : {A : Type 0} {P Q : SlateError → Type 0} (r : Result A SlateError) → ((e : SlateError) → P e → Q e) → IfErr r P → IfErr r Q
 if_err (Ok x) f h = tt
 if_err (Err e) f h = f e h
-
-kept-known : (o o' : Objects) (f f' : ℕ) → (holding o' f').objects ≡ (holding o f).objects → (catalogued o' f').objects ≡ (catalogued o f).objects
-kept-known o o' f f' same = ap (λ x. Some (catalogue_of x)) (some-same o' o same)
 
 -- a follower that is rebuilt from sound objects sees what is stored
 pub rebuilds-reduced : (stored : Line) (opening : Bool) (r : Result (Follower × PollAnswer) SlateError) (o o' : Objects) (f f' : ℕ) → IsSound o → content o ≡ stored → Rebuilds (IsContent (Some o)) opening (holding o f) r (holding o' f') → Rebuilds (λ line. line ≡ stored) opening (catalogued o f) r (catalogued o' f')

@@ -2,8 +2,8 @@
 use Rattle.slate_errors.specs.declared.errors.SlateError.TheVariants.{WalTruncated}
 use Rattle.slate_errors.specs.declared.errors.SlateError.{SlateError}
 use Rattle.slate_model.specs.Changes.{after_part}
-use Rattle.slate_model.specs.Handle.{Handle}
-use Rattle.slate_model.specs.Open.{OpenFault, can_open, can_open_by, can_reopen, first_manifest, found_log, latest_tick, mark_of, next_manifest, open_changes, opened_handle, opened_manifest}
+use Rattle.slate_model.specs.Handle.{Handle, kept_handle, latest_tick}
+use Rattle.slate_model.specs.Open.{OpenFault, first_manifest, found_log, mark_of, next_manifest, open_changes, opened_handle, opened_manifest}
 use Rattle.slate_store.proofs.Committed.{committed}
 use Rattle.slate_store.proofs.Entries.{absent, entry-below, insert-last}
 use Rattle.slate_store.proofs.Gapless.{between-gapless, gapless-greatest, stored-gapless}
@@ -17,11 +17,12 @@ use Rattle.slate_store.specs.Logs.{AreWhole, BelongTo, HaveNoGap, StandsIn, batc
 use Rattle.slate_store.specs.Objects.{Objects, PutLog, PutManifest, changed, empty, entry_at, is_present, last_log, latest_manifest}
 use Rattle.slate_store.specs.declared.objects.Manifest.{Manifest}
 use Rattle.slate_store.specs.declared.objects.VersionedManifest.{VersionedManifest}
-use Rattle.slate_types.proofs.Lines.{above-all}
-use Rattle.slate_types.specs.Line.{AreNumberedFrom, Line, batches_above}
+use Rattle.slate_types.proofs.Lines.{above-drop}
+use Rattle.slate_types.specs.Line.{AreNumberedFrom, Line, batches_above, end}
 use Rattle.slate_types.specs.declared.batches.Batch.{Batch}
-use Rattle.std.proofs.Common.{◌&&◌, ◌++◌, ◌+◌, ◌<◌, ◌==◌, ◌∙◌, ◌∷◌, ◌≡◌, ◌≤◌, [], Bool, List, None, Option, Some, ap, arith, false, inl, length, map, refl, subst, suc, sym, true, zero, ℕ}
+use Rattle.std.proofs.Common.{◌&&◌, ◌++◌, ◌+◌, ◌-◌, ◌<◌, ◌==◌, ◌∙◌, ◌∷◌, ◌≡◌, ◌≤◌, [], Bool, List, None, Option, Some, ap, arith, false, inl, length, length-append, map, refl, subst, suc, sym, true, zero, ℕ}
 use Rattle.std.proofs.Math.Dec.{eqb-suc-zero}
+use Rattle.std.proofs.Math.Seq.{drop-append_seam}
 use Rattle.std.proofs.lemmas.List.Elements.{All-nil}
 use Rattle.std.proofs.lemmas.List.{append-nil}
 use Rattle.std.specs.List.Sorted.{IsStrictlySortedBy}
@@ -212,10 +213,6 @@ pub opening-logs : (mark : ℕ) (o : Objects) → SameLogs mark (found_log o) o 
 opening-logs mark o id over within =
     ap (entry_at id) (insert-last (found_log o + 1) (mark_of (latest_manifest o)) [] o.logs (omega arith)) ∙ entry-below id (found_log o + 1) [] o.logs (omega arith)
 
-and_left : (a b : Bool) → (a && b) ≡ true → a ≡ true
-and_left true b h = refl
-and_left false b h = absurd (cc)
-
 pub and_right : (a b : Bool) → (a && b) ≡ true → b ≡ true
 and_right true b h = h
 and_right false b h = absurd (cc)
@@ -224,13 +221,6 @@ pub no-tables : {X : Type 0} (tables : List X) → (length tables == 0) ≡ true
 no-tables [] h = refl
 no-tables (t ∷ tables) h = absurd (let no = eqb-suc-zero (length tables) in cc)
 
--- a database that can be opened again, until tables are built, names none
-pub names-none : (latest : VersionedManifest) → can_reopen latest ≡ true → latest.manifest.tables ≡ []
-names-none latest can =
-    let three = and_left _ _ can in
-    let two = and_left _ _ three in
-    no-tables latest.manifest.tables (and_right _ _ two)
-
 -- the content of objects whose latest manifest names no table is what its log files have above the last number in
 -- tables
 pub content-logged : (o : Objects) (latest : VersionedManifest) → latest.manifest.tables ≡ [] → content_by o (Some latest) ≡ line_from latest.manifest.last_l0_seq (logged o latest.manifest)
@@ -238,14 +228,27 @@ content-logged o latest none =
     let m = latest.manifest in
     ap (λ ids. line_from (number_before (table_batches o ids) m.last_l0_seq) (table_batches o ids ++ logged o m)) none
 
--- the content of a store that can be opened is what its log files have above the last number in tables
-content-by : (o : Objects) (latest : Option VersionedManifest) → IsSound o → latest_manifest o ≡ latest → can_open_by latest (last_log (mark_of latest) o) ≡ true → let m = (next_manifest latest (last_log (mark_of latest) o)).manifest in content_by o latest ≡ line_from m.last_l0_seq (logged o m)
-content-by o None sound is can =
-    let nothing = nothing_there o sound is in
-    subst (λ o. line_from 0 [] ≡ line_from 0 (logged o first_manifest)) (sym nothing) refl
-content-by o (Some latest) sound is can = content-logged o latest (names-none latest (and_left _ _ can))
+-- The content of sound objects has, above the last number in tables, what the log files have, and ends with that.
+record EndsWith (l : Line) (n : ℕ) (logs : List Batch) : Type 0 where
+  above : batches_above n l.batches ≡ logs
+  ended : end l ≡ n + length logs
 
--- the handle of an opening that replayed these batches
+ends-with : (o : Objects) (latest : Option VersionedManifest) → IsSound o → latest_manifest o ≡ latest → let m = (next_manifest latest (last_log (mark_of latest) o)).manifest in EndsWith (content_by o latest) m.last_l0_seq (logged o m)
+ends-with o None sound is =
+    subst (λ o. EndsWith (line_from 0 []) 0 (logged o first_manifest)) (sym (nothing_there o sound is)) (record { above = refl; ended = refl })
+ends-with o (Some latest) sound is =
+    let m = latest.manifest in
+    let joined = table_batches o m.tables in
+    let floor = number_before joined m.last_l0_seq in
+    let its = its-objects o latest sound is in
+    let count = length-append joined (logged o m) in
+    let j : floor + length joined ≡ m.last_l0_seq = its.tables.joined in
+    record {
+      above = above-drop floor m.last_l0_seq (length joined) (joined ++ logged o m) (its-line o latest sound is) j ∙ drop-append_seam joined (logged o m);
+      ended = omega (arith, count, j);
+    }
+
+-- the handle of an opening that replayed these batches, as the code keeps it
 abbrev pub recovered : Bool → ℕ → VersionedManifest → List Batch → Handle
 recovered keeps_log limit v bs =
     record {
@@ -254,18 +257,22 @@ recovered keeps_log limit v bs =
       line = line_from v.manifest.last_l0_seq bs;
       durable = v.manifest.last_l0_seq + length bs;
       epoch = v.manifest.writer_epoch;
+      counter = 0;
       tick = latest_tick v.manifest.last_tick bs;
       view = v;
       result = None;
     }
 
--- over sound objects that can be opened its line is their content
-pub recovered-is : (keeps_log : Bool) (limit : ℕ) (o : Objects) → IsSound o → can_open o ≡ true → let v = opened_manifest o in recovered keeps_log limit v (logged o v.manifest) ≡ opened_handle keeps_log limit v (content o)
-recovered-is keeps_log limit o sound can =
+-- over sound objects it is kept of the one whose line is their content
+pub recovered-is : (keeps_log : Bool) (limit : ℕ) (o : Objects) → IsSound o → let v = opened_manifest o in recovered keeps_log limit v (logged o v.manifest) ≡ kept_handle (opened_handle keeps_log limit v (content o))
+recovered-is keeps_log limit o sound =
     let v = opened_manifest o in
-    let number = v.manifest.last_l0_seq in
+    let n = v.manifest.last_l0_seq in
     let bs = logged o v.manifest in
-    let its = opened-logs o sound in
-    let all : batches_above number bs ≡ bs = above-all number number bs its.numbered (omega arith) in
-    sym (ap (opened_handle keeps_log limit v) (content-by o (latest_manifest o) sound refl can)
-    ∙ ap (λ xs. record (recovered keeps_log limit v bs) { tick = latest_tick v.manifest.last_tick xs }) all)
+    let ends = ends-with o (latest_manifest o) sound refl in
+    let above = batches_above n (content o).batches in
+    let kept : ℕ → List Batch → ℕ → Handle = λ floor xs durable. record (recovered keeps_log limit v xs) { line = line_from floor xs; durable = durable } in
+    let e = ends.ended in
+    let count : length above ≡ length bs = ap length ends.above in
+    let floor : end (content o) - length above ≡ n = omega (arith, e, count) in
+    sym (ap (λ k. kept k above (end (content o))) floor ∙ (ap (λ xs. kept n xs (end (content o))) ends.above ∙ ap (kept n bs) ends.ended))

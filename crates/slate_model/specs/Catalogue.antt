@@ -16,6 +16,16 @@ abbrev pub span : List Batch → Span
 span [] = None
 span (batch ∷ batches) = Some (batch.number, last_of batch batches)
 
+-- what is known of a table that joins two, and any number
+abbrev pub joined_two : Span → Span → Span
+joined_two None later = later
+joined_two earlier None = earlier
+joined_two (Some earlier) (Some later) = Some (earlier.0, later.1)
+
+abbrev pub joined_span : List Span → Span
+joined_span [] = None
+joined_span (earlier ∷ later) = joined_two earlier (joined_span later)
+
 -- what a world knows of a store: its objects, each log file and table by its span
 abbrev pub Catalogue : Type 0
 Catalogue = ObjectsOf Span

@@ -1,15 +1,15 @@
 -- What a close does to a handle or a follower, and what it answers.
-use Rattle.std.specs.Prelude.{◌≡◌, ◌≢◌, ℕ, false, List, [], Option, Some, None, unwrap_or, Result, Ok, Err, IfSome}
-use Rattle.slate_types.specs.declared.batches.Batch.{Batch}
+use Rattle.std.specs.Prelude.{◌≡◌, ℕ, false, [], Option, Some, None, unwrap_or, Result, Ok, Err, IfSome}
 use Rattle.slate_types.specs.declared.options.FlushType.{FlushType}
 use Rattle.slate_errors.specs.declared.closing.CloseFault.{CloseFault}
 use Rattle.slate_errors.specs.declared.endings.Ended.{Ended}
 use Rattle.slate_errors.specs.declared.errors.SlateError.{SlateError}
 use Rattle.slate_errors.specs.declared.errors.SlateError.TheVariants.{Closed, WalDisabled}
 use Rattle.slate_errors.specs.Errors.{error_of_fault}
-use Rattle.slate_model.specs.Flush.{CanFlush, Stores, flushed}
+use Rattle.slate_model.specs.Flush.{CanFlush, IsFlushed, Stores, has_log_for}
 use Rattle.slate_model.specs.Follower.{Follower}
 use Rattle.slate_model.specs.Handle.{CloseResult, Handle}
+use Rattle.slate_model.specs.Knowledge.{Knowledge}
 use Rattle.slate_model.specs.Known.{Known, Untouched}
 
 -- the handle after its close
@@ -36,15 +36,15 @@ closing_flush None = Ok tt
 closing_flush (Some error) = Err error
 
 -- A close of a handle, with a flush of this type or none. Of a closed handle it changes nothing. An open one is closed,
--- and then flushes the log, where it is to flush and keeps one; the error of that is answered.
-pub record Closes {L : Type 0} (summary : List Batch → L) (made : ℕ) (flush_type : Option FlushType) (old : Handle) (before : Known L) (answer : Ended) (new : Handle) (after : Known L) : Type 0 where
+-- and then flushes, where it is to; the error of that is answered.
+pub record Closes {L : Type 0} (k : Knowledge L) (made : ℕ) (flush_type : Option FlushType) (old : Handle) (before : Known L) (answer : Ended) (new : Handle) (after : Known L) : Type 0 where
   pub again : IfSome old.result (λ r. (answer ≡ ended (fault_again r)) × (new ≡ old) × Untouched made before after)
   pub unflushed : old.result ≡ None → flush_type ≡ None → (answer ≡ ended None) × (new ≡ closed old) × Untouched made before after
-  pub disabled : old.result ≡ None → flush_type ≢ None → old.keeps_log ≡ false →
+  pub disabled : (t : FlushType) → flush_type ≡ Some t → old.result ≡ None → has_log_for t old ≡ false →
       (answer ≡ ended (Some WalDisabled)) × (new ≡ closed old) × Untouched made before after
-  pub stored : CanFlush old → flush_type ≢ None →
-      (answer ≡ ended answer.fault) × (new ≡ closed (flushed old new.view (closing_flush answer.fault)))
-      × Stores summary made old new.view before (closing_flush answer.fault) after
+  pub flushed : (t : FlushType) → flush_type ≡ Some t → CanFlush t old →
+      (answer ≡ ended answer.fault) × IsFlushed k.keep made (closing_flush answer.fault) (Some (Ok tt)) old new
+  pub stored : (t : FlushType) → flush_type ≡ Some t → CanFlush t old → Stores k made t old before (closing_flush answer.fault) new after
 
 -- the error that was recorded, where one was
 abbrev pub recorded_fault : CloseResult → Option SlateError

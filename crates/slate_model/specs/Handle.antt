@@ -1,7 +1,9 @@
--- What a handle knows, and which of its batches aren't stored.
-use Rattle.std.specs.Prelude.{ℕ, ℤ, Bool, List, Option, Result}
+-- What a handle knows, which of its batches aren't stored, and what the code keeps of it.
+use Rattle.std.specs.Prelude.{ℕ, ℤ, ◌-◌, int_lt, Bool, if◌then◌else◌, List, [], ◌∷◌, length, Option, Result}
 use Rattle.slate_types.specs.declared.batches.Batch.{Batch}
 use Rattle.slate_types.specs.Line.{Line, end, batches_above}
+use Rattle.slate_store.specs.declared.objects.Manifest.{Manifest}
+use Rattle.slate_store.specs.declared.objects.TableId.{TableId}
 use Rattle.slate_store.specs.declared.objects.VersionedManifest.{VersionedManifest}
 use Rattle.slate_errors.specs.declared.closing.CloseFault.{CloseFault}
 
@@ -16,6 +18,7 @@ pub record Handle : Type 0 where
   pub line : Line  -- the batches that it sees
   pub durable : ℕ  -- its batches up to this number are stored
   pub epoch : ℕ
+  pub counter : ℕ  -- the index of its next table
   pub tick : ℤ  -- the creation time of its last batch, or that of what it was opened with
   pub view : VersionedManifest  -- the latest manifest, when it was opened or last found its epoch current
   pub result : CloseResult
@@ -27,3 +30,33 @@ accepted handle = end handle.line
 -- the batches that it accepted and that aren't stored yet
 abbrev pub unstored : Handle → List Batch
 unstored handle = batches_above handle.durable handle.line.batches
+
+-- those of them that a flush puts into the log, where the handle keeps one
+abbrev pub to_log : Handle → List Batch
+to_log handle = if handle.keeps_log then unstored handle else []
+
+-- the batches that it accepted and that aren't in the tables of a manifest
+abbrev pub untabled : Manifest → Handle → List Batch
+untabled manifest handle = batches_above manifest.last_l0_seq handle.line.batches
+
+-- the later of two moments
+abbrev pub later : ℤ → ℤ → ℤ
+later tick moment = if int_lt tick moment then moment else tick
+
+-- the latest of a tick and the creation times of batches
+abbrev pub latest_tick : ℤ → List Batch → ℤ
+latest_tick tick [] = tick
+latest_tick tick (batch ∷ batches) = latest_tick (later tick batch.create_ts) batches
+
+-- the id of its next table
+abbrev pub next_table : Handle → TableId
+next_table handle = record { epoch = handle.epoch; index = handle.counter }
+
+-- a line from a number on: its batches above that one, with the end that it had
+abbrev pub line_above : ℕ → Line → Line
+line_above number line =
+    record { floor = end line - length (batches_above number line.batches); batches = batches_above number line.batches }
+
+-- What the code keeps of a handle: of its line, the batches that aren't in the tables of its view.
+abbrev pub kept_handle : Handle → Handle
+kept_handle handle = record handle { line = line_above handle.view.manifest.last_l0_seq handle.line }

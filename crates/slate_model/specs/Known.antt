@@ -23,7 +23,12 @@ known objects faults store = record { objects = objects store; faults = faults s
 abbrev pub Untouched : {L : Type 0} → ℕ → Known L → Known L → Type 0
 Untouched made before after = (made ≡ 0) × (after ≡ before)
 
--- over any store: a fault is answered only where the count of faults has risen, and no object is missing
+-- over any store: a fault is answered only where the count of faults has risen
+pub record FaultsRise {A : Type 0} (faults faults' : ℕ) (result : Result A SlateError) : Type 0 where
+  pub count : faults ≤ faults'
+  pub unavailable : result ≡ Err (ObjectStoreError Unavailable) → HasRisen faults faults'
+
+-- the same of an operation that finds no object missing
 pub record CountsFaults {A : Type 0} (faults faults' : ℕ) (result : Result A SlateError) : Type 0 where
   pub count : faults ≤ faults'
   pub unavailable : result ≡ Err (ObjectStoreError Unavailable) → HasRisen faults faults'

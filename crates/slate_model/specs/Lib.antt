@@ -5,7 +5,12 @@ pub mod Flush
 pub mod Follower
 pub mod Handle
 pub mod Known
+pub mod Knowledge
 pub mod Object
 pub mod Open
 pub mod Read
+pub mod Refresh
+pub mod Stores
+pub mod Tables
+pub mod Valid
 pub mod Write

@@ -1,5 +1,5 @@
 -- What an opening puts, the handle that it gives, and why it answers an error.
-use Rattle.std.specs.Prelude.{◌≡◌, ℕ, ℤ, ◌+◌, ◌-◌, ◌==◌, ◌&&◌, ◌<◌, negsuc, nat_lt, int_lt, if◌then◌else◌, Bool, true, false, List, [], ◌∷◌, length, Option, Some, None, Result, Ok, Err, IfOk}
+use Rattle.std.specs.Prelude.{◌≡◌, ℕ, ℤ, ◌+◌, ◌-◌, ◌&&◌, ◌<◌, ◌≤◌, negsuc, nat_lt, Bool, true, false, List, [], ◌∷◌, Option, Some, None, Result, Ok, Err, IfOk}
 use Rattle.slate_types.specs.declared.batches.Batch.{Batch}
 use Rattle.slate_types.specs.Line.{Line, end, batches_above}
 use Rattle.slate_store.specs.declared.objects.Manifest.{Manifest}
@@ -11,7 +11,8 @@ use Rattle.slate_store.specs.Logs.{AreTruncatedAt}
 use Rattle.slate_errors.specs.declared.errors.SlateError.{SlateError}
 use Rattle.slate_errors.specs.declared.errors.SlateError.TheVariants as errors
 use Rattle.slate_model.specs.Changes.{PartMade, after_part}
-use Rattle.slate_model.specs.Handle.{Handle, accepted}
+use Rattle.slate_model.specs.Handle.{Handle, accepted, latest_tick}
+use Rattle.slate_model.specs.Knowledge.{Knowledge}
 use Rattle.slate_model.specs.Known.{CountsFaults, Known}
 use Rattle.slate_model.specs.Write.{last_number}
 
@@ -67,11 +68,10 @@ abbrev pub open_changes : {L : Type 0} → (List Batch → L) → ObjectsOf L �
 open_changes summary objects =
     PutManifest (opened_manifest objects).id (opened_manifest objects).manifest ∷ PutLog (found_log objects + 1) (summary []) ∷ []
 
--- Whether a database can be opened by its latest manifest: it is initialised, and its id and its epoch aren't the last.
--- Until tables are built, it names none.
+-- whether a database can be opened by its latest manifest: it is initialised, and its id and its epoch aren't the last
 abbrev pub can_reopen : VersionedManifest → Bool
 can_reopen latest =
-    latest.manifest.initialized && (length latest.manifest.tables == 0) && nat_lt latest.id last_number && nat_lt latest.manifest.writer_epoch last_number
+    latest.manifest.initialized && nat_lt latest.id last_number && nat_lt latest.manifest.writer_epoch last_number
 
 -- whether a store can be opened, where this log file is the last: it isn't the last one that there can be
 abbrev pub can_open_by : Option VersionedManifest → ℕ → Bool
@@ -80,15 +80,6 @@ can_open_by (Some latest) last = can_reopen latest && nat_lt last last_number
 
 abbrev pub can_open : {L : Type 0} → ObjectsOf L → Bool
 can_open objects = can_open_by (latest_manifest objects) (found_log objects)
-
--- the later of two moments
-abbrev pub later : ℤ → ℤ → ℤ
-later tick moment = if int_lt tick moment then moment else tick
-
--- the latest of a tick and the creation times of batches
-abbrev pub latest_tick : ℤ → List Batch → ℤ
-latest_tick tick [] = tick
-latest_tick tick (batch ∷ batches) = latest_tick (later tick batch.create_ts) batches
 
 -- The handle that an opening gives under the manifest that it committed, where this line is stored: it sees the line,
 -- and all of it is durable.
@@ -100,6 +91,7 @@ opened_handle keeps_log limit view stored =
       line = stored;
       durable = end stored;
       epoch = view.manifest.writer_epoch;
+      counter = 0;
       tick = latest_tick view.manifest.last_tick (batches_above view.manifest.last_l0_seq stored.batches);
       view = view;
       result = None;
@@ -142,23 +134,22 @@ pub record Opens {A L : Type 0} (summary : List Batch → L) (unsound : SlateErr
   pub can : 0 < made → can_open objects ≡ true
   pub after : objects' ≡ after_part made (open_changes summary objects) objects
 
--- A handle that was just opened: it has the epoch of its view, the batches that it sees come after those in the view's
--- tables, and all of them are durable.
+-- A handle that was just opened: it has the epoch of its view and put no table yet, and all batches that it sees are
+-- durable.
 pub record IsFresh (keeps_log : Bool) (limit : ℕ) (handle : Handle) : Type 0 where
   pub keeps : handle.keeps_log ≡ keeps_log
   pub limit_is : handle.limit ≡ limit
   pub unclosed : handle.result ≡ None
   pub epoch : handle.epoch ≡ handle.view.manifest.writer_epoch
-  pub floor : handle.line.floor ≡ handle.view.manifest.last_l0_seq
+  pub counter : handle.counter ≡ 0
   pub durable : handle.durable ≡ accepted handle
+  pub tabled : handle.view.manifest.last_l0_seq ≤ handle.durable
 
--- An opening of a database by a handle. `unsound` says which objects bring about an error that sound ones don't, and
--- `is_stored` which line is stored, where that is known: the handle of an opening that answers Ok sees it.
-pub record OpensHandle {L : Type 0} (summary : List Batch → L) (unsound : ObjectsOf L → SlateError → Type 0) (is_stored : Line → Type 0)
-    (made : ℕ) (keeps_log : Bool) (limit : ℕ) (before : Known L) (result : Result Handle SlateError) (after : Known L) : Type 0 where
-  pub opens : WhereModelled (λ o o'. Opens summary (unsound o) o result made o') before.objects after.objects
+-- An opening of a database by a handle, which sees the line that is stored, where that is known.
+pub record OpensHandle {L : Type 0} (k : Knowledge L) (made : ℕ) (keeps_log : Bool) (limit : ℕ) (before : Known L) (result : Result Handle SlateError) (after : Known L) : Type 0 where
+  pub opens : WhereModelled (λ o o'. Opens k.summary (k.unsound o) o result made o') before.objects after.objects
   pub faults : CountsFaults before.faults after.faults result
   pub fresh : IfOk result (IsFresh keeps_log limit)
   pub view : IfOk result (λ handle. (o : ObjectsOf L) → before.objects ≡ Some o → handle.view ≡ opened_manifest o)
-  pub handle : IfOk result (λ handle. (o : ObjectsOf L) (line : Line) → before.objects ≡ Some o → is_stored line →
-      handle ≡ opened_handle keeps_log limit (opened_manifest o) line)
+  pub handle : IfOk result (λ handle. (o : ObjectsOf L) (line : Line) → before.objects ≡ Some o → k.is_stored line →
+      handle ≡ k.keep (opened_handle keeps_log limit (opened_manifest o) line))

@@ -1,0 +1,102 @@
+-- What holds of the handles of a world after the objects of its store changed.
+use Rattle.std.proofs.Common.{◌≡◌, ◌≢◌, ℕ, ◌+◌, ◌<◌, ◌≤◌, ◌⊎◌, inl, inr, List, [], ◌∷◌, ◌++◌, length, option_map, Some, None, Option, refl, sym, subst, ap, ◌∙◌, arith}
+use Rattle.std.specs.List.{All}
+use Rattle.slate_types.specs.Line.{IsPrefix, Line, batches_above, extended}
+use Rattle.slate_types.specs.declared.batches.Batch.{Batch}
+use Rattle.slate_store.specs.Content.{IsSound, content, table_batches}
+use Rattle.slate_store.specs.Objects.{Objects, latest_manifest, table_at}
+use Rattle.slate_store.specs.declared.objects.TableId.{TableId}
+use Rattle.slate_store.specs.declared.objects.VersionedManifest.{VersionedManifest}
+use Rattle.slate_model.specs.Catalogue.{Span, catalogue_of, span}
+use Rattle.slate_model.specs.Handle.{Handle, unstored}
+use Rattle.slate_model.specs.Tables.{AreStored}
+use Rattle.slate_model.specs.Valid.{IsValidHandle, ReadsItsLine, up_to}
+use Rattle.slate_model.proofs.Adding.{Stay}
+use Rattle.slate_model.proofs.Catalogued.{table-known}
+use Rattle.slate_model.proofs.Prefixes.{prefix-same, prefix-then}
+
+-- ---- which tables are stored is known
+no-span : (table : Option (List Batch)) → option_map span table ≡ None → table ≡ None
+no-span None none = refl
+no-span (Some table) none = absurd (cc)
+
+pub none-known : (q : TableId) (o : Objects) → table_at q (catalogue_of o) ≡ None → table_at q o ≡ None
+none-known q o none = no-span (table_at q o) (sym (table-known q o) ∙ none)
+
+pub known-none : (q : TableId) (o : Objects) → table_at q o ≡ None → table_at q (catalogue_of o) ≡ None
+known-none q o none = table-known q o ∙ ap (option_map span) none
+
+pub known-stored : (o : Objects) (ids : List TableId) → AreStored o ids → AreStored (catalogue_of o) ids
+known-stored o ids stored k d less none = stored k d less (none-known _ o none)
+
+pub stored-known : (o : Objects) (ids : List TableId) → AreStored (catalogue_of o) ids → AreStored o ids
+stored-known o ids stored k d less none = stored k d less (known-none _ o none)
+
+-- Sound objects that follow others under which this line was stored, and this manifest was the latest: the line goes on,
+-- the tables stay, and neither the epoch nor the last number in tables falls.
+pub record Follows (stored stored' : Line) (o o' : Objects) (latest latest' : VersionedManifest) : Type 0 where
+  pub sound : IsSound o'
+  pub content : content o' ≡ stored'
+  pub grows : IsPrefix stored stored'
+  pub stay : Stay o o'
+  pub latest_is : latest_manifest o' ≡ Some latest'
+  pub epochs : latest.manifest.writer_epoch ≤ latest'.manifest.writer_epoch
+  pub tabled : latest.manifest.last_l0_seq ≤ latest'.manifest.last_l0_seq
+
+module _ (stored stored' : Line) (o o' : Objects) (latest latest' : VersionedManifest) (is : latest_manifest o ≡ Some latest) (f : Follows stored stored' o o' latest latest') where
+  -- a handle that didn't change
+  pub still-valid : (g : Handle) → ((index : ℕ) → g.counter ≤ index → table_at (record { epoch = g.epoch; index = index }) o' ≡ table_at (record { epoch = g.epoch; index = index }) o) →
+      ((found : VersionedManifest) → g.result ≡ None → latest_manifest o' ≡ Some found → found.manifest.writer_epoch ≤ g.epoch → (extended stored' (unstored g) ≡ g.line) × (found.manifest.last_l0_seq ≡ g.view.manifest.last_l0_seq)) →
+      IsValidHandle stored (catalogue_of o) g → IsValidHandle stored' (catalogue_of o') g
+  still-valid g same current v =
+      let found : v.behind.0 ≡ latest = (let b = v.behind.1 in cc) in
+      let epoch = ap (λ (m : VersionedManifest). m.manifest.writer_epoch) found in
+      let number = ap (λ (m : VersionedManifest). m.manifest.last_l0_seq) found in
+      let low = v.behind.2 in
+      let low_number = v.behind.3 in
+      let epochs = f.epochs in
+      let tabled = f.tabled in
+      record {
+        numbered = v.numbered;
+        floor = v.floor;
+        tabled = v.tabled;
+        durable = v.durable;
+        confirmed = prefix-then (up_to g.durable g.line) stored stored' v.confirmed f.grows;
+        tables = known-stored o' g.view.manifest.tables ((f.stay).stored g.view.manifest.tables (stored-known o g.view.manifest.tables v.tables));
+        unused = λ index high. known-none (record { epoch = g.epoch; index = index }) o' (same index high ∙ none-known (record { epoch = g.epoch; index = index }) o (v.unused index high));
+        behind = (latest', f.latest_is, omega (arith, epoch, low, epochs), omega (arith, number, low_number, tabled));
+        current = current;
+      }
+
+  -- and what it reads
+  pub still-reads : (g : Handle) → AreStored o g.view.manifest.tables → ReadsItsLine o g → ReadsItsLine o' g
+  still-reads g there reads again =
+      ap (λ bs. bs ++ batches_above g.view.manifest.last_l0_seq g.line.batches) ((f.stay).batches g.view.manifest.tables there) ∙ reads there
+
+-- A handle that changed with the objects: these follow, no table of another handle changed, and nothing that is stored did
+-- unless its epoch is current.
+pub record Moved (stored stored' : Line) (o o' : Objects) (latest : VersionedManifest) (h new : Handle) : Type 0 where
+  pub next : VersionedManifest
+  pub follows : Follows stored stored' o o' latest next
+  pub others : (q : TableId) → (q.epoch ≡ h.epoch → ⊥) → table_at q o' ≡ table_at q o
+  pub same_epoch : next.manifest.writer_epoch ≡ latest.manifest.writer_epoch
+  pub alone : ((stored' ≡ stored) × (next.manifest.last_l0_seq ≡ latest.manifest.last_l0_seq)) ⊎ (latest.manifest.writer_epoch ≤ h.epoch)
+  pub epoch : new.epoch ≡ h.epoch
+  pub mine : IsValidHandle stored' (catalogue_of o') new
+  pub reads : ReadsItsLine o' new
+
+pub stay-same : (o : Objects) → Stay o o
+stay-same o = record { stored = λ ids there. there; batches = λ ids there. refl }
+
+-- one that changed alone
+pub unmoved : (stored : Line) (o : Objects) (latest : VersionedManifest) (h new : Handle) → IsSound o → content o ≡ stored → latest_manifest o ≡ Some latest → new.epoch ≡ h.epoch → IsValidHandle stored (catalogue_of o) new → ReadsItsLine o new → Moved stored stored o o latest h new
+unmoved stored o latest h new sound holds is epoch mine reads = record {
+  next = latest;
+  follows = record { sound = sound; content = holds; grows = prefix-same stored; stay = stay-same o; latest_is = is; epochs = omega arith; tabled = omega arith };
+  others = λ q differ. refl;
+  same_epoch = refl;
+  alone = inl (refl, refl);
+  epoch = epoch;
+  mine = mine;
+  reads = reads;
+}

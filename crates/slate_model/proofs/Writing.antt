@@ -1,0 +1,106 @@
+-- A write to a valid handle leaves a valid one, and what the code keeps of it.
+use Rattle.std.proofs.Common.{◌≡◌, ℕ, ℤ, ◌+◌, ◌-◌, ◌<◌, ◌≤◌, List, [], ◌∷◌, ◌++◌, length, Some, None, Option, Result, Ok, Err, inl, inr, refl, sym, subst, ap, ◌∙◌, arith, append_assoc, length-append}
+use Rattle.std.proofs.lemmas.List.{take-append-le}
+use Rattle.std.specs.Option.{option_or}
+use Rattle.slate_types.proofs.Lines.{above-push, numbered-push}
+use Rattle.slate_types.specs.Line.{IsPrefix, Line, batches_above, end, extended}
+use Rattle.slate_types.specs.declared.batches.Batch.{Batch}
+use Rattle.slate_types.specs.declared.batches.KeyOp.{KeyOp}
+use Rattle.slate_store.specs.Content.{table_batches}
+use Rattle.slate_store.specs.Objects.{Objects}
+use Rattle.slate_errors.specs.declared.errors.SlateError.{SlateError}
+use Rattle.slate_errors.specs.declared.errors.SlateError.TheVariants.{NoMemory}
+use Rattle.slate_model.specs.declared.answers.Written.{Written}
+use Rattle.slate_model.specs.Catalogue.{Catalogue}
+use Rattle.slate_model.specs.Handle.{Handle, accepted, kept_handle, line_above, unstored}
+use Rattle.slate_model.specs.Valid.{IsValidHandle, ReadsItsLine}
+use Rattle.slate_model.specs.Write.{Writes, accepted_moment, batch_refusal, clock_refusal, closed_refusal, next_batch, number_refusal, write_refusal, written}
+use Rattle.slate_model.proofs.Keeping.{above-length, accepted-kept}
+
+-- a line from a number on goes on by a batch above that number
+line_above-push : (n : ℕ) (line : Line) (b : Batch) → n < b.number → line_above n (extended line (b ∷ [])) ≡ extended (line_above n line) (b ∷ [])
+line_above-push n line b above =
+    let front = batches_above n line.batches in
+    let push : batches_above n (line.batches ++ b ∷ []) ≡ front ++ b ∷ [] = above-push n line.batches b above in
+    let count = length-append front (b ∷ []) in
+    let all = length-append line.batches (b ∷ []) in
+    let low = above-length n line.batches in
+    let floor : end (extended line (b ∷ [])) - length (front ++ b ∷ []) ≡ end line - length front = omega (arith, count, all, low) in
+    ap (λ bs. record { floor = end (extended line (b ∷ [])) - length bs; batches = bs }) push
+    ∙ ap (λ n. record { floor = n; batches = front ++ b ∷ [] }) floor
+
+module _ (h : Handle) (low : h.view.manifest.last_l0_seq ≤ accepted h) where
+  refusal-kept : (ops : List KeyOp) (moment : ℤ) (second : Option ℤ) → write_refusal (kept_handle h) ops moment second ≡ write_refusal h ops moment second
+  refusal-kept ops moment second =
+      ap (λ n. option_or (closed_refusal h.result) (option_or (batch_refusal ops) (option_or (number_refusal n) (clock_refusal h.tick moment second (accepted_moment h.tick moment second))))) (accepted-kept h)
+
+  pub kept-written : (ops : List KeyOp) (at : ℤ) → written (kept_handle h) ops at ≡ kept_handle (written h ops at)
+  kept-written ops at =
+      ap (λ n. record (kept_handle h) { line = extended (kept_handle h).line (record { number = n + 1; create_ts = at; ops = ops } ∷ []); tick = at }) (accepted-kept h)
+      ∙ ap (λ l. record (kept_handle h) { line = l; tick = at }) (sym (line_above-push h.view.manifest.last_l0_seq h.line (next_batch h ops at) (omega (arith, low))))
+
+  -- the whole handle after a write to what the code keeps of it
+  abbrev pub rewritten : List KeyOp → Result Written SlateError → Handle
+  rewritten ops (Ok w) = written h ops w.create_ts
+  rewritten ops (Err e) = h
+
+  pub writes-whole : (ops : List KeyOp) (moment : ℤ) (second : Option ℤ) (r : Result Written SlateError) (k : Handle) → Writes (kept_handle h) ops moment second r k → Writes h ops moment second r (rewritten ops r) × (k ≡ kept_handle (rewritten ops r))
+  writes-whole ops moment second (Ok w) k s = (
+    record {
+      accepted = (sym (refusal-kept ops moment second) ∙ s.accepted.0, s.accepted.1, s.accepted.2 ∙ ap (λ n. n + 1) (accepted-kept h), refl);
+      refused = tt;
+    },
+    s.accepted.3 ∙ kept-written ops w.create_ts,
+  )
+  writes-whole ops moment second (Err e) k s = (
+    record {
+      accepted = tt;
+      refused = (
+        elim s.refused.0 [
+          | inl memory ↦ inl memory
+          | inr cause ↦ inr (sym (refusal-kept ops moment second) ∙ cause)
+        ],
+        refl,
+      );
+    },
+    s.refused.1,
+  )
+
+module _ (stored : Line) (catalogue : Catalogue) (h : Handle) (ops : List KeyOp) (at : ℤ) (v : IsValidHandle stored catalogue h) where
+  abbrev b : Batch
+  b = next_batch h ops at
+
+  unstored-after : unstored (written h ops at) ≡ unstored h ++ b ∷ []
+  unstored-after = let durable = v.durable in above-push h.durable h.line.batches b (omega (arith, durable))
+
+  pub written-valid : IsValidHandle stored catalogue (written h ops at)
+  written-valid =
+      let durable = v.durable in
+      let line = h.line.batches in
+      record {
+        numbered = numbered-push h.line.floor line b v.numbered refl;
+        floor = v.floor;
+        tabled = v.tabled;
+        durable = simp length-append (omega (arith, durable));
+        confirmed = subst (λ bs. IsPrefix (record { floor = h.line.floor; batches = bs }) stored) (sym (take-append-le (h.durable - h.line.floor) line (b ∷ []) (omega (arith, durable)))) v.confirmed;
+        tables = v.tables;
+        unused = v.unused;
+        behind = v.behind;
+        current = λ latest live is low.
+            let before = v.current latest live is low in (
+              ap (extended stored) unstored-after
+                  ∙ (ap (λ bs. record { floor = stored.floor; batches = bs }) (sym (append_assoc stored.batches (unstored h) (b ∷ [])))
+                  ∙ ap (λ l. extended l (b ∷ [])) before.0),
+              before.1,
+            );
+      }
+
+  pub written-reads : (o : Objects) → ReadsItsLine o h → ReadsItsLine o (written h ops at)
+  written-reads o reads there =
+      let n = h.view.manifest.last_l0_seq in
+      let joined = table_batches o h.view.manifest.tables in
+      let durable = v.durable in
+      let tabled = v.tabled in
+      ap (λ bs. joined ++ bs) (above-push n h.line.batches b (omega (arith, durable, tabled)))
+      ∙ (sym (append_assoc joined (batches_above n h.line.batches) (b ∷ []))
+      ∙ ap (λ bs. bs ++ b ∷ []) (reads there))

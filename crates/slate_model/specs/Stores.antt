@@ -1,0 +1,75 @@
+-- What a store's own calls know, and what a world knows.
+use Rattle.std.specs.Prelude.{◌≡◌, ◌++◌, true, List, Contains, Option, Some}
+use Rattle.std.specs.List.{flat_map}
+use Rattle.slate_types.specs.declared.batches.Batch.{Batch}
+use Rattle.slate_types.specs.Line.{Line}
+use Rattle.slate_types.specs.declared.store_errors.StoreFault.TheVariants.{NotFound}
+use Rattle.slate_store.specs.declared.objects.TableId.{TableId}
+use Rattle.slate_store.specs.declared.objects.VersionedManifest.{VersionedManifest}
+use Rattle.slate_reads.specs.Index.{AreRising}
+use Rattle.slate_store.specs.declared.refusals.StoreRefusal.TheVariants as refusals
+use Rattle.slate_store.specs.Compaction.{CompactCause}
+use Rattle.slate_store.specs.Content.{table_batches}
+use Rattle.slate_store.specs.Objects.{ChangeOf, Objects, ObjectsOf, is_present, latest_manifest}
+use Rattle.slate_errors.specs.declared.errors.SlateError.{SlateError}
+use Rattle.slate_errors.specs.declared.errors.SlateError.TheVariants as errors
+use Rattle.slate_model.specs.Catalogue.{Catalogue, Span, joined_span, span}
+use Rattle.slate_model.specs.Handle.{kept_handle}
+use Rattle.slate_model.specs.Knowledge.{Knowledge}
+use Rattle.slate_model.specs.Known.{IsContent}
+use Rattle.slate_model.specs.Object.{Object, Handle, Follower}
+use Rattle.slate_model.specs.Open.{OpenFault}
+use Rattle.slate_model.specs.Tables.{AreJoined, AreStored}
+
+-- an object is stored under an id under which one of these changes puts one
+abbrev pub Stands : {L : Type 0} → List (ChangeOf L) → ObjectsOf L → Type 0
+Stands {L} changes objects = (change : ChangeOf L) × Contains changes change × (is_present change objects ≡ true)
+
+-- why the tables of the latest manifest can't be joined into one with this id, over objects that aren't sound
+abbrev pub JoinFault : TableId → Objects → SlateError → Type 0
+JoinFault id objects errors.InvalidDBState =
+    (latest : VersionedManifest) × (latest_manifest objects ≡ Some latest) × (AreRising (table_batches objects latest.manifest.tables) → ⊥)
+JoinFault id objects errors.TransactionalObjectVersionExists = CompactCause id objects refusals.TransactionalObjectVersionExists
+JoinFault id objects (errors.ObjectStoreError NotFound) = CompactCause id objects (refusals.ObjectStoreError NotFound)
+JoinFault id objects error = ⊥
+
+-- the batches that an object reads: those of the tables of its view, and then those in memory
+abbrev pub kept_rows : Option Objects → Object → List Batch → Type 0
+kept_rows objects (Handle handle) rows =
+    (stored : List Batch) × AreJoined objects handle.view.manifest.tables stored × (rows ≡ stored ++ handle.line.batches)
+kept_rows objects (Follower follower) rows = rows ≡ follower.line.batches
+
+-- a log file and a table are their batches, of a handle's line only the end is kept, and a line is stored where the
+-- store is honest
+abbrev pub by_objects : Option Objects → Knowledge (List Batch)
+by_objects objects =
+    record {
+      summary = λ batches. batches;
+      joined = flat_map (λ batches. batches);
+      keep = kept_handle;
+      is_stored = IsContent objects;
+      rows = kept_rows objects;
+      unsound = OpenFault;
+      stands = Stands;
+      unjoined = JoinFault;
+    }
+
+-- The batches that an object of a world reads: a handle its line, while the tables of its view are stored, and a follower
+-- what is stored.
+abbrev pub world_rows : Line → Catalogue → Object → List Batch → Type 0
+world_rows stored catalogue (Handle handle) rows = AreStored catalogue handle.view.manifest.tables × (rows ≡ handle.line.batches)
+world_rows stored catalogue (Follower follower) rows = rows ≡ stored.batches
+
+-- a log file and a table are the spans of their batches, all of a handle's line is there, and this line is stored
+abbrev pub by_catalogue : Line → Catalogue → Knowledge Span
+by_catalogue stored catalogue =
+    record {
+      summary = span;
+      joined = joined_span;
+      keep = λ handle. handle;
+      is_stored = λ line. line ≡ stored;
+      rows = world_rows stored catalogue;
+      unsound = λ objects error. ⊥;
+      stands = λ changes objects. ⊥;
+      unjoined = λ id objects error. ⊥;
+    }

@@ -1,5 +1,6 @@
 -- The plain scan of what a reader sees.
-use Rattle.std.specs.Prelude.{Option, Some}
+use Rattle.std.specs.Prelude.{List, Option, Some}
+use Rattle.slate_types.specs.declared.batches.Batch.{Batch}
 use Rattle.slate_types.specs.declared.ranges.ByteRange.{ByteRange}
 use Rattle.slate_types.specs.declared.scan_options.IterationOrder.{IterationOrder}
 use Rattle.slate_types.specs.Operator.{Merge}
@@ -7,6 +8,6 @@ use Rattle.slate_rows.specs.Iteration.{Iteration}
 use Rattle.slate_rows.specs.Scan.{BeginsScan}
 use Rattle.slate_model.specs.Follower.{Follower, number}
 
--- an iteration begins over the plain scan of the batches that a reader sees, in an order
-abbrev pub BeginsScanOf : Follower → Option Merge → ByteRange → IterationOrder → Iteration → Type 0
-BeginsScanOf follower merge range order it = BeginsScan merge follower.line.batches (Some (number follower)) range order it
+-- an iteration begins over the plain scan of these batches at a reader's number, in an order
+abbrev pub BeginsScanOf : Follower → Option Merge → ByteRange → IterationOrder → List Batch → Iteration → Type 0
+BeginsScanOf follower merge range order rows it = BeginsScan merge rows (Some (number follower)) range order it

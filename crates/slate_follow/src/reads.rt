@@ -1,11 +1,11 @@
 // Reading a key from the batches that a reader has in memory.
-ghost use Rattle.std.specs.Prelude.{◌≡◌, None, Some, Err, Option, IfSome};
+ghost use Rattle.std.specs.Prelude.{◌≡◌, [], Some, Option};
 ghost use Rattle.std.specs.Option.{option_copied};
 ghost use Rattle.slate_types.specs.Operator.{Merge};
 ghost use Rattle.slate_reads.specs.Read.{IsOperator, read_at};
 ghost use Rattle.slate_model.specs.Follower.{number};
-ghost use Rattle.slate_errors.specs.Errors.{closed_error};
-ghost use Rattle.slate_model.specs.Read.{AnswersRead};
+ghost use Rattle.slate_model.specs.Known.{known};
+ghost use Rattle.slate_model.specs.Read.{Reads};
 
 use crate::FollowerState;
 use slate_errors::SlateError;
@@ -29,9 +29,9 @@ impl FollowerState {
         key: &[u8],
         operator: Option<&M>,
     ) -> Result<Option<KeyValue>, SlateError>
-        ensures closed { IfSome self.now.result (λ r. result ≡ Err (closed_error r)) }
-        ensures read { self.now.result ≡ None → (merge : Option Merge) → IsOperator M.may_answer (option_copied operator.entry) merge →
-            AnswersRead (read_at merge self.now.line.batches (Some (number self.now)) key.now) result }
+        ensures read { (merge : Option Merge) → IsOperator M.may_answer (option_copied operator.entry) merge →
+            Reads self.now.result [] (λ rows. rows ≡ self.now.line.batches) (λ rows answer. answer ≡ read_at merge rows (Some (number self.now)) key.now)
+            (known S.objects S.faults store.old) result (known S.objects S.faults store.new) }
         ensures store { store.new ≡ store.old }
     {
         if let Some(result) = self.closed() {

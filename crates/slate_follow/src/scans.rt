@@ -1,10 +1,10 @@
 // Scanning a range in the batches that a reader has in memory.
-ghost use Rattle.std.specs.Prelude.{◌≡◌, None, Err, Option, IfSome};
+ghost use Rattle.std.specs.Prelude.{◌≡◌, [], Option};
 ghost use Rattle.std.specs.Option.{option_copied};
 ghost use Rattle.slate_types.specs.Operator.{Merge};
 ghost use Rattle.slate_reads.specs.Read.{IsOperator};
-ghost use Rattle.slate_errors.specs.Errors.{closed_error};
-ghost use Rattle.slate_model.specs.Read.{AnswersScan};
+ghost use Rattle.slate_model.specs.Known.{known};
+ghost use Rattle.slate_model.specs.Read.{Gives, Reads};
 ghost use Rattle.slate_follow.specs.Scanned.{BeginsScanOf};
 
 use crate::FollowerState;
@@ -34,9 +34,9 @@ impl FollowerState {
         order: IterationOrder,
         operator: Option<&M>,
     ) -> Result<DbIterator, SlateError>
-        ensures closed { IfSome self.now.result (λ r. result ≡ Err (closed_error r)) }
-        ensures scan { self.now.result ≡ None → (merge : Option Merge) → IsOperator M.may_answer (option_copied operator.entry) merge →
-            AnswersScan (BeginsScanOf self.now merge range.now order) result }
+        ensures scan { (merge : Option Merge) → IsOperator M.may_answer (option_copied operator.entry) merge →
+            Reads self.now.result [] (λ rows. rows ≡ self.now.line.batches) (Gives (BeginsScanOf self.now merge range.now order))
+            (known S.objects S.faults store.old) result (known S.objects S.faults store.new) }
         ensures store { store.new ≡ store.old }
     {
         if let Some(result) = self.closed() {

@@ -1,5 +1,9 @@
-pub mod Appending
-pub mod Flushing
+pub mod Ends
+pub mod Joined
 pub mod Openings
+pub mod Memory
 pub mod Merging
 pub mod Modelled
+pub mod Puts
+pub mod Reading
+pub mod Storing

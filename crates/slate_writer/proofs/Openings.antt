@@ -1,14 +1,16 @@
 -- The calls of an opening, one after another, make an opening of the model.
-use Rattle.std.proofs.Common.{◌≡◌, ℕ, ℤ, ◌+◌, ◌-◌, ◌≤◌, Bool, List, [], length, Option, Some, None, Result, Ok, Err, true, false, refl, sym, subst, ap, inl, inr, ◌∙◌, arith}
+use Rattle.std.proofs.Common.{◌≡◌, ℕ, ℤ, ◌+◌, ◌-◌, ◌≤◌, ◌++◌, Bool, List, [], length, length-append, Option, Some, None, Result, Ok, Err, true, false, refl, sym, subst, ap, inl, inr, ◌∙◌, arith}
 use Rattle.std.specs.Option.{IfSome}
+use Rattle.std.proofs.Math.Seq.{drop-append_seam}
 use Rattle.slate_types.specs.declared.batches.Batch.{Batch}
-use Rattle.slate_types.specs.Line.{Line}
+use Rattle.slate_types.specs.Line.{Line, batches_above, end}
+use Rattle.slate_types.proofs.Lines.{above-drop}
 use Rattle.slate_store.specs.declared.objects.VersionedManifest.{VersionedManifest}
 use Rattle.slate_types.specs.declared.store_errors.StoreError.{StoreError}
 use Rattle.slate_types.specs.declared.store_errors.StoreError.TheVariants as refusals
 use Rattle.slate_types.specs.declared.store_errors.StoreFault.TheVariants.{Unavailable}
 use Rattle.slate_store.specs.Calls.{Puts, WhereModelled}
-use Rattle.slate_store.specs.Content.{IsSound, content, logged}
+use Rattle.slate_store.specs.Content.{IsSound, content, content_by, logged, number_before, table_batches}
 use Rattle.slate_store.proofs.Logs.{truncated-same}
 use Rattle.slate_replay.proofs.Recovered.{recovered-all, replays-same}
 use Rattle.slate_replay.specs.declared.replays.Replayed.TheVariants.{Whole}
@@ -18,14 +20,16 @@ use Rattle.slate_errors.specs.Errors.{error_of_store}
 use Rattle.slate_errors.specs.declared.errors.SlateError.{SlateError}
 use Rattle.slate_errors.specs.declared.errors.SlateError.TheVariants as errors
 use Rattle.slate_model.specs.Changes.{after_part}
-use Rattle.slate_model.specs.Open.{IsFresh, OpenFault, Opens, OpensHandle, found_log, mark_of, latest_tick, next_manifest, open_changes, opened_handle, opened_manifest}
-use Rattle.slate_store.specs.Objects.{changed, latest_manifest}
+use Rattle.slate_model.specs.Open.{IsFresh, OpenFault, Opens, OpensHandle, found_log, mark_of, next_manifest, open_changes, opened_handle, opened_manifest}
+use Rattle.slate_store.specs.Objects.{changed, last_log, latest_manifest}
 use Rattle.slate_store.proofs.Entries.{absent}
 use Rattle.slate_model.proofs.Newest.{newest}
-use Rattle.slate_model.proofs.Reopened.{opened-logs, opening-logs, recovered, recovered-is}
-use Rattle.slate_model.specs.Handle.{Handle}
-use Rattle.slate_model.specs.Known.{CountsFaults, IsContent, Known}
-use Rattle.slate_model.proofs.Reduced.{some-same}
+use Rattle.slate_store.proofs.Latest.{its-line, its-objects, nothing_there}
+use Rattle.slate_store.specs.declared.objects.Manifest.{Manifest}
+use Rattle.slate_model.proofs.Reopened.{opened-logs, opening-logs}
+use Rattle.slate_model.specs.Handle.{Handle, kept_handle, latest_tick}
+use Rattle.slate_model.specs.Known.{CountsFaults, Known}
+use Rattle.slate_model.specs.Stores.{by_objects}
 use Rattle.slate_writer.proofs.Modelled.{made_once, modelled_from, modelled_kept}
 use Rattle.slate_writer.specs.Opening.{CallsOpening, FindsNext, PutsOpening, Recovers, opening_puts}
 
@@ -41,6 +45,50 @@ puts_fence view fence o o1 o2 refusals.NoMemory first h = (1, omega arith, h ∙
 -- nothing stands under the id after the last log file
 fence_free : (o : Objects) → is_present (PutLog (found_log o + 1) []) o ≡ false
 fence_free o = rw (absent (found_log o + 1) (mark_of (latest_manifest o)) o.logs (omega arith)) refl
+
+-- The end of a line is what the log files of a manifest have above its last number in tables.
+record EndsByLogs (o : Objects) (m : Manifest) (line : Line) : Type 0 where
+  above : batches_above m.last_l0_seq line.batches ≡ logged o m
+  end_is : end line ≡ m.last_l0_seq + length (logged o m)
+
+ends-by : (o : Objects) (latest : Option VersionedManifest) → IsSound o → latest_manifest o ≡ latest → EndsByLogs o (next_manifest latest (last_log (mark_of latest) o)).manifest (content_by o latest)
+ends-by o None sound is =
+    subst (λ x. EndsByLogs x (next_manifest None (last_log 0 x)).manifest (content_by x None)) (sym (nothing_there o sound is))
+    (record { above = refl; end_is = refl })
+ends-by o (Some latest) sound is =
+    let m = latest.manifest in
+    let tables = table_batches o m.tables in
+    let joined = (its-objects o latest sound is).tables.joined in
+    record {
+      above = above-drop (number_before tables m.last_l0_seq) m.last_l0_seq (length tables) (tables ++ logged o m) (its-line o latest sound is) joined ∙ drop-append_seam tables (logged o m);
+      end_is = let both = length-append tables (logged o m) in omega (arith, both, joined);
+    }
+
+-- the handle of an opening that replayed these batches
+abbrev pub recovered : Bool → ℕ → VersionedManifest → List Batch → Handle
+recovered keeps_log limit v bs =
+    record {
+      keeps_log = keeps_log;
+      limit = limit;
+      line = record { floor = v.manifest.last_l0_seq; batches = bs };
+      durable = v.manifest.last_l0_seq + length bs;
+      epoch = v.manifest.writer_epoch;
+      counter = 0;
+      tick = latest_tick v.manifest.last_tick bs;
+      view = v;
+      result = None;
+    }
+
+-- over sound objects it is what is kept of the handle that sees all of their content
+recovered-is : (keeps_log : Bool) (limit : ℕ) (o : Objects) → IsSound o → let v = opened_manifest o in recovered keeps_log limit v (logged o v.manifest) ≡ kept_handle (opened_handle keeps_log limit v (content o))
+recovered-is keeps_log limit o sound =
+    let v = opened_manifest o in
+    let ends = ends-by o (latest_manifest o) sound refl in
+    let bs = logged o v.manifest in
+    let shape : ℕ → List Batch → Handle = λ e xs. record (recovered keeps_log limit v xs) { line = record { floor = e - length xs; batches = xs }; durable = e } in
+    let floor : (v.manifest.last_l0_seq + length bs) - length bs ≡ v.manifest.last_l0_seq = omega arith in
+    sym (ap (λ xs. shape (end (content o)) xs) ends.above
+    ∙ (ap (λ e. shape e bs) ends.end_is ∙ ap (λ f. record (recovered keeps_log limit v bs) { line = record { floor = f; batches = bs } }) floor))
 
 -- an opening, where a log file is its batches
 abbrev pub OpensModelled : {A : Type 0} → Objects → Result A SlateError → Objects → Type 0
@@ -102,13 +150,13 @@ module _ (o : Objects) (view : VersionedManifest) (last : ℕ) (found : FindsNex
         replays-same m.replay_after_wal_id (found_log o) m.last_l0_seq [] batches o (after_part 2 (open_changes (λ xs. xs) o) o) Whole (opening-logs m.replay_after_wal_id o) (recovers-after (Ok batches) h)
 
     -- of sound objects, these have the content
-    pub opened_by_recovery : (keeps_log : Bool) (limit : ℕ) (batches : List Batch) → Recovers view last o1 (Ok batches) → IsSound o → recovered keeps_log limit view batches ≡ opened_handle keeps_log limit (opened_manifest o) (content o)
+    pub opened_by_recovery : (keeps_log : Bool) (limit : ℕ) (batches : List Batch) → Recovers view last o1 (Ok batches) → IsSound o → recovered keeps_log limit view batches ≡ kept_handle (opened_handle keeps_log limit (opened_manifest o) (content o))
     opened_by_recovery keeps_log limit batches h sound =
         let m = (opened_manifest o).manifest in
         let its = opened-logs o sound in
         let all = recovered-all m.replay_after_wal_id (found_log o) m.last_l0_seq (logged o m) batches o its.whole its.belong Whole (opened_by_replay batches h) in
         ap (λ v. recovered keeps_log limit v batches) found.1
-        ∙ (ap (recovered keeps_log limit (opened_manifest o)) all.0 ∙ recovered-is keeps_log limit o sound found.0)
+        ∙ (ap (recovered keeps_log limit (opened_manifest o)) all.0 ∙ recovered-is keeps_log limit o sound)
 
 -- the same of the calls of an opening, one after the other
 pub puts_modelled : {A : Type 0} {t t0 t1 : Option Objects} (view : VersionedManifest) (last : ℕ) (e : SlateError) → IfSome t (λ o. FindsNext o (Ok (view, last))) → t0 ≡ t → WhereModelled (PutsOpening view (last + 1) (Err e)) t0 t1 → WhereModelled (λ o o'. OpensModelled {A = A} o (Err e) o') t t1
@@ -127,7 +175,7 @@ module _ {t t0 t1 : Option Objects} (view : VersionedManifest) (last : ℕ) (fou
         (p.0, kept2 ∙ p.1, opens_by_recovery o view last (found_at o is) p.0 p.2 e (subst (λ x. IfSome x (λ o. Recovers view last o (Err e))) p.1 recovers));
   }
 
-  pub recovered_modelled : (keeps_log : Bool) (limit : ℕ) (batches : List Batch) → IfSome t1 (λ o. Recovers view last o (Ok batches)) → (o : Objects) → t ≡ Some o → IsSound o → recovered keeps_log limit view batches ≡ opened_handle keeps_log limit (opened_manifest o) (content o)
+  pub recovered_modelled : (keeps_log : Bool) (limit : ℕ) (batches : List Batch) → IfSome t1 (λ o. Recovers view last o (Ok batches)) → (o : Objects) → t ≡ Some o → IsSound o → recovered keeps_log limit view batches ≡ kept_handle (opened_handle keeps_log limit (opened_manifest o) (content o))
   recovered_modelled keeps_log limit batches recovers o is sound =
       let p = puts.some o (kept ∙ is) in
       opened_by_recovery o view last (found_at o is) p.0 p.2 keeps_log limit batches (subst (λ x. IfSome x (λ o. Recovers view last o (Ok batches))) p.1 recovers) sound
@@ -158,12 +206,15 @@ pub none_modelled : {A : Type 0} {t t' : Option Objects} (e : SlateError) → t'
 none_modelled e kept found = modelled_kept kept (λ o is. opens_none o e (subst (λ x. IfSome x (λ o. FindsNext o (Err e))) is found))
 
 -- an opening that answers an error, and one that answers a handle
-pub opens_err : {is_stored : Line → Type 0} (keeps_log : Bool) (limit : ℕ) (before after : Known (List Batch)) (e : SlateError) → CountsFaults {A = Handle} before.faults after.faults (Err e) → WhereModelled (λ o o'. OpensModelled {A = Handle} o (Err e) o') before.objects after.objects → (made : ℕ) × OpensHandle (λ xs. xs) OpenFault is_stored made keeps_log limit before (Err e) after
+some-same : (a b : Objects) → Some a ≡ Some b → a ≡ b
+some-same a b h = cc
+
+pub opens_err : (keeps_log : Bool) (limit : ℕ) (before after : Known (List Batch)) (e : SlateError) → CountsFaults {A = Handle} before.faults after.faults (Err e) → WhereModelled (λ o o'. OpensModelled {A = Handle} o (Err e) o') before.objects after.objects → (made : ℕ) × OpensHandle (by_objects before.objects) made keeps_log limit before (Err e) after
 opens_err keeps_log limit before after e fault answered =
     let m = made_once before.objects after.objects answered in
     (m.0, record { opens = m.1; faults = fault; fresh = tt; view = tt; handle = tt })
 
-pub opens_ok : (keeps_log : Bool) (limit : ℕ) (before after : Known (List Batch)) (h : Handle) → CountsFaults before.faults after.faults (Ok h) → WhereModelled (λ o o'. OpensModelled o (Ok h) o') before.objects after.objects → IsFresh keeps_log limit h → ((o : Objects) → before.objects ≡ Some o → h.view ≡ opened_manifest o) → ((o : Objects) → before.objects ≡ Some o → IsSound o → h ≡ opened_handle keeps_log limit (opened_manifest o) (content o)) → (made : ℕ) × OpensHandle (λ xs. xs) OpenFault (IsContent before.objects) made keeps_log limit before (Ok h) after
+pub opens_ok : (keeps_log : Bool) (limit : ℕ) (before after : Known (List Batch)) (h : Handle) → CountsFaults before.faults after.faults (Ok h) → WhereModelled (λ o o'. OpensModelled o (Ok h) o') before.objects after.objects → IsFresh keeps_log limit h → ((o : Objects) → before.objects ≡ Some o → h.view ≡ opened_manifest o) → ((o : Objects) → before.objects ≡ Some o → IsSound o → h ≡ kept_handle (opened_handle keeps_log limit (opened_manifest o) (content o))) → (made : ℕ) × OpensHandle (by_objects before.objects) made keeps_log limit before (Ok h) after
 opens_ok keeps_log limit before after h fault answered fresh view sees =
     let m = made_once before.objects after.objects answered in (
       m.0,
@@ -174,7 +225,7 @@ opens_ok keeps_log limit before after h fault answered fresh view sees =
         view = view;
         handle = λ o line at stored_is.
             let same : stored_is.0 ≡ o = some-same stored_is.0 o (sym stored_is.1 ∙ at) in
-            sees o at (subst IsSound same stored_is.2) ∙ ap (λ l. opened_handle keeps_log limit (opened_manifest o) l) (sym (stored_is.3 ∙ ap content same));
+            sees o at (subst IsSound same stored_is.2) ∙ ap (λ l. kept_handle (opened_handle keeps_log limit (opened_manifest o) l)) (sym (stored_is.3 ∙ ap content same));
       },
     )
 

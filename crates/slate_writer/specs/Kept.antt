@@ -5,24 +5,23 @@ use Rattle.slate_model.specs.Handle.{Handle}
 use Rattle.slate_writer.specs.declared.states.WriterState.TheInside.{Inside}
 
 -- the handle that the fields represent
-abbrev pub kept_handle : Inside → Handle
-kept_handle a =
+abbrev pub handle_of : Inside → Handle
+handle_of a =
     record {
       keeps_log = a.keeps_log;
       limit = a.limit;
       line = record { floor = a.floor; batches = a.memory };
       durable = a.status.durable;
       epoch = a.epoch;
+      counter = a.counter;
       tick = a.tick;
       view = a.status.manifest;
       result = a.status.result;
     }
 
--- the batches in memory are numbered from the floor on, those that aren't stored are among them, and none is in a
--- segment
+-- the batches in memory are numbered from the floor on, none past the last of them is stored, and none is in a segment
 pub record IsKept (a : Inside) : Type 0 where
   pub numbered : AreNumberedFrom a.floor a.memory
   pub fits : a.floor + length a.memory < 2 ^ 64
   pub durable : a.status.durable ≤ a.floor + length a.memory
-  pub in_memory : a.floor ≤ a.status.durable
   pub unsegmented : a.status.segments ≡ []

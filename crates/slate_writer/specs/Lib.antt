@@ -1,5 +1,7 @@
-pub mod Appends
+pub mod Puts
 pub mod Opening
+pub mod Joined
 pub mod Kept
 pub mod Refusal
 pub mod Scanned
+pub mod Tables

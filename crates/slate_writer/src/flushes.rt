@@ -1,9 +1,12 @@
-// Flushing a handle's batches to a log file.
-ghost use Rattle.std.specs.Prelude.{◌≡◌, ◌+◌, ◌≤◌, ℕ, IfSome};
+// Flushing a handle's batches, to the log and to tables.
+ghost use Rattle.std.specs.Prelude.{◌≡◌, ◌+◌, ◌≤◌, ℕ, None, IfSome};
 ghost use Rattle.slate_store.specs.Calls.{WhereModelled};
-ghost use Rattle.slate_model.specs.Flush.{CanFlush, FindsCurrent, Flushes, Stores, flushed, recorded};
+ghost use Rattle.slate_store.specs.Objects.{last_log};
+ghost use Rattle.slate_model.specs.Flush.{CanFlush, FindsCurrent, Flushes, has_log_for, has_log_id, log_changes, recorded};
+ghost use Rattle.slate_model.specs.Handle.{kept_handle};
 ghost use Rattle.slate_model.specs.Known.{CountsFaults, known};
-ghost use Rattle.slate_writer.specs.Appends.{AppendsLog, StoresCurrent};
+ghost use Rattle.slate_model.specs.Stores.{by_objects};
+ghost use Rattle.slate_writer.specs.Puts.{MakesPart, StoresBy, flush_calls};
 
 use crate::WriterState;
 use slate_errors::{CloseFault, SlateError};
@@ -12,92 +15,126 @@ use slate_types::{Batch, FlushType};
 use std::alloc::Global;
 
 impl WriterState {
-    /// Stores the accepted batches that aren't stored yet, as one log file; where there are none, it puts nothing.
-    /// After Ok all accepted batches are durable. It calls the store three times at most, and takes time linear in the
-    /// batches that it puts, and in the manifest that it reads and compares with the present one.
+    /// Stores the accepted batches. After Ok all of them are durable.
+    ///
+    /// With `Wal` it puts those that aren't stored yet as one log file; where there are none, it puts nothing. With
+    /// `MemTable` it does the same, where the handle keeps a log, then puts a table of all batches that aren't in tables
+    /// yet, and commits a manifest that names it, from which on a replay begins after the log files that were there; where
+    /// there are none for a table, it puts nothing. Then it drops the batches from memory that are in the tables of the
+    /// manifest that it goes by.
+    ///
+    /// It calls the store three times at most with `Wal`, and five times with `MemTable`. It takes time linear in the
+    /// batches that it puts in the log, in the operations of those that it puts in a table, with a logarithm of their keys
+    /// for each key, and in the manifest that it reads and compares with the present one. It copies no keys and no values.
     ///
     /// On a closed handle it answers `Closed` or the error that closed it, and touches no store. A handle that keeps
-    /// no log answers `WalDisabled`. `Fenced`, where another handle opened since, and every fault of the store
-    /// (`ObjectStoreError`, `TransactionalObjectVersionExists`, `LatestTransactionalObjectVersionMissing`) close the
-    /// handle with that error. `InvalidDBState`, where the next log file would pass the greatest id, and `NoMemory`
-    /// close nothing. After `ObjectStoreError` the log file may be stored; after any other error it isn't. SlateDB's
-    /// `flush`.
-    ///
-    /// Until tables are built it flushes the log alone.
+    /// no log answers `WalDisabled` to a flush with `Wal`. `Fenced`, where another handle opened since, and every fault of
+    /// the store (`ObjectStoreError`, `TransactionalObjectVersionExists`, `LatestTransactionalObjectVersionMissing`) close
+    /// the handle with that error. `InvalidDBState`, where the next log file, table or manifest would pass the greatest id,
+    /// and `NoMemory` close nothing. After `ObjectStoreError` and `TransactionalObjectVersionExists` the log file may be
+    /// stored, or it and the table, and after `ObjectStoreError` all three; after `NoMemory` all but the last of them; after
+    /// any other error nothing is. The index of a table that was to be put is not used again. SlateDB's `flush`.
     pub fn flush<S: Store>(
         &mut self,
         alloc: Global,
         store: &mut S,
         flush_type: FlushType,
     ) -> Result<(), SlateError>
-        requires { flush_type ≡ FlushType.Wal }
-        ensures does { (made : ℕ) × Flushes (λ batches. batches) made self.old (known S.objects S.faults store.old) result self.new (known S.objects S.faults store.new) }
+        ensures does { (made : ℕ) × Flushes (by_objects (S.objects store.old)) made flush_type self.old (known S.objects S.faults store.old) result self.new (known S.objects S.faults store.new) }
         ensures count { S.faults store.old ≤ S.faults store.new }
-        ensures calls { S.calls store.new ≤ S.calls store.old + 3 }
-        ensures untouched { (CanFlush self.old → ⊥) → store.new ≡ store.old }
+        ensures calls { S.calls store.new ≤ S.calls store.old + flush_calls flush_type }
+        ensures untouched { (CanFlush flush_type self.old → ⊥) → store.new ≡ store.old }
     {
         if let Some(result) = self.closed() {
             return Err(SlateError::of_closed(result));
         }
-        if !self.keeps_log {
+        if !self.has_log_for(flush_type) {
             return Err(SlateError::WalDisabled);
         }
-        match self.store_unstored(alloc, store) {
+        match self.store_batches(alloc, store, flush_type) {
             Ok(()) => Ok(()),
             Err(error) => {
-                if let Some(outcome) = recorded(&error) {
-                    self.status.report_closed(outcome);
-                }
+                self.record_fault(&error);
                 Err(error)
             }
         }
     }
 
-    /// Stores the accepted batches that aren't stored yet, and reports the manifest by which it did, where the handle's
-    /// epoch is still current. It reports no close.
-    pub(crate) fn store_unstored<S: Store>(
+    /// Closes the handle with an error of a flush, where it is one that closes it.
+    fn record_fault(&mut self, error: &SlateError)
+        requires { self.old.result ≡ None }
+        ensures { self.new ≡ record self.old { result = recorded error.now } }
+    {
+        if let Some(outcome) = recorded(error) {
+            self.status.report_closed(outcome);
+        }
+    }
+
+    /// Whether it has what a flush of this type goes to.
+    pub(crate) fn has_log_for(&self, flush_type: FlushType) -> bool
+        ensures { result ≡ has_log_for flush_type self.now }
+    {
+        match flush_type {
+            FlushType::Wal => self.keeps_log,
+            FlushType::MemTable => true,
+        }
+    }
+
+    /// Stores the accepted batches that aren't stored yet, and those that aren't in tables, as a flush of this type does,
+    /// and reports the manifest that it goes by from then on. It reports no close.
+    pub(crate) fn store_batches<S: Store>(
         &mut self,
         alloc: Global,
         store: &mut S,
+        flush_type: FlushType,
     ) -> Result<(), SlateError>
-        ensures handle { self.new ≡ record (flushed self.old self.new.view result) { result = self.old.result } }
-        ensures stored { (made : ℕ) × Stores (λ batches. batches) made self.old self.new.view (known S.objects S.faults store.old) result (known S.objects S.faults store.new) }
+        ensures stored { (made : ℕ) × StoresBy kept_handle (by_objects (S.objects store.old)) flush_type self.old
+            (known S.objects S.faults store.old) result self.new (known S.objects S.faults store.new) made }
+        ensures calls { S.calls store.new ≤ S.calls store.old + flush_calls flush_type }
+    {
+        let result = self.store_as(alloc, store, flush_type);
+        self.forget_tabled();
+        result
+    }
+
+    /// Stores what a flush of this type does, and drops no batch.
+    fn store_as<S: Store>(
+        &mut self,
+        alloc: Global,
+        store: &mut S,
+        flush_type: FlushType,
+    ) -> Result<(), SlateError>
+        ensures stored { (made : ℕ) × StoresBy (λ handle. handle) (by_objects (S.objects store.old)) flush_type self.old
+            (known S.objects S.faults store.old) result self.new (known S.objects S.faults store.new) made }
+        ensures calls { S.calls store.new ≤ S.calls store.old + flush_calls flush_type }
+    {
+        match flush_type {
+            FlushType::Wal => self.store_in_log(alloc, store),
+            FlushType::MemTable => self.store_in_table(alloc, store),
+        }
+    }
+
+    /// Puts the batches that aren't stored yet as one log file, where there are any.
+    fn store_in_log<S: Store>(&mut self, alloc: Global, store: &mut S) -> Result<(), SlateError>
+        ensures stored { (made : ℕ) × StoresBy (λ handle. handle) (by_objects (S.objects store.old)) FlushType.Wal self.old
+            (known S.objects S.faults store.old) result self.new (known S.objects S.faults store.new) made }
         ensures calls { S.calls store.new ≤ S.calls store.old + 3 }
     {
         let latest = current_manifest(alloc, store, self.epoch)?;
-        let durable = self.durable();
-        let accepted = self.accepted();
-        let unstored = (durable - self.floor) as usize;
-        let batches = &self.memory.batches()[unstored..];
-        match store_batches(alloc, store, &latest, batches) {
+        let mark = latest.manifest.replay_after_wal_id;
+        match append_log(alloc, store, mark, self.to_log()) {
             Ok(()) => {
+                let accepted = self.accepted();
                 self.status.report_view(accepted, latest);
                 Ok(())
             }
             Err(error) => {
+                let durable = self.durable();
                 self.status.report_view(durable, latest);
                 Err(error)
             }
         }
     }
-}
-
-/// Stores batches as the log file after the last one under the latest manifest; where there are none, it puts nothing.
-/// By a handle whose epoch is current this is a flush of these batches.
-fn store_batches<S: Store>(
-    alloc: Global,
-    store: &mut S,
-    latest: &VersionedManifest,
-    batches: &[Batch],
-) -> Result<(), SlateError>
-    ensures faults { CountsFaults (S.faults store.old) (S.faults store.new) result }
-    ensures calls { S.calls store.new ≤ S.calls store.old + 2 }
-    ensures where_modelled { WhereModelled (StoresCurrent latest.now batches.now result) (S.objects store.old) (S.objects store.new) }
-{
-    if batches.is_empty() {
-        return Ok(());
-    }
-    append_log(alloc, store, latest.manifest.replay_after_wal_id, batches)
 }
 
 /// The latest manifest, where a handle of this epoch may still write by it.
@@ -120,7 +157,7 @@ pub(crate) fn current_manifest<S: Store>(
     Ok(latest)
 }
 
-/// Stores batches as the log file after the last one.
+/// Stores batches as the log file after the last one; where there are none, it puts nothing.
 fn append_log<S: Store>(
     alloc: Global,
     store: &mut S,
@@ -129,8 +166,13 @@ fn append_log<S: Store>(
 ) -> Result<(), SlateError>
     ensures faults { CountsFaults (S.faults store.old) (S.faults store.new) result }
     ensures calls { S.calls store.new ≤ S.calls store.old + 2 }
-    ensures where_modelled { WhereModelled (AppendsLog mark batches.now result) (S.objects store.old) (S.objects store.new) }
+    ensures appended { (counter : ℕ) → WhereModelled (λ o o'. (made : ℕ) × MakesPart (has_log_id batches.now (last_log mark o))
+        (log_changes (λ batches. batches) batches.now (last_log mark o)) result counter counter made o o')
+        (S.objects store.old) (S.objects store.new) }
 {
+    if batches.is_empty() {
+        return Ok(());
+    }
     let last = store.last_log(alloc, mark)?;
     let Some(id) = last.checked_add(1) else {
         return Err(SlateError::InvalidDBState);

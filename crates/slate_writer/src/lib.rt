@@ -1,4 +1,4 @@
-//! The handle that writes: its batches, its flushes and its reads.
+//! The handle that writes: its batches, its flushes to the log and to tables, and its reads.
 #![tactic(auto)]
 
 mod closes;
@@ -6,8 +6,10 @@ mod flushes;
 mod merges;
 mod opens;
 mod reads;
+mod refreshes;
 mod scans;
 mod states;
+mod tables;
 mod writes;
 
 pub use opens::WriterOptions;

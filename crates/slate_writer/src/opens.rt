@@ -5,8 +5,10 @@ ghost use Rattle.slate_types.specs.Line.{AreNumberedFrom};
 ghost use Rattle.slate_store.specs.Calls.{IsCall, IsOfList, WhereModelled};
 ghost use Rattle.slate_store.specs.declared.objects.VersionedManifest.{VersionedManifest};
 ghost use Rattle.slate_store.specs.Objects.{latest_manifest};
-ghost use Rattle.slate_model.specs.Known.{CountsFaults, IsContent, known};
-ghost use Rattle.slate_model.specs.Open.{OpenFault, OpensHandle, can_open_by, can_reopen, first_manifest, latest_tick, mark_of, next_manifest};
+ghost use Rattle.slate_model.specs.Handle.{latest_tick};
+ghost use Rattle.slate_model.specs.Known.{CountsFaults, known};
+ghost use Rattle.slate_model.specs.Open.{OpensHandle, can_open_by, can_reopen, first_manifest, next_manifest};
+ghost use Rattle.slate_model.specs.Stores.{by_objects};
 ghost use Rattle.slate_model.specs.Write.{last_number};
 ghost use Rattle.slate_replay.specs.Replay.{calls_after};
 ghost use Rattle.slate_writer.specs.Opening.{CallsOpening, FindsLog, FindsNext, HasLogs, PutsOpening, Recovers, recovery_calls};
@@ -23,7 +25,7 @@ use std::alloc::Global;
 /// How a handle writes. SlateDB's `Settings`, as far as it is used here.
 #[derive(Clone, Copy, Debug, PartialEq, Eq)]
 pub struct WriterOptions {
-    /// Whether the handle keeps a log. One that keeps none stores nothing until tables are built.
+    /// Whether the handle keeps a log. One that keeps none stores what it accepts in tables alone.
     pub wal_enabled: bool,
     /// From how many bytes on that aren't stored a write is to be held up. None is held up yet.
     pub max_unflushed_bytes: u64,
@@ -55,14 +57,14 @@ impl WriterState {
     /// Opens a database, a new one where the store has no manifest. It commits the next manifest, with an epoch above
     /// those of the handles that were opened before, and puts an empty log file: from then on their flushes store
     /// nothing and answer `Fenced`, if nothing else fails first, while their writes and gets go on until then. Then it
-    /// replays the log files above the manifest's replay mark. The handle sees all batches that are stored, and all of
-    /// them are durable. It calls the store four times, and once for each log file that it replays; once more where the
-    /// replay ended early. It takes time linear in the operations of the log files, and for each key a logarithm of the
-    /// keys. SlateDB's `Db::open`.
+    /// replays the log files above the manifest's replay mark, and keeps their batches that aren't in the manifest's
+    /// tables in memory. The handle sees all batches that are stored, and all of them are durable. It reads no table.
+    /// It calls the store four times, and once for each log file that it replays; once more where the replay ended
+    /// early. It takes time linear in the operations of the log files, and for each key a logarithm of the keys.
+    /// SlateDB's `Db::open`.
     ///
     /// It answers `InvalidDBState` where the latest manifest isn't initialised, and where the next manifest, epoch or
-    /// log file would pass the greatest number; nothing is put then. Until tables are built it answers so too where
-    /// the manifest names one. A fault of the store (`ObjectStoreError`) or `NoMemory` may leave the manifest, which
+    /// log file would pass the greatest number; nothing is put then. A fault of the store (`ObjectStoreError`) or `NoMemory` may leave the manifest, which
     /// fences the handles before it, or the manifest and the log file. `WalTruncated` names the log file at which the
     /// replay ended, since it isn't stored or a batch of it is past the next number; it comes where another look at the
     /// latest manifest finds no greater epoch, and `Fenced` where it does, since another handle was opened meanwhile.
@@ -75,8 +77,10 @@ impl WriterState {
         extractor: Option<&E>,
     ) -> Result<WriterState, SlateError>
         requires { extractor ≡ None }
-        ensures opens { (made : ℕ) × OpensHandle (λ batches. batches) OpenFault (IsContent (S.objects store.old)) made options.now.wal_enabled options.now.max_unflushed_bytes
+        ensures opens { (made : ℕ) × OpensHandle (by_objects (S.objects store.old)) made options.now.wal_enabled options.now.max_unflushed_bytes
             (known S.objects S.faults store.old) result (known S.objects S.faults store.new) }
+        // Memory begins after the tables of the manifest.
+        ensures floor { IfOk result (λ h. h.line.floor ≡ h.view.manifest.last_l0_seq) }
         ensures replays { IfOk result (λ h. IfSome (S.objects store.old) (λ o. HasLogs o h)) }
         ensures calls { IfSome (S.objects store.old) (λ o. CallsOpening o (S.calls store.old) (S.calls store.new) result) }
     {
@@ -90,6 +94,7 @@ impl WriterState {
             limit: options.max_unflushed_bytes,
             floor,
             epoch: view.manifest.writer_epoch,
+            counter: 0,
             tick: latest_tick(view.manifest.last_tick, memory.batches()),
             memory,
             status: StatusRecord::new(alloc, durable, view),
@@ -120,10 +125,7 @@ fn can_reopen(latest: &VersionedManifest) -> bool
     ensures { result ≡ can_reopen latest.now }
 {
     let manifest = &latest.manifest;
-    manifest.initialized
-        && manifest.tables.as_slice().is_empty()
-        && latest.id < u64::MAX
-        && manifest.writer_epoch < u64::MAX
+    manifest.initialized && latest.id < u64::MAX && manifest.writer_epoch < u64::MAX
 }
 
 /// The manifest that an opening commits after the latest one, where `last` is the last log file.
@@ -245,7 +247,7 @@ fn recover<S: Store>(
 }
 
 /// The latest of a tick and the creation times of batches.
-fn latest_tick(tick: i64, batches: &[Batch]) -> i64
+pub(crate) fn latest_tick(tick: i64, batches: &[Batch]) -> i64
     ensures { result ≡ latest_tick tick batches.now }
 {
     let mut latest = tick;

@@ -1,28 +1,37 @@
-// Reading a key from a handle's batches.
-ghost use Rattle.std.specs.Prelude.{◌≡◌, None, Some, Err, Option, IfSome};
+// Reading a key from the tables of a handle's view and from its batches.
+ghost use Rattle.std.specs.Prelude.{◌≡◌, ◌+◌, ◌≤◌, [], None, Option, IfErr, IfOk, IfSome, Err, length};
+ghost use Rattle.std.specs.List.{flat_map};
 ghost use Rattle.std.specs.Option.{option_copied};
 ghost use Rattle.slate_types.specs.Operator.{Merge};
 ghost use Rattle.slate_reads.specs.Bound.{read_bound};
 ghost use Rattle.slate_reads.specs.Read.{IsOperator, read_at};
+ghost use Rattle.slate_types.specs.declared.store_errors.StoreFault.TheVariants.{NotFound};
 ghost use Rattle.slate_model.specs.Handle.{accepted};
-ghost use Rattle.slate_errors.specs.Errors.{closed_error};
-ghost use Rattle.slate_model.specs.Read.{AnswersRead};
+ghost use Rattle.slate_model.specs.Known.{FaultsRise, known};
+ghost use Rattle.slate_model.specs.Object.{Handle};
+ghost use Rattle.slate_model.specs.Read.{Reads};
+ghost use Rattle.slate_model.specs.Stores.{kept_rows};
+ghost use Rattle.slate_model.specs.Tables.{AreJoined, AreStored};
+ghost use Rattle.slate_writer.specs.Tables.{IsOfTables};
 
 use crate::WriterState;
 use slate_errors::SlateError;
-use slate_reads::{prepare_max_seq, read_indexed};
-use slate_store::Store;
-use slate_types::{KeyValue, MergeOperator, ReadOptions};
+use slate_reads::{Table, prepare_max_seq, read_indexed};
+use slate_store::{Store, TableId};
+use slate_types::{KeyValue, MergeOperator, NoMemory, ReadOptions};
 use std::alloc::Global;
 
 impl WriterState {
-    /// What the handle's batches say of a key, up to the accepted number, or up to the durable one at the level
-    /// `Remote`, and up to the number of a snapshot, where one is given. None is: there is no value.
+    /// What the tables of the manifest that the handle goes by and then its batches in memory say of a key, up to the
+    /// accepted number, or up to the durable one at the level `Remote`, and up to the number of a snapshot, where one is
+    /// given. None is: there is no value.
     ///
     /// On a closed handle it answers `Closed` or the error that closed it. It answers `MergeOperatorMissing` where
     /// operands are to be merged and there is no operator, `MergeOperatorError` where the operator refuses one, and
-    /// `NoMemory`. A read changes nothing, and touches no store. It takes a look-up, and goes over the key's operations
-    /// since the last put or delete up to the number, with those above it. SlateDB's `get`.
+    /// `NoMemory`; and `ObjectStoreError` where the store fails, or a table isn't stored. A read changes nothing. It calls
+    /// the store once for each table, and shares what it reads. It takes a look-up in memory and in each table, from the
+    /// last back to the first with a put or a delete up to the number, and goes over the key's operations since then, with
+    /// those above the number. SlateDB's `get`.
     pub fn get<S: Store, M: MergeOperator>(
         &self,
         alloc: Global,
@@ -32,15 +41,19 @@ impl WriterState {
         snapshot: Option<u64>,
         operator: Option<&M>,
     ) -> Result<Option<KeyValue>, SlateError>
-        ensures closed { IfSome self.now.result (λ r. result ≡ Err (closed_error r)) }
-        ensures read { self.now.result ≡ None → (merge : Option Merge) → IsOperator M.may_answer (option_copied operator.entry) merge →
-            AnswersRead (read_at merge self.now.line.batches
-            (read_bound snapshot self.now.durable (accepted self.now) options.now.durability_filter options.now.dirty) key.now) result }
-        ensures store { store.new ≡ store.old }
+        ensures read { (merge : Option Merge) → IsOperator M.may_answer (option_copied operator.entry) merge →
+            Reads self.now.result self.now.view.manifest.tables (kept_rows (S.objects store.old) (Handle self.now))
+            (λ rows answer. answer ≡ read_at merge rows (read_bound snapshot self.now.durable (accepted self.now) options.now.durability_filter options.now.dirty) key.now)
+            (known S.objects S.faults store.old) result (known S.objects S.faults store.new) }
+        ensures count { S.faults store.old ≤ S.faults store.new }
+        ensures calls { S.calls store.new ≤ S.calls store.old + length self.now.view.manifest.tables }
+        ensures closed { (self.now.result ≡ None → ⊥) → store.new ≡ store.old }
+        ensures untouched { self.now.view.manifest.tables ≡ [] → store.new ≡ store.old }
     {
         if let Some(result) = self.closed() {
             return Err(SlateError::of_closed(result));
         }
+        let stored = self.read_tables(alloc, store)?;
         let bound = prepare_max_seq(
             snapshot,
             self.durable(),
@@ -49,6 +62,49 @@ impl WriterState {
             options.dirty,
         );
         let memory = std::slice::from_ref(&self.memory);
-        Ok(read_indexed(alloc, &[], &[], memory, bound, key, operator)?)
+        Ok(read_indexed(alloc, &[], stored.as_slice(), memory, bound, key, operator)?)
     }
+
+    /// The tables of the manifest that it goes by, in order.
+    pub(crate) fn read_tables<S: Store>(
+        &self,
+        alloc: Global,
+        store: &mut S,
+    ) -> Result<Vec<Table>, SlateError>
+        ensures faults { FaultsRise (S.faults store.old) (S.faults store.new) result }
+        ensures calls { S.calls store.new ≤ S.calls store.old + length self.now.view.manifest.tables }
+        ensures kept { S.objects store.new ≡ S.objects store.old }
+        ensures joined { IfOk result (λ tables. AreJoined (S.objects store.old) self.now.view.manifest.tables (flat_map (λ table. table) tables.items)) }
+        ensures missing { result ≡ Err (SlateError.ObjectStoreError NotFound) → IfSome (S.objects store.old) (λ o. AreStored o self.now.view.manifest.tables → ⊥) }
+        ensures refused { IfErr result IsOfTables }
+        ensures untouched { self.now.view.manifest.tables ≡ [] → store.new ≡ store.old }
+        ensures some { self.now.view.manifest.tables ≡ [] → result ≡ Err (SlateError.ObjectStoreError NotFound) → ⊥ }
+    {
+        let ids = self.view().manifest.tables.as_slice();
+        if ids.is_empty() {
+            return Ok(Vec::new(alloc));
+        }
+        read_all(alloc, store, ids)
+    }
+}
+
+/// The tables with these ids, in this order.
+fn read_all<S: Store>(
+    alloc: Global,
+    store: &mut S,
+    ids: &[TableId],
+) -> Result<Vec<Table>, SlateError>
+    ensures faults { FaultsRise (S.faults store.old) (S.faults store.new) result }
+    ensures calls { S.calls store.new ≤ S.calls store.old + length ids.now }
+    ensures kept { S.objects store.new ≡ S.objects store.old }
+    ensures joined { IfOk result (λ tables. IfSome (S.objects store.old) (λ o. AreJoined (Some o) ids.now (flat_map (λ table. table) tables.items))) }
+    ensures missing { result ≡ Err (SlateError.ObjectStoreError NotFound) → IfSome (S.objects store.old) (λ o. AreStored o ids.now → ⊥) }
+    ensures refused { IfErr result IsOfTables }
+{
+    let mut tables = Vec::new(alloc);
+    for id in ids {
+        let table = store.read_table(alloc, *id)?;
+        tables.push(table).map_err(NoMemory::from)?;
+    }
+    Ok(tables)
 }

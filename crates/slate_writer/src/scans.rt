@@ -1,10 +1,12 @@
-// Scanning a range in a handle's batches.
-ghost use Rattle.std.specs.Prelude.{◌≡◌, None, Err, Option, IfSome};
+// Scanning a range in the tables of a handle's view and in its batches.
+ghost use Rattle.std.specs.Prelude.{◌≡◌, ◌+◌, ◌≤◌, [], None, Option, length};
 ghost use Rattle.std.specs.Option.{option_copied};
 ghost use Rattle.slate_types.specs.Operator.{Merge};
 ghost use Rattle.slate_reads.specs.Read.{IsOperator};
-ghost use Rattle.slate_errors.specs.Errors.{closed_error};
-ghost use Rattle.slate_model.specs.Read.{AnswersScan};
+ghost use Rattle.slate_model.specs.Known.{known};
+ghost use Rattle.slate_model.specs.Object.{Handle};
+ghost use Rattle.slate_model.specs.Read.{Gives, Reads};
+ghost use Rattle.slate_model.specs.Stores.{kept_rows};
 ghost use Rattle.slate_writer.specs.Scanned.{BeginsScanOf};
 
 use crate::WriterState;
@@ -16,18 +18,20 @@ use slate_types::{ByteRange, MergeOperator, ScanOptions};
 use std::alloc::Global;
 
 impl WriterState {
-    /// The rows of the keys of a range that have one, in the order asked for: what the handle's batches say of each, up
-    /// to the accepted number, or up to the durable one at the level `Remote`, and up to the number of a snapshot, where
-    /// one is given. Bounds that cross have none.
+    /// The rows of the keys of a range that have one, in the order asked for: what the tables of the manifest that the
+    /// handle goes by and then its batches in memory say of each, up to the accepted number, or up to the durable one at
+    /// the level `Remote`, and up to the number of a snapshot, where one is given. Bounds that cross have none.
     ///
-    /// On a closed handle it answers `Closed` or the error that closed it; `NoMemory` is its only other error. Where
+    /// On a closed handle it answers `Closed` or the error that closed it. Its other errors are `NoMemory`, and
+    /// `ObjectStoreError` where the store fails, or a table isn't stored. Where
     /// operands of a key are to be merged and there is no operator, or it refuses one, the rows end before this key, and
-    /// the iterator answers that fault after them. A scan changes nothing, and touches no store; the iterator keeps its
-    /// rows, whatever is written later.
+    /// the iterator answers that fault after them. A scan changes nothing; the iterator keeps its rows,
+    /// whatever is written later.
     ///
-    /// It takes time logarithmic in the handle's keys, and then for each key of the range, also one without a row, that of
-    /// a look-up, of going over the key's operations since its last put or delete and above the number, and of a few
-    /// comparisons. It takes memory for each key and row, and copies no key and no value. SlateDB's `scan`.
+    /// It calls the store once for each table, and shares what it reads. It takes time logarithmic in the keys of memory and
+    /// of each table, and then for each key of the range, also one without a row, that of a `get`, and of a few comparisons,
+    /// with a logarithm of the number of tables. It takes memory for each key and row, and copies no key and no value.
+    /// SlateDB's `scan`.
     pub fn scan<S: Store, M: MergeOperator>(
         &self,
         alloc: Global,
@@ -37,14 +41,19 @@ impl WriterState {
         snapshot: Option<u64>,
         operator: Option<&M>,
     ) -> Result<DbIterator, SlateError>
-        ensures closed { IfSome self.now.result (λ r. result ≡ Err (closed_error r)) }
-        ensures scan { self.now.result ≡ None → (merge : Option Merge) → IsOperator M.may_answer (option_copied operator.entry) merge →
-            AnswersScan (BeginsScanOf self.now merge snapshot options.now range.now) result }
-        ensures store { store.new ≡ store.old }
+        ensures scan { (merge : Option Merge) → IsOperator M.may_answer (option_copied operator.entry) merge →
+            Reads self.now.result self.now.view.manifest.tables (kept_rows (S.objects store.old) (Handle self.now))
+            (Gives (BeginsScanOf self.now merge snapshot options.now range.now))
+            (known S.objects S.faults store.old) result (known S.objects S.faults store.new) }
+        ensures count { S.faults store.old ≤ S.faults store.new }
+        ensures calls { S.calls store.new ≤ S.calls store.old + length self.now.view.manifest.tables }
+        ensures closed { (self.now.result ≡ None → ⊥) → store.new ≡ store.old }
+        ensures untouched { self.now.view.manifest.tables ≡ [] → store.new ≡ store.old }
     {
         if let Some(result) = self.closed() {
             return Err(SlateError::of_closed(result));
         }
+        let stored = self.read_tables(alloc, store)?;
         let bound = prepare_max_seq(
             snapshot,
             self.durable(),
@@ -53,6 +62,7 @@ impl WriterState {
             options.dirty,
         );
         let memory = std::slice::from_ref(&self.memory);
-        Ok(scan_indexed(alloc, &[], memory, bound, range, options.order, operator)?)
+        let stored = stored.as_slice();
+        Ok(scan_indexed(alloc, stored, memory, bound, range, options.order, operator)?)
     }
 }

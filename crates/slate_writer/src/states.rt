@@ -1,18 +1,22 @@
-// What a handle that writes keeps.
-ghost use Rattle.std.specs.Prelude.{◌≡◌, IfOk};
-ghost use Rattle.slate_model.specs.Handle.{accepted};
+// What a handle that writes keeps, and its batches above a number.
+ghost use Rattle.std.specs.Prelude.{◌≡◌, ◌-◌, IfOk, length};
+ghost use Rattle.slate_types.specs.Line.{IsLine, batches_above};
+ghost use Rattle.slate_reads.specs.Index.{AreRising};
+ghost use Rattle.slate_model.specs.Handle.{accepted, kept_handle, to_log};
 ghost use Rattle.slate_status.specs.Records.{status_by};
 
 use slate_errors::CloseFault;
 use slate_reads::IndexedTable;
 use slate_status::{DbStatus, StatusRecord};
-use slate_types::NoMemory;
+use slate_store::VersionedManifest;
+use slate_types::{Batch, NoMemory};
 use std::alloc::Global;
 use std::marker::Model;
 
 /// A handle that writes, without the store that it writes to. SlateDB's `Db`, as a plain value.
 ///
-/// A contract sees it as a handle whose line is the batches that it keeps in memory.
+/// A contract sees it as a handle whose line is the batches that it keeps in memory: after each flush, refresh and
+/// compaction these are the batches that it accepted and that aren't in the tables of its manifest.
 #[derive(Drop)]
 pub struct WriterState {
     pub(crate) keeps_log: bool,
@@ -20,6 +24,7 @@ pub struct WriterState {
     pub(crate) floor: u64,
     pub(crate) memory: IndexedTable,
     pub(crate) epoch: u64,
+    pub(crate) counter: u64,
     pub(crate) tick: i64,
     pub(crate) status: StatusRecord,
 }
@@ -29,9 +34,9 @@ impl Model for WriterState {
 
     ghost Value = { Handle };
 
-    ghost use Rattle.slate_writer.specs.Kept.{kept_handle, IsKept};
+    ghost use Rattle.slate_writer.specs.Kept.{handle_of, IsKept};
 
-    ghost view = { kept_handle };
+    ghost view = { handle_of };
 
     ghost invariant = { IsKept };
 }
@@ -39,7 +44,9 @@ impl Model for WriterState {
 impl WriterState {
     /// The number of the last batch that it accepted. It takes constant time.
     pub fn accepted(&self) -> u64
-        ensures { result ≡ accepted self.now }
+        ensures value { result ≡ accepted self.now }
+        // The batches in memory are numbered one after another.
+        ensures line { IsLine self.now.line }
     {
         self.floor + self.memory.batches().len() as u64
     }
@@ -49,6 +56,13 @@ impl WriterState {
         ensures { result ≡ self.now.durable }
     {
         self.status.durable()
+    }
+
+    /// Whether it keeps a log.
+    pub fn keeps_log(&self) -> bool
+        ensures { result ≡ self.now.keeps_log }
+    {
+        self.keeps_log
     }
 
     /// The result with which it closed, or None while it is open.
@@ -66,5 +80,42 @@ impl WriterState {
         ensures { IfOk result (λ status. status ≡ status_by self.now.durable self.now.view self.now.result) }
     {
         self.status.status(alloc)
+    }
+
+    /// The manifest that it goes by.
+    pub(crate) fn view(&self) -> &VersionedManifest
+        ensures { result.now ≡ self.now.view }
+    {
+        self.status.manifest()
+    }
+
+    /// The batches in memory above a number.
+    pub(crate) fn batches_above(&self, number: u64) -> &[Batch]
+        ensures value { result.now ≡ batches_above number self.now.line.batches }
+        ensures rising { AreRising result.now }
+    {
+        let batches = self.memory.batches();
+        let start = number.saturating_sub(self.floor).min(batches.len() as u64);
+        &batches[start as usize..]
+    }
+
+    /// The batches that a flush puts into the log: those that aren't stored yet, where the handle keeps one.
+    pub(crate) fn to_log(&self) -> &[Batch]
+        ensures { result.now ≡ to_log self.now }
+    {
+        if !self.keeps_log {
+            return &[];
+        }
+        self.batches_above(self.durable())
+    }
+
+    /// Drops the batches that are in the tables of the manifest that it goes by.
+    pub(crate) fn forget_tabled(&mut self)
+        ensures { self.new ≡ kept_handle self.old }
+    {
+        let accepted = self.accepted();
+        let tabled = self.view().manifest.last_l0_seq;
+        self.memory.drop_through(tabled);
+        self.floor = accepted - self.memory.batches().len() as u64;
     }
 }

@@ -1,5 +1,5 @@
 use Rattle.std.proofs.Common.{◌≡◌, drop}
-use Rattle.slate_model.specs.Open.{latest_tick}
+use Rattle.slate_model.specs.Handle.{latest_tick}
 use Rattle.slate_writer.proofs.opens.latest_tick.Given as goal
 
 -- with the batches that are left, it is the latest of all

@@ -1,6 +1,6 @@
 use Rattle.std.proofs.Common.{◌∙◌, ap, arith, rules}
 use Rattle.std.proofs.lemmas.Result.{err_from_is_err_and}
-use Rattle.slate_model.specs.Open.{latest_tick}
+use Rattle.slate_model.specs.Handle.{latest_tick}
 use Rattle.slate_writer.proofs.Openings.{calls-of, found_view, has_logs, none_modelled, opened_modelled, opens_err, opens_ok, puts_modelled, recovered_at, recovered_modelled, recovery_modelled}
 use Rattle.slate_writer.proofs.states.WriterState.open.Goals as goal
 
@@ -26,7 +26,7 @@ returns-clause-opens g c =
     let fresh = c.new.ensures in
     rw c.new.ensures (opens_ok c.args.options.now.wal_enabled c.args.options.now.max_unflushed_bytes _ _ _ (search rules)
     (opened_modelled c.in_ok-view.view c.in_ok-view.last _ c.in_ok-view.ensures.where_modelled c.in_ok-view.ensures.kept c.in_ok-put_opening.ensures.where_modelled c.in_ok-memory.ensures.kept)
-    (record { keeps = search rules; limit_is = search rules; unclosed = search rules; epoch = search rules; floor = search rules; durable = search rules })
+    (record { keeps = search rules; limit_is = search rules; unclosed = search rules; epoch = search rules; counter = search rules; durable = search rules; tabled = omega arith })
     (found_view c.in_ok-view.view c.in_ok-view.last c.in_ok-view.ensures.where_modelled)
     (λ o is sound. recovered_at c.args.options.now.wal_enabled c.args.options.now.max_unflushed_bytes c.in_ok-view.view c.in_ok-memory.memory c.batches.result.now _ c.batches.ensures.value (search rules ∙ (c.latest_tick.ensures ∙ (ap (latest_tick _) c.batches-2.ensures.value ∙ ap (λ t. latest_tick t c.in_ok-memory.memory) (search rules))))
     ∙ recovered_modelled c.in_ok-view.view c.in_ok-view.last c.in_ok-view.ensures.where_modelled c.in_ok-view.ensures.kept c.in_ok-put_opening.ensures.where_modelled c.args.options.now.wal_enabled c.args.options.now.max_unflushed_bytes c.in_ok-memory.memory c.in_ok-memory.ensures.where_modelled o is sound))

@@ -23,6 +23,5 @@ invariant_of-self-2 g c =
       numbered = numbered-push c.self.inside.floor memory _ c.self.invariant.numbered (omega arith);
       fits = simp length-append (omega arith);
       durable = simp length-append (omega (arith, c.self.invariant.durable));
-      in_memory = c.self.invariant.in_memory;
       unsegmented = c.self.invariant.unsegmented;
     })

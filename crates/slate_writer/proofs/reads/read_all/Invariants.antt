@@ -1,0 +1,13 @@
+use Rattle.std.proofs.Common.{◌≡◌, ◌+◌, ◌≤◌, take}
+use Rattle.std.specs.Option.{IfSome}
+use Rattle.slate_writer.proofs.Reading.{AreRead}
+use Rattle.slate_writer.proofs.reads.read_all.Given as goal
+
+abbrev pub invariant-loop-id : goal.invariant-loop-id
+invariant-loop-id g l =
+    record {
+      kept : g.S.Store.objects l.store ≡ g.S.Store.objects l.fn.store;
+      faults : g.S.Store.faults l.fn.store ≤ g.S.Store.faults l.store;
+      calls : g.S.Store.calls l.store ≤ g.S.Store.calls l.fn.store + l.id-index;
+      tables : IfSome (g.S.Store.objects l.fn.store) (λ o. AreRead o (take l.id-index l.fn.ids) l.tables.items);
+    }

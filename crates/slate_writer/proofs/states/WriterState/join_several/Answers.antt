@@ -1,0 +1,16 @@
+use Rattle.std.proofs.Common.{rules, Ok, Err, ap, refl}
+use Rattle.slate_writer.proofs.Joined.{all-joins, full-joins}
+use Rattle.slate_writer.proofs.Modelled.{modelled_kept}
+use Rattle.slate_writer.proofs.states.WriterState.join_several.Goals as goal
+
+pub returns-in-Ok-clause-joins : goal.returns-in-Ok-clause-joins
+returns-in-Ok-clause-joins g c =
+    all-joins c.args.self.now _ _ _ _ _ _ (Ok c.in-Ok.manifest) _ (search rules) (search rules) (search rules) (search rules) (search rules) c.in-Ok.ensures.compacts
+
+pub returns-in-Err-clause-joins : goal.returns-in-Err-clause-joins
+returns-in-Err-clause-joins g c =
+    all-joins c.args.self.now _ _ _ _ _ _ (Err c.in-Err.refusal) _ (search rules) (search rules) (search rules) (ap Err c.error_of_refusal.ensures) (search rules) c.in-Err.ensures.compacts
+
+pub returns-in_default-clause-joins : goal.returns-in_default-clause-joins
+returns-in_default-clause-joins g c =
+    modelled_kept refl (λ o is. (0, full-joins c.args.self.now o (search rules)))

@@ -1,0 +1,158 @@
+// Refreshing a handle's view, and compacting the tables of its database.
+ghost use Rattle.std.specs.Prelude.{◌≡◌, ◌+◌, ◌≤◌, ℕ, None, IfSome};
+ghost use Rattle.slate_model.specs.Handle.{kept_handle};
+ghost use Rattle.slate_model.specs.Known.{CountsFaults, FaultsRise, known};
+ghost use Rattle.slate_model.specs.Refresh.{Compacts, RefreshAnswer, Refreshes, fenced_result};
+ghost use Rattle.slate_model.specs.Stores.{by_objects};
+ghost use Rattle.slate_store.specs.Calls.{WhereModelled};
+ghost use Rattle.slate_writer.specs.Joined.{Joins, JoinsSeveral};
+ghost use Rattle.slate_writer.specs.Refusal.{error_of_refusal};
+
+use crate::WriterState;
+use crate::flushes::current_manifest;
+use slate_errors::{CloseFault, SlateError};
+use slate_store::{Store, StoreRefusal, compact_tables};
+use std::alloc::Global;
+
+impl WriterState {
+    /// Takes the latest manifest as the one that the handle goes by, and drops the batches from memory that are in its
+    /// tables. It puts nothing, calls the store once, and takes time linear in the manifest and in the operations of the
+    /// batches that it drops.
+    ///
+    /// On a closed handle it answers `Closed` or the error that closed it, and touches no store. `Fenced`, where another
+    /// handle opened since, closes the handle. `LatestTransactionalObjectVersionMissing`, `ObjectStoreError` and `NoMemory`
+    /// close nothing. After an error the handle goes by the manifest that it had. SlateDB's `refresh_manifest`.
+    pub fn refresh_manifest<S: Store>(
+        &mut self,
+        alloc: Global,
+        store: &mut S,
+    ) -> Result<(), SlateError>
+        ensures does { Refreshes (by_objects (S.objects store.old)) self.old (known S.objects S.faults store.old) result self.new (known S.objects S.faults store.new) }
+        ensures count { S.faults store.old ≤ S.faults store.new }
+        ensures calls { S.calls store.new ≤ S.calls store.old + 1 }
+        ensures untouched { (self.old.result ≡ None → ⊥) → store.new ≡ store.old }
+    {
+        if let Some(result) = self.closed() {
+            return Err(SlateError::of_closed(result));
+        }
+        let result = self.take_latest(alloc, store);
+        self.settle(&result);
+        result
+    }
+
+    /// Joins the tables of the latest manifest into one, commits a manifest that names that one alone, and takes it as the
+    /// one that the handle goes by; where there are fewer than two tables, it puts nothing and takes the latest one. It drops
+    /// the batches from memory that are in its tables. The tables that were joined stay stored, and all rows are read as
+    /// before.
+    ///
+    /// It calls the store four times and once for each table. It takes time linear in the operations of the tables, with a
+    /// logarithm of the keys for each key, and copies no keys and no values.
+    ///
+    /// On a closed handle it answers `Closed` or the error that closed it, and touches no store. `Fenced`, where another
+    /// handle opened since, closes the handle. Every other error closes nothing: `LatestTransactionalObjectVersionMissing`;
+    /// `InvalidDBState`, where there are tables to join and the next table or manifest would pass the greatest id;
+    /// `ObjectStoreError`, `TransactionalObjectVersionExists` and `NoMemory`, after which the table may be stored, and after
+    /// the first of them the manifest, too. Over a store that isn't sound `InvalidDBState` also says that the batches of the
+    /// tables don't come one after another, and `ObjectStoreError` that a table isn't stored. After an error the handle goes
+    /// by the manifest that it had. SlateDB runs it in a compactor.
+    pub fn compact<S: Store>(&mut self, alloc: Global, store: &mut S) -> Result<(), SlateError>
+        ensures does { (made : ℕ) × Compacts (by_objects (S.objects store.old)) made self.old (known S.objects S.faults store.old) result self.new (known S.objects S.faults store.new) }
+        ensures count { S.faults store.old ≤ S.faults store.new }
+        ensures untouched { (self.old.result ≡ None → ⊥) → store.new ≡ store.old }
+    {
+        if let Some(result) = self.closed() {
+            return Err(SlateError::of_closed(result));
+        }
+        let result = self.join_tables(alloc, store);
+        self.settle(&result);
+        result
+    }
+
+    /// Takes the latest manifest as the one that it goes by, where its epoch is current.
+    fn take_latest<S: Store>(&mut self, alloc: Global, store: &mut S) -> Result<(), SlateError>
+        ensures moved { self.new ≡ record self.old { view = self.new.view } }
+        ensures faults { CountsFaults (S.faults store.old) (S.faults store.new) result }
+        ensures calls { S.calls store.new ≤ S.calls store.old + 1 }
+        ensures kept { S.objects store.new ≡ S.objects store.old }
+        ensures answer { IfSome (S.objects store.old) (λ o. RefreshAnswer self.old o result self.new.view) }
+    {
+        let latest = current_manifest(alloc, store, self.epoch)?;
+        let durable = self.durable();
+        self.status.report_view(durable, latest);
+        Ok(())
+    }
+
+    /// Joins the tables of the latest manifest, where there are two or more, and takes the manifest that is the latest then
+    /// as the one that it goes by.
+    fn join_tables<S: Store>(&mut self, alloc: Global, store: &mut S) -> Result<(), SlateError>
+        ensures moved { self.new ≡ record self.old { counter = self.new.counter; view = self.new.view } }
+        ensures faults { FaultsRise (S.faults store.old) (S.faults store.new) result }
+        ensures joins { WhereModelled (λ o o'. (made : ℕ) × Joins self.old result self.new made o o') (S.objects store.old) (S.objects store.new) }
+        ensures counter { (self.old.counter ≤ self.new.counter) × (self.new.counter ≤ self.old.counter + 1) }
+    {
+        let latest = current_manifest(alloc, store, self.epoch)?;
+        if latest.manifest.tables.as_slice().len() >= 2 {
+            return self.join_several(alloc, store);
+        }
+        let durable = self.durable();
+        self.status.report_view(durable, latest);
+        Ok(())
+    }
+
+    /// Joins the tables of the latest manifest, by which it may write and of which there are several. The count of its
+    /// tables is raised before.
+    fn join_several<S: Store>(&mut self, alloc: Global, store: &mut S) -> Result<(), SlateError>
+        ensures moved { self.new ≡ record self.old { counter = self.new.counter; view = self.new.view } }
+        ensures faults { FaultsRise (S.faults store.old) (S.faults store.new) result }
+        ensures joins { WhereModelled (λ o o'. (made : ℕ) × JoinsSeveral self.old result self.new made o o') (S.objects store.old) (S.objects store.new) }
+        ensures counter { (self.old.counter ≤ self.new.counter) × (self.new.counter ≤ self.old.counter + 1) }
+    {
+        let mut index = self.counter;
+        let Some(next_index) = index.checked_add(1) else {
+            return Err(SlateError::InvalidDBState);
+        };
+        self.counter = next_index;
+        match compact_tables(alloc, store, self.epoch, &mut index) {
+            Ok(manifest) => {
+                let durable = self.durable();
+                self.status.report_view(durable, manifest);
+                Ok(())
+            }
+            Err(refusal) => Err(error_of_refusal(refusal)),
+        }
+    }
+
+    /// Drops the batches that are in tables, after a call that may have moved the view, and closes the handle where it was
+    /// found fenced.
+    fn settle(&mut self, answer: &Result<(), SlateError>)
+        requires { self.old.result ≡ None }
+        ensures { self.new ≡ record (kept_handle self.old) { result = fenced_result answer.now } }
+    {
+        self.forget_tabled();
+        if let Err(SlateError::Fenced) = answer {
+            self.status.report_closed(Err(CloseFault::Fenced));
+        }
+    }
+}
+
+/// The error that a refusal is answered with: that of its name.
+fn error_of_refusal(refusal: StoreRefusal) -> SlateError
+    ensures { result ≡ error_of_refusal refusal }
+{
+    match refusal {
+        StoreRefusal::CheckpointMissing(id) => SlateError::CheckpointMissing(id),
+        StoreRefusal::LatestTransactionalObjectVersionMissing => {
+            SlateError::LatestTransactionalObjectVersionMissing
+        }
+        StoreRefusal::Fenced => SlateError::Fenced,
+        StoreRefusal::InvalidDBState => SlateError::InvalidDBState,
+        StoreRefusal::ObjectStoreError(fault) => SlateError::ObjectStoreError(fault),
+        StoreRefusal::TransactionalObjectVersionExists => {
+            SlateError::TransactionalObjectVersionExists
+        }
+        StoreRefusal::TransactionalObjectTimeout { tries } => {
+            SlateError::TransactionalObjectTimeout { tries }
+        }
+        StoreRefusal::NoMemory => SlateError::NoMemory,
+    }
+}

@@ -1,10 +1,10 @@
 -- The forms of a script's commands, and what a line is.
-use Rattle.std.specs.Prelude.{ℕ, ◌==◌, false, List, [], ◌∷◌, Option, Some, None, codes, if◌then◌else◌}
+use Rattle.std.specs.Prelude.{ℕ, ◌==◌, Bool, true, false, List, [], ◌∷◌, Option, Some, None, codes, if◌then◌else◌}
 use Rattle.std.specs.Option.{option_or}
 use Rattle.std.specs.Str.{bytes_eq}
 use Rattle.slate_types.specs.declared.options.CloseOptions.{CloseOptions}
 use Rattle.slate_types.specs.declared.options.FlushType.{FlushType}
-use Rattle.slate_types.specs.declared.options.FlushType.TheVariants.{Wal}
+use Rattle.slate_types.specs.declared.options.FlushType.TheVariants.{Wal, MemTable}
 use Rattle.slate_store.specs.declared.reader_modes.DbReaderMode.TheVariants.{FollowLatest}
 use Rattle.slate_text.specs.Numbers.{number_of, moment_of}
 use Rattle.slate_script.specs.Lines.{fields_of}
@@ -17,16 +17,24 @@ use Rattle.slate_script.specs.Queries.{query_of}
 use Rattle.slate_script.specs.Values.{◌>>=◌}
 use Rattle.slate_script.specs.Writes.{write_of}
 
--- open
+-- whether a handle keeps a log
+abbrev pub wal_of : List ℕ → Option Bool
+wal_of word = if bytes_eq word (codes "log") then Some true else (if bytes_eq word (codes "nolog") then Some false else None)
+
+-- open, open log, open nolog
 abbrev pub open_form : List (List ℕ) → Option Action
-open_form [] = Some actions.Open
+open_form [] = Some (actions.Open true)
+open_form (t ∷ []) = do
+  wal ← wal_of t
+  Some (actions.Open wal)
 open_form fields = None
 
--- the type of a flush; until tables are built, there is no other
+-- the type of a flush
 abbrev pub flush_type_of : List ℕ → Option FlushType
-flush_type_of word = if bytes_eq word (codes "wal") then Some Wal else None
+flush_type_of word =
+    if bytes_eq word (codes "wal") then Some Wal else (if bytes_eq word (codes "memtable") then Some MemTable else None)
 
--- flush H, flush H wal
+-- flush H, flush H wal, flush H memtable
 abbrev pub flush_form : List (List ℕ) → Option Action
 flush_form (h ∷ []) = do
   handle ← number_of h
@@ -43,8 +51,25 @@ close_options_of word = if bytes_eq word (codes "none") then Some (record { flus
   flush_type ← flush_type_of word
   Some (record { flush_type = Some flush_type }))
 
--- close O none, close O wal
+-- refresh H
+abbrev pub refresh_form : List (List ℕ) → Option Action
+refresh_form (h ∷ []) = do
+  handle ← number_of h
+  Some (actions.Refresh handle)
+refresh_form fields = None
+
+-- compact H
+abbrev pub compact_form : List (List ℕ) → Option Action
+compact_form (h ∷ []) = do
+  handle ← number_of h
+  Some (actions.Compact handle)
+compact_form fields = None
+
+-- close O, close O none, close O wal, close O memtable
 abbrev pub close_form : List (List ℕ) → Option Action
+close_form (o ∷ []) = do
+  object ← number_of o
+  Some (actions.Close object None)
 close_form (o ∷ t ∷ []) = do
   object ← number_of o
   options ← close_options_of t
@@ -77,18 +102,24 @@ status_form (o ∷ []) = do
   Some (actions.Status object)
 status_form fields = None
 
--- the command of a name and the fields behind it, where that opens, flushes, closes, polls, or asks for a write or a
--- status
+-- the command of a name and the fields behind it, where that follows, polls, or asks for a write or a status
+abbrev pub reader_of : List ℕ → List (List ℕ) → Option Action
+reader_of name fields =
+    if bytes_eq name (codes "follow") then follow_form fields
+    else (if bytes_eq name (codes "poll") then poll_form fields
+    else (if bytes_eq name (codes "await") then await_form fields
+    else (if bytes_eq name (codes "status") then status_form fields
+    else None)))
+
+-- the command of a name and the fields behind it, where that neither writes nor reads keys
 abbrev pub other_of : List ℕ → List (List ℕ) → Option Action
 other_of name fields =
     if bytes_eq name (codes "open") then open_form fields
     else (if bytes_eq name (codes "flush") then flush_form fields
+    else (if bytes_eq name (codes "refresh") then refresh_form fields
+    else (if bytes_eq name (codes "compact") then compact_form fields
     else (if bytes_eq name (codes "close") then close_form fields
-    else (if bytes_eq name (codes "follow") then follow_form fields
-    else (if bytes_eq name (codes "poll") then poll_form fields
-    else (if bytes_eq name (codes "await") then await_form fields
-    else (if bytes_eq name (codes "status") then status_form fields
-    else None))))))
+    else reader_of name fields))))
 
 -- the action that a name and the fields after it spell
 abbrev pub action_of : List ℕ → List (List ℕ) → Option Action

@@ -10,8 +10,10 @@ use std::alloc::{AllocError, AllocFailed};
 /// What a command does. Handles and followers are the objects of a run.
 #[derive(Debug, Drop)]
 pub enum Action {
-    /// Opens a handle.
-    Open,
+    /// Opens a handle, which keeps a log or not.
+    Open {
+        wal: bool,
+    },
     /// Writes one put. The time of expiry is in milliseconds.
     Put {
         handle: u64,
@@ -36,11 +38,19 @@ pub enum Action {
         handle: u64,
         batch: WriteBatch,
     },
-    /// Makes what a handle wrote durable. Without a type it stores it in a log file; until tables are built it stores
-    /// in no table.
+    /// Makes what a handle wrote durable. Without a type it stores it in a log file, where the handle keeps a log, and
+    /// else in a table.
     Flush {
         handle: u64,
         flush_type: Option<FlushType>,
+    },
+    /// Lets a handle go by the latest manifest.
+    Refresh {
+        handle: u64,
+    },
+    /// Joins the tables of the latest manifest into one.
+    Compact {
+        handle: u64,
     },
     /// Reads a key of an object, from durable batches alone where `remote` is true.
     Get {

@@ -1,9 +1,9 @@
 // Reading a script line as the command that its fields spell.
-ghost use Rattle.std.specs.Prelude.{◌≡◌, true, IfOk, IfSome};
-ghost use Rattle.slate_script.specs.Built.{IsBuilt, puts_no_table};
+ghost use Rattle.std.specs.Prelude.{◌≡◌, IfOk, IfSome};
+ghost use Rattle.slate_script.specs.Built.{IsBuilt};
 ghost use Rattle.slate_script.specs.declared.commands.Command.{Command};
-ghost use Rattle.slate_script.specs.Forms.{open_form, flush_type_of, flush_form, close_options_of, close_form, follow_form, poll_form, await_form, status_form};
-ghost use Rattle.slate_script.specs.Forms.{other_of, action_of, command_of, line_of};
+ghost use Rattle.slate_script.specs.Forms.{wal_of, open_form, flush_type_of, flush_form, refresh_form, compact_form, close_options_of, close_form};
+ghost use Rattle.slate_script.specs.Forms.{follow_form, poll_form, await_form, status_form, reader_of, other_of, action_of, command_of, line_of};
 
 use crate::fields::cut_fields;
 use crate::queries::read_query;
@@ -15,23 +15,41 @@ use slate_text::{read_moment, read_number};
 use slate_types::{CloseOptions, FlushType, NoMemory};
 use std::alloc::Global;
 
+/// Whether a handle keeps a log.
+fn read_wal(word: &[u8]) -> Option<bool>
+    ensures { result ≡ wal_of word.now }
+{
+    if word == b"log".as_slice() {
+        Some(true)
+    } else if word == b"nolog".as_slice() {
+        Some(false)
+    } else {
+        None
+    }
+}
+
 fn read_open(fields: &[Bytes]) -> Option<Action>
     ensures form { result ≡ open_form fields.now }
     ensures built { IfSome result IsBuilt }
 {
     match fields {
-        [] => Some(Action::Open),
+        [] => Some(Action::Open { wal: true }),
+        [wal] => {
+            let wal = read_wal(wal.as_slice())?;
+            Some(Action::Open { wal })
+        }
         _ => None,
     }
 }
 
-/// The type of a flush. Until tables are built, there is no other.
+/// The type of a flush.
 fn read_flush_type(word: &[u8]) -> Option<FlushType>
-    ensures word { result ≡ flush_type_of word.now }
-    ensures built { puts_no_table result ≡ true }
+    ensures { result ≡ flush_type_of word.now }
 {
     if word == b"wal".as_slice() {
         Some(FlushType::Wal)
+    } else if word == b"memtable".as_slice() {
+        Some(FlushType::MemTable)
     } else {
         None
     }
@@ -61,10 +79,31 @@ fn read_flush(fields: &[Bytes]) -> Option<Action>
     }
 }
 
+fn read_refresh(fields: &[Bytes]) -> Option<Action>
+    ensures form { result ≡ refresh_form fields.now }
+    ensures built { IfSome result IsBuilt }
+{
+    let [handle] = fields else {
+        return None;
+    };
+    let handle = read_number(handle.as_slice())?;
+    Some(Action::Refresh { handle })
+}
+
+fn read_compact(fields: &[Bytes]) -> Option<Action>
+    ensures form { result ≡ compact_form fields.now }
+    ensures built { IfSome result IsBuilt }
+{
+    let [handle] = fields else {
+        return None;
+    };
+    let handle = read_number(handle.as_slice())?;
+    Some(Action::Compact { handle })
+}
+
 /// What a close flushes.
 fn read_close_options(word: &[u8]) -> Option<CloseOptions>
-    ensures options { result ≡ close_options_of word.now }
-    ensures built { IfSome result (λ options. puts_no_table options.flush_type ≡ true) }
+    ensures { result ≡ close_options_of word.now }
 {
     if word == b"none".as_slice() {
         return Some(CloseOptions { flush_type: None });
@@ -79,15 +118,24 @@ fn read_close(fields: &[Bytes]) -> Option<Action>
     ensures form { result ≡ close_form fields.now }
     ensures built { IfSome result IsBuilt }
 {
-    let [object, options] = fields else {
-        return None;
-    };
-    let object = read_number(object.as_slice())?;
-    let options = read_close_options(options.as_slice())?;
-    Some(Action::Close {
-        object,
-        options: Some(options),
-    })
+    match fields {
+        [object] => {
+            let object = read_number(object.as_slice())?;
+            Some(Action::Close {
+                object,
+                options: None,
+            })
+        }
+        [object, options] => {
+            let object = read_number(object.as_slice())?;
+            let options = read_close_options(options.as_slice())?;
+            Some(Action::Close {
+                object,
+                options: Some(options),
+            })
+        }
+        _ => None,
+    }
 }
 
 fn read_follow(fields: &[Bytes]) -> Option<Action>
@@ -140,19 +188,12 @@ fn read_status(fields: &[Bytes]) -> Option<Action>
     Some(Action::Status { object })
 }
 
-// The command of a name and the fields behind it, where that opens, flushes, closes, polls, or asks for a write or a
-// status.
-fn read_other(name: &[u8], fields: &[Bytes]) -> Option<Action>
-    ensures form { result ≡ other_of name.now fields.now }
+// The command of a name and the fields behind it, where that follows, polls, or asks for a write or a status.
+fn read_reader(name: &[u8], fields: &[Bytes]) -> Option<Action>
+    ensures form { result ≡ reader_of name.now fields.now }
     ensures built { IfSome result IsBuilt }
 {
-    if name == b"open".as_slice() {
-        read_open(fields)
-    } else if name == b"flush".as_slice() {
-        read_flush(fields)
-    } else if name == b"close".as_slice() {
-        read_close(fields)
-    } else if name == b"follow".as_slice() {
+    if name == b"follow".as_slice() {
         read_follow(fields)
     } else if name == b"poll".as_slice() {
         read_poll(fields)
@@ -162,6 +203,26 @@ fn read_other(name: &[u8], fields: &[Bytes]) -> Option<Action>
         read_status(fields)
     } else {
         None
+    }
+}
+
+// The command of a name and the fields behind it, where that neither writes nor reads keys.
+fn read_other(name: &[u8], fields: &[Bytes]) -> Option<Action>
+    ensures form { result ≡ other_of name.now fields.now }
+    ensures built { IfSome result IsBuilt }
+{
+    if name == b"open".as_slice() {
+        read_open(fields)
+    } else if name == b"flush".as_slice() {
+        read_flush(fields)
+    } else if name == b"refresh".as_slice() {
+        read_refresh(fields)
+    } else if name == b"compact".as_slice() {
+        read_compact(fields)
+    } else if name == b"close".as_slice() {
+        read_close(fields)
+    } else {
+        read_reader(name, fields)
     }
 }
 

@@ -239,6 +239,8 @@ fn write_words(out: &mut Vec<u8>, reply: &Reply) -> Result<(), NoMemory>
         Reply::Absent => write_text(out, "none"),
         Reply::Rows(rows) => write_rows(out, rows.as_slice()),
         Reply::Flushed => write_text(out, "flushed"),
+        Reply::Refreshed => write_text(out, "refreshed"),
+        Reply::Compacted => write_text(out, "compacted"),
         Reply::Follower { object, whole, at } => write_follower(out, *object, *whole, *at),
         Reply::Durable => write_text(out, "durable"),
         Reply::Pending => write_text(out, "pending"),

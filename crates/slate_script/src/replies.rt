@@ -29,6 +29,10 @@ pub enum Reply {
     Rows(Seq<KeyValue>),
     /// What was written is durable.
     Flushed,
+    /// A handle goes by the latest manifest.
+    Refreshed,
+    /// The tables are joined, where there were two or more.
+    Compacted,
     /// The write is durable.
     Durable,
     /// The write isn't durable yet.

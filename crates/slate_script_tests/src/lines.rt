@@ -1,4 +1,5 @@
-// Tests of the lines that write and read rows: the command that each spells, and lines that are refused.
+// Tests of the lines that open handles, write and read rows, and store them: the command that each spells, and lines that
+// are refused.
 use slate_script::{LineAnswer, read_line};
 use std::alloc::Global;
 use std::test::Fail;
@@ -87,6 +88,43 @@ fn reads(rt: HostRuntime) -> Result<(), Fail> {
     Ok(())
 }
 
+// A handle that keeps a log or not, where its batches are flushed, and what is done to tables.
+#[test]
+fn tables(rt: HostRuntime) -> Result<(), Fail> {
+    for (line, want) in [
+        ("0 open", "Open { wal: true }"),
+        ("0 open log", "Open { wal: true }"),
+        ("0 open nolog", "Open { wal: false }"),
+        ("0 flush 1", "Flush { handle: 1, flush_type: None }"),
+        (
+            "0 flush 1 wal",
+            "Flush { handle: 1, flush_type: Some(Wal) }",
+        ),
+        (
+            "0 flush 1 memtable",
+            "Flush { handle: 1, flush_type: Some(MemTable) }",
+        ),
+        ("0 refresh 2", "Refresh { handle: 2 }"),
+        ("0 compact 3", "Compact { handle: 3 }"),
+        ("0 close 4", "Close { object: 4, options: None }"),
+        (
+            "0 close 4 none",
+            "Close { object: 4, options: Some(CloseOptions { flush_type: None }) }",
+        ),
+        (
+            "0 close 4 wal",
+            "Close { object: 4, options: Some(CloseOptions { flush_type: Some(Wal) }) }",
+        ),
+        (
+            "0 close 4 memtable",
+            "Close { object: 4, options: Some(CloseOptions { flush_type: Some(MemTable) }) }",
+        ),
+    ] {
+        assert_eq!(rt; action(rt.alloc(), line)?.as_str(), want);
+    }
+    Ok(())
+}
+
 #[test]
 fn refused(rt: HostRuntime) -> Result<(), Fail> {
     for line in [
@@ -109,6 +147,16 @@ fn refused(rt: HostRuntime) -> Result<(), Fail> {
         "0 scan 0 * * remote desc",
         "0 seek 0 * * 18446744073709551616 a",
         "0 seek 0 * * 1",
+        "0 open wal",
+        "0 open log log",
+        "0 flush 0 none",
+        "0 flush 0 memtable wal",
+        "0 refresh",
+        "0 refresh 0 0",
+        "0 compact",
+        "0 compact 0 memtable",
+        "0 compact -1",
+        "0 close 0 log",
     ] {
         let answer = read_line(rt.alloc(), line.as_bytes())?;
         assert!(rt; matches!(answer, LineAnswer::Refused), "{line}");

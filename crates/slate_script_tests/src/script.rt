@@ -65,7 +65,7 @@ fn are_four(commands: &[Command]) -> bool {
     let [first, _, third, fourth] = commands else {
         return false;
     };
-    matches!(&first.action, Action::Open)
+    matches!(&first.action, Action::Open { wal: true })
         && matches!(
             &third.action,
             Action::Flush {
@@ -159,12 +159,14 @@ fn printed_replies(rt: HostRuntime) -> Result<(), Fail> {
         },
         Reply::Absent,
         Reply::Flushed,
+        Reply::Refreshed,
+        Reply::Compacted,
         Reply::Refused(SlateError::EmptyBatch),
         Reply::Unknown,
         Reply::NoMemory,
     ];
     let want =
-        "handle 0\nwrite 1 number 2\nnone\nflushed\nerror Invalid error: empty write batch not allowed\nerror unknown object\nerror no memory\n";
+        "handle 0\nwrite 1 number 2\nnone\nflushed\nrefreshed\ncompacted\nerror Invalid error: empty write batch not allowed\nerror unknown object\nerror no memory\n";
     assert_eq!(rt; printed(rt.alloc(), &replies)?.as_slice(), want.as_bytes());
     Ok(())
 }

@@ -10,10 +10,11 @@ use Rattle.slate_store.specs.Objects.{Objects}
 use Rattle.slate_store.specs.Content.{AreRising, IsSound}
 use Rattle.slate_model.specs.Catalogue.{Catalogue}
 use Rattle.slate_model.specs.Known.{Known}
+use Rattle.slate_model.specs.Stores.{by_objects}
 use Rattle.slate_script.specs.declared.commands.Command.{Command}
 use Rattle.slate_script.specs.declared.options.Options.{Options}
 use Rattle.slate_script.specs.declared.replies.Reply.{Reply}
-use Rattle.slate_live.specs.State.{Live, State, by_objects, running}
+use Rattle.slate_live.specs.State.{Live, State, running}
 use Rattle.slate_live.specs.Commands.{Does}
 use Rattle.slate_live.specs.Run.{DoAll, LeadsTo}
 use Rattle.slate_live.specs.Settings.{Settings}
@@ -28,7 +29,7 @@ use Rattle.slate_live.proofs.Staying.{stay_confirmed}
 pub stands_start : (o : Objects) (store : Known (List Batch)) (live : Live) → live.objects ≡ [] → live.writes ≡ [] → store.objects ≡ Some o → IsSound o → Represents live store (start o store.faults)
 stands_start o store live no_object no_write is sound =
     record {
-      held = (o, is, sound, record { stored = refl; catalogue = refl });
+      held = (o, is, sound, record { stored = refl; catalogue = refl }, λ n h at. absurd (cc));
       faults = refl;
       objects = no_object;
       writes = no_write;

@@ -76,23 +76,3 @@ handles-set-follower live n old new at m h is =
           absurd (cc)
       | inr other ↦ sym (get-set_other live n m (AFollower new) other) ∙ is
     ]
-
--- a valid handle stays valid when it accepts a write
-pub valid-written : (stored : Line) (latest : Option VersionedManifest) (h : Handle) (ops : List KeyOp) (at : ℤ) → IsValidHandle stored latest h → IsValidHandle stored latest (written h ops at)
-valid-written stored latest h ops at v =
-    let b = next_batch h ops at in
-    let durable = v.durable in
-    let line = h.line.batches in
-    let unstored-after : unstored (written h ops at) ≡ unstored h ++ b ∷ [] = above-push h.durable line b (omega (arith, durable)) in
-    record {
-      numbered = numbered-push h.line.floor line b v.numbered refl;
-      floor = v.floor;
-      durable = simp length-append (omega (arith, durable));
-      confirmed = subst (λ bs. IsPrefix (record { floor = h.line.floor; batches = bs }) stored) (sym (take-append-le (h.durable - h.line.floor) line (b ∷ []) (omega (arith, durable)))) v.confirmed;
-      behind = v.behind;
-      current = λ manifest live is current.
-          let before = v.current manifest live is current in
-          ap (extended stored) unstored-after
-          ∙ (ap (λ bs. record { floor = stored.floor; batches = bs }) (sym (append_assoc stored.batches (unstored h) (b ∷ [])))
-          ∙ ap (λ l. extended l (b ∷ [])) before);
-    }

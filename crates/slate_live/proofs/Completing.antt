@@ -2,31 +2,37 @@
 use Rattle.std.proofs.Common.{◌≡◌, ◌≢◌, ◌⊎◌, inl, inr, ℕ, ℤ, ◌<◌, ◌≤◌, Bool, true, false, if◌then◌else◌, List, [], ◌∷◌, length, Option, Some, None, Result, Ok, Err, refl, sym, subst, ap, ◌∙◌, arith}
 use Rattle.std.specs.List.{slice_get}
 use Rattle.std.proofs.lemmas.Bool.{le-leb, lt-ltb}
+use Rattle.std.proofs.lemmas.List.Elements.{All-nil}
 use Rattle.slate_types.specs.Counts.{HasRisen}
+use Rattle.slate_types.specs.declared.batches.Batch.{Batch}
 use Rattle.slate_types.specs.declared.batches.KeyOp.{KeyOp}
 use Rattle.slate_types.specs.declared.batches.KeyValue.{KeyValue}
 use Rattle.slate_types.specs.declared.options.FlushType.{FlushType}
 use Rattle.slate_types.specs.Operator.{Merge}
 use Rattle.slate_types.specs.declared.read_faults.ReadFault.{ReadFault}
 use Rattle.slate_types.specs.declared.read_faults.ReadFault.TheVariants as reads
-use Rattle.slate_types.specs.declared.store_errors.StoreFault.TheVariants.{Unavailable}
+use Rattle.slate_types.specs.declared.store_errors.StoreFault.{StoreFault}
+use Rattle.slate_types.specs.declared.store_errors.StoreFault.TheVariants.{NotFound, Unavailable}
 use Rattle.slate_store.specs.declared.objects.VersionedManifest.{VersionedManifest}
 use Rattle.slate_rows.specs.Iteration.{Iteration}
-use Rattle.slate_store.specs.Objects.{latest_manifest, last_log}
+use Rattle.slate_store.specs.declared.objects.TableId.{TableId}
+use Rattle.slate_store.specs.Objects.{latest_manifest, last_log, table_at}
 use Rattle.slate_errors.specs.declared.endings.Ended.{Ended}
 use Rattle.slate_errors.specs.declared.errors.SlateError.{SlateError}
 use Rattle.slate_errors.specs.declared.errors.SlateError.TheVariants as errors
-use Rattle.slate_model.specs.Catalogue.{span}
 use Rattle.slate_model.specs.Close.{Closes, closing_flush, ended, fault_again, recorded_fault}
 use Rattle.slate_model.specs.declared.answers.PollAnswer.{PollAnswer}
 use Rattle.slate_model.specs.declared.answers.Written.{Written}
-use Rattle.slate_model.specs.Flush.{FlushCause, Flushes, Stores}
+use Rattle.slate_model.specs.Flush.{FlushCause, Flushes, ManifestCause, Stores, has_ids}
 use Rattle.slate_model.specs.Follower.{FollowCause, Follower, Rebuilds, built, can_follow}
-use Rattle.slate_model.specs.Handle.{CloseResult, Handle, accepted, unstored}
+use Rattle.slate_model.specs.Handle.{CloseResult, Handle, accepted}
 use Rattle.slate_model.specs.Known.{CountsFaults}
 use Rattle.slate_model.specs.Object.{Object, Handle as AHandle, Follower as AFollower}
 use Rattle.slate_model.specs.Open.{OpenAnswer}
-use Rattle.slate_model.specs.Read.{AnswersRead, AnswersScan}
+use Rattle.slate_model.specs.Read.{AnswersRead, Gives, ReadsTables}
+use Rattle.slate_model.specs.Refresh.{CompactCause, Compacts, Refreshes}
+use Rattle.slate_model.specs.Stores.{by_catalogue}
+use Rattle.slate_model.specs.Tables.{AreStored}
 use Rattle.slate_model.specs.Write.{Writes, accepted_moment, batch_refusal, clock_refusal, last_number, number_refusal, write_refusal}
 use Rattle.slate_model.proofs.Reduced.{modelled}
 use Rattle.slate_status.specs.declared.statuses.DbStatus.{DbStatus}
@@ -34,16 +40,16 @@ use Rattle.slate_script.specs.declared.commands.Command.{Command}
 use Rattle.slate_script.specs.declared.replies.Reply.{Reply}
 use Rattle.slate_script.specs.declared.replies.Reply.TheVariants as replies
 use Rattle.slate_live.specs.declared.states.Write.{Write}
-use Rattle.slate_live.specs.Calls.{Call, Write as WriteCall, Merge as MergeCall, Flush, Get, Scan, Seek, Close, Poll, Status, Nothing, call_of, Target, NewHandle, NewFollower, OfWrite, OfObject, target_of}
+use Rattle.slate_live.specs.Calls.{Call, Write as WriteCall, Merge as MergeCall, Flush, Refresh, Compact, Get, Scan, Seek, Close, Poll, Status, Nothing, call_of, Target, NewHandle, NewFollower, OfWrite, OfObject, target_of}
 use Rattle.slate_live.specs.Commands.{ActsOn, DoesBy, asked_reply, write_reply}
 use Rattle.slate_live.specs.Followers.{FollowerActs}
-use Rattle.slate_live.specs.Handles.{HandleActs, MergesTo, WritesTo, pending_reply}
+use Rattle.slate_live.specs.Handles.{HandleActs, MergesTo, WritesTo, flush_type_by, pending_reply}
 use Rattle.slate_live.specs.Replies.{AnswersStatus, IsRead, closed_reply, ended_reply, follower_ended_reply, followed_reply, found_reply, polled_reply, refusal, reply_to}
 use Rattle.slate_live.specs.Represents.{IsValid}
 use Rattle.slate_live.specs.Scans.{IsTaken, Takes, scanned, sought}
 use Rattle.slate_live.specs.Settings.{Settings}
-use Rattle.slate_live.specs.Valid.{AtObject, CanAsk, CanAskFollower, CanClose, CanFollow, CanOpen, CanRead, CanStore, CanTake, CanWrite, IsDurable, IsOkOrNoMemory, IsValidAt, IsValidCommand}
-use Rattle.slate_live.specs.World.{Next, World, by_catalogue, state_of}
+use Rattle.slate_live.specs.Valid.{AtObject, CanAsk, CanAskFollower, CanClose, CanCompact, CanFollow, CanOpen, CanRead, CanRefresh, CanStore, CanTake, CanWrite, IsDurable, IsOkOrNoMemory, IsValidAt, IsValidCommand}
+use Rattle.slate_live.specs.World.{Next, World, state_of}
 use Rattle.slate_live.proofs.Cases.{some-of}
 use Rattle.slate_live.proofs.Naming.{follower-did, handle-did}
 use Rattle.slate_live.proofs.Writing.{accepts}
@@ -66,11 +72,24 @@ free-reply : {A : Type 0} (done : A → Reply) (r : Result A SlateError) → ((x
 free-reply done (Ok x) f free = f x refl
 free-reply done (Err e) f free = subst (λ x. IsOkOrNoMemory (refusal x)) (sym free) tt
 
-no-manifest : (w : World) (handle : Handle) → latest_manifest w.catalogue ≡ None → CanStore w handle → ⊥
-no-manifest w handle none can = none-some (latest_manifest w.catalogue) can.1 none can.2
-
 same-manifest : (found : Option VersionedManifest) (a b : VersionedManifest) → found ≡ Some a → found ≡ Some b → a ≡ b
 same-manifest found a b is_a is_b = some-same a b (sym is_a ∙ is_b)
+
+not-both : (b : Bool) → b ≡ true → b ≡ false → ⊥
+not-both b holds fails = absurd (cc)
+
+-- the latest manifest is found, and its epoch current, where no handle was opened since and no fault was met
+still-current : (w : World) (handle : Handle) → ManifestCause handle.epoch w.catalogue errors.Fenced → CanRefresh w handle → ⊥
+still-current w handle cause can =
+    let same : cause.0 ≡ can.0 = same-manifest (latest_manifest w.catalogue) cause.0 can.0 cause.1 (can.1).0 in
+    beyond handle.epoch can.0.manifest.writer_epoch (subst (λ m. handle.epoch < m.manifest.writer_epoch) same cause.2) (can.1).1
+
+manifest-cause : (w : World) (handle : Handle) (faults : ℕ) (error : SlateError) → ManifestCause handle.epoch w.catalogue error → (◌≡◌ {A = Result (Unit {0}) SlateError} (Err error) (Err (errors.ObjectStoreError Unavailable)) → HasRisen w.faults faults) → CanRefresh w handle → (HasRisen w.faults faults → ⊥) → error ≡ errors.NoMemory
+manifest-cause w handle faults errors.Fenced cause fault can calm = absurd (still-current w handle cause can)
+manifest-cause w handle faults errors.LatestTransactionalObjectVersionMissing cause fault can calm = absurd (none-some (latest_manifest w.catalogue) can.0 cause (can.1).0)
+manifest-cause w handle faults (errors.ObjectStoreError Unavailable) cause fault can calm = absurd (calm (fault refl))
+manifest-cause w handle faults errors.NoMemory cause fault can calm = refl
+manifest-cause w handle faults error cause fault can calm = absurd cause
 
 -- an opening that nothing stands against, and that met no fault
 open-free : (w : World) (faults : ℕ) (r : Result Handle SlateError) → OpenAnswer (λ _. ⊥) w.catalogue r → CountsFaults w.faults faults r → CanOpen w → (HasRisen w.faults faults → ⊥) → IsFree r
@@ -80,49 +99,73 @@ open-free w faults (Err (errors.ObjectStoreError Unavailable)) answer fault can 
 open-free w faults (Err errors.NoMemory) answer fault can calm = refl
 open-free w faults (Err error) answer fault can calm = absurd answer
 
-still-current : (w : World) (handle : Handle) → FlushCause handle.epoch (unstored handle) w.catalogue errors.Fenced → CanStore w handle → ⊥
-still-current w handle cause can =
-    let same : cause.0 ≡ can.1 = same-manifest (latest_manifest w.catalogue) cause.0 can.1 cause.1 can.2 in
-    beyond handle.epoch can.1.manifest.writer_epoch (subst (λ m. handle.epoch < m.manifest.writer_epoch) same cause.2) can.3
+full-ids : (w : World) (t : FlushType) (handle : Handle) → FlushCause ⊥ t handle w.catalogue errors.InvalidDBState → CanStore w t handle → ⊥
+full-ids w t handle cause can =
+    let same : cause.0 ≡ can.1 = same-manifest (latest_manifest w.catalogue) cause.0 can.1 (cause.1).0 (can.2).0 in
+    not-both (has_ids t handle can.1 (last_log can.1.manifest.replay_after_wal_id w.catalogue)) can.3
+    (subst (λ m. has_ids t handle m (last_log m.manifest.replay_after_wal_id w.catalogue) ≡ false) same cause.2)
 
-full-log : (w : World) (handle : Handle) → FlushCause handle.epoch (unstored handle) w.catalogue errors.InvalidDBState → CanStore w handle → ⊥
-full-log w handle cause can =
-    let same : cause.0 ≡ can.1 = same-manifest (latest_manifest w.catalogue) cause.0 can.1 (cause.1).0 can.2 in
-    beyond (last_log can.1.manifest.replay_after_wal_id w.catalogue) last_number (can.4 cause.2) (subst (λ m. last_number ≤ last_log m.manifest.replay_after_wal_id w.catalogue) same cause.3)
+flush-cause : (w : World) (t : FlushType) (handle : Handle) (faults : ℕ) (error : SlateError) → FlushCause ⊥ t handle w.catalogue error → CountsFaults {A = Unit {0}} w.faults faults (Err error) → CanStore w t handle → (HasRisen w.faults faults → ⊥) → error ≡ errors.NoMemory
+flush-cause w t handle faults errors.InvalidDBState cause fault can calm = absurd (full-ids w t handle cause can)
+flush-cause w t handle faults errors.TransactionalObjectVersionExists cause fault can calm = absurd cause
+flush-cause w t handle faults error cause fault can calm = manifest-cause w handle faults error cause fault.unavailable (can.1, can.2) calm
 
-flush-cause : (w : World) (handle : Handle) (faults : ℕ) (error : SlateError) → FlushCause handle.epoch (unstored handle) w.catalogue error → CountsFaults {A = Unit {0}} w.faults faults (Err error) → CanStore w handle → (HasRisen w.faults faults → ⊥) → error ≡ errors.NoMemory
-flush-cause w handle faults errors.Fenced cause fault can calm = absurd (still-current w handle cause can)
-flush-cause w handle faults errors.LatestTransactionalObjectVersionMissing cause fault can calm = absurd (no-manifest w handle cause can)
-flush-cause w handle faults errors.InvalidDBState cause fault can calm = absurd (full-log w handle cause can)
-flush-cause w handle faults (errors.ObjectStoreError Unavailable) cause fault can calm = absurd (calm (fault.unavailable refl))
-flush-cause w handle faults errors.NoMemory cause fault can calm = refl
-flush-cause w handle faults error cause fault can calm = absurd cause
-
-stores-free : (w w' : World) (made : ℕ) (h : Handle) (view : VersionedManifest) (r : Result (Unit {0}) SlateError) → Stores span made h view (state_of w).store r (state_of w').store → CanStore w h → (HasRisen w.faults w'.faults → ⊥) → IsFree r
-stores-free w w' made h view (Ok x) s can calm = tt
-stores-free w w' made h view (Err e) s can calm =
+stores-free : (w w' : World) (made : ℕ) (t : FlushType) (h h' : Handle) (r : Result (Unit {0}) SlateError) → Stores (by_catalogue w.stored w.catalogue) made t h (state_of w).store r h' (state_of w').store → CanStore w t h → (HasRisen w.faults w'.faults → ⊥) → IsFree r
+stores-free w w' made t h h' (Ok x) s can calm = tt
+stores-free w w' made t h h' (Err e) s can calm =
     let b = modelled w.catalogue w'.catalogue s.objects in
-    flush-cause w h w'.faults e b.answer.0 s.faults can calm
+    flush-cause w t h w'.faults e (b.answer).0 s.faults can calm
 
-flush-completes : (w w' : World) (made : ℕ) (h h' : Handle) (r : Result (Unit {0}) SlateError) (reply : Reply) → h.result ≡ None → CanStore w h → Flushes span made h (state_of w).store r h' (state_of w').store → reply ≡ reply_to (λ _. replies.Flushed) r → (HasRisen w.faults w'.faults → ⊥) → IsOkOrNoMemory reply
-flush-completes w w' made h h' r reply live can f is calm =
-    let s = f.stored (live, can.0) in
-    subst IsOkOrNoMemory (sym is) (free-reply (λ _. replies.Flushed) r (λ x at. tt) (stores-free w w' made h h'.view r s.1 can calm))
+flush-completes : (w w' : World) (made : ℕ) (t : FlushType) (h h' : Handle) (r : Result (Unit {0}) SlateError) (reply : Reply) → h.result ≡ None → CanStore w t h → Flushes (by_catalogue w.stored w.catalogue) made t h (state_of w).store r h' (state_of w').store → reply ≡ reply_to (λ _. replies.Flushed) r → (HasRisen w.faults w'.faults → ⊥) → IsOkOrNoMemory reply
+flush-completes w w' made t h h' r reply live can f is calm =
+    subst IsOkOrNoMemory (sym is) (free-reply (λ _. replies.Flushed) r (λ x at. tt) (stores-free w w' made t h h' r (f.stored (live, can.0)) can calm))
+
+-- a refresh of an open handle
+refresh-free : (w w' : World) (h h' : Handle) (r : Result (Unit {0}) SlateError) → h.result ≡ None → CanRefresh w h → Refreshes (by_catalogue w.stored w.catalogue) h (state_of w).store r h' (state_of w').store → (HasRisen w.faults w'.faults → ⊥) → IsFree r
+refresh-free w w' h h' (Ok x) live can f calm = tt
+refresh-free w w' h h' (Err e) live can f calm =
+    let reads = f.refreshed live in
+    manifest-cause w h w'.faults e (reads.answer).0 (reads.faults).unavailable can calm
+
+-- a compaction by an open handle
+full-compact : (w : World) (handle : Handle) (latest : VersionedManifest) → latest_manifest w.catalogue ≡ Some latest → 2 ≤ length latest.manifest.tables → (last_number ≤ latest.id) ⊎ (last_number ≤ handle.counter) → CanCompact w handle → ⊥
+full-compact w handle latest is some full can =
+    let same : latest ≡ can.0 = same-manifest (latest_manifest w.catalogue) latest can.0 is (can.1).0 in
+    let left : (latest.id < last_number) × (handle.counter < last_number) =
+    subst (λ (m : VersionedManifest). 2 ≤ length m.manifest.tables → (m.id < last_number) × (handle.counter < last_number)) (sym same) can.2 some in
+    elim full [
+      | inl id ↦ beyond latest.id last_number left.0 id
+      | inr counter ↦ beyond handle.counter last_number left.1 counter
+    ]
+
+compact-cause : (w : World) (handle : Handle) (faults : ℕ) (error : SlateError) → CompactCause (λ _. ⊥) handle w.catalogue error → (◌≡◌ {A = Result (Unit {0}) SlateError} (Err error) (Err (errors.ObjectStoreError Unavailable)) → HasRisen w.faults faults) → CanCompact w handle → (HasRisen w.faults faults → ⊥) → error ≡ errors.NoMemory
+compact-cause w handle faults errors.InvalidDBState (inl cause) fault can calm = absurd (full-compact w handle cause.0 (cause.1).0 cause.2 cause.3 can)
+compact-cause w handle faults errors.InvalidDBState (inr never) fault can calm = absurd never
+compact-cause w handle faults errors.TransactionalObjectVersionExists cause fault can calm = absurd cause
+compact-cause w handle faults (errors.ObjectStoreError NotFound) cause fault can calm = absurd cause
+compact-cause w handle faults error cause fault can calm = manifest-cause w handle faults error cause fault (can.0, can.1) calm
+
+compact-free : (w w' : World) (made : ℕ) (h h' : Handle) (r : Result (Unit {0}) SlateError) → h.result ≡ None → CanCompact w h → Compacts (by_catalogue w.stored w.catalogue) made h (state_of w).store r h' (state_of w').store → (HasRisen w.faults w'.faults → ⊥) → IsFree r
+compact-free w w' made h h' (Ok x) live can c calm = tt
+compact-free w w' made h h' (Err e) live can c calm =
+    let joins = c.compacted live in
+    let b = modelled w.catalogue w'.catalogue joins.objects in
+    compact-cause w h w'.faults e (b.answer).0 (joins.faults).unavailable can calm
 
 -- the reply to a close by the error of its flush
 close-reply : (e : Option SlateError) → IsFree (closing_flush e) → IsOkOrNoMemory (closed_reply e [])
 close-reply None free = tt
 close-reply (Some e) free = subst (λ x. IsOkOrNoMemory (closed_reply (Some x) [])) (sym free) tt
 
-close-open : (w w' : World) (made : ℕ) (h h' : Handle) (flush_type : Option FlushType) (e : Ended) (reply : Reply) → h.result ≡ None → CanClose None flush_type w h → Closes span made flush_type h (state_of w).store e h' (state_of w').store → reply ≡ ended_reply e → (HasRisen w.faults w'.faults → ⊥) → IsOkOrNoMemory reply
+close-open : (w w' : World) (made : ℕ) (h h' : Handle) (flush_type : Option FlushType) (e : Ended) (reply : Reply) → h.result ≡ None → CanClose None flush_type w h → Closes (by_catalogue w.stored w.catalogue) made flush_type h (state_of w).store e h' (state_of w').store → reply ≡ ended_reply e → (HasRisen w.faults w'.faults → ⊥) → IsOkOrNoMemory reply
 close-open w w' made h h' None e reply live can c is calm =
     let u = c.unflushed live refl in
     subst IsOkOrNoMemory (sym (is ∙ ap ended_reply u.0)) tt
 close-open w w' made h h' (Some t) e reply live can c is calm =
-    let s = c.stored (live, can.0) (λ none. absurd (cc)) in
-    subst IsOkOrNoMemory (sym (is ∙ ap ended_reply s.0)) (close-reply e.fault (stores-free w w' made h h'.view (closing_flush e.fault) s.2 can calm))
+    let f = c.flushed t refl (live, can.0) in
+    subst IsOkOrNoMemory (sym (is ∙ ap ended_reply f.0)) (close-reply e.fault (stores-free w w' made t h h' (closing_flush e.fault) (c.stored t refl (live, can.0)) can calm))
 
-close-completes : (w w' : World) (made : ℕ) (h h' : Handle) (result : CloseResult) (flush_type : Option FlushType) (e : Ended) (reply : Reply) → h.result ≡ result → CanClose result flush_type w h → Closes span made flush_type h (state_of w).store e h' (state_of w').store → reply ≡ ended_reply e → (HasRisen w.faults w'.faults → ⊥) → IsOkOrNoMemory reply
+close-completes : (w w' : World) (made : ℕ) (h h' : Handle) (result : CloseResult) (flush_type : Option FlushType) (e : Ended) (reply : Reply) → h.result ≡ result → CanClose result flush_type w h → Closes (by_catalogue w.stored w.catalogue) made flush_type h (state_of w).store e h' (state_of w').store → reply ≡ ended_reply e → (HasRisen w.faults w'.faults → ⊥) → IsOkOrNoMemory reply
 close-completes w w' made h h' None flush_type e reply at can c is calm = close-open w w' made h h' flush_type e reply at can c is calm
 close-completes w w' made h h' (Some (Ok x)) flush_type e reply at can c is calm = absurd can
 close-completes w w' made h h' (Some (Err fault)) flush_type e reply at can c is calm =
@@ -156,39 +199,53 @@ merge-completes (Some merge) n op moment second h writes reply h' writes' some c
 ok-err : {A : Type 0} (answer : Result A ReadFault) (found : A) (fault : ReadFault) → answer ≡ Ok found → answer ≡ Err fault → ⊥
 ok-err answer found fault ok err = absurd (cc)
 
+-- a read of tables that are stored meets no fault
+unfaulted : {A : Type 0} {has_rows : List Batch → Type 0} {is_plain : List Batch → Result A ReadFault → Type 0} (w w' : World) (tables : List TableId) (r : Result A SlateError) → AreStored w.catalogue tables → ReadsTables tables has_rows is_plain (state_of w).store r (state_of w').store → (HasRisen w.faults w'.faults → ⊥) → (fault : StoreFault) → r ≡ Err (errors.ObjectStoreError fault) → ⊥
+unfaulted w w' tables r stored reads calm NotFound is = reads.missing is stored
+unfaulted w w' tables r stored reads calm Unavailable is = calm ((reads.faults).unavailable is)
+
 -- a read that answers is refused nothing
-answers-free : {A : Type 0} (plain : Result A ReadFault) (found : A) (r : Result A SlateError) → plain ≡ Ok found → AnswersRead plain r → IsFree r
-answers-free plain found (Ok row) is a = tt
-answers-free plain found (Err errors.MergeOperatorMissing) is a = absurd (ok-err plain found reads.MergeOperatorMissing is a)
-answers-free plain found (Err errors.MergeOperatorError) is a = absurd (ok-err plain found reads.MergeOperatorError is a)
-answers-free plain found (Err errors.ChecksumMismatch) is a = absurd (ok-err plain found reads.ChecksumMismatch is a)
-answers-free plain found (Err errors.NoMemory) is a = refl
-answers-free plain found (Err e) is a = absurd a
+answers-free : {A : Type 0} {has_rows : List Batch → Type 0} (is_plain : List Batch → Result A ReadFault → Type 0) (rows : List Batch) (r : Result A SlateError) → ((others : List Batch) → has_rows others → others ≡ rows) → ((fault : ReadFault) → is_plain rows (Err fault) → ⊥) → ((fault : StoreFault) → r ≡ Err (errors.ObjectStoreError fault) → ⊥) → AnswersRead has_rows is_plain r → IsFree r
+answers-free is_plain rows (Ok row) alone right stored a = tt
+answers-free is_plain rows (Err errors.MergeOperatorMissing) alone right stored a = absurd (right reads.MergeOperatorMissing (subst (λ xs. is_plain xs (Err reads.MergeOperatorMissing)) (alone a.0 a.1) a.2))
+answers-free is_plain rows (Err errors.MergeOperatorError) alone right stored a = absurd (right reads.MergeOperatorError (subst (λ xs. is_plain xs (Err reads.MergeOperatorError)) (alone a.0 a.1) a.2))
+answers-free is_plain rows (Err errors.ChecksumMismatch) alone right stored a = absurd (right reads.ChecksumMismatch (subst (λ xs. is_plain xs (Err reads.ChecksumMismatch)) (alone a.0 a.1) a.2))
+answers-free is_plain rows (Err (errors.ObjectStoreError fault)) alone right stored a = absurd (stored fault refl)
+answers-free is_plain rows (Err errors.NoMemory) alone right stored a = refl
+answers-free is_plain rows (Err e) alone right stored a = absurd a
 
 found-free : (found : Option KeyValue) → IsOkOrNoMemory (found_reply found)
 found-free None = tt
 found-free (Some row) = tt
 
-read-completes : {A : Type 0} (done : A → Reply) → ((x : A) → IsOkOrNoMemory (done x)) → (closed : CloseResult) (plain : Result A ReadFault) (reply : Reply) → CanRead closed plain → IsRead done closed plain reply → IsOkOrNoMemory reply
-read-completes done ok closed plain reply can r =
-    subst IsOkOrNoMemory (sym r.replied) (free-reply done r.result (λ x at. ok x) (answers-free plain can.1 r.result can.2 ((r.does).read can.0)))
+read-completes : {A : Type 0} {has_rows : List Batch → Type 0} (done : A → Reply) → ((x : A) → IsOkOrNoMemory (done x)) → (w w' : World) (closed : CloseResult) (tables : List TableId) (plain : List Batch → Result A ReadFault) (rows : List Batch) (reply : Reply) → AreStored w.catalogue tables → ((others : List Batch) → has_rows others → others ≡ rows) → CanRead closed (λ xs answer. answer ≡ plain xs) rows → IsRead done closed tables has_rows (λ xs answer. answer ≡ plain xs) (state_of w).store reply (state_of w').store → (HasRisen w.faults w'.faults → ⊥) → IsOkOrNoMemory reply
+read-completes done ok w w' closed tables plain rows reply stored alone can r calm =
+    let reads = (r.does).read can.0 in
+    subst IsOkOrNoMemory (sym r.replied)
+    (free-reply done r.result (λ x at. ok x)
+    (answers-free (λ xs answer. answer ≡ plain xs) rows r.result alone (λ fault wrong. ok-err (plain rows) can.1 fault (sym can.2) (sym wrong)) (unfaulted w w' tables r.result stored reads calm) reads.plain))
 
 -- what is taken of a scan that answers is refused nothing
-taken-free : {is_plain : Iteration → Type 0} (taken : Iteration → Result (List KeyValue) SlateError) (scan : Result Iteration SlateError) (result : Result (List KeyValue) SlateError) → ((it : Iteration) → is_plain it → (rows : List KeyValue) × (taken it ≡ Ok rows)) → AnswersScan is_plain scan → Takes taken scan result → IsFree result
-taken-free taken (Ok it) result can plain (inl memory) = subst IsFree (sym memory) refl
-taken-free taken (Ok it) result can plain (inr all) = let c = can it plain in subst IsFree (sym (all ∙ c.1)) tt
-taken-free taken (Err errors.NoMemory) result can plain takes = subst IsFree (sym takes) refl
-taken-free taken (Err e) result can plain takes = absurd plain
+taken-free : {has_rows : List Batch → Type 0} (is_scan : List Batch → Iteration → Type 0) (taken : Iteration → Result (List KeyValue) SlateError) (rows : List Batch) (scan : Result Iteration SlateError) (result : Result (List KeyValue) SlateError) → ((others : List Batch) → has_rows others → others ≡ rows) → ((it : Iteration) → is_scan rows it → (found : List KeyValue) × (taken it ≡ Ok found)) → ((fault : StoreFault) → scan ≡ Err (errors.ObjectStoreError fault) → ⊥) → AnswersRead has_rows (Gives is_scan) scan → Takes taken scan result → IsFree result
+taken-free is_scan taken rows (Ok it) result alone can stored plain (inl memory) = subst IsFree (sym memory) refl
+taken-free is_scan taken rows (Ok it) result alone can stored plain (inr all) =
+    let c = can it (subst (λ xs. is_scan xs it) (alone plain.0 plain.1) plain.2) in
+    subst IsFree (sym (all ∙ c.1)) tt
+taken-free is_scan taken rows (Err errors.NoMemory) result alone can stored plain takes = subst IsFree (sym takes) refl
+taken-free is_scan taken rows (Err errors.MergeOperatorMissing) result alone can stored plain takes = absurd plain.2
+taken-free is_scan taken rows (Err errors.MergeOperatorError) result alone can stored plain takes = absurd plain.2
+taken-free is_scan taken rows (Err errors.ChecksumMismatch) result alone can stored plain takes = absurd plain.2
+taken-free is_scan taken rows (Err (errors.ObjectStoreError fault)) result alone can stored plain takes = absurd (stored fault refl)
+taken-free is_scan taken rows (Err e) result alone can stored plain takes = absurd plain
 
-take-completes : {is_plain : Iteration → Type 0} (closed : CloseResult) (taken : Iteration → Result (List KeyValue) SlateError) (reply : Reply) → CanTake closed is_plain taken → IsTaken closed is_plain taken reply → IsOkOrNoMemory reply
-take-completes closed taken reply can t =
-    subst IsOkOrNoMemory (sym t.replied) (free-reply replies.Rows t.result (λ x at. tt) (taken-free taken t.scan t.result can.1 ((t.scans).scan can.0) t.takes))
+take-completes : {has_rows : List Batch → Type 0} (is_scan : List Batch → Iteration → Type 0) (w w' : World) (closed : CloseResult) (tables : List TableId) (taken : Iteration → Result (List KeyValue) SlateError) (rows : List Batch) (reply : Reply) → AreStored w.catalogue tables → ((others : List Batch) → has_rows others → others ≡ rows) → CanTake closed is_scan taken rows → IsTaken closed tables has_rows is_scan taken (state_of w).store reply (state_of w').store → (HasRisen w.faults w'.faults → ⊥) → IsOkOrNoMemory reply
+take-completes is_scan w w' closed tables taken rows reply stored alone can t calm =
+    let reads = (t.scans).read can.0 in
+    subst IsOkOrNoMemory (sym t.replied)
+    (free-reply replies.Rows t.result (λ x at. tt)
+    (taken-free is_scan taken rows t.scan t.result alone can.1 (unfaulted w w' tables t.scan stored reads calm) reads.plain t.takes))
 
--- the latest manifest of the world is one by which the database can be followed
-abbrev Follows : Bool → World → Type 0
-Follows opening w = (latest : VersionedManifest) × (latest_manifest w.catalogue ≡ Some latest) × (can_follow opening latest ≡ true)
-
-follow-cause : (w : World) (opening : Bool) (faults : ℕ) (error : SlateError) → FollowCause opening w.catalogue error → CountsFaults {A = Follower × PollAnswer} w.faults faults (Err error) → Follows opening w → (HasRisen w.faults faults → ⊥) → error ≡ errors.NoMemory
+follow-cause : (w : World) (opening : Bool) (faults : ℕ) (error : SlateError) → FollowCause opening w.catalogue error → CountsFaults {A = Follower × PollAnswer} w.faults faults (Err error) → CanFollow opening w → (HasRisen w.faults faults → ⊥) → error ≡ errors.NoMemory
 follow-cause w opening faults errors.LatestTransactionalObjectVersionMissing cause fault can calm = absurd (none-some (latest_manifest w.catalogue) can.0 cause can.1)
 follow-cause w opening faults errors.InvalidDBState cause fault can calm =
     let same : cause.0 ≡ can.0 = same-manifest (latest_manifest w.catalogue) cause.0 can.0 cause.1 can.1 in
@@ -199,18 +256,18 @@ follow-cause w opening faults (errors.ObjectStoreError Unavailable) cause fault 
 follow-cause w opening faults errors.NoMemory cause fault can calm = refl
 follow-cause w opening faults error cause fault can calm = absurd cause
 
-rebuild-free : (w w' : World) (opening : Bool) (r : Result (Follower × PollAnswer) SlateError) → Rebuilds (λ line. line ≡ w.stored) opening (state_of w).store r (state_of w').store → Follows opening w → (HasRisen w.faults w'.faults → ⊥) → IsFree r
+rebuild-free : (w w' : World) (opening : Bool) (r : Result (Follower × PollAnswer) SlateError) → Rebuilds (λ line. line ≡ w.stored) opening (state_of w).store r (state_of w').store → CanFollow opening w → (HasRisen w.faults w'.faults → ⊥) → IsFree r
 rebuild-free w w' opening (Ok b) built can calm = tt
 rebuild-free w w' opening (Err e) built can calm = follow-cause w opening w'.faults e built.cause built.faults can calm
 
 -- over an honest store nothing is missing
-follow-reply : (w w' : World) (n : ℕ) (r : Result (Follower × PollAnswer) SlateError) → Rebuilds (λ line. line ≡ w.stored) true (state_of w).store r (state_of w').store → CanFollow w → (HasRisen w.faults w'.faults → ⊥) → IsOkOrNoMemory (reply_to (λ (b : Follower × PollAnswer). followed_reply n b.1) r)
+follow-reply : (w w' : World) (n : ℕ) (r : Result (Follower × PollAnswer) SlateError) → Rebuilds (λ line. line ≡ w.stored) true (state_of w).store r (state_of w').store → CanFollow true w → (HasRisen w.faults w'.faults → ⊥) → IsOkOrNoMemory (reply_to (λ (b : Follower × PollAnswer). followed_reply n b.1) r)
 follow-reply w w' n (Ok b) r can calm =
     let all = r.sees w.catalogue w.stored refl refl in
     subst (λ a. IsOkOrNoMemory (followed_reply n a)) (sym all.3) tt
 follow-reply w w' n (Err e) r can calm = subst (λ x. IsOkOrNoMemory (refusal x)) (sym (rebuild-free w w' true (Err e) r can calm)) tt
 
-poll-reply : (w w' : World) (f : Follower) (r : Result PollAnswer SlateError) → Rebuilds (λ line. line ≡ w.stored) false (state_of w).store (built f r) (state_of w').store → Follows false w → (HasRisen w.faults w'.faults → ⊥) → IsOkOrNoMemory (reply_to polled_reply r)
+poll-reply : (w w' : World) (f : Follower) (r : Result PollAnswer SlateError) → Rebuilds (λ line. line ≡ w.stored) false (state_of w).store (built f r) (state_of w').store → CanFollow false w → (HasRisen w.faults w'.faults → ⊥) → IsOkOrNoMemory (reply_to polled_reply r)
 poll-reply w w' f (Ok answer) r can calm =
     let all = r.sees w.catalogue w.stored refl refl in
     subst (λ a. IsOkOrNoMemory (polled_reply a)) (sym all.3) tt
@@ -241,44 +298,60 @@ module _ (settings : Settings) (w w' : World) (valid : IsValid w) (command : Com
       (λ f is never. absurd never)
 
   -- a handle that may be asked this
-  handle-completes : (n : ℕ) (call : Call) (h h' : Handle) → CanAsk settings.merge w command.moment command.second call h → HandleActs span settings.merge n command.moment command.second call made h (state_of w).store w.writes reply h' (state_of w').store w'.writes → IsOkOrNoMemory reply
+  handle-completes : (n : ℕ) (call : Call) (h h' : Handle) → CanAsk settings.merge w command.moment command.second call h → HandleActs (by_catalogue w.stored w.catalogue) settings.merge n command.moment command.second call made h (state_of w).store w.writes reply h' (state_of w').store w'.writes → IsOkOrNoMemory reply
   handle-completes n (WriteCall ops) h h' can a = write-completes n ops _ _ h _ reply h' _ can a.0
   handle-completes n (MergeCall op) h h' can a = merge-completes settings.merge n op _ _ h _ reply h' _ can.0 can.1 a.0
-  handle-completes n Flush h h' can a = flush-completes w w' made h h' (a.0).result reply can.0 can.1 (a.0).does (a.0).replied calm
-  handle-completes n (Get key remote) h h' can a = read-completes found_reply found-free h.result _ reply can a.0
-  handle-completes n (Scan range order remote) h h' can a = take-completes h.result scanned reply can a.0
-  handle-completes n (Seek range take key order remote) h h' can a = take-completes h.result (sought range take key) reply can a.0
+  handle-completes n (Flush t) h h' can a = flush-completes w w' made (flush_type_by t h) h h' (a.0).result reply can.0 can.1 (a.0).does (a.0).replied calm
+  handle-completes n Refresh h h' can a =
+      subst IsOkOrNoMemory (sym (a.0).replied) (free-reply _ (a.0).result (λ x at. tt) (refresh-free w w' h h' (a.0).result can.0 can.1 (a.0).does calm))
+  handle-completes n Compact h h' can a =
+      subst IsOkOrNoMemory (sym (a.0).replied) (free-reply _ (a.0).result (λ x at. tt) (compact-free w w' made h h' (a.0).result can.0 can.1 (a.0).does calm))
+  handle-completes n (Get key remote) h h' can a =
+      read-completes found_reply found-free w w' h.result h.view.manifest.tables _ h.line.batches reply can.0 (λ others has. has.1) can.1 a.0 calm
+  handle-completes n (Scan range order remote) h h' can a =
+      take-completes _ w w' h.result h.view.manifest.tables scanned h.line.batches reply can.0 (λ others has. has.1) can.1 a.0 calm
+  handle-completes n (Seek range take key order remote) h h' can a =
+      take-completes _ w w' h.result h.view.manifest.tables (sought range take key) h.line.batches reply can.0 (λ others has. has.1) can.1 a.0 calm
   handle-completes n (Close t) h h' can a = close-completes w w' made h h' h.result t (a.0).ended reply refl can (a.0).does (a.0).replied calm
   handle-completes n Poll h h' can a = absurd can
   handle-completes n Status h h' can a = status-completes _ reply a.0
   handle-completes n Nothing h h' can a = absurd can
 
+  -- each of no table is stored
+  none-missing : AreStored w.catalogue []
+  none-missing = All-nil (λ (id : TableId). table_at id w.catalogue ≢ None)
+
   -- a follower that may be asked this
-  follower-completes : (n : ℕ) (call : Call) (f f' : Follower) → slice_get w.objects n ≡ Some (AFollower f) → CanAskFollower settings.merge w call f → FollowerActs (λ line. line ≡ w.stored) (λ follower. w.stored.batches) settings.merge call made f (state_of w).store w.writes reply f' (state_of w').store w'.writes → IsOkOrNoMemory reply
+  follower-completes : (n : ℕ) (call : Call) (f f' : Follower) → slice_get w.objects n ≡ Some (AFollower f) → CanAskFollower settings.merge w call f → FollowerActs (by_catalogue w.stored w.catalogue) settings.merge call made f (state_of w).store w.writes reply f' (state_of w').store w'.writes → IsOkOrNoMemory reply
   follower-completes n (WriteCall ops) f f' at can a = absurd can
   follower-completes n (MergeCall op) f f' at can a = absurd can
-  follower-completes n Flush f f' at can a = absurd can
-  follower-completes n (Get key remote) f f' at can a = read-completes found_reply found-free f.result _ reply can a.0
-  follower-completes n (Scan range order remote) f f' at can a = take-completes f.result scanned reply can a.0
-  follower-completes n (Seek range take key order remote) f f' at can a = take-completes f.result (sought range take key) reply can a.0
+  follower-completes n (Flush t) f f' at can a = absurd can
+  follower-completes n Refresh f f' at can a = absurd can
+  follower-completes n Compact f f' at can a = absurd can
+  follower-completes n (Get key remote) f f' at can a =
+      read-completes found_reply found-free w w' f.result [] _ w.stored.batches reply none-missing (λ others has. has) can a.0 calm
+  follower-completes n (Scan range order remote) f f' at can a =
+      take-completes _ w w' f.result [] scanned w.stored.batches reply none-missing (λ others has. has) can a.0 calm
+  follower-completes n (Seek range take key order remote) f f' at can a =
+      take-completes _ w w' f.result [] (sought range take key) w.stored.batches reply none-missing (λ others has. has) can a.0 calm
   follower-completes n (Close t) f f' at can a = closed-follower-reply (recorded_fault f.result) reply can a.0
   follower-completes n Poll f f' at can a =
-      subst IsOkOrNoMemory (sym (a.0).replied) (poll-reply w w' f' (a.0).result (((a.0).does).rebuilds can) (valid.followers n f at).followed calm)
+      subst IsOkOrNoMemory (sym (a.0).replied) (poll-reply w w' f' (a.0).result (((a.0).does).rebuilds can.0) can.1 calm)
   follower-completes n Status f f' at can a = status-completes _ reply a.0
   follower-completes n Nothing f f' at can a = absurd can
 
-  object-completes : (n : ℕ) (call : Call) → call_of command.action ≡ call → AtObject (slice_get w.objects n) (CanAsk settings.merge w command.moment command.second call) (CanAskFollower settings.merge w call) → ActsOn (by_catalogue w.stored) settings.merge n command made (slice_get w.objects n) (state_of w) reply (state_of w') → IsOkOrNoMemory reply
+  object-completes : (n : ℕ) (call : Call) → call_of command.action ≡ call → AtObject (slice_get w.objects n) (CanAsk settings.merge w command.moment command.second call) (CanAskFollower settings.merge w call) → ActsOn (by_catalogue w.stored w.catalogue) settings.merge n command made (slice_get w.objects n) (state_of w) reply (state_of w') → IsOkOrNoMemory reply
   object-completes n call is can d =
       by-object (slice_get w.objects n) _ _ can
       (λ h at can_ask.
-      let a = handle-did (by_catalogue w.stored) settings.merge n command call made (state_of w) reply (state_of w') (slice_get w.objects n) h is at d in
+      let a = handle-did (by_catalogue w.stored w.catalogue) settings.merge n command call made (state_of w) reply (state_of w') (slice_get w.objects n) h is at d in
       handle-completes n call h a.new can_ask a.acts)
       (λ f at can_ask.
-      let a = follower-did (by_catalogue w.stored) settings.merge n command call made (state_of w) reply (state_of w') (slice_get w.objects n) f is at d in
+      let a = follower-did (by_catalogue w.stored w.catalogue) settings.merge n command call made (state_of w) reply (state_of w') (slice_get w.objects n) f is at d in
       follower-completes n call f a.new at can_ask a.acts)
 
-  completes-at : (target : Target) → DoesBy (by_catalogue w.stored) settings command target made (state_of w) reply (state_of w') → IsValidAt settings.merge w command.moment command.second (call_of command.action) target → IsOkOrNoMemory reply
-  completes-at NewHandle d can =
+  completes-at : (target : Target) → DoesBy (by_catalogue w.stored w.catalogue) settings command target made (state_of w) reply (state_of w') → IsValidAt settings.merge w command.moment command.second (call_of command.action) target → IsOkOrNoMemory reply
+  completes-at (NewHandle keeps_log) d can =
       let o = modelled w.catalogue w'.catalogue (d.does).opens in
       subst IsOkOrNoMemory (sym d.replied) (free-reply _ d.result (λ x at. tt) (open-free w w'.faults d.result o.answer (d.does).faults can calm))
   completes-at NewFollower d can = subst IsOkOrNoMemory (sym (d.0).replied) (follow-reply w w' (length w.objects) (d.0).result (d.0).does can calm)

@@ -8,6 +8,7 @@ use Rattle.slate_types.specs.Line.{Line, end}
 use Rattle.slate_model.specs.Catalogue.{Span}
 use Rattle.slate_model.specs.Handle.{CloseResult, Handle}
 use Rattle.slate_model.specs.Object.{Object, Handle as AHandle, Follower as AFollower}
+use Rattle.slate_model.specs.Stores.{by_catalogue}
 use Rattle.slate_script.specs.declared.commands.Action.TheVariants as actions
 use Rattle.slate_script.specs.declared.commands.Command.{Command}
 use Rattle.slate_script.specs.declared.replies.Reply.{Reply}
@@ -21,7 +22,7 @@ use Rattle.slate_live.specs.Represents.{IsHandleAt, IsValid, up_to}
 use Rattle.slate_live.specs.Settings.{Settings}
 use Rattle.slate_live.specs.State.{State}
 use Rattle.slate_live.specs.Valid.{IsConfirmed}
-use Rattle.slate_live.specs.World.{Next, World, by_catalogue, state_of}
+use Rattle.slate_live.specs.World.{Next, World, state_of}
 use Rattle.slate_live.proofs.Keeping.{stands-prefix}
 use Rattle.slate_live.proofs.Prefixes.{prefix-end}
 
@@ -53,13 +54,13 @@ stored-of w n (Some write) is durable = stored-at w n write (slice_get w.objects
 
 pub reported : (settings : Settings) (w : World) (command : Command) (reply : Reply) (w' : World) → Next settings w command reply w' → (n : ℕ) → command.action ≡ actions.Await n → reply ≡ replies.Durable → IsStoredOf w n
 reported settings w command reply w' next n is durable =
-    let d = subst (λ a. DoesBy (by_catalogue w.stored) settings command (target_of a) next.made (state_of w) reply (state_of w')) is next.does in
+    let d = subst (λ a. DoesBy (by_catalogue w.stored w.catalogue) settings command (target_of a) next.made (state_of w) reply (state_of w')) is next.does in
     stored-of w n (slice_get w.writes n) refl (sym durable ∙ d.1)
 
 -- asking changes no object and no write
 pub asked-same : (settings : Settings) (w : World) (command : Command) (reply : Reply) (w' : World) → Next settings w command reply w' → (n : ℕ) → command.action ≡ actions.Await n → (w'.objects ≡ w.objects) × (w'.writes ≡ w.writes)
 asked-same settings w command reply w' next n is =
-    let d = subst (λ a. DoesBy (by_catalogue w.stored) settings command (target_of a) next.made (state_of w) reply (state_of w')) is next.does in
+    let d = subst (λ a. DoesBy (by_catalogue w.stored w.catalogue) settings command (target_of a) next.made (state_of w) reply (state_of w')) is next.does in
     (ap (λ (s : State Span). s.objects) d.2, ap (λ (s : State Span). s.writes) d.2)
 
 -- what a handle knows to be durable is within what is stored

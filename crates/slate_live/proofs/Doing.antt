@@ -1,23 +1,27 @@
 -- What the live state's calls do, by what the calls of its objects do.
-use Rattle.std.proofs.Common.{◌≡◌, ℕ, Bool, List, set, true, Option, Some, None, Err, refl, sym, subst, arith}
-use Rattle.std.specs.Option.{IfSome}
+use Rattle.std.proofs.Common.{◌≡◌, ℕ, Bool, List, set, true, Option, Some, None, Err, refl, sym, subst, ap, arith}
+use Rattle.std.specs.Option.{IfSome, UnwrapsOrElse}
 use Rattle.slate_types.specs.declared.batches.Batch.{Batch}
+use Rattle.slate_types.specs.declared.options.CloseOptions.{CloseOptions}
+use Rattle.slate_types.specs.declared.options.FlushType.TheVariants.{MemTable}
 use Rattle.slate_types.specs.Line.{Line}
 use Rattle.slate_types.specs.Operator.{Merge}
 use Rattle.slate_store.specs.Objects.{Objects}
 use Rattle.slate_errors.specs.declared.errors.SlateError.TheVariants as errors
 use Rattle.slate_model.specs.Follower.{FollowCause, Rebuilds}
+use Rattle.slate_model.specs.Knowledge.{Knowledge}
 use Rattle.slate_model.specs.Known.{Known}
 use Rattle.slate_model.specs.Object.{Object}
-use Rattle.slate_model.specs.Open.{OpenFault, OpensHandle}
+use Rattle.slate_model.specs.Open.{OpensHandle}
 use Rattle.slate_script.specs.declared.commands.Command.{Command}
 use Rattle.slate_script.specs.declared.replies.Reply.{Reply}
+use Rattle.slate_live.specs.Calls.{flush_of_close}
 use Rattle.slate_live.specs.Commands.{Acts, ActsOn}
-use Rattle.slate_live.specs.State.{Knowledge, State}
+use Rattle.slate_live.specs.State.{State}
 
 -- an opening that finds no room touches no store
-pub opens-nothing : {is_stored : Line → Type 0} (keeps_log : Bool) (limit : ℕ) (store : Known (List Batch)) → OpensHandle (λ xs. xs) OpenFault is_stored 0 keeps_log limit store (Err errors.NoMemory) store
-opens-nothing keeps_log limit store = record {
+pub opens-nothing : {L : Type 0} (k : Knowledge L) (keeps_log : Bool) (limit : ℕ) (store : Known L) → OpensHandle k 0 keeps_log limit store (Err errors.NoMemory) store
+opens-nothing k keeps_log limit store = record {
   opens = record {
     none = λ h. h;
     some = λ o is. (o, is, record { answer = tt; part = omega arith; only = tt; can = λ h. absurd (omega (arith, h)); after = refl });
@@ -41,6 +45,11 @@ follows-nothing store = record {
   can = tt;
   sees = tt;
 }
+
+-- a close without options flushes to a table
+pub close-type : (options : Option CloseOptions) (found : CloseOptions) → UnwrapsOrElse options (λ o. o ≡ record { flush_type = Some MemTable }) found → found.flush_type ≡ flush_of_close options
+close-type None found is = ap (λ (o : CloseOptions). o.flush_type) is
+close-type (Some options) found is = ap (λ (o : CloseOptions). o.flush_type) is
 
 -- the object at a place does what is asked of it
 pub acts_on : {L : Type 0} (k : Knowledge L) (merge : Option Merge) (n : ℕ) (command : Command) (made : ℕ) (found : Option Object) (s : State L) (reply : Reply) (s' : State L) (old new : Object) → found ≡ Some old → Acts k merge n command made old s.store s.writes reply new s'.store s'.writes → s'.objects ≡ set s.objects n new → ActsOn k merge n command made found s reply s'

@@ -10,7 +10,7 @@ use Rattle.slate_types.specs.Operator.{Merge}
 use Rattle.slate_errors.specs.declared.endings.TaskName.{TaskName}
 use Rattle.slate_errors.specs.declared.errors.SlateError.{SlateError}
 use Rattle.slate_errors.specs.declared.errors.SlateError.TheVariants as errors
-use Rattle.slate_model.specs.Catalogue.{Span, span}
+use Rattle.slate_model.specs.Catalogue.{Catalogue, Span}
 use Rattle.slate_model.specs.declared.answers.PollAnswer.{PollAnswer}
 use Rattle.slate_model.specs.declared.answers.PollAnswer.TheVariants.{Whole, Truncated}
 use Rattle.slate_model.specs.declared.answers.Written.{Written}
@@ -18,13 +18,14 @@ use Rattle.slate_model.specs.Follower.{Follower}
 use Rattle.slate_model.specs.Handle.{CloseResult, Handle, accepted}
 use Rattle.slate_model.specs.Known.{Known}
 use Rattle.slate_model.specs.Object.{Object, Handle as AHandle, Follower as AFollower}
+use Rattle.slate_model.specs.Stores.{by_catalogue}
 use Rattle.slate_model.specs.Write.{Writes, next_batch, written}
 use Rattle.slate_script.specs.declared.commands.Command.{Command}
 use Rattle.slate_status.specs.declared.statuses.DbStatus.{DbStatus}
 use Rattle.slate_script.specs.declared.replies.Reply.{Reply}
 use Rattle.slate_script.specs.declared.replies.Reply.TheVariants as replies
 use Rattle.slate_live.specs.declared.states.Write.{Write}
-use Rattle.slate_live.specs.Calls.{Call, Write as WriteCall, Merge as MergeCall, Flush, Get, Scan, Seek, Close, Poll, Status, Nothing, call_of, Target, NewHandle, NewFollower, OfWrite, OfObject, target_of}
+use Rattle.slate_live.specs.Calls.{Call, Write as WriteCall, Merge as MergeCall, Flush, Refresh, Compact, Get, Scan, Seek, Close, Poll, Status, Nothing, call_of, Target, NewHandle, NewFollower, OfWrite, OfObject, target_of}
 use Rattle.slate_live.specs.Commands.{Acts, ActsOn, DoesBy, asked_reply, write_reply}
 use Rattle.slate_live.specs.Confirmed.{StandsIn}
 use Rattle.slate_live.specs.Followers.{FollowerActs}
@@ -34,7 +35,7 @@ use Rattle.slate_live.specs.Represents.{IsHandleAt}
 use Rattle.slate_live.specs.Rising.{Rise, Rises}
 use Rattle.slate_live.specs.Settings.{Settings}
 use Rattle.slate_live.specs.State.{State}
-use Rattle.slate_live.specs.World.{Next, World, by_catalogue, state_of}
+use Rattle.slate_live.specs.World.{Next, World, state_of}
 use Rattle.slate_live.proofs.Places.{get-before, get-seam, get-set_same}
 use Rattle.slate_live.proofs.Rising.{rises}
 
@@ -177,52 +178,58 @@ module _ (xs ys : List Object) (rise : Rise xs ys) (ws vs : List Write) where
   merge-keeps None n op moment second h h' reply at set_is a = keeps-by xs ys rise ws vs reply a.2 (numbers-by vs a.0 tt)
   merge-keeps (Some merge) n op moment second h h' reply at set_is a = write-keeps n h h' _ moment second a.result reply at a.does a.replied a.noted set_is
 
-  handle-keeps : (merge : Option Merge) (n : ℕ) (moment : ℤ) (second : Option ℤ) (call : Call) (made : ℕ) (h h' : Handle) (before after : Known Span) (reply : Reply) → IsHandleAt xs n h → ys ≡ set xs n (AHandle h') → HandleActs span merge n moment second call made h before ws reply h' after vs → Keeps xs ws reply ys vs
-  handle-keeps merge n moment second (WriteCall ops) made h h' before after reply at set_is a = write-keeps n h h' _ moment second (a.0).result reply at (a.0).does (a.0).replied (a.0).noted set_is
-  handle-keeps merge n moment second (MergeCall op) made h h' before after reply at set_is a = merge-keeps merge n op moment second h h' reply at set_is a.0
-  handle-keeps merge n moment second Flush made h h' before after reply at set_is a =
+  handle-keeps : (stored : Line) (catalogue : Catalogue) (merge : Option Merge) (n : ℕ) (moment : ℤ) (second : Option ℤ) (call : Call) (made : ℕ) (h h' : Handle) (before after : Known Span) (reply : Reply) → IsHandleAt xs n h → ys ≡ set xs n (AHandle h') → HandleActs (by_catalogue stored catalogue) merge n moment second call made h before ws reply h' after vs → Keeps xs ws reply ys vs
+  handle-keeps stored catalogue merge n moment second (WriteCall ops) made h h' before after reply at set_is a = write-keeps n h h' _ moment second (a.0).result reply at (a.0).does (a.0).replied (a.0).noted set_is
+  handle-keeps stored catalogue merge n moment second (MergeCall op) made h h' before after reply at set_is a = merge-keeps merge n op moment second h h' reply at set_is a.0
+  handle-keeps stored catalogue merge n moment second (Flush t) made h h' before after reply at set_is a =
       keeps-by xs ys rise ws vs reply a.1 (numbers-by vs (a.0).replied (numbers-to vs _ (a.0).result (λ x. tt)))
-  handle-keeps merge n moment second (Close t) made h h' before after reply at set_is a =
+  handle-keeps stored catalogue merge n moment second Refresh made h h' before after reply at set_is a =
+      keeps-by xs ys rise ws vs reply a.2 (numbers-by vs (a.0).replied (numbers-to vs _ (a.0).result (λ x. tt)))
+  handle-keeps stored catalogue merge n moment second Compact made h h' before after reply at set_is a =
+      keeps-by xs ys rise ws vs reply a.1 (numbers-by vs (a.0).replied (numbers-to vs _ (a.0).result (λ x. tt)))
+  handle-keeps stored catalogue merge n moment second (Close t) made h h' before after reply at set_is a =
       keeps-by xs ys rise ws vs reply a.1 (numbers-by vs (a.0).replied (numbers-closed vs _ _))
-  handle-keeps merge n moment second (Get key remote) made h h' before after reply at set_is a =
+  handle-keeps stored catalogue merge n moment second (Get key remote) made h h' before after reply at set_is a =
       keeps-by xs ys rise ws vs reply a.3 (numbers-by vs (a.0).replied (numbers-to vs _ (a.0).result (numbers-found vs)))
-  handle-keeps merge n moment second (Scan range order remote) made h h' before after reply at set_is a =
+  handle-keeps stored catalogue merge n moment second (Scan range order remote) made h h' before after reply at set_is a =
       keeps-by xs ys rise ws vs reply a.3 (numbers-by vs (a.0).replied (numbers-to vs _ (a.0).result (λ x. tt)))
-  handle-keeps merge n moment second (Seek range take key order remote) made h h' before after reply at set_is a =
+  handle-keeps stored catalogue merge n moment second (Seek range take key order remote) made h h' before after reply at set_is a =
       keeps-by xs ys rise ws vs reply a.3 (numbers-by vs (a.0).replied (numbers-to vs _ (a.0).result (λ x. tt)))
-  handle-keeps merge n moment second Poll made h h' before after reply at set_is a = keeps-by xs ys rise ws vs reply a.3 (numbers-by vs a.0 tt)
-  handle-keeps merge n moment second Status made h h' before after reply at set_is a = keeps-by xs ys rise ws vs reply a.3 (numbers-status vs _ a.0)
-  handle-keeps merge n moment second Nothing made h h' before after reply at set_is a = keeps-by xs ys rise ws vs reply a.3 (numbers-by vs a.0 tt)
+  handle-keeps stored catalogue merge n moment second Poll made h h' before after reply at set_is a = keeps-by xs ys rise ws vs reply a.3 (numbers-by vs a.0 tt)
+  handle-keeps stored catalogue merge n moment second Status made h h' before after reply at set_is a = keeps-by xs ys rise ws vs reply a.3 (numbers-status vs _ a.0)
+  handle-keeps stored catalogue merge n moment second Nothing made h h' before after reply at set_is a = keeps-by xs ys rise ws vs reply a.3 (numbers-by vs a.0 tt)
 
-  follower-keeps : (stored : Line) (rows : Follower → List Batch) (merge : Option Merge) (call : Call) (made : ℕ) (f f' : Follower) (before after : Known Span) (reply : Reply) → FollowerActs (λ line. line ≡ stored) rows merge call made f before ws reply f' after vs → Keeps xs ws reply ys vs
-  follower-keeps stored rows merge Poll made f f' before after reply a =
+  follower-keeps : (stored : Line) (catalogue : Catalogue) (merge : Option Merge) (call : Call) (made : ℕ) (f f' : Follower) (before after : Known Span) (reply : Reply) → FollowerActs (by_catalogue stored catalogue) merge call made f before ws reply f' after vs → Keeps xs ws reply ys vs
+  follower-keeps stored catalogue merge Poll made f f' before after reply a =
       keeps-by xs ys rise ws vs reply a.2 (numbers-by vs (a.0).replied (numbers-to vs _ (a.0).result (numbers-polled vs)))
-  follower-keeps stored rows merge (Get key remote) made f f' before after reply a =
+  follower-keeps stored catalogue merge (Get key remote) made f f' before after reply a =
       keeps-by xs ys rise ws vs reply a.3 (numbers-by vs (a.0).replied (numbers-to vs _ (a.0).result (numbers-found vs)))
-  follower-keeps stored rows merge (Close t) made f f' before after reply a = keeps-by xs ys rise ws vs reply a.3 (numbers-by vs a.0 (numbers-follower-closed vs _ _))
-  follower-keeps stored rows merge (Scan range order remote) made f f' before after reply a =
+  follower-keeps stored catalogue merge (Close t) made f f' before after reply a = keeps-by xs ys rise ws vs reply a.3 (numbers-by vs a.0 (numbers-follower-closed vs _ _))
+  follower-keeps stored catalogue merge (Scan range order remote) made f f' before after reply a =
       keeps-by xs ys rise ws vs reply a.3 (numbers-by vs (a.0).replied (numbers-to vs _ (a.0).result (λ x. tt)))
-  follower-keeps stored rows merge (Seek range take key order remote) made f f' before after reply a =
+  follower-keeps stored catalogue merge (Seek range take key order remote) made f f' before after reply a =
       keeps-by xs ys rise ws vs reply a.3 (numbers-by vs (a.0).replied (numbers-to vs _ (a.0).result (λ x. tt)))
-  follower-keeps stored rows merge (WriteCall ops) made f f' before after reply a = keeps-by xs ys rise ws vs reply a.3 (numbers-by vs a.0 tt)
-  follower-keeps stored rows merge (MergeCall op) made f f' before after reply a = keeps-by xs ys rise ws vs reply a.3 (numbers-by vs a.0 tt)
-  follower-keeps stored rows merge Flush made f f' before after reply a = keeps-by xs ys rise ws vs reply a.3 (numbers-by vs a.0 tt)
-  follower-keeps stored rows merge Status made f f' before after reply a = keeps-by xs ys rise ws vs reply a.3 (numbers-status vs _ a.0)
-  follower-keeps stored rows merge Nothing made f f' before after reply a = keeps-by xs ys rise ws vs reply a.3 (numbers-by vs a.0 tt)
+  follower-keeps stored catalogue merge (WriteCall ops) made f f' before after reply a = keeps-by xs ys rise ws vs reply a.3 (numbers-by vs a.0 tt)
+  follower-keeps stored catalogue merge (MergeCall op) made f f' before after reply a = keeps-by xs ys rise ws vs reply a.3 (numbers-by vs a.0 tt)
+  follower-keeps stored catalogue merge (Flush t) made f f' before after reply a = keeps-by xs ys rise ws vs reply a.3 (numbers-by vs a.0 tt)
+  follower-keeps stored catalogue merge Refresh made f f' before after reply a = keeps-by xs ys rise ws vs reply a.3 (numbers-by vs a.0 tt)
+  follower-keeps stored catalogue merge Compact made f f' before after reply a = keeps-by xs ys rise ws vs reply a.3 (numbers-by vs a.0 tt)
+  follower-keeps stored catalogue merge Status made f f' before after reply a = keeps-by xs ys rise ws vs reply a.3 (numbers-status vs _ a.0)
+  follower-keeps stored catalogue merge Nothing made f f' before after reply a = keeps-by xs ys rise ws vs reply a.3 (numbers-by vs a.0 tt)
 
 module _ (settings : Settings) (w w' : World) (command : Command) (made : ℕ) (reply : Reply) (rise : Rise w.objects w'.objects) where
-  acts-keep : (n : ℕ) (old new : Object) → slice_get w.objects n ≡ Some old → w'.objects ≡ set w.objects n new → Acts (by_catalogue w.stored) settings.merge n command made old (state_of w).store w.writes reply new (state_of w').store w'.writes → Keeps w.objects w.writes reply w'.objects w'.writes
-  acts-keep n (AHandle h) (AHandle h') at set_is a = handle-keeps w.objects w'.objects rise w.writes w'.writes settings.merge n command.moment command.second (call_of command.action) made h h' _ _ reply at set_is a
-  acts-keep n (AFollower f) (AFollower f') at set_is a = follower-keeps w.objects w'.objects rise w.writes w'.writes w.stored _ settings.merge (call_of command.action) made f f' _ _ reply a
+  acts-keep : (n : ℕ) (old new : Object) → slice_get w.objects n ≡ Some old → w'.objects ≡ set w.objects n new → Acts (by_catalogue w.stored w.catalogue) settings.merge n command made old (state_of w).store w.writes reply new (state_of w').store w'.writes → Keeps w.objects w.writes reply w'.objects w'.writes
+  acts-keep n (AHandle h) (AHandle h') at set_is a = handle-keeps w.objects w'.objects rise w.writes w'.writes w.stored w.catalogue settings.merge n command.moment command.second (call_of command.action) made h h' _ _ reply at set_is a
+  acts-keep n (AFollower f) (AFollower f') at set_is a = follower-keeps w.objects w'.objects rise w.writes w'.writes w.stored w.catalogue settings.merge (call_of command.action) made f f' _ _ reply a
   acts-keep n (AHandle h) (AFollower f') at set_is a = absurd a
   acts-keep n (AFollower f) (AHandle h') at set_is a = absurd a
 
-  on-keeps : (n : ℕ) (found : Option Object) → slice_get w.objects n ≡ found → ActsOn (by_catalogue w.stored) settings.merge n command made found (state_of w) reply (state_of w') → Keeps w.objects w.writes reply w'.objects w'.writes
+  on-keeps : (n : ℕ) (found : Option Object) → slice_get w.objects n ≡ found → ActsOn (by_catalogue w.stored w.catalogue) settings.merge n command made found (state_of w) reply (state_of w') → Keeps w.objects w.writes reply w'.objects w'.writes
   on-keeps n None at d = keeps-by w.objects w'.objects rise w.writes w'.writes reply (ap (λ (s : State Span). s.writes) d.2) (numbers-by w'.writes d.1 tt)
   on-keeps n (Some old) at d = acts-keep n old d.new at d.objects d.acts
 
-  keeps-target : (target : Target) → DoesBy (by_catalogue w.stored) settings command target made (state_of w) reply (state_of w') → Keeps w.objects w.writes reply w'.objects w'.writes
-  keeps-target NewHandle d =
+  keeps-target : (target : Target) → DoesBy (by_catalogue w.stored w.catalogue) settings command target made (state_of w) reply (state_of w') → Keeps w.objects w.writes reply w'.objects w'.writes
+  keeps-target (NewHandle keeps_log) d =
       keeps-by w.objects w'.objects rise w.writes w'.writes reply d.writes (numbers-by w'.writes d.replied (numbers-to w'.writes _ d.result (λ x. tt)))
   keeps-target NewFollower d =
       keeps-by w.objects w'.objects rise w.writes w'.writes reply (d.0).writes (numbers-by w'.writes (d.0).replied (numbers-to w'.writes _ (d.0).result (λ (b : Follower × PollAnswer). numbers-followed w'.writes (length w.objects) b.1)))

@@ -1,90 +1,423 @@
--- What a command does to an honest store it does to what the world knows of it.
-use Rattle.std.proofs.Common.{◌≡◌, ℕ, ℤ, List, Option, Some, Result, Ok, Err, refl, subst}
+-- What a command does to an honest store by what the code keeps of a handle, it does to what the world knows of both.
+use Rattle.std.proofs.Common.{◌≡◌, ℕ, ℤ, List, [], Option, Some, None, Result, Ok, Err, inl, inr, refl, sym, subst, ap, ◌∙◌, ◌≤◌, ◌+◌, ◌++◌, arith, cond, ◌∷◌, Bool, false}
+use Rattle.slate_types.specs.declared.batches.Batch.{Batch}
+use Rattle.slate_types.specs.declared.batches.KeyOp.{KeyOp}
 use Rattle.slate_types.specs.declared.batches.KeyValue.{KeyValue}
+use Rattle.slate_types.specs.declared.options.FlushType.{FlushType}
 use Rattle.slate_types.specs.declared.read_faults.ReadFault.{ReadFault}
-use Rattle.slate_types.specs.Line.{IsLine, IsPrefix, Line}
+use Rattle.slate_types.specs.Line.{IsLine, IsPrefix, Line, batches_above}
 use Rattle.slate_types.specs.declared.ranges.ByteRange.{ByteRange}
 use Rattle.slate_types.specs.declared.scan_options.IterationOrder.{IterationOrder}
 use Rattle.slate_types.specs.Operator.{Merge}
+use Rattle.slate_reads.specs.Bound.{read_bound}
+use Rattle.slate_reads.specs.Read.{read_at}
 use Rattle.slate_rows.specs.Iteration.{Iteration}
-use Rattle.slate_store.specs.Objects.{Objects}
-use Rattle.slate_store.specs.Content.{IsSound, content}
+use Rattle.slate_rows.specs.Scan.{BeginsScan}
+use Rattle.slate_store.specs.Content.{IsSound, content, table_batches}
+use Rattle.slate_store.specs.Objects.{Objects, latest_manifest, table_at}
+use Rattle.slate_store.specs.declared.objects.TableId.{TableId}
+use Rattle.slate_store.specs.declared.objects.VersionedManifest.{VersionedManifest}
 use Rattle.slate_errors.specs.declared.errors.SlateError.{SlateError}
-use Rattle.slate_errors.specs.declared.errors.SlateError.TheVariants as errors
-use Rattle.slate_model.specs.Catalogue.{span}
-use Rattle.slate_model.specs.Follower.{Follower}
-use Rattle.slate_model.specs.Handle.{Handle}
-use Rattle.slate_model.specs.Known.{IsContent}
+use Rattle.slate_model.specs.Catalogue.{catalogue_of}
+use Rattle.slate_model.specs.Close.{closed, closing_flush, Closes}
+use Rattle.slate_model.specs.Flush.{flush_result, grown, CanFlush, Flushes, IsFlushed, Stores}
+use Rattle.slate_model.specs.Follower.{Follower, Polls, number}
+use Rattle.slate_model.specs.Handle.{CloseResult, Handle, accepted, kept_handle, next_table}
+use Rattle.slate_model.specs.Known.{IsContent, Known, Untouched}
 use Rattle.slate_model.specs.Object.{Object, Handle as AHandle, Follower as AFollower}
-use Rattle.slate_model.specs.Read.{AnswersScan, Reads}
-use Rattle.slate_model.proofs.Reduced.{catalogued, closes-reduced, flushes-reduced, holding, polls-reduced, untouched-known}
-use Rattle.slate_script.specs.declared.commands.Command.{Command}
+use Rattle.slate_model.specs.Read.{Gives, Reads}
+use Rattle.slate_model.specs.Stores.{by_catalogue, by_objects, kept_rows, world_rows}
+use Rattle.slate_model.specs.Tables.{AreJoined, AreStored}
+use Rattle.slate_model.specs.Valid.{IsValidHandle, ReadsItsLine}
+use Rattle.slate_model.proofs.Compacting.{compact-moved, refresh-moved, compact-rises, refresh-rises}
+use Rattle.slate_model.proofs.Flushing.{flush-moved, grown-zero}
+use Rattle.slate_model.proofs.Free.{flush-unset, joins}
+use Rattle.slate_model.proofs.Keeping.{accepted-kept, log_for-kept}
+use Rattle.slate_model.proofs.Moving.{Moved, known-stored, none-known, stored-known, unmoved}
+use Rattle.slate_model.proofs.Reduced.{catalogued, closes-reduced, compacts-reduced, flushed-whole, flushes-reduced, holding, kept-whole, modelled, polls-reduced, reads-reduced, refreshes-reduced, some-same, stores-rises, untouched-known, whole}
+use Rattle.slate_model.proofs.Writing.{kept-written, rewritten, writes-whole, written-reads, written-valid}
 use Rattle.slate_script.specs.declared.replies.Reply.{Reply}
 use Rattle.slate_live.specs.declared.states.Write.{Write}
-use Rattle.slate_live.specs.Calls.{Call, Write as WriteCall, Merge as MergeCall, Flush, Get, Scan, Seek, Close, Poll, Status, Nothing, call_of}
-use Rattle.slate_live.specs.Commands.{Acts}
-use Rattle.slate_live.specs.Followers.{FollowerActs, GetsFromFollower, IsPlainScanAt}
-use Rattle.slate_live.specs.Handles.{HandleActs}
-use Rattle.slate_live.specs.State.{by_objects}
-use Rattle.slate_live.specs.World.{by_catalogue}
+use Rattle.slate_live.specs.Calls.{Call, Write as WriteCall, Merge as MergeCall, Flush, Refresh, Compact, Get, Scan, Seek, Close, Poll, Status, Nothing}
+use Rattle.slate_live.specs.Followers.{FollowerActs, IsPlainReadAt, IsPlainScanAt, TakesFromFollower}
+use Rattle.slate_live.specs.Handles.{HandleActs, IsPlainRead, IsPlainScan, MergesTo, cut, flush_type_by, WritesTo, TakesFrom, level_of}
+use Rattle.slate_live.specs.Replies.{IsRead, found_reply}
 use Rattle.slate_live.specs.Scans.{IsTaken, scanned, sought}
+use Rattle.slate_live.specs.World.{grown_by}
+use Rattle.slate_live.proofs.Cases.{by-option, close-by, compact-by, flush-by, refresh-by, some-of}
 use Rattle.slate_live.proofs.Reading.{front-read, front-scan}
+use Rattle.slate_errors.specs.Errors.{closed_error}
+use Rattle.slate_model.specs.declared.answers.Written.{Written}
+use Rattle.slate_errors.specs.declared.endings.Ended.{Ended}
+use Rattle.slate_model.specs.Refresh.{Compacts, Refreshes, fenced_result}
+use Rattle.slate_model.specs.declared.answers.PollAnswer.{PollAnswer}
+use Rattle.slate_model.specs.Write.{written}
+use Rattle.slate_live.proofs.Prefixes.{prefix-same}
+use Rattle.std.specs.Result.{IfErr}
 
-module _ (o o' : Objects) (f f' : ℕ) (made : ℕ) (writes writes' : List Write) (reply : Reply) where
-  handle-known : (merge : Option Merge) (n : ℕ) (moment : ℤ) (second : Option ℤ) (call : Call) (h h' : Handle) → HandleActs (λ xs. xs) merge n moment second call made h (holding o f) writes reply h' (holding o' f') writes' → HandleActs span merge n moment second call made h (catalogued o f) writes reply h' (catalogued o' f') writes'
-  handle-known merge n moment second (WriteCall ops) h h' a = (a.0, untouched-known made o o' f f' a.1)
-  handle-known merge n moment second (MergeCall op) h h' a = (a.0, untouched-known made o o' f f' a.1)
-  handle-known merge n moment second Flush h h' a =
-      (record { result = (a.0).result; replied = (a.0).replied; does = flushes-reduced made h h' (a.0).result o o' f f' (a.0).does }, a.1)
-  handle-known merge n moment second (Close t) h h' a =
-      (record { ended = (a.0).ended; replied = (a.0).replied; does = closes-reduced made _ h h' (a.0).ended o o' f f' (a.0).does }, a.1)
-  handle-known merge n moment second (Get key remote) h h' a = (a.0, a.1, untouched-known made o o' f f' a.2, a.3)
-  handle-known merge n moment second (Scan range order remote) h h' a = (a.0, a.1, untouched-known made o o' f f' a.2, a.3)
-  handle-known merge n moment second (Seek range take key order remote) h h' a = (a.0, a.1, untouched-known made o o' f f' a.2, a.3)
-  handle-known merge n moment second Poll h h' a = (a.0, a.1, untouched-known made o o' f f' a.2, a.3)
-  handle-known merge n moment second Status h h' a = (a.0, a.1, untouched-known made o o' f f' a.2, a.3)
-  handle-known merge n moment second Nothing h h' a = (a.0, a.1, untouched-known made o o' f f' a.2, a.3)
+-- ---- reads
+-- the batches that the code reads for a handle are the line's
+joined-are : (o : Objects) (ids : List TableId) (stored : List Batch) → AreJoined (Some o) ids stored → AreStored o ids × (stored ≡ table_batches o ids)
+joined-are o [] stored none = (λ k d less. absurd (omega (arith, less)), none)
+joined-are o (id ∷ ids) stored all = all
 
-  module _ (stored : Line) (is_sound : IsSound o) (is_stored : content o ≡ stored) (numbered : IsLine stored) where
-    scan-known : (merge : Option Merge) (range : ByteRange) (order : IterationOrder) (g : Follower) → IsPrefix g.line stored → (scan : Result Iteration SlateError) → AnswersScan (IsPlainScanAt merge g.line.batches range order g) scan → AnswersScan (IsPlainScanAt merge stored.batches range order g) scan
-    scan-known merge range order g front (Ok it) plain = front-scan merge g.line stored range order it front numbered plain
-    scan-known merge range order g front (Err errors.NoMemory) plain = tt
-    scan-known merge range order g front (Err e) plain = absurd plain
+rows-known : (line : Line) (o : Objects) (h : Handle) → ReadsItsLine o h → (rows : List Batch) → kept_rows (Some o) (AHandle (kept_handle h)) rows → world_rows line (catalogue_of o) (AHandle h) rows
+rows-known line o h reads rows r =
+    let all = joined-are o h.view.manifest.tables r.0 r.1 in (
+      known-stored o h.view.manifest.tables all.0,
+      r.2 ∙ (ap (λ bs. bs ++ batches_above h.view.manifest.last_l0_seq h.line.batches) all.1 ∙ reads all.0),
+    )
 
-    read-known : (merge : Option Merge) (key : List ℕ) (g : Follower) → IsPrefix g.line stored → GetsFromFollower merge g.line.batches key g reply → GetsFromFollower merge stored.batches key g reply
-    read-known merge key g front r =
-        record {
-          result = r.result;
-          replied = r.replied;
-          does = subst (λ (a : Result (Option KeyValue) ReadFault). Reads g.result a r.result) (front-read merge g.line stored key front numbered) r.does;
-        }
+cut-kept : (h : Handle) (remote : Bool) → cut (kept_handle h) remote ≡ cut h remote
+cut-kept h remote = ap (λ n. read_bound None h.durable n (level_of remote) false) (accepted-kept h)
 
-    taken-known : (merge : Option Merge) (range : ByteRange) (order : IterationOrder) (taken : Iteration → Result (List KeyValue) SlateError) (g : Follower) → IsPrefix g.line stored → IsTaken g.result (IsPlainScanAt merge g.line.batches range order g) taken reply → IsTaken g.result (IsPlainScanAt merge stored.batches range order g) taken reply
-    taken-known merge range order taken g front t =
-        record {
-          scan = t.scan;
-          result = t.result;
-          scans = record { closed = (t.scans).closed; scan = λ live. scan-known merge range order g front t.scan ((t.scans).scan live) };
-          takes = t.takes;
-          replied = t.replied;
-        }
+read-known : (merge : Option Merge) (key : List ℕ) (remote : Bool) (h : Handle) (rows : List Batch) (a : Result (Option KeyValue) ReadFault) → IsPlainRead merge key remote (kept_handle h) rows a → IsPlainRead merge key remote h rows a
+read-known merge key remote h rows a plain = plain ∙ ap (λ c. read_at merge rows c key) (cut-kept h remote)
 
-    follower-known : (merge : Option Merge) (call : Call) (g g' : Follower) → IsPrefix g.line stored → FollowerActs (IsContent (Some o)) (λ x. x.line.batches) merge call made g (holding o f) writes reply g' (holding o' f') writes' → FollowerActs (λ line. line ≡ stored) (λ x. stored.batches) merge call made g (catalogued o f) writes reply g' (catalogued o' f') writes'
-    follower-known merge Poll g g' front a =
-        (record { result = (a.0).result; replied = (a.0).replied; does = polls-reduced stored (a.0).result g g' o o' f f' is_sound is_stored (a.0).does }, a.1, a.2)
-    follower-known merge (Get key remote) g g' front a = (read-known merge key g front a.0, a.1, untouched-known made o o' f f' a.2, a.3)
-    follower-known merge (Scan range order remote) g g' front a = (taken-known merge range order scanned g front a.0, a.1, untouched-known made o o' f f' a.2, a.3)
-    follower-known merge (Seek range take key order remote) g g' front a = (taken-known merge range order (sought range take key) g front a.0, a.1, untouched-known made o o' f f' a.2, a.3)
-    follower-known merge (Close t) g g' front a = (a.0, a.1, untouched-known made o o' f f' a.2, a.3)
-    follower-known merge (WriteCall ops) g g' front a = (a.0, a.1, untouched-known made o o' f f' a.2, a.3)
-    follower-known merge (MergeCall op) g g' front a = (a.0, a.1, untouched-known made o o' f f' a.2, a.3)
-    follower-known merge Flush g g' front a = (a.0, a.1, untouched-known made o o' f f' a.2, a.3)
-    follower-known merge Status g g' front a = (a.0, a.1, untouched-known made o o' f f' a.2, a.3)
-    follower-known merge Nothing g g' front a = (a.0, a.1, untouched-known made o o' f f' a.2, a.3)
+scan-known : (merge : Option Merge) (range : ByteRange) (order : IterationOrder) (remote : Bool) (h : Handle) (rows : List Batch) (a : Result Iteration ReadFault) → Gives (IsPlainScan merge range order remote (kept_handle h)) rows a → Gives (IsPlainScan merge range order remote h) rows a
+scan-known merge range order remote h rows (Ok it) plain = subst (λ c. BeginsScan merge rows c range order it) (cut-kept h remote) plain
+scan-known merge range order remote h rows (Err fault) plain = plain
 
-    -- what an object does
-    pub acts-known : (merge : Option Merge) (n : ℕ) (command : Command) (x x' : Object) → ((g : Follower) → x ≡ AFollower g → IsPrefix g.line stored) → Acts (by_objects (Some o)) merge n command made x (holding o f) writes reply x' (holding o' f') writes' → Acts (by_catalogue stored) merge n command made x (catalogued o f) writes reply x' (catalogued o' f') writes'
-    acts-known merge n command (AHandle h) (AHandle h') front a = handle-known merge n command.moment command.second (call_of command.action) h h' a
-    acts-known merge n command (AFollower g) (AFollower g') front a = follower-known merge (call_of command.action) g g' (front g refl) a
-    acts-known merge n command (AHandle h) (AFollower g') front a = absurd a
-    acts-known merge n command (AFollower g) (AHandle h') front a = absurd a
+-- a read leaves the objects
+objects-read : {A : Type 0} {has : List Batch → Type 0} {P : List Batch → Result A ReadFault → Type 0} (closed : CloseResult) (tables : List TableId) (r : Result A SlateError) (o o' : Objects) (f f' : ℕ) → Reads closed tables has P (holding o f) r (holding o' f') → o' ≡ o
+objects-read closed tables r o o' f f' s =
+    by-option closed
+    (λ live. some-same o' o (s.read live).kept)
+    (λ q is. some-same o' o (ap (λ (k : Known (List Batch)). k.objects) (some-of (λ q. (r ≡ Err (closed_error q)) × (holding o' f' ≡ holding o f)) closed q is s.closed).1))
+
+objects-same : (o o' : Objects) (f f' : ℕ) → holding o' f' ≡ holding o f → o' ≡ o
+objects-same o o' f f' same = some-same o' o (ap (λ (k : Known (List Batch)). k.objects) same)
+
+-- a valid handle is one after its close
+closed-valid : (stored : Line) (o : Objects) (h : Handle) → IsValidHandle stored (catalogue_of o) h → IsValidHandle stored (catalogue_of o) (closed h)
+closed-valid stored o h v = record {
+  numbered = v.numbered;
+  floor = v.floor;
+  tabled = v.tabled;
+  durable = v.durable;
+  confirmed = v.confirmed;
+  tables = v.tables;
+  unused = v.unused;
+  behind = v.behind;
+  current = λ found live at low. absurd (cc);
+}
+
+type-kept : (flush_type : Option FlushType) (h : Handle) → flush_type_by flush_type (kept_handle h) ≡ flush_type_by flush_type h
+type-kept None h = refl
+type-kept (Some t) h = refl
+
+module _ (stored : Line) (o o' : Objects) (f f' : ℕ) (made : ℕ) (writes writes' : List Write) (reply : Reply) (sound : IsSound o) (holds : content o ≡ stored)
+    (latest : VersionedManifest) (is : latest_manifest o ≡ Some latest) (h k : Handle) (v : IsValidHandle stored (catalogue_of o) h) (reads : ReadsItsLine o h)
+    (merge : Option Merge) (n : ℕ) (moment : ℤ) (second : Option ℤ) where
+  -- what the command leaves of the whole handle: it moved, and what is kept of it is what the code has
+  pub record Led (call : Call) : Type 0 where
+    pub new : Handle
+    pub kept : k ≡ kept_handle new
+    pub moved : Moved stored (grown_by call made stored (Some (AHandle h))) o o' latest h new
+    pub known : HandleActs (by_catalogue stored (catalogue_of o)) merge n moment second call made h (catalogued o f) writes reply new (catalogued o' f') writes'
+
+  low : h.view.manifest.last_l0_seq ≤ accepted h
+  low = let t = v.tabled in let d = v.durable in omega (arith, t, d)
+
+  ahead : (found : VersionedManifest) → latest_manifest o ≡ Some found → h.view.manifest.last_l0_seq ≤ found.manifest.last_l0_seq
+  ahead found at =
+      let same : v.behind.0 ≡ found = (let b = v.behind.1 in cc) in
+      let e = ap (λ (m : VersionedManifest). m.manifest.last_l0_seq) same in
+      let l = v.behind.3 in
+      omega (arith, e, l)
+
+  free : table_at (next_table h) o ≡ None
+  free = none-known (next_table h) o (v.unused h.counter (omega arith))
+
+  -- the objects didn't change
+  still : (new : Handle) → o' ≡ o → new.epoch ≡ h.epoch → IsValidHandle stored (catalogue_of o) new → ReadsItsLine o new → Moved stored stored o o' latest h new
+  still new same epoch mine its = subst (λ x. Moved stored stored o x latest h new) (sym same) (unmoved stored o latest h new sound holds is epoch mine its)
+
+  still-same : o' ≡ o → Moved stored stored o o' latest h h
+  still-same same = still h same refl v reads
+
+  wrote : (ops : List KeyOp) (r : Result Written SlateError) → o' ≡ o → Moved stored stored o o' latest h (rewritten h low ops r)
+  wrote ops (Ok w) same = still (written h ops w.create_ts) same refl (written-valid stored (catalogue_of o) h ops w.create_ts v) (written-reads stored (catalogue_of o) h ops w.create_ts v o reads)
+  wrote ops (Err e) same = still-same same
+
+  write-led : (ops : List KeyOp) → WritesTo n ops moment second (kept_handle h) writes reply k writes' → Untouched made (holding o f) (holding o' f') → (new : Handle) × (k ≡ kept_handle new) × Moved stored stored o o' latest h new × WritesTo n ops moment second h writes reply new writes'
+  write-led ops a u =
+      let w = writes-whole h low ops moment second a.result k a.does in (
+        rewritten h low ops a.result,
+        w.1,
+        wrote ops a.result (objects-same o o' f f' u.1),
+        record { result = a.result; replied = a.replied; does = w.0; noted = a.noted },
+      )
+
+  merge-led : (merge : Option Merge) (op : KeyOp) → MergesTo merge n op moment second (kept_handle h) writes reply k writes' → Untouched made (holding o f) (holding o' f') → (new : Handle) × (k ≡ kept_handle new) × Moved stored stored o o' latest h new × MergesTo merge n op moment second h writes reply new writes'
+  merge-led None op a u = (h, a.1, still-same (objects-same o o' f f' u.1), (a.0, refl, a.2))
+  merge-led (Some function) op a u = write-led (op ∷ []) a u
+
+  -- a handle that changed only by what a command of another relation says
+  whole-kept : k ≡ kept_handle h → k ≡ kept_handle (whole h k)
+  whole-kept same = same ∙ ap kept_handle (sym (ap (whole h) same))
+
+  abbrev Goes : Line → Type 0
+  Goes stored' = (k ≡ kept_handle (whole h k)) × Moved stored stored' o o' latest h (whole h k)
+
+  goes-same : (stored' : Line) → stored' ≡ stored → k ≡ kept_handle h → o' ≡ o → Goes stored'
+  goes-same stored' none same objects =
+      (whole-kept same, subst (λ l. Moved stored l o o' latest h (whole h k)) (sym none) (subst (Moved stored stored o o' latest h) (sym (ap (whole h) same)) (still-same objects)))
+
+  goes-closed : (stored' : Line) → stored' ≡ stored → k ≡ closed (kept_handle h) → o' ≡ o → Goes stored'
+  goes-closed stored' none same objects = (
+    same ∙ ap kept_handle (sym (ap (whole h) same)),
+    subst (λ l. Moved stored l o o' latest h (whole h k)) (sym none)
+        (subst (Moved stored stored o o' latest h) (sym (ap (whole h) same)) (still (closed h) objects refl (closed-valid stored o h v) reads)),
+  )
+
+  flushed-goes : (t : FlushType) (r : Result (Unit {0}) SlateError) (result : CloseResult) → (result ≡ None → result ≡ flush_result r) → CanFlush t (kept_handle h) → IsFlushed kept_handle made r result (kept_handle h) k → Stores (by_objects (Some o)) made t (kept_handle h) (holding o f) r k (holding o' f') → Goes (grown made stored h)
+  flushed-goes t r result says can fl s =
+      let step = modelled o o' s.objects in
+      let line = ap (λ (x : Handle). x.line) fl.same in (
+        kept-whole h k (stores-rises (Some o) stored (catalogue_of o) h o v.tabled ahead t step) line,
+        flush-moved stored o o' latest t h k r result made sound holds is v reads (can.0, sym (log_for-kept h t) ∙ can.1) step (flushed-whole made r result h k fl) says,
+      )
+
+  flush-goes : (t : FlushType) (r : Result (Unit {0}) SlateError) → Flushes (by_objects (Some o)) made t (kept_handle h) (holding o f) r k (holding o' f') → Goes (grown made stored h)
+  flush-goes t r does =
+      flush-by (by_objects (Some o)) made (kept_handle h) (holding o f) k (holding o' f') (Goes (grown made stored h)) t r does
+      (λ q closed_is error same u. goes-same (grown made stored h) (grown-zero made stored h u.0) same (objects-same o o' f f' u.1))
+      (λ live without error same u. goes-same (grown made stored h) (grown-zero made stored h u.0) same (objects-same o o' f f' u.1))
+      (λ can fl s. flushed-goes t r (flush_result r) (λ live. refl) can fl s)
+
+  close-goes : (flush_type : Option FlushType) (e : Ended) → Closes (by_objects (Some o)) made flush_type (kept_handle h) (holding o f) e k (holding o' f') → Goes (grown made stored h)
+  close-goes flush_type e does =
+      close-by (by_objects (Some o)) made (kept_handle h) (holding o f) k (holding o' f') (Goes (grown made stored h)) flush_type e does
+      (λ q closed_is ended_is same u. goes-same (grown made stored h) (grown-zero made stored h u.0) same (objects-same o o' f f' u.1))
+      (λ live none ended_is same u. goes-closed (grown made stored h) (grown-zero made stored h u.0) same (objects-same o o' f f' u.1))
+      (λ t live some without ended_is same u. goes-closed (grown made stored h) (grown-zero made stored h u.0) same (objects-same o o' f f' u.1))
+      (λ t can some ended_is fl s. flushed-goes t (closing_flush e.fault) (Some (Ok tt)) (λ live. absurd (cc)) can fl s)
+
+  refresh-goes : (r : Result (Unit {0}) SlateError) → Refreshes (by_objects (Some o)) (kept_handle h) (holding o f) r k (holding o' f') → Goes stored
+  refresh-goes r does =
+      refresh-by (by_objects (Some o)) 0 (kept_handle h) (holding o f) k (holding o' f') (Goes stored) r does
+      (λ q closed_is error same u. goes-same stored refl same (objects-same o o' f f' u))
+      (λ live d.
+      let objects = some-same o' o d.kept in
+      let counter = ap (λ (x : Handle). x.counter) d.same in
+      let same : whole h k ≡ record h { counter = k.counter; view = k.view; result = fenced_result r } =
+      ap (whole h) d.same ∙ ap (λ c. record h { counter = c; view = k.view; result = fenced_result r }) (sym counter) in (
+        kept-whole h k (refresh-rises stored o o' latest h k r made sound holds is live v reads same d.answer) (ap (λ (x : Handle). x.line) d.same),
+        subst (λ x. Moved stored stored o x latest h (whole h k)) (sym objects) (refresh-moved stored o o' latest h k r made sound holds is live v reads same d.answer counter),
+      ))
+
+  compact-goes : (r : Result (Unit {0}) SlateError) → Compacts (by_objects (Some o)) made (kept_handle h) (holding o f) r k (holding o' f') → Goes stored
+  compact-goes r does =
+      compact-by (by_objects (Some o)) made (kept_handle h) (holding o f) k (holding o' f') (Goes stored) r does
+      (λ q closed_is error same u. goes-same stored refl same (objects-same o o' f f' u.1))
+      (λ live d.
+      let same = ap (whole h) d.same in
+      let step = modelled o o' d.objects in (
+        kept-whole h k (compact-rises stored o o' latest h k r made sound holds is live v reads same step) (ap (λ (x : Handle). x.line) d.same),
+        compact-moved stored o o' latest h k r made sound holds is live v reads same step,
+      ))
+
+  taken-known : (range : ByteRange) (order : IterationOrder) (remote : Bool) (taken : Iteration → Result (List KeyValue) SlateError) → TakesFrom (by_objects (Some o)) merge range order remote taken (kept_handle h) (holding o f) reply (holding o' f') → TakesFrom (by_catalogue stored (catalogue_of o)) merge range order remote taken h (catalogued o f) reply (catalogued o' f')
+  taken-known range order remote taken a = record {
+    scan = a.scan;
+    result = a.result;
+    scans = reads-reduced {has = kept_rows (Some o) (AHandle (kept_handle h))} {has' = world_rows stored (catalogue_of o) (AHandle h)} {P = Gives (IsPlainScan merge range order remote (kept_handle h))} {P' = Gives (IsPlainScan merge range order remote h)}
+        (λ rows q has plain. (rows, rows-known stored o h reads rows has, scan-known merge range order remote h rows q plain)) h.result h.view.manifest.tables a.scan o o' f f' a.scans;
+    takes = a.takes;
+    replied = a.replied;
+  }
+
+  pub handle-led : (call : Call) → HandleActs (by_objects (Some o)) merge n moment second call made (kept_handle h) (holding o f) writes reply k (holding o' f') writes' → Led call
+  handle-led (WriteCall ops) a = let w = write-led ops a.0 a.1 in record { new = w.0; kept = w.1; moved = w.2; known = (w.3, untouched-known made o o' f f' a.1) }
+  handle-led (MergeCall op) a = let w = merge-led merge op a.0 a.1 in record { new = w.0; kept = w.1; moved = w.2; known = (w.3, untouched-known made o o' f f' a.1) }
+  handle-led (Flush flush_type) a =
+      let t = flush_type_by flush_type h in
+      let does = subst (λ t. Flushes (by_objects (Some o)) made t (kept_handle h) (holding o f) (a.0).result k (holding o' f')) (type-kept flush_type h) (a.0).does in
+      let g = flush-goes t (a.0).result does in
+      record {
+        new = whole h k;
+        kept = g.0;
+        moved = g.1;
+        known = (record { result = (a.0).result; replied = (a.0).replied; does = flushes-reduced stored h o o' f f' v.tabled ahead made t k (a.0).result (flush-unset o latest h sound is free t) does }, a.1);
+      }
+  handle-led Refresh a =
+      let g = refresh-goes (a.0).result (a.0).does in
+      record {
+        new = whole h k;
+        kept = g.0;
+        moved = g.1;
+        known = (record { result = (a.0).result; replied = (a.0).replied; does = refreshes-reduced stored h o o' f f' v.tabled ahead k (a.0).result (a.0).does }, a.1, a.2);
+      }
+  handle-led Compact a =
+      let g = compact-goes (a.0).result (a.0).does in
+      record {
+        new = whole h k;
+        kept = g.0;
+        moved = g.1;
+        known = (record { result = (a.0).result; replied = (a.0).replied; does = compacts-reduced stored h o o' f f' v.tabled ahead (joins o latest h sound is free) made k (a.0).result (a.0).does }, a.1);
+      }
+  handle-led (Close flush_type) a =
+      let g = close-goes flush_type (a.0).ended (a.0).does in
+      record {
+        new = whole h k;
+        kept = g.0;
+        moved = g.1;
+        known = (record { ended = (a.0).ended; replied = (a.0).replied; does = closes-reduced stored h o o' f f' v.tabled ahead made flush_type k (a.0).ended (λ t some. flush-unset o latest h sound is free t) (a.0).does }, a.1);
+      }
+  handle-led (Get key remote) a = record {
+    new = h;
+    kept = a.1;
+    moved = still-same (objects-read h.result h.view.manifest.tables (a.0).result o o' f f' (a.0).does);
+    known = (
+      record {
+        result = (a.0).result;
+        replied = (a.0).replied;
+        does = reads-reduced {has = kept_rows (Some o) (AHandle (kept_handle h))} {has' = world_rows stored (catalogue_of o) (AHandle h)} {P = IsPlainRead merge key remote (kept_handle h)} {P' = IsPlainRead merge key remote h}
+            (λ rows q has plain. (rows, rows-known stored o h reads rows has, read-known merge key remote h rows q plain)) h.result h.view.manifest.tables (a.0).result o o' f f' (a.0).does;
+      },
+      refl,
+      a.2,
+      a.3,
+    );
+  }
+  handle-led (Scan range order remote) a = record {
+    new = h;
+    kept = a.1;
+    moved = still-same (objects-read h.result h.view.manifest.tables (a.0).scan o o' f f' (a.0).scans);
+    known = (taken-known range order remote scanned a.0, refl, a.2, a.3);
+  }
+  handle-led (Seek range take key order remote) a = record {
+    new = h;
+    kept = a.1;
+    moved = still-same (objects-read h.result h.view.manifest.tables (a.0).scan o o' f f' (a.0).scans);
+    known = (taken-known range order remote (sought range take key) a.0, refl, a.2, a.3);
+  }
+  handle-led Poll a = record { new = h; kept = a.1; moved = still-same (objects-same o o' f f' a.2.1); known = (a.0, refl, untouched-known made o o' f f' a.2, a.3) }
+  handle-led Status a = record { new = h; kept = a.1; moved = still-same (objects-same o o' f f' a.2.1); known = (a.0, refl, untouched-known made o o' f f' a.2, a.3) }
+  handle-led Nothing a = record { new = h; kept = a.1; moved = still-same (objects-same o o' f f' a.2.1); known = (a.0, refl, untouched-known made o o' f f' a.2, a.3) }
+
+-- ---- the objects afterwards
+abbrev pub AfterOf : Known (List Batch) → Type 0
+AfterOf store' = (o' : Objects) × (store'.objects ≡ Some o')
+
+as-before : (o : Objects) (f : ℕ) (store' : Known (List Batch)) → store' ≡ holding o f → AfterOf store'
+as-before o f store' same = (o, ap (λ (k : Known (List Batch)). k.objects) same)
+
+read-after : {A : Type 0} {has : List Batch → Type 0} {P : List Batch → Result A ReadFault → Type 0} (result : CloseResult) (tables : List TableId) (r : Result A SlateError) (o : Objects) (f : ℕ) (store' : Known (List Batch)) → Reads result tables has P (holding o f) r store' → AfterOf store'
+read-after result tables r o f store' s =
+    by-option result (λ live. (o, (s.read live).kept))
+    (λ q is. as-before o f store' (some-of (λ q. (r ≡ Err (closed_error q)) × (store' ≡ holding o f)) result q is s.closed).1)
+
+module _ (o : Objects) (f : ℕ) (made : ℕ) (writes writes' : List Write) (reply : Reply) (merge : Option Merge) (store' : Known (List Batch)) where
+  pub handle-after : (n : ℕ) (moment : ℤ) (second : Option ℤ) (call : Call) (h k : Handle) → HandleActs (by_objects (Some o)) merge n moment second call made h (holding o f) writes reply k store' writes' → AfterOf store'
+  handle-after n moment second (WriteCall ops) h k a = as-before o f store' a.1.1
+  handle-after n moment second (MergeCall op) h k a = as-before o f store' a.1.1
+  handle-after n moment second (Flush flush_type) h k a =
+      flush-by (by_objects (Some o)) made h (holding o f) k store' (AfterOf store') (flush_type_by flush_type h) (a.0).result (a.0).does
+      (λ q is error same u. as-before o f store' u.1) (λ live without error same u. as-before o f store' u.1)
+      (λ can fl s. let t = (s.objects).some o refl in (t.0, t.1))
+  handle-after n moment second Refresh h k a =
+      refresh-by (by_objects (Some o)) made h (holding o f) k store' (AfterOf store') (a.0).result (a.0).does
+      (λ q is error same u. as-before o f store' u) (λ live d. (o, d.kept))
+  handle-after n moment second Compact h k a =
+      compact-by (by_objects (Some o)) made h (holding o f) k store' (AfterOf store') (a.0).result (a.0).does
+      (λ q is error same u. as-before o f store' u.1) (λ live d. let t = (d.objects).some o refl in (t.0, t.1))
+  handle-after n moment second (Close flush_type) h k a =
+      close-by (by_objects (Some o)) made h (holding o f) k store' (AfterOf store') flush_type (a.0).ended (a.0).does
+      (λ q is error same u. as-before o f store' u.1) (λ live none error same u. as-before o f store' u.1) (λ t live some without error same u. as-before o f store' u.1)
+      (λ t can some error fl s. let t = (s.objects).some o refl in (t.0, t.1))
+  handle-after n moment second (Get key remote) h k a = read-after h.result h.view.manifest.tables (a.0).result o f store' (a.0).does
+  handle-after n moment second (Scan range order remote) h k a = read-after h.result h.view.manifest.tables (a.0).scan o f store' (a.0).scans
+  handle-after n moment second (Seek range take key order remote) h k a = read-after h.result h.view.manifest.tables (a.0).scan o f store' (a.0).scans
+  handle-after n moment second Poll h k a = as-before o f store' a.2.1
+  handle-after n moment second Status h k a = as-before o f store' a.2.1
+  handle-after n moment second Nothing h k a = as-before o f store' a.2.1
+
+  polled-after : (r : Result PollAnswer SlateError) (g g' : Follower) → Polls (IsContent (Some o)) g (holding o f) r g' store' → AfterOf store'
+  polled-after r g g' p =
+      by-option g.result (λ live. (o, (p.rebuilds live).kept))
+      (λ q is. as-before o f store' (some-of (λ q. (r ≡ Err (closed_error q)) × (store' ≡ holding o f)) g.result q is p.closed).1)
+
+  pub follower-after : (call : Call) (g g' : Follower) → FollowerActs (by_objects (Some o)) merge call made g (holding o f) writes reply g' store' writes' → AfterOf store'
+  follower-after Poll g g' a = polled-after (a.0).result g g' (a.0).does
+  follower-after (Get key remote) g g' a = read-after g.result [] (a.0).result o f store' (a.0).does
+  follower-after (Scan range order remote) g g' a = read-after g.result [] (a.0).scan o f store' (a.0).scans
+  follower-after (Seek range take key order remote) g g' a = read-after g.result [] (a.0).scan o f store' (a.0).scans
+  follower-after (Close t) g g' a = as-before o f store' a.2.1
+  follower-after (WriteCall ops) g g' a = as-before o f store' a.2.1
+  follower-after (MergeCall op) g g' a = as-before o f store' a.2.1
+  follower-after (Flush t) g g' a = as-before o f store' a.2.1
+  follower-after Refresh g g' a = as-before o f store' a.2.1
+  follower-after Compact g g' a = as-before o f store' a.2.1
+  follower-after Status g g' a = as-before o f store' a.2.1
+  follower-after Nothing g g' a = as-before o f store' a.2.1
+
+-- ---- followers
+module _ (stored : Line) (o o' : Objects) (f f' : ℕ) (made : ℕ) (writes writes' : List Write) (reply : Reply) (sound : IsSound o) (holds : content o ≡ stored) (numbered : IsLine stored)
+    (merge : Option Merge) (g : Follower) (front : IsPrefix g.line stored) where
+  read-follower : (key : List ℕ) (rows : List Batch) (a : Result (Option KeyValue) ReadFault) → rows ≡ g.line.batches → IsPlainReadAt merge key g rows a → (rows' : List Batch) × (rows' ≡ stored.batches) × IsPlainReadAt merge key g rows' a
+  read-follower key rows a is plain = (stored.batches, refl, plain ∙ (ap (λ bs. read_at merge bs (Some (number g)) key) is ∙ front-read merge g.line stored key front numbered))
+
+  scan-follower : (range : ByteRange) (order : IterationOrder) (rows : List Batch) (a : Result Iteration ReadFault) → rows ≡ g.line.batches → Gives (IsPlainScanAt merge range order g) rows a → (rows' : List Batch) × (rows' ≡ stored.batches) × Gives (IsPlainScanAt merge range order g) rows' a
+  scan-follower range order rows (Ok it) is plain = (stored.batches, refl, front-scan merge g.line stored range order it front numbered (subst (λ bs. BeginsScan merge bs (Some (number g)) range order it) is plain))
+  scan-follower range order rows (Err fault) is plain = absurd plain
+
+  taken-follower : (range : ByteRange) (order : IterationOrder) (taken : Iteration → Result (List KeyValue) SlateError) → TakesFromFollower (by_objects (Some o)) merge range order taken g (holding o f) reply (holding o' f') → TakesFromFollower (by_catalogue stored (catalogue_of o)) merge range order taken g (catalogued o f) reply (catalogued o' f')
+  taken-follower range order taken a = record {
+    scan = a.scan;
+    result = a.result;
+    scans = reads-reduced {has = λ rows. rows ≡ g.line.batches} {has' = λ rows. rows ≡ stored.batches} {P = Gives (IsPlainScanAt merge range order g)} {P' = Gives (IsPlainScanAt merge range order g)} (scan-follower range order) g.result [] a.scan o o' f f' a.scans;
+    takes = a.takes;
+    replied = a.replied;
+  }
+
+  pub follower-known : (call : Call) (g' : Follower) → FollowerActs (by_objects (Some o)) merge call made g (holding o f) writes reply g' (holding o' f') writes' → FollowerActs (by_catalogue stored (catalogue_of o)) merge call made g (catalogued o f) writes reply g' (catalogued o' f') writes'
+  follower-known Poll g' a = (record { result = (a.0).result; replied = (a.0).replied; does = polls-reduced stored (a.0).result g g' o o' f f' sound holds (a.0).does }, a.1, a.2)
+  follower-known (Get key remote) g' a = (
+    record { result = (a.0).result; replied = (a.0).replied; does = reads-reduced {has = λ rows. rows ≡ g.line.batches} {has' = λ rows. rows ≡ stored.batches} {P = IsPlainReadAt merge key g} {P' = IsPlainReadAt merge key g} (read-follower key) g.result [] (a.0).result o o' f f' (a.0).does },
+    a.1,
+    a.2,
+    a.3,
+  )
+  follower-known (Scan range order remote) g' a = (taken-follower range order scanned a.0, a.1, a.2, a.3)
+  follower-known (Seek range take key order remote) g' a = (taken-follower range order (sought range take key) a.0, a.1, a.2, a.3)
+  follower-known (Close t) g' a = (a.0, a.1, untouched-known made o o' f f' a.2, a.3)
+  follower-known (WriteCall ops) g' a = (a.0, a.1, untouched-known made o o' f f' a.2, a.3)
+  follower-known (MergeCall op) g' a = (a.0, a.1, untouched-known made o o' f f' a.2, a.3)
+  follower-known (Flush t) g' a = (a.0, a.1, untouched-known made o o' f f' a.2, a.3)
+  follower-known Refresh g' a = (a.0, a.1, untouched-known made o o' f f' a.2, a.3)
+  follower-known Compact g' a = (a.0, a.1, untouched-known made o o' f f' a.2, a.3)
+  follower-known Status g' a = (a.0, a.1, untouched-known made o o' f f' a.2, a.3)
+  follower-known Nothing g' a = (a.0, a.1, untouched-known made o o' f f' a.2, a.3)
+
+  -- what a follower sees afterwards begins what is stored, and the objects are as before
+  polled : (r : Result PollAnswer SlateError) (g' : Follower) → g.result ≡ None → Polls (IsContent (Some o)) g (holding o f) r g' (holding o' f') → IsPrefix g'.line stored × (o' ≡ o)
+  polled (Ok answer) g' live p =
+      let b = p.rebuilds live in
+      let all = b.sees o stored refl (o, refl, sound, sym holds) in
+      (subst (λ (x : Follower). IsPrefix x.line stored) (sym all.2) (prefix-same stored), some-same o' o b.kept)
+  polled (Err e) g' live p = (subst (λ (x : Follower). IsPrefix x.line stored) (sym p.failed) front, some-same o' o (p.rebuilds live).kept)
+
+  same-front : (g' : Follower) → g' ≡ g → IsPrefix g'.line stored
+  same-front g' same = subst (λ (x : Follower). IsPrefix x.line stored) (sym same) front
+
+  -- what a command leaves of a follower, and that it makes no change
+  pub follower-led : (call : Call) (g' : Follower) → FollowerActs (by_objects (Some o)) merge call made g (holding o f) writes reply g' (holding o' f') writes' → IsPrefix g'.line stored × (o' ≡ o)
+  follower-led Poll g' a =
+      by-option g.result
+      (λ live. polled (a.0).result g' live (a.0).does)
+      (λ q is.
+      let c = some-of (λ q. ((a.0).result ≡ Err (closed_error q)) × (holding o' f' ≡ holding o f)) g.result q is ((a.0).does).closed in
+      (same-front g' (subst (λ r. IfErr r (λ error. g' ≡ g)) c.0 ((a.0).does).failed), objects-same o o' f f' c.1))
+  follower-led (Get key remote) g' a = (same-front g' a.1, objects-read g.result [] (a.0).result o o' f f' (a.0).does)
+  follower-led (Scan range order remote) g' a = (same-front g' a.1, objects-read g.result [] (a.0).scan o o' f f' (a.0).scans)
+  follower-led (Seek range take key order remote) g' a = (same-front g' a.1, objects-read g.result [] (a.0).scan o o' f f' (a.0).scans)
+  follower-led (Close t) g' a = (subst (λ (x : Follower). IsPrefix x.line stored) (sym a.1) front, objects-same o o' f f' a.2.1)
+  follower-led (WriteCall ops) g' a = (same-front g' a.1, objects-same o o' f f' a.2.1)
+  follower-led (MergeCall op) g' a = (same-front g' a.1, objects-same o o' f f' a.2.1)
+  follower-led (Flush t) g' a = (same-front g' a.1, objects-same o o' f f' a.2.1)
+  follower-led Refresh g' a = (same-front g' a.1, objects-same o o' f f' a.2.1)
+  follower-led Compact g' a = (same-front g' a.1, objects-same o o' f f' a.2.1)
+  follower-led Status g' a = (same-front g' a.1, objects-same o o' f f' a.2.1)
+  follower-led Nothing g' a = (same-front g' a.1, objects-same o o' f f' a.2.1)

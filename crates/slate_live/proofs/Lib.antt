@@ -1,12 +1,12 @@
 pub mod Cases
 pub mod Chains
 pub mod Changing
+pub mod Choices
 pub mod Completing
 pub mod Confirming
 pub mod Counting
 pub mod Doing
 pub mod Endings
-pub mod Flushing
 pub mod Keeping
 pub mod Knowing
 pub mod Leading
@@ -20,5 +20,4 @@ pub mod Representing
 pub mod Rising
 pub mod Seeing
 pub mod Staying
-pub mod Storing
 pub mod Writing

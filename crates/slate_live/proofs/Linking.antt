@@ -1,24 +1,29 @@
 -- What a command does over a store makes a link from each world that is represented.
-use Rattle.std.proofs.Common.{◌≡◌, ◌⊎◌, inl, inr, ℕ, ℤ, Bool, List, nat_lt, Option, sym, subst, ap}
+use Rattle.std.proofs.Common.{◌≡◌, ◌⊎◌, inl, inr, ℕ, ℤ, Bool, List, nat_le, Option, Some, sym, subst, ap}
 use Rattle.slate_types.specs.declared.batches.Batch.{Batch}
 use Rattle.slate_types.specs.declared.batches.WriteBatch.{WriteBatch}
 use Rattle.slate_types.specs.declared.options.CloseOptions.{CloseOptions}
 use Rattle.slate_types.specs.declared.options.FlushType.{FlushType}
 use Rattle.slate_types.specs.declared.ranges.ByteRange.{ByteRange}
 use Rattle.slate_types.specs.declared.scan_options.IterationOrder.{IterationOrder}
-use Rattle.slate_types.specs.Line.{IsPrefix}
+use Rattle.slate_types.specs.Line.{IsPrefix, Line}
+use Rattle.slate_model.specs.Flush.{grown, grows as counts}
+use Rattle.slate_model.specs.Handle.{Handle, unstored}
+use Rattle.slate_model.specs.Knowledge.{Knowledge}
 use Rattle.slate_model.specs.Known.{Known}
+use Rattle.slate_model.specs.Object.{Object, Handle as AHandle}
+use Rattle.slate_model.specs.Stores.{by_objects}
 use Rattle.slate_script.specs.declared.commands.Action.{Action}
 use Rattle.slate_script.specs.declared.commands.Action.TheVariants as actions
 use Rattle.slate_script.specs.declared.commands.Command.{Command}
 use Rattle.slate_script.specs.declared.replies.Reply.{Reply}
-use Rattle.slate_live.specs.Calls.{OfObject, Target, target_of}
+use Rattle.slate_live.specs.Calls.{Call, Flush, Close, OfObject, Target, call_of, named, target_of}
 use Rattle.slate_live.specs.Commands.{Does, DoesBy}
 use Rattle.slate_live.specs.Represents.{Links}
 use Rattle.slate_live.specs.Settings.{Settings}
-use Rattle.slate_live.specs.State.{Knowledge, Live, State, by_objects, running}
+use Rattle.slate_live.specs.State.{Live, State, running}
 use Rattle.slate_live.specs.Valid.{Link}
-use Rattle.slate_live.specs.World.{Next, World, to_store}
+use Rattle.slate_live.specs.World.{Next, World, grown_by}
 use Rattle.slate_live.proofs.Completing.{completes}
 use Rattle.slate_live.proofs.Confirming.{confirms}
 use Rattle.slate_live.proofs.Prefixes.{prefix-after, prefix-same}
@@ -27,9 +32,17 @@ use Rattle.slate_live.proofs.Rising.{rises}
 use Rattle.slate_live.proofs.Seeing.{sees}
 
 -- what is stored stays stored
+grown-grows : (made : ℕ) (stored : Line) (handle : Handle) → IsPrefix stored (grown made stored handle)
+grown-grows made stored handle = prefix-after stored stored (nat_le (counts handle) made) (unstored handle) (prefix-same stored)
+
+call-grows : (call : Call) (made : ℕ) (stored : Line) (object : Option Object) → IsPrefix stored (grown_by call made stored object)
+call-grows (Flush t) made stored (Some (AHandle handle)) = grown-grows made stored handle
+call-grows (Close t) made stored (Some (AHandle handle)) = grown-grows made stored handle
+call-grows call made stored object = prefix-same stored
+
 grows : (settings : Settings) (w : World) (command : Command) (reply : Reply) (w' : World) → Next settings w command reply w' → IsPrefix w.stored w'.stored
 grows settings w command reply w' next =
-    subst (IsPrefix w.stored) (sym next.stored) (prefix-after w.stored w.stored (nat_lt 0 next.made) (to_store w command.action) (prefix-same w.stored))
+    subst (IsPrefix w.stored) (sym next.stored) (call-grows (call_of command.action) next.made w.stored (named w.objects (target_of command.action)))
 
 pub linked : (settings : Settings) (command : Command) (live live' : Live) (store store' : Known (List Batch)) (made : ℕ) (reply : Reply) → Does (by_objects store.objects) settings made (running live store) command reply (running live' store') → Links (λ w reply w'. Link settings w command reply w') live store reply live' store'
 linked settings command live live' store store' made reply does w r =
@@ -59,12 +72,14 @@ Names action n =
     ⊎ (((key : List ℕ) × (action ≡ actions.Delete n key))
     ⊎ (((batch : WriteBatch) × (action ≡ actions.Batch n batch))
     ⊎ (((flush_type : Option FlushType) × (action ≡ actions.Flush n flush_type))
+    ⊎ ((action ≡ actions.Refresh n)
+    ⊎ ((action ≡ actions.Compact n)
     ⊎ (((key : List ℕ) × (remote : Bool) × (action ≡ actions.Get n key remote))
     ⊎ (((range : ByteRange) × (order : IterationOrder) × (remote : Bool) × (action ≡ actions.Scan n range order remote))
     ⊎ (((range : ByteRange) × (take : ℕ) × (key : List ℕ) × (order : IterationOrder) × (remote : Bool) × (action ≡ actions.Seek n range take key order remote))
     ⊎ (((options : Option CloseOptions) × (action ≡ actions.Close n options))
     ⊎ ((action ≡ actions.Poll n)
-    ⊎ (action ≡ actions.Status n))))))))))
+    ⊎ (action ≡ actions.Status n))))))))))))
 
 pub names-object : (action : Action) (n : ℕ) → Names action n → target_of action ≡ OfObject n
 names-object action n (inl put) = ap target_of put.3
@@ -72,9 +87,11 @@ names-object action n (inr (inl merge)) = ap target_of merge.3
 names-object action n (inr (inr (inl delete))) = ap target_of delete.1
 names-object action n (inr (inr (inr (inl batch)))) = ap target_of batch.1
 names-object action n (inr (inr (inr (inr (inl flush))))) = ap target_of flush.1
-names-object action n (inr (inr (inr (inr (inr (inl get)))))) = ap target_of get.2
-names-object action n (inr (inr (inr (inr (inr (inr (inl scan))))))) = ap target_of scan.3
-names-object action n (inr (inr (inr (inr (inr (inr (inr (inl seek)))))))) = ap target_of seek.5
-names-object action n (inr (inr (inr (inr (inr (inr (inr (inr (inl close))))))))) = ap target_of close.1
-names-object action n (inr (inr (inr (inr (inr (inr (inr (inr (inr (inl poll)))))))))) = ap target_of poll
-names-object action n (inr (inr (inr (inr (inr (inr (inr (inr (inr (inr status)))))))))) = ap target_of status
+names-object action n (inr (inr (inr (inr (inr (inl refresh)))))) = ap target_of refresh
+names-object action n (inr (inr (inr (inr (inr (inr (inl compact))))))) = ap target_of compact
+names-object action n (inr (inr (inr (inr (inr (inr (inr (inl get)))))))) = ap target_of get.2
+names-object action n (inr (inr (inr (inr (inr (inr (inr (inr (inl scan))))))))) = ap target_of scan.3
+names-object action n (inr (inr (inr (inr (inr (inr (inr (inr (inr (inl seek)))))))))) = ap target_of seek.5
+names-object action n (inr (inr (inr (inr (inr (inr (inr (inr (inr (inr (inl close))))))))))) = ap target_of close.1
+names-object action n (inr (inr (inr (inr (inr (inr (inr (inr (inr (inr (inr (inl poll)))))))))))) = ap target_of poll
+names-object action n (inr (inr (inr (inr (inr (inr (inr (inr (inr (inr (inr (inr status)))))))))))) = ap target_of status

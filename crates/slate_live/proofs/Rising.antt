@@ -5,37 +5,39 @@ use Rattle.std.specs.Option.{unwrap_or}
 use Rattle.std.specs.Result.{IfErr}
 use Rattle.std.specs.Prelude.{int_lt, pos, negsuc}
 use Rattle.std.proofs.lemmas.Bool.{cases_eq, le-ltb}
-use Rattle.slate_types.specs.declared.batches.Batch.{Batch}
 use Rattle.slate_types.specs.declared.batches.KeyOp.{KeyOp}
 use Rattle.slate_types.specs.Line.{IsPrefix, Line}
 use Rattle.slate_types.specs.Operator.{Merge}
-use Rattle.slate_store.specs.declared.objects.VersionedManifest.{VersionedManifest}
 use Rattle.slate_store.specs.Objects.{ObjectsOf}
 use Rattle.slate_errors.specs.declared.errors.SlateError.{SlateError}
+use Rattle.slate_errors.specs.declared.errors.SlateError.TheVariants as errors
 use Rattle.slate_errors.specs.Errors.{closed_error}
-use Rattle.slate_model.specs.Catalogue.{Span}
+use Rattle.slate_model.specs.Catalogue.{Catalogue, Span}
 use Rattle.slate_model.specs.Close.{closed, closed_follower}
 use Rattle.slate_model.specs.declared.answers.PollAnswer.{PollAnswer}
 use Rattle.slate_model.specs.declared.answers.Written.{Written}
-use Rattle.slate_model.specs.Flush.{flushed}
+use Rattle.slate_model.specs.Flush.{DurableAfter, IsFlushed}
 use Rattle.slate_model.specs.Follower.{Follower, Polls, number}
 use Rattle.slate_model.specs.Handle.{CloseResult, Handle, accepted}
+use Rattle.slate_model.specs.Knowledge.{Knowledge}
 use Rattle.slate_model.specs.Known.{Known}
 use Rattle.slate_model.specs.Object.{Object, Handle as AHandle, Follower as AFollower}
+use Rattle.slate_model.specs.Stores.{by_catalogue}
 use Rattle.slate_model.specs.Write.{Writes, accepted_moment}
 use Rattle.slate_script.specs.declared.commands.Command.{Command}
 use Rattle.slate_script.specs.declared.replies.Reply.{Reply}
 use Rattle.slate_live.specs.declared.states.Write.{Write}
-use Rattle.slate_live.specs.Calls.{Call, Write as WriteCall, Merge as MergeCall, Flush, Get, Scan, Seek, Close, Poll, Status, Nothing, call_of, Target, NewHandle, NewFollower, OfWrite, OfObject, target_of}
+use Rattle.slate_live.specs.Calls.{Call, Write as WriteCall, Merge as MergeCall, Flush, Refresh, Compact, Get, Scan, Seek, Close, Poll, Status, Nothing, call_of, Target, NewHandle, NewFollower, OfWrite, OfObject, target_of}
 use Rattle.slate_live.specs.Commands.{Acts, ActsOn, DoesBy}
 use Rattle.slate_live.specs.Followers.{FollowerActs}
 use Rattle.slate_live.specs.Handles.{HandleActs, MergesTo}
 use Rattle.slate_live.specs.Represents.{IsValid}
 use Rattle.slate_live.specs.Rising.{FollowerRises, HandleRises, Rise, Rises, StaysClosed}
 use Rattle.slate_live.specs.Settings.{Settings}
-use Rattle.slate_live.specs.State.{Knowledge, State}
-use Rattle.slate_live.specs.World.{World, Next, by_catalogue, state_of}
-use Rattle.slate_live.proofs.Cases.{close-by, flush-by, by-option, is-none, some-of}
+use Rattle.slate_live.specs.State.{State}
+use Rattle.slate_live.specs.World.{World, Next, state_of}
+use Rattle.slate_live.proofs.Cases.{by-option, is-none, some-of}
+use Rattle.slate_live.proofs.Choices.{close-cases, compact-cases, flush-cases, refresh-cases}
 use Rattle.slate_live.proofs.Places.{get-before, get-set_other, get-set_same}
 use Rattle.slate_live.proofs.Prefixes.{prefix-end, prefix-same}
 
@@ -74,9 +76,34 @@ write-rises h h' ops moment second (Ok w) s =
     })
 write-rises h h' ops moment second (Err e) s = rises-same h h' s.refused.1
 
-flushed-rises : (h : Handle) (view : VersionedManifest) (r : Result (Unit {0}) SlateError) → h.result ≡ None → h.durable ≤ accepted h → HandleRises h (flushed h view r)
-flushed-rises h view (Ok x) live low = record { line = prefix-same h.line; durable = low; tick = not-below h.tick; epoch = refl; result = stays h.result }
-flushed-rises h view (Err e) live low = record { line = prefix-same h.line; durable = omega arith; tick = not-below h.tick; epoch = refl; result = is-none (λ q. (flushed h view (Err e)).result ≡ Some q) h.result live }
+-- the durable number of a flush doesn't fall
+durable-rises : (stored : Bool) (h : Handle) (r : Result (Unit {0}) SlateError) (d : ℕ) → h.durable ≤ accepted h → DurableAfter stored h r d → h.durable ≤ d
+durable-rises stored h (Ok x) d low a = subst (λ n. h.durable ≤ n) (sym a) low
+durable-rises true h (Err errors.NoMemory) d low a = subst (λ n. h.durable ≤ n) (sym a) low
+durable-rises false h (Err errors.NoMemory) d low a = subst (λ n. h.durable ≤ n) (sym a) (omega arith)
+durable-rises stored h (Err e) d low (inl a) = subst (λ n. h.durable ≤ n) (sym a) (omega arith)
+durable-rises stored h (Err e) d low (inr a) = subst (λ n. h.durable ≤ n) (sym a.1) low
+
+flushed-rises : (made : ℕ) (r : Result (Unit {0}) SlateError) (result : CloseResult) (h h' : Handle) → h.result ≡ None → h.durable ≤ accepted h → IsFlushed (λ x. x) made r result h h' → HandleRises h h'
+flushed-rises made r result h h' live low f =
+    subst (HandleRises h) (sym f.same) (record {
+      line = prefix-same h.line;
+      durable = durable-rises _ h r h'.durable low f.durable;
+      tick = not-below h.tick;
+      epoch = refl;
+      result = is-none (λ q. result ≡ Some q) h.result live;
+    })
+
+-- a handle that only its view, the count of its tables and its result may leave otherwise
+moved-rises : (h h' : Handle) (counter : ℕ) (result : CloseResult) → h.result ≡ None → h' ≡ record h { counter = counter; view = h'.view; result = result } → HandleRises h h'
+moved-rises h h' counter result live same =
+    subst (HandleRises h) (sym same) (record {
+      line = prefix-same h.line;
+      durable = omega arith;
+      tick = not-below h.tick;
+      epoch = refl;
+      result = is-none (λ q. result ≡ Some q) h.result live;
+    })
 
 closed-rises : (h g : Handle) → h.result ≡ None → HandleRises h g → HandleRises h (closed g)
 closed-rises h g live r = record { line = r.line; durable = r.durable; tick = r.tick; epoch = r.epoch; result = is-none (λ q. Some (Ok tt) ≡ Some q) h.result live }
@@ -85,26 +112,34 @@ merge-rises : (merge : Option Merge) (n : ℕ) (op : KeyOp) (moment : ℤ) (seco
 merge-rises None n op moment second h writes reply h' writes' a = rises-same h h' a.1
 merge-rises (Some merge) n op moment second h writes reply h' writes' a = write-rises h h' _ moment second a.result a.does
 
-pub handle-rises : {L : Type 0} (summary : List Batch → L) (merge : Option Merge) (n : ℕ) (moment : ℤ) (second : Option ℤ) (call : Call) (made : ℕ) (h : Handle) (before : Known L) (writes : List Write) (reply : Reply) (h' : Handle) (after : Known L) (writes' : List Write) → h.durable ≤ accepted h → HandleActs summary merge n moment second call made h before writes reply h' after writes' → HandleRises h h'
-handle-rises summary merge n moment second (WriteCall ops) made h before writes reply h' after writes' low a = write-rises h h' _ moment second (a.0).result (a.0).does
-handle-rises summary merge n moment second (MergeCall op) made h before writes reply h' after writes' low a = merge-rises merge n op moment second h writes reply h' writes' a.0
-handle-rises summary merge n moment second Flush made h before writes reply h' after writes' low a =
-    flush-by summary made h before h' after (HandleRises h h') (a.0).result (a.0).does
+pub handle-rises : (stored : Line) (catalogue : Catalogue) (merge : Option Merge) (n : ℕ) (moment : ℤ) (second : Option ℤ) (call : Call) (made : ℕ) (h : Handle) (before : Known Span) (writes : List Write) (reply : Reply) (h' : Handle) (after : Known Span) (writes' : List Write) → h.durable ≤ accepted h → HandleActs (by_catalogue stored catalogue) merge n moment second call made h before writes reply h' after writes' → HandleRises h h'
+handle-rises stored catalogue merge n moment second (WriteCall ops) made h before writes reply h' after writes' low a = write-rises h h' _ moment second (a.0).result (a.0).does
+handle-rises stored catalogue merge n moment second (MergeCall op) made h before writes reply h' after writes' low a = merge-rises merge n op moment second h writes reply h' writes' a.0
+handle-rises stored catalogue merge n moment second (Flush t) made h before writes reply h' after writes' low a =
+    flush-cases (by_catalogue stored catalogue) made h before h' after (HandleRises h h') _ (a.0).result (a.0).does
     (λ q is error same store. rises-same h h' same)
     (λ live without error same store. rises-same h h' same)
-    (λ can is stores. subst (HandleRises h) (sym is) (flushed-rises h h'.view (a.0).result can.0 low))
-handle-rises summary merge n moment second (Close t) made h before writes reply h' after writes' low a =
-    close-by summary made h before h' after (HandleRises h h') _ (a.0).ended (a.0).does
+    (λ can is stores. flushed-rises made _ _ h h' can.0 low is)
+handle-rises stored catalogue merge n moment second (Close t) made h before writes reply h' after writes' low a =
+    close-cases (by_catalogue stored catalogue) made h before h' after (HandleRises h h') _ (a.0).ended (a.0).does
     (λ q is error same store. rises-same h h' same)
     (λ live none error is store. subst (HandleRises h) (sym is) (closed-rises h h live (rises-same h h refl)))
-    (λ live some without error is store. subst (HandleRises h) (sym is) (closed-rises h h live (rises-same h h refl)))
-    (λ can some tasks is stores. subst (HandleRises h) (sym is) (closed-rises h _ can.0 (flushed-rises h h'.view _ can.0 low)))
-handle-rises summary merge n moment second (Get key remote) made h before writes reply h' after writes' low a = rises-same h h' a.1
-handle-rises summary merge n moment second (Scan range order remote) made h before writes reply h' after writes' low a = rises-same h h' a.1
-handle-rises summary merge n moment second (Seek range take key order remote) made h before writes reply h' after writes' low a = rises-same h h' a.1
-handle-rises summary merge n moment second Poll made h before writes reply h' after writes' low a = rises-same h h' a.1
-handle-rises summary merge n moment second Status made h before writes reply h' after writes' low a = rises-same h h' a.1
-handle-rises summary merge n moment second Nothing made h before writes reply h' after writes' low a = rises-same h h' a.1
+    (λ t some live without error is store. subst (HandleRises h) (sym is) (closed-rises h h live (rises-same h h refl)))
+    (λ t some can tasks is stores. flushed-rises made _ _ h h' can.0 low is)
+handle-rises stored catalogue merge n moment second Refresh made h before writes reply h' after writes' low a =
+    refresh-cases (by_catalogue stored catalogue) 0 h before h' after (HandleRises h h') (a.0).result (a.0).does
+    (λ q is error same store. rises-same h h' same)
+    (λ live reads. moved-rises h h' h.counter _ live reads.same)
+handle-rises stored catalogue merge n moment second Compact made h before writes reply h' after writes' low a =
+    compact-cases (by_catalogue stored catalogue) made h before h' after (HandleRises h h') (a.0).result (a.0).does
+    (λ q is error same store. rises-same h h' same)
+    (λ live joins. moved-rises h h' h'.counter _ live joins.same)
+handle-rises stored catalogue merge n moment second (Get key remote) made h before writes reply h' after writes' low a = rises-same h h' a.1
+handle-rises stored catalogue merge n moment second (Scan range order remote) made h before writes reply h' after writes' low a = rises-same h h' a.1
+handle-rises stored catalogue merge n moment second (Seek range take key order remote) made h before writes reply h' after writes' low a = rises-same h h' a.1
+handle-rises stored catalogue merge n moment second Poll made h before writes reply h' after writes' low a = rises-same h h' a.1
+handle-rises stored catalogue merge n moment second Status made h before writes reply h' after writes' low a = rises-same h h' a.1
+handle-rises stored catalogue merge n moment second Nothing made h before writes reply h' after writes' low a = rises-same h h' a.1
 
 follower-same : (f f' : Follower) → f' ≡ f → FollowerRises f f'
 follower-same f f' same = subst (FollowerRises f) (sym same) (record { number = omega arith; result = stays f.result })
@@ -132,17 +167,19 @@ closed-follower-rises : (f : Follower) (r : CloseResult) → f.result ≡ r → 
 closed-follower-rises f None is = record { number = omega arith; result = is-none (λ q. (closed_follower f).result ≡ Some q) f.result is }
 closed-follower-rises f (Some q) is = record { number = omega arith; result = subst (λ x. StaysClosed x (Some (unwrap_or x (Ok tt)))) (sym is) refl }
 
-pub follower-rises : {L : Type 0} (stored : Line) (rows : Follower → List Batch) (merge : Option Merge) (call : Call) (made : ℕ) (f : Follower) (o : ObjectsOf L) (before : Known L) (writes : List Write) (reply : Reply) (f' : Follower) (after : Known L) (writes' : List Write) → before.objects ≡ Some o → IsPrefix f.line stored → FollowerActs (λ line. line ≡ stored) rows merge call made f before writes reply f' after writes' → FollowerRises f f'
-follower-rises stored rows merge Poll made f o before writes reply f' after writes' at front a = poll-rises stored f f' o before after (a.0).result at front (a.0).does
-follower-rises stored rows merge (Close t) made f o before writes reply f' after writes' at front a = subst (FollowerRises f) (sym a.1) (closed-follower-rises f f.result refl)
-follower-rises stored rows merge (Get key remote) made f o before writes reply f' after writes' at front a = follower-same f f' a.1
-follower-rises stored rows merge (Scan range order remote) made f o before writes reply f' after writes' at front a = follower-same f f' a.1
-follower-rises stored rows merge (Seek range take key order remote) made f o before writes reply f' after writes' at front a = follower-same f f' a.1
-follower-rises stored rows merge (WriteCall ops) made f o before writes reply f' after writes' at front a = follower-same f f' a.1
-follower-rises stored rows merge (MergeCall op) made f o before writes reply f' after writes' at front a = follower-same f f' a.1
-follower-rises stored rows merge Flush made f o before writes reply f' after writes' at front a = follower-same f f' a.1
-follower-rises stored rows merge Status made f o before writes reply f' after writes' at front a = follower-same f f' a.1
-follower-rises stored rows merge Nothing made f o before writes reply f' after writes' at front a = follower-same f f' a.1
+pub follower-rises : (stored : Line) (catalogue : Catalogue) (merge : Option Merge) (call : Call) (made : ℕ) (f : Follower) (o : ObjectsOf Span) (before : Known Span) (writes : List Write) (reply : Reply) (f' : Follower) (after : Known Span) (writes' : List Write) → before.objects ≡ Some o → IsPrefix f.line stored → FollowerActs (by_catalogue stored catalogue) merge call made f before writes reply f' after writes' → FollowerRises f f'
+follower-rises stored catalogue merge Poll made f o before writes reply f' after writes' at front a = poll-rises stored f f' o before after (a.0).result at front (a.0).does
+follower-rises stored catalogue merge (Close t) made f o before writes reply f' after writes' at front a = subst (FollowerRises f) (sym a.1) (closed-follower-rises f f.result refl)
+follower-rises stored catalogue merge (Get key remote) made f o before writes reply f' after writes' at front a = follower-same f f' a.1
+follower-rises stored catalogue merge (Scan range order remote) made f o before writes reply f' after writes' at front a = follower-same f f' a.1
+follower-rises stored catalogue merge (Seek range take key order remote) made f o before writes reply f' after writes' at front a = follower-same f f' a.1
+follower-rises stored catalogue merge (WriteCall ops) made f o before writes reply f' after writes' at front a = follower-same f f' a.1
+follower-rises stored catalogue merge (MergeCall op) made f o before writes reply f' after writes' at front a = follower-same f f' a.1
+follower-rises stored catalogue merge (Flush t) made f o before writes reply f' after writes' at front a = follower-same f f' a.1
+follower-rises stored catalogue merge Refresh made f o before writes reply f' after writes' at front a = follower-same f f' a.1
+follower-rises stored catalogue merge Compact made f o before writes reply f' after writes' at front a = follower-same f f' a.1
+follower-rises stored catalogue merge Status made f o before writes reply f' after writes' at front a = follower-same f f' a.1
+follower-rises stored catalogue merge Nothing made f o before writes reply f' after writes' at front a = follower-same f f' a.1
 
 rises-refl : (x : Object) → Rises x x
 rises-refl (AHandle h) = rises-same h h refl
@@ -167,11 +204,11 @@ rise-set xs ys m x y at rises is n old at_old =
 
 module _ (settings : Settings) (w : World) (valid : IsValid w) (command : Command) (made : ℕ) (reply : Reply) (s' : State Span) where
   abbrev k : Knowledge Span
-  k = by_catalogue w.stored
+  k = by_catalogue w.stored w.catalogue
 
   acts-rise : (n : ℕ) (old new : Object) → slice_get w.objects n ≡ Some old → Acts k settings.merge n command made old (state_of w).store w.writes reply new s'.store s'.writes → Rises old new
-  acts-rise n (AHandle h) (AHandle h') at a = handle-rises _ settings.merge n command.moment command.second (call_of command.action) made h _ w.writes reply h' _ _ (valid.handles n h at).durable a
-  acts-rise n (AFollower f) (AFollower f') at a = follower-rises w.stored _ settings.merge (call_of command.action) made f w.catalogue _ w.writes reply f' _ _ refl (valid.followers n f at).front a
+  acts-rise n (AHandle h) (AHandle h') at a = handle-rises w.stored w.catalogue settings.merge n command.moment command.second (call_of command.action) made h _ w.writes reply h' _ _ (valid.handles n h at).durable a
+  acts-rise n (AFollower f) (AFollower f') at a = follower-rises w.stored w.catalogue settings.merge (call_of command.action) made f w.catalogue _ w.writes reply f' _ _ refl (valid.followers n f at) a
   acts-rise n (AHandle h) (AFollower f') at a = absurd a
   acts-rise n (AFollower f) (AHandle h') at a = absurd a
 
@@ -180,7 +217,7 @@ module _ (settings : Settings) (w : World) (valid : IsValid w) (command : Comman
   on-rises n (Some old) at a = rise-set w.objects s'.objects n old a.new at (acts-rise n old a.new at a.acts) a.objects
 
   does-rises : (target : Target) → DoesBy k settings command target made (state_of w) reply s' → Rise w.objects s'.objects
-  does-rises NewHandle d = rise-push w.objects s'.objects _ d.objects
+  does-rises (NewHandle keeps_log) d = rise-push w.objects s'.objects _ d.objects
   does-rises NewFollower d = rise-push w.objects s'.objects _ (d.0).objects
   does-rises (OfWrite n) d = rise-same w.objects s'.objects (ap (λ (s : State Span). s.objects) d.2)
   does-rises (OfObject n) d = on-rises n (slice_get w.objects n) refl d

@@ -7,12 +7,12 @@ use Rattle.slate_types.specs.Line.{Line, end}
 use Rattle.slate_errors.specs.declared.errors.SlateError.{SlateError}
 use Rattle.slate_errors.specs.declared.errors.SlateError.TheVariants as errors
 use Rattle.slate_errors.specs.Errors.{closed_error}
-use Rattle.slate_model.specs.Catalogue.{span}
 use Rattle.slate_model.specs.declared.answers.PollAnswer.{PollAnswer}
 use Rattle.slate_model.specs.Follower.{Follower, Polls, Rebuilds, built}
 use Rattle.slate_model.specs.Handle.{Handle}
 use Rattle.slate_model.specs.Object.{Object, Handle as AHandle, Follower as AFollower}
 use Rattle.slate_model.specs.Open.{OpensHandle}
+use Rattle.slate_model.specs.Stores.{by_catalogue}
 use Rattle.slate_script.specs.declared.commands.Action.{Action}
 use Rattle.slate_script.specs.declared.commands.Action.TheVariants as actions
 use Rattle.slate_script.specs.declared.commands.Command.{Command}
@@ -23,7 +23,7 @@ use Rattle.slate_live.specs.Commands.{ActsOn, DoesBy, added}
 use Rattle.slate_live.specs.Confirmed.{Sees, StandsIn}
 use Rattle.slate_live.specs.Replies.{followed_reply, polled_reply, refusal, reply_to}
 use Rattle.slate_live.specs.Settings.{Settings}
-use Rattle.slate_live.specs.World.{Next, World, by_catalogue, state_of}
+use Rattle.slate_live.specs.World.{Next, World, state_of}
 use Rattle.slate_live.proofs.Cases.{by-option, some-of}
 use Rattle.slate_live.proofs.Naming.{follower-did, handle-did}
 use Rattle.slate_live.proofs.Places.{get-seam}
@@ -39,13 +39,13 @@ sees-by : (batch : Batch) (action : Action) {reply reply' : Reply} (w : World) �
 sees-by batch action w is sees = subst (λ r. Sees batch action r w) (sym is) sees
 
 sees-no-memory : (batch : Batch) (action : Action) (w : World) → Sees batch action replies.NoMemory w
-sees-no-memory batch actions.Open w = tt
+sees-no-memory batch (actions.Open wal) w = tt
 sees-no-memory batch (actions.Follow mode managed skip) w = tt
 sees-no-memory batch (actions.Poll n) w = tt
 sees-no-memory batch action w = tt
 
 sees-error : (batch : Batch) (action : Action) (e : SlateError) (w : World) → Sees batch action (replies.Refused e) w
-sees-error batch actions.Open e w = tt
+sees-error batch (actions.Open wal) e w = tt
 sees-error batch (actions.Follow mode managed skip) e w = tt
 sees-error batch (actions.Poll n) e w = tt
 sees-error batch action e w = tt
@@ -55,14 +55,14 @@ sees-refusal batch action errors.NoMemory w = sees-no-memory batch action w
 sees-refusal batch action e w = sees-error batch action e w
 
 -- the handle of an opening has it in its line
-open-sees : (batch : Batch) (w w' : World) (made limit : ℕ) (r : Result Handle SlateError) → OpensHandle span (λ _ _. ⊥) (λ line. line ≡ w.stored) made true limit (state_of w).store r (state_of w').store → w'.objects ≡ w.objects ++ added AHandle r → StandsIn batch w.stored → Sees batch actions.Open (reply_to (λ _. replies.Handle (length w.objects)) r) w'
-open-sees batch w w' made limit (Ok h) opens is stands =
+open-sees : (batch : Batch) (w w' : World) (wal : Bool) (made limit : ℕ) (r : Result Handle SlateError) → OpensHandle (by_catalogue w.stored w.catalogue) made wal limit (state_of w).store r (state_of w').store → w'.objects ≡ w.objects ++ added AHandle r → StandsIn batch w.stored → Sees batch (actions.Open wal) (reply_to (λ _. replies.Handle (length w.objects)) r) w'
+open-sees batch w w' wal made limit (Ok h) opens is stands =
     let sees = opens.handle w.catalogue w.stored refl refl in (
       h,
       subst (λ os. slice_get os (length w.objects) ≡ Some (AHandle h)) (sym is) (get-seam w.objects (AHandle h)),
       subst (λ (x : Handle). StandsIn batch x.line) (sym sees) stands,
     )
-open-sees batch w w' made limit (Err e) opens is stands = sees-refusal batch actions.Open e w'
+open-sees batch w w' wal made limit (Err e) opens is stands = sees-refusal batch (actions.Open wal) e w'
 
 -- a follower that is opened or polled answers a number at or above its own
 follow-sees : (batch : Batch) (action : Action) (w w' : World) (n : ℕ) (opening : Bool) (r : Result (Follower × PollAnswer) SlateError) → Rebuilds (λ line. line ≡ w.stored) opening (state_of w).store r (state_of w').store → Sees batch action (replies.Follower n true (end w.stored)) w' → Sees batch action (reply_to (λ (b : Follower × PollAnswer). followed_reply n b.1) r) w'
@@ -85,18 +85,18 @@ poll-sees n batch w w' f f' r stands p =
     let c = some-of (λ q. (r ≡ Err (closed_error q)) × _) f.result q is p.closed in
     subst (λ x. Sees batch (actions.Poll n) (reply_to polled_reply x) w') (sym c.0) (sees-refusal batch (actions.Poll n) (closed_error q) w'))
 
-sees-on : (settings : Settings) (batch : Batch) (w w' : World) (command : Command) (made n : ℕ) (reply : Reply) (found : Option Object) → call_of command.action ≡ Poll → StandsIn batch w.stored → slice_get w.objects n ≡ found → ActsOn (by_catalogue w.stored) settings.merge n command made found (state_of w) reply (state_of w') → Sees batch (actions.Poll n) reply w'
+sees-on : (settings : Settings) (batch : Batch) (w w' : World) (command : Command) (made n : ℕ) (reply : Reply) (found : Option Object) → call_of command.action ≡ Poll → StandsIn batch w.stored → slice_get w.objects n ≡ found → ActsOn (by_catalogue w.stored w.catalogue) settings.merge n command made found (state_of w) reply (state_of w') → Sees batch (actions.Poll n) reply w'
 sees-on settings batch w w' command made n reply None is stands at d = sees-by batch (actions.Poll n) w' d.1 tt
 sees-on settings batch w w' command made n reply (Some (AHandle h)) is stands at d =
-    let a = handle-did (by_catalogue w.stored) settings.merge n command Poll made (state_of w) reply (state_of w') (Some (AHandle h)) h is refl d in
+    let a = handle-did (by_catalogue w.stored w.catalogue) settings.merge n command Poll made (state_of w) reply (state_of w') (Some (AHandle h)) h is refl d in
     sees-by batch (actions.Poll n) w' (a.acts).0 tt
 sees-on settings batch w w' command made n reply (Some (AFollower f)) is stands at d =
-    let a = follower-did (by_catalogue w.stored) settings.merge n command Poll made (state_of w) reply (state_of w') (Some (AFollower f)) f is refl d in
+    let a = follower-did (by_catalogue w.stored w.catalogue) settings.merge n command Poll made (state_of w) reply (state_of w') (Some (AFollower f)) f is refl d in
     sees-by batch (actions.Poll n) w' (a.acts).0.replied (poll-sees n batch w w' f a.new (a.acts).0.result stands (a.acts).0.does)
 
-sees-action : (settings : Settings) (batch : Batch) (w w' : World) (command : Command) (made : ℕ) (action : Action) (reply : Reply) → command.action ≡ action → StandsIn batch w.stored → DoesBy (by_catalogue w.stored) settings command (target_of action) made (state_of w) reply (state_of w') → Sees batch action reply w'
-sees-action settings batch w w' command made actions.Open reply is stands d =
-    sees-by batch actions.Open w' d.replied (open-sees batch w w' made settings.options.max_unflushed_bytes d.result d.does d.objects stands)
+sees-action : (settings : Settings) (batch : Batch) (w w' : World) (command : Command) (made : ℕ) (action : Action) (reply : Reply) → command.action ≡ action → StandsIn batch w.stored → DoesBy (by_catalogue w.stored w.catalogue) settings command (target_of action) made (state_of w) reply (state_of w') → Sees batch action reply w'
+sees-action settings batch w w' command made (actions.Open wal) reply is stands d =
+    sees-by batch (actions.Open wal) w' d.replied (open-sees batch w w' wal made settings.options.max_unflushed_bytes d.result d.does d.objects stands)
 sees-action settings batch w w' command made (actions.Follow mode managed skip) reply is stands d =
     sees-by batch (actions.Follow mode managed skip) w' (d.0).replied
     (follow-sees batch (actions.Follow mode managed skip) w w' (length w.objects) true (d.0).result (d.0).does (stands-end batch w.stored stands))
@@ -106,6 +106,8 @@ sees-action settings batch w w' command made (actions.Merge n key value expire) 
 sees-action settings batch w w' command made (actions.Delete n key) reply is stands d = tt
 sees-action settings batch w w' command made (actions.Batch n ops) reply is stands d = tt
 sees-action settings batch w w' command made (actions.Flush n flush_type) reply is stands d = tt
+sees-action settings batch w w' command made (actions.Refresh n) reply is stands d = tt
+sees-action settings batch w w' command made (actions.Compact n) reply is stands d = tt
 sees-action settings batch w w' command made (actions.Get n key remote) reply is stands d = tt
 sees-action settings batch w w' command made (actions.Scan n range order remote) reply is stands d = tt
 sees-action settings batch w w' command made (actions.Seek n range take key order remote) reply is stands d = tt

@@ -1,5 +1,5 @@
 -- Where a command goes, what it asks of the object that it names, and how often it may call the store.
-use Rattle.std.specs.Prelude.{ℕ, ℤ, ◌+◌, Bool, List, [], ◌∷◌, Option, Some, None}
+use Rattle.std.specs.Prelude.{ℕ, ℤ, ◌+◌, Bool, List, [], ◌∷◌, length, slice_get, Option, Some, None}
 use Rattle.slate_types.specs.declared.batches.KeyOp.{KeyOp}
 use Rattle.slate_types.specs.declared.batches.Op.TheVariants.{Put, Delete, Merge as MergeOperand}
 use Rattle.slate_types.specs.declared.options.CloseOptions.{CloseOptions}
@@ -7,18 +7,20 @@ use Rattle.slate_types.specs.declared.options.FlushType.{FlushType}
 use Rattle.slate_types.specs.declared.options.FlushType.TheVariants.{MemTable}
 use Rattle.slate_types.specs.declared.ranges.ByteRange.{ByteRange}
 use Rattle.slate_types.specs.declared.scan_options.IterationOrder.{IterationOrder}
+use Rattle.slate_model.specs.Object.{Object, Handle}
 use Rattle.slate_script.specs.declared.commands.Action.{Action}
 use Rattle.slate_script.specs.declared.commands.Action.TheVariants as actions
 
--- where a command goes: it opens a handle or a follower, asks for the write with a number, or names the object with one
+-- where a command goes: it opens a handle, which keeps a log or not, or a follower, asks for the write with a number, or
+-- names the object with one
 pub data Target : Type 0 where
-  NewHandle : Target
+  NewHandle : (keeps_log : Bool) → Target
   NewFollower : Target
   OfWrite : (n : ℕ) → Target
   OfObject : (n : ℕ) → Target
 
 abbrev pub target_of : Action → Target
-target_of actions.Open = NewHandle
+target_of (actions.Open wal) = NewHandle wal
 target_of (actions.Follow mode managed skip) = NewFollower
 target_of (actions.Await n) = OfWrite n
 target_of (actions.Put n key value expire) = OfObject n
@@ -26,6 +28,8 @@ target_of (actions.Merge n key value expire) = OfObject n
 target_of (actions.Delete n key) = OfObject n
 target_of (actions.Batch n batch) = OfObject n
 target_of (actions.Flush n flush_type) = OfObject n
+target_of (actions.Refresh n) = OfObject n
+target_of (actions.Compact n) = OfObject n
 target_of (actions.Get n key remote) = OfObject n
 target_of (actions.Scan n range order remote) = OfObject n
 target_of (actions.Seek n range take key order remote) = OfObject n
@@ -59,7 +63,9 @@ flush_of_close (Some options) = options.flush_type
 pub data Call : Type 0 where
   Write : (ops : List KeyOp) → Call  -- these operations, as one batch
   Merge : (op : KeyOp) → Call  -- one operand to merge, which wants an operator
-  Flush : Call
+  Flush : (flush_type : Option FlushType) → Call  -- without a type, to where the handle stores its batches first
+  Refresh : Call
+  Compact : Call
   Get : (key : List ℕ) → (remote : Bool) → Call
   Scan : (range : ByteRange) → (order : IterationOrder) → (remote : Bool) → Call
   Seek : (range : ByteRange) → (take : ℕ) → (key : List ℕ) → (order : IterationOrder) → (remote : Bool) → Call
@@ -73,7 +79,9 @@ call_of (actions.Put n key value expire) = Write (put_op key value expire ∷ []
 call_of (actions.Merge n key value expire) = Merge (merge_op key value expire)
 call_of (actions.Delete n key) = Write (delete_op key ∷ [])
 call_of (actions.Batch n batch) = Write batch.ops
-call_of (actions.Flush n flush_type) = Flush
+call_of (actions.Flush n flush_type) = Flush flush_type
+call_of (actions.Refresh n) = Refresh
+call_of (actions.Compact n) = Compact
 call_of (actions.Get n key remote) = Get key remote
 call_of (actions.Scan n range order remote) = Scan range order remote
 call_of (actions.Seek n range take key order remote) = Seek range take key order remote
@@ -82,19 +90,40 @@ call_of (actions.Poll n) = Poll
 call_of (actions.Status n) = Status
 call_of action = Nothing
 
--- how often what is asked of an object calls the store at most, where a poll replays so many log files
-abbrev pub most_asked : (logs : ℕ) → Call → ℕ
-most_asked logs Flush = 3
-most_asked logs (Close flush_type) = 3
-most_asked logs Poll = logs + 2
-most_asked logs call = 0
+-- whether it is known how often what is asked calls the store at most; of a compaction it isn't
+abbrev pub IsCounted : Call → Type 0
+IsCounted Compact = ⊥
+IsCounted call = Unit {0}
+
+-- How often what is asked of an object calls the store at most, where a poll replays so many log files, and a read reads
+-- so many tables. Of what isn't counted nothing is said.
+abbrev pub most_asked : (logs tables : ℕ) → Call → ℕ
+most_asked logs tables (Flush flush_type) = 5
+most_asked logs tables Refresh = 1
+most_asked logs tables (Get key remote) = tables
+most_asked logs tables (Scan range order remote) = tables
+most_asked logs tables (Seek range take key order remote) = tables
+most_asked logs tables (Close flush_type) = 5
+most_asked logs tables Poll = logs + 2
+most_asked logs tables call = 0
+
+-- how many tables a read of an object reads: those of a handle's view
+abbrev pub tables_of : Option Object → ℕ
+tables_of (Some (Handle handle)) = length handle.view.manifest.tables
+tables_of object = 0
 
 -- and how often a command does; an opening calls it once more where its replay ends early
-abbrev pub most_made : (logs : ℕ) → Target → Call → ℕ
-most_made logs NewHandle call = logs + 5
-most_made logs NewFollower call = logs + 2
-most_made logs (OfWrite n) call = 0
-most_made logs (OfObject n) call = most_asked logs call
+abbrev pub most_made : (logs tables : ℕ) → Target → Call → ℕ
+most_made logs tables (NewHandle keeps_log) call = logs + 5
+most_made logs tables NewFollower call = logs + 2
+most_made logs tables (OfWrite n) call = 0
+most_made logs tables (OfObject n) call = most_asked logs tables call
 
-abbrev pub most_calls : (logs : ℕ) → Action → ℕ
-most_calls logs action = most_made logs (target_of action) (call_of action)
+-- the object that a command names, where it names one
+abbrev pub named : List Object → Target → Option Object
+named objects (OfObject n) = slice_get objects n
+named objects target = None
+
+-- how often a command calls the store at most, where so many log files are replayed
+abbrev pub most_calls : (logs : ℕ) → List Object → Action → ℕ
+most_calls logs objects action = most_made logs (tables_of (named objects (target_of action))) (target_of action) (call_of action)

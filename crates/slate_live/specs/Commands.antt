@@ -1,8 +1,9 @@
 -- What a command does: it opens an object, or it names one, which does what is asked, or it asks for a write.
-use Rattle.std.specs.Prelude.{◌≡◌, ℕ, true, List, [], ◌∷◌, ◌++◌, length, slice_get, slice_set, Option, Some, None, Result, Ok, Err}
+use Rattle.std.specs.Prelude.{◌≡◌, ℕ, Bool, List, [], ◌∷◌, ◌++◌, length, slice_get, slice_set, Option, Some, None, Result, Ok, Err, true}
 use Rattle.slate_types.specs.Operator.{Merge}
 use Rattle.slate_errors.specs.declared.errors.SlateError.{SlateError}
 use Rattle.slate_model.specs.Follower.{Rebuilds}
+use Rattle.slate_model.specs.Knowledge.{Knowledge}
 use Rattle.slate_model.specs.Known.{Known}
 use Rattle.slate_model.specs.Object.{Object, Handle, Follower}
 use Rattle.slate_model.specs.Open.{OpensHandle}
@@ -15,7 +16,7 @@ use Rattle.slate_live.specs.Followers.{FollowerActs}
 use Rattle.slate_live.specs.Handles.{HandleActs, durable_reply}
 use Rattle.slate_live.specs.Replies.{followed_reply, reply_to}
 use Rattle.slate_live.specs.Settings.{Settings}
-use Rattle.slate_live.specs.State.{Knowledge, State}
+use Rattle.slate_live.specs.State.{State}
 
 -- a command is answered so, and changes nothing
 abbrev pub OnlyAnswers : {L : Type 0} → Reply → ℕ → State L → Reply → State L → Type 0
@@ -27,7 +28,8 @@ added object (Ok opened) = object opened ∷ []
 added object (Err error) = []
 
 -- An opening did this to the store, and adds the object that it answered. All others are as before.
-pub record Adds {L A : Type 0} (did : Known L → Result A SlateError → Known L → Type 0) (object : A → Object) (done : ℕ → A → Reply) (s : State L) (reply : Reply) (s' : State L) : Type 0 where
+pub record Adds {L A : Type 0} (did : Known L → Result A SlateError → Known L → Type 0) (object : A → Object) (done : ℕ → A → Reply)
+    (s : State L) (reply : Reply) (s' : State L) : Type 0 where
   pub result : Result A SlateError
   pub replied : reply ≡ reply_to (done (length s.objects)) result
   pub does : did s.store result s'.store
@@ -37,9 +39,9 @@ pub record Adds {L A : Type 0} (did : Known L → Result A SlateError → Known 
 -- what an object does at a command, by its kind
 abbrev pub Acts : {L : Type 0} → Knowledge L → Option Merge → ℕ → Command → ℕ → Object → Known L → List Write → Reply → Object → Known L → List Write → Type 0
 Acts k merge n command made (Handle old) before writes reply (Handle new) after writes' =
-    HandleActs k.summary merge n command.moment command.second (call_of command.action) made old before writes reply new after writes'
+    HandleActs k merge n command.moment command.second (call_of command.action) made old before writes reply new after writes'
 Acts k merge n command made (Follower old) before writes reply (Follower new) after writes' =
-    FollowerActs k.is_stored k.rows merge (call_of command.action) made old before writes reply new after writes'
+    FollowerActs k merge (call_of command.action) made old before writes reply new after writes'
 Acts k merge n command made old before writes reply new after writes' = ⊥
 
 -- The object with number n does what is asked of it. All others are as before.
@@ -63,9 +65,9 @@ write_reply objects None = replies.Unknown
 write_reply objects (Some write) = asked_reply (slice_get objects write.handle) write.number
 
 module _ {L : Type 0} (k : Knowledge L) (settings : Settings) where
-  abbrev pub OpensHandleIn : ℕ → State L → Reply → State L → Type 0
-  OpensHandleIn made s reply s' =
-      Adds (OpensHandle k.summary k.unsound k.is_stored made true settings.options.max_unflushed_bytes) Handle (λ n _. replies.Handle n) s reply s'
+  abbrev pub OpensHandleIn : Bool → ℕ → State L → Reply → State L → Type 0
+  OpensHandleIn keeps_log made s reply s' =
+      Adds (OpensHandle k made keeps_log settings.options.max_unflushed_bytes) Handle (λ n _. replies.Handle n) s reply s'
 
   abbrev pub OpensFollowerIn : ℕ → State L → Reply → State L → Type 0
   OpensFollowerIn made s reply s' =
@@ -73,7 +75,7 @@ module _ {L : Type 0} (k : Knowledge L) (settings : Settings) where
 
   -- what a command does, by where it goes; so many of its changes were made
   abbrev pub DoesBy : Command → Target → ℕ → State L → Reply → State L → Type 0
-  DoesBy command NewHandle made s reply s' = OpensHandleIn made s reply s'
+  DoesBy command (NewHandle keeps_log) made s reply s' = OpensHandleIn keeps_log made s reply s'
   DoesBy command NewFollower made s reply s' = OpensFollowerIn made s reply s'
   DoesBy command (OfWrite n) made s reply s' = OnlyAnswers (write_reply s.objects (slice_get s.writes n)) made s reply s'
   DoesBy command (OfObject n) made s reply s' = ActsOn k settings.merge n command made (slice_get s.objects n) s reply s'

@@ -14,7 +14,7 @@ use Rattle.slate_live.specs.World.{World}
 -- What an opening or a poll answers and leaves that begins after this batch was stored: a handle that is opened has it
 -- in its line, and a reader that is opened or polled answers a number at or above its own.
 abbrev pub Sees : Batch → Action → Reply → World → Type 0
-Sees batch actions.Open (replies.Handle n) w = (handle : Handle) × IsHandleAt w.objects n handle × StandsIn batch handle.line
+Sees batch (actions.Open wal) (replies.Handle n) w = (handle : Handle) × IsHandleAt w.objects n handle × StandsIn batch handle.line
 Sees batch (actions.Follow mode managed skip) (replies.Follower n true at) w = batch.number ≤ at
 Sees batch (actions.Poll n) (replies.Polled true at) w = batch.number ≤ at
 Sees batch action reply w = Unit {0}

@@ -1,6 +1,8 @@
 -- What commands do to a follower.
-use Rattle.std.specs.Prelude.{◌≡◌, ℕ, List, Option, Some, Result}
+use Rattle.std.specs.Prelude.{◌≡◌, ℕ, List, Option, Some, Result, []}
 use Rattle.slate_types.specs.declared.batches.Batch.{Batch}
+use Rattle.slate_types.specs.declared.batches.KeyValue.{KeyValue}
+use Rattle.slate_types.specs.declared.read_faults.ReadFault.{ReadFault}
 use Rattle.slate_types.specs.declared.ranges.ByteRange.{ByteRange}
 use Rattle.slate_types.specs.declared.scan_options.IterationOrder.{IterationOrder}
 use Rattle.slate_types.specs.Line.{Line}
@@ -12,7 +14,9 @@ use Rattle.slate_errors.specs.declared.errors.SlateError.{SlateError}
 use Rattle.slate_model.specs.Close.{closed_follower, ended, recorded_fault}
 use Rattle.slate_model.specs.declared.answers.PollAnswer.{PollAnswer}
 use Rattle.slate_model.specs.Follower.{Follower, Polls, number}
+use Rattle.slate_model.specs.Knowledge.{Knowledge}
 use Rattle.slate_model.specs.Known.{Known, Untouched}
+use Rattle.slate_model.specs.Object.{Follower as AFollower}
 use Rattle.slate_status.specs.declared.statuses.DbStatus.{DbStatus}
 use Rattle.slate_status.specs.Records.{status_by}
 use Rattle.slate_script.specs.declared.replies.Reply.{Reply}
@@ -22,20 +26,23 @@ use Rattle.slate_live.specs.Calls.{Call, Get, Scan, Seek, Close, Poll, Status}
 use Rattle.slate_live.specs.Scans.{IsTaken, scanned, sought}
 use Rattle.slate_live.specs.Replies.{AnswersStatus, IsRead, follower_ended_reply, found_reply, polled_reply, reply_to}
 
--- a read of a key: the plain read of these batches at the follower's number
-abbrev pub GetsFromFollower : Option Merge → List Batch → List ℕ → Follower → Reply → Type 0
-GetsFromFollower merge rows key follower reply = IsRead found_reply follower.result (read_at merge rows (Some (number follower)) key) reply
+-- a read of a key: the plain read of what the follower reads, at its number
+abbrev pub IsPlainReadAt : Option Merge → List ℕ → Follower → List Batch → Result (Option KeyValue) ReadFault → Type 0
+IsPlainReadAt merge key follower rows answer = answer ≡ read_at merge rows (Some (number follower)) key
 
--- a scan of a range and a seek in one: the plain scan of these batches at the follower's number
-abbrev pub IsPlainScanAt : Option Merge → List Batch → ByteRange → IterationOrder → Follower → Iteration → Type 0
-IsPlainScanAt merge rows range order follower it = BeginsScan merge rows (Some (number follower)) range order it
+-- a scan of a range and a seek in one: the plain scan of what the follower reads, at its number
+abbrev pub IsPlainScanAt : Option Merge → ByteRange → IterationOrder → Follower → List Batch → Iteration → Type 0
+IsPlainScanAt merge range order follower rows it = BeginsScan merge rows (Some (number follower)) range order it
 
-abbrev pub ScansFollower : Option Merge → List Batch → ByteRange → IterationOrder → Follower → Reply → Type 0
-ScansFollower merge rows range order follower reply = IsTaken follower.result (IsPlainScanAt merge rows range order follower) scanned reply
+-- Until followers read tables, their reads call no store.
+module _ {L : Type 0} (k : Knowledge L) (merge : Option Merge) where
+  abbrev pub GetsFromFollower : List ℕ → Follower → Known L → Reply → Known L → Type 0
+  GetsFromFollower key follower =
+      IsRead found_reply follower.result [] (k.rows (AFollower follower)) (IsPlainReadAt merge key follower)
 
-abbrev pub SeeksFollower : Option Merge → List Batch → ByteRange → ℕ → List ℕ → IterationOrder → Follower → Reply → Type 0
-SeeksFollower merge rows range take key order follower reply =
-    IsTaken follower.result (IsPlainScanAt merge rows range order follower) (sought range take key) reply
+  abbrev pub TakesFromFollower : ByteRange → IterationOrder → (Iteration → Result (List KeyValue) SlateError) → Follower → Known L → Reply → Known L → Type 0
+  TakesFromFollower range order taken follower =
+      IsTaken follower.result [] (k.rows (AFollower follower)) (IsPlainScanAt merge range order follower) taken
 
 -- the status of a follower: the number of the last batch that it sees, the manifest that it goes by, and why it closed
 abbrev pub follower_status : Follower → DbStatus
@@ -46,20 +53,20 @@ pub record PollsFollower {L : Type 0} (is_stored : Line → Type 0) (old : Follo
   pub replied : reply ≡ reply_to polled_reply result
   pub does : Polls is_stored old before result new after
 
--- What a command that asks this does to a follower, which reads these rows; it makes no change to the store. What isn't
--- for a follower is answered that it is unknown.
-module _ {L : Type 0} (is_stored : Line → Type 0) (rows : Follower → List Batch) (merge : Option Merge) where
+-- What a command that asks this does to a follower; it makes no change to the store. What isn't for a follower is answered
+-- that it is unknown.
+module _ {L : Type 0} (k : Knowledge L) (merge : Option Merge) where
   abbrev pub FollowerActs : Call → ℕ → Follower → Known L → List Write → Reply → Follower → Known L → List Write → Type 0
   FollowerActs (Get key remote) made old before writes reply new after writes' =
-      GetsFromFollower merge (rows old) key old reply × (new ≡ old) × Untouched made before after × (writes' ≡ writes)
+      GetsFromFollower k merge key old before reply after × (new ≡ old) × (made ≡ 0) × (writes' ≡ writes)
   FollowerActs (Scan range order remote) made old before writes reply new after writes' =
-      ScansFollower merge (rows old) range order old reply × (new ≡ old) × Untouched made before after × (writes' ≡ writes)
+      TakesFromFollower k merge range order scanned old before reply after × (new ≡ old) × (made ≡ 0) × (writes' ≡ writes)
   FollowerActs (Seek range take key order remote) made old before writes reply new after writes' =
-      SeeksFollower merge (rows old) range take key order old reply × (new ≡ old) × Untouched made before after × (writes' ≡ writes)
+      TakesFromFollower k merge range order (sought range take key) old before reply after × (new ≡ old) × (made ≡ 0) × (writes' ≡ writes)
   FollowerActs (Close flush_type) made old before writes reply new after writes' =
       (reply ≡ follower_ended_reply (ended (recorded_fault old.result))) × (new ≡ closed_follower old) × Untouched made before after × (writes' ≡ writes)
   FollowerActs Poll made old before writes reply new after writes' =
-      PollsFollower is_stored old before reply new after × (made ≡ 0) × (writes' ≡ writes)
+      PollsFollower k.is_stored old before reply new after × (made ≡ 0) × (writes' ≡ writes)
   FollowerActs Status made old before writes reply new after writes' =
       AnswersStatus (follower_status old) reply × (new ≡ old) × Untouched made before after × (writes' ≡ writes)
   FollowerActs call made old before writes reply new after writes' =

@@ -2,9 +2,12 @@
 use Rattle.std.specs.Prelude.{◌≡◌, ℕ, ℤ, Bool, true, false, if◌then◌else◌, nat_le, List, [], ◌∷◌, ◌++◌, length, Option, Some, None, Result, Ok, Err}
 use Rattle.slate_types.specs.declared.batches.Batch.{Batch}
 use Rattle.slate_types.specs.declared.batches.KeyOp.{KeyOp}
+use Rattle.slate_types.specs.declared.batches.KeyValue.{KeyValue}
+use Rattle.slate_types.specs.declared.read_faults.ReadFault.{ReadFault}
 use Rattle.slate_types.specs.declared.options.DurabilityLevel.{DurabilityLevel}
 use Rattle.slate_types.specs.declared.options.DurabilityLevel.TheVariants.{Memory, Remote}
 use Rattle.slate_types.specs.declared.options.FlushType.{FlushType}
+use Rattle.slate_types.specs.declared.options.FlushType.TheVariants.{MemTable, Wal}
 use Rattle.slate_types.specs.declared.ranges.ByteRange.{ByteRange}
 use Rattle.slate_types.specs.declared.scan_options.IterationOrder.{IterationOrder}
 use Rattle.slate_types.specs.Operator.{Merge as MergeFunction}
@@ -20,14 +23,17 @@ use Rattle.slate_model.specs.Close.{Closes}
 use Rattle.slate_model.specs.declared.answers.Written.{Written}
 use Rattle.slate_model.specs.Flush.{Flushes}
 use Rattle.slate_model.specs.Handle.{CloseResult, Handle, accepted}
+use Rattle.slate_model.specs.Knowledge.{Knowledge}
 use Rattle.slate_model.specs.Known.{Known, Untouched}
+use Rattle.slate_model.specs.Object.{Handle as AHandle}
+use Rattle.slate_model.specs.Refresh.{Compacts, Refreshes}
 use Rattle.slate_model.specs.Write.{Writes}
 use Rattle.slate_status.specs.declared.statuses.DbStatus.{DbStatus}
 use Rattle.slate_status.specs.Records.{status_by}
 use Rattle.slate_script.specs.declared.replies.Reply.{Reply}
 use Rattle.slate_script.specs.declared.replies.Reply.TheVariants as replies
 use Rattle.slate_live.specs.declared.states.Write.{Write}
-use Rattle.slate_live.specs.Calls.{Call, Write as WriteCall, Merge as MergeCall, Flush, Get, Scan, Seek, Close, Status}
+use Rattle.slate_live.specs.Calls.{Call, Write as WriteCall, Merge as MergeCall, Flush, Refresh, Compact, Get, Scan, Seek, Close, Status}
 use Rattle.slate_live.specs.Scans.{IsTaken, scanned, sought}
 use Rattle.slate_live.specs.Replies.{AnswersStatus, IsRead, ended_reply, found_reply, reply_to}
 
@@ -51,31 +57,48 @@ pub record WritesTo (n : ℕ) (ops : List KeyOp) (moment : ℤ) (second : Option
   pub does : Writes old ops moment second result new
   pub noted : writes' ≡ writes ++ noted n result
 
-pub record FlushesHandle {L : Type 0} (summary : List Batch → L) (made : ℕ) (old : Handle) (before : Known L) (reply : Reply) (new : Handle) (after : Known L) : Type 0 where
+-- the type of a flush: without one, to the log where the handle keeps one, and else to a table
+abbrev pub flush_type_by : Option FlushType → Handle → FlushType
+flush_type_by None handle = if handle.keeps_log then Wal else MemTable
+flush_type_by (Some flush_type) handle = flush_type
+
+pub record FlushesHandle {L : Type 0} (k : Knowledge L) (made : ℕ) (flush_type : FlushType) (old : Handle) (before : Known L) (reply : Reply) (new : Handle) (after : Known L) : Type 0 where
   pub result : Result (Unit {0}) SlateError
   pub replied : reply ≡ reply_to (λ _. replies.Flushed) result
-  pub does : Flushes summary made old before result new after
+  pub does : Flushes k made flush_type old before result new after
 
-pub record ClosesHandle {L : Type 0} (summary : List Batch → L) (made : ℕ) (flush_type : Option FlushType) (old : Handle)
+pub record RefreshesHandle {L : Type 0} (k : Knowledge L) (old : Handle) (before : Known L) (reply : Reply) (new : Handle) (after : Known L) : Type 0 where
+  pub result : Result (Unit {0}) SlateError
+  pub replied : reply ≡ reply_to (λ _. replies.Refreshed) result
+  pub does : Refreshes k old before result new after
+
+pub record CompactsHandle {L : Type 0} (k : Knowledge L) (made : ℕ) (old : Handle) (before : Known L) (reply : Reply) (new : Handle) (after : Known L) : Type 0 where
+  pub result : Result (Unit {0}) SlateError
+  pub replied : reply ≡ reply_to (λ _. replies.Compacted) result
+  pub does : Compacts k made old before result new after
+
+pub record ClosesHandle {L : Type 0} (k : Knowledge L) (made : ℕ) (flush_type : Option FlushType) (old : Handle)
     (before : Known L) (reply : Reply) (new : Handle) (after : Known L) : Type 0 where
   pub ended : Ended
   pub replied : reply ≡ ended_reply ended
-  pub does : Closes summary made flush_type old before ended new after
+  pub does : Closes k made flush_type old before ended new after
 
--- a read of a key: the plain read of the handle's line at its cut
-abbrev pub GetsFrom : Option MergeFunction → List ℕ → Bool → Handle → Reply → Type 0
-GetsFrom merge key remote handle reply = IsRead found_reply handle.result (read_at merge handle.line.batches (cut handle remote) key) reply
+-- a read of a key: the plain read of what the handle reads, at its cut
+abbrev pub IsPlainRead : Option MergeFunction → List ℕ → Bool → Handle → List Batch → Result (Option KeyValue) ReadFault → Type 0
+IsPlainRead merge key remote handle rows answer = answer ≡ read_at merge rows (cut handle remote) key
 
--- a scan of a range and a seek in one: the plain scan of the handle's line at its cut
-abbrev pub IsPlainScan : Option MergeFunction → ByteRange → IterationOrder → Bool → Handle → Iteration → Type 0
-IsPlainScan merge range order remote handle it = BeginsScan merge handle.line.batches (cut handle remote) range order it
+-- a scan of a range and a seek in one: the plain scan of what the handle reads, at its cut
+abbrev pub IsPlainScan : Option MergeFunction → ByteRange → IterationOrder → Bool → Handle → List Batch → Iteration → Type 0
+IsPlainScan merge range order remote handle rows it = BeginsScan merge rows (cut handle remote) range order it
 
-abbrev pub ScansFrom : Option MergeFunction → ByteRange → IterationOrder → Bool → Handle → Reply → Type 0
-ScansFrom merge range order remote handle reply = IsTaken handle.result (IsPlainScan merge range order remote handle) scanned reply
+module _ {L : Type 0} (k : Knowledge L) (merge : Option MergeFunction) where
+  abbrev pub GetsFrom : List ℕ → Bool → Handle → Known L → Reply → Known L → Type 0
+  GetsFrom key remote handle =
+      IsRead found_reply handle.result handle.view.manifest.tables (k.rows (AHandle handle)) (IsPlainRead merge key remote handle)
 
-abbrev pub SeeksFrom : Option MergeFunction → ByteRange → ℕ → List ℕ → IterationOrder → Bool → Handle → Reply → Type 0
-SeeksFrom merge range take key order remote handle reply =
-    IsTaken handle.result (IsPlainScan merge range order remote handle) (sought range take key) reply
+  abbrev pub TakesFrom : ByteRange → IterationOrder → Bool → (Iteration → Result (List KeyValue) SlateError) → Handle → Known L → Reply → Known L → Type 0
+  TakesFrom range order remote taken handle =
+      IsTaken handle.result handle.view.manifest.tables (k.rows (AHandle handle)) (IsPlainScan merge range order remote handle) taken
 
 -- the status of a handle: its durable number, the manifest that it goes by, and why it closed
 abbrev pub handle_status : Handle → DbStatus
@@ -89,22 +112,26 @@ MergesTo (Some merge) n op moment second old writes reply new writes' = WritesTo
 
 -- What a command that asks this does to the handle with number n, of which so many changes were made. What isn't for a
 -- handle is answered that it is unknown.
-module _ {L : Type 0} (summary : List Batch → L) (merge : Option MergeFunction) (n : ℕ) (moment : ℤ) (second : Option ℤ) where
+module _ {L : Type 0} (k : Knowledge L) (merge : Option MergeFunction) (n : ℕ) (moment : ℤ) (second : Option ℤ) where
   abbrev pub HandleActs : Call → ℕ → Handle → Known L → List Write → Reply → Handle → Known L → List Write → Type 0
   HandleActs (WriteCall ops) made old before writes reply new after writes' =
       WritesTo n ops moment second old writes reply new writes' × Untouched made before after
   HandleActs (MergeCall op) made old before writes reply new after writes' =
       MergesTo merge n op moment second old writes reply new writes' × Untouched made before after
-  HandleActs Flush made old before writes reply new after writes' =
-      FlushesHandle summary made old before reply new after × (writes' ≡ writes)
+  HandleActs (Flush flush_type) made old before writes reply new after writes' =
+      FlushesHandle k made (flush_type_by flush_type old) old before reply new after × (writes' ≡ writes)
+  HandleActs Refresh made old before writes reply new after writes' =
+      RefreshesHandle k old before reply new after × (made ≡ 0) × (writes' ≡ writes)
+  HandleActs Compact made old before writes reply new after writes' =
+      CompactsHandle k made old before reply new after × (writes' ≡ writes)
   HandleActs (Get key remote) made old before writes reply new after writes' =
-      GetsFrom merge key remote old reply × (new ≡ old) × Untouched made before after × (writes' ≡ writes)
+      GetsFrom k merge key remote old before reply after × (new ≡ old) × (made ≡ 0) × (writes' ≡ writes)
   HandleActs (Scan range order remote) made old before writes reply new after writes' =
-      ScansFrom merge range order remote old reply × (new ≡ old) × Untouched made before after × (writes' ≡ writes)
+      TakesFrom k merge range order remote scanned old before reply after × (new ≡ old) × (made ≡ 0) × (writes' ≡ writes)
   HandleActs (Seek range take key order remote) made old before writes reply new after writes' =
-      SeeksFrom merge range take key order remote old reply × (new ≡ old) × Untouched made before after × (writes' ≡ writes)
+      TakesFrom k merge range order remote (sought range take key) old before reply after × (new ≡ old) × (made ≡ 0) × (writes' ≡ writes)
   HandleActs (Close flush_type) made old before writes reply new after writes' =
-      ClosesHandle summary made flush_type old before reply new after × (writes' ≡ writes)
+      ClosesHandle k made flush_type old before reply new after × (writes' ≡ writes)
   HandleActs Status made old before writes reply new after writes' =
       AnswersStatus (handle_status old) reply × (new ≡ old) × Untouched made before after × (writes' ≡ writes)
   HandleActs call made old before writes reply new after writes' =

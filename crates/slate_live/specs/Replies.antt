@@ -1,6 +1,8 @@
 -- The replies to what operations answer.
 use Rattle.std.specs.Prelude.{◌≡◌, ◌⊎◌, ℕ, List, true, false, Option, Some, None, Result, Ok, Err}
+use Rattle.slate_types.specs.declared.batches.Batch.{Batch}
 use Rattle.slate_types.specs.declared.batches.KeyValue.{KeyValue}
+use Rattle.slate_store.specs.declared.objects.TableId.{TableId}
 use Rattle.slate_types.specs.declared.read_faults.ReadFault.{ReadFault}
 use Rattle.slate_errors.specs.declared.endings.Ended.{Ended}
 use Rattle.slate_errors.specs.declared.endings.TaskName.{TaskName}
@@ -9,6 +11,7 @@ use Rattle.slate_errors.specs.declared.errors.SlateError.TheVariants as errors
 use Rattle.slate_model.specs.declared.answers.PollAnswer.{PollAnswer}
 use Rattle.slate_model.specs.declared.answers.PollAnswer.TheVariants.{Whole, Truncated}
 use Rattle.slate_model.specs.Handle.{CloseResult}
+use Rattle.slate_model.specs.Known.{Known}
 use Rattle.slate_model.specs.Read.{Reads}
 use Rattle.slate_status.specs.declared.statuses.DbStatus.{DbStatus}
 use Rattle.slate_script.specs.declared.replies.Reply.{Reply}
@@ -24,11 +27,13 @@ abbrev pub reply_to : {A : Type 0} → (A → Reply) → Result A SlateError →
 reply_to done (Ok answer) = done answer
 reply_to done (Err error) = refusal error
 
--- The reply to a read of something that closed with this result, or is open, where the plain read gives this.
-pub record IsRead {A : Type 0} (done : A → Reply) (closed : CloseResult) (plain : Result A ReadFault) (reply : Reply) : Type 0 where
+-- The reply to a read of something that closed with this result, or is open, and reads these tables. `has_rows` says
+-- which batches it reads, and `is_plain` what a plain read of some answers.
+pub record IsRead {L A : Type 0} (done : A → Reply) (closed : CloseResult) (tables : List TableId) (has_rows : List Batch → Type 0)
+    (is_plain : List Batch → Result A ReadFault → Type 0) (before : Known L) (reply : Reply) (after : Known L) : Type 0 where
   pub result : Result A SlateError
   pub replied : reply ≡ reply_to done result
-  pub does : Reads closed plain result
+  pub does : Reads closed tables has_rows is_plain before result after
 
 abbrev pub found_reply : Option KeyValue → Reply
 found_reply None = replies.Absent

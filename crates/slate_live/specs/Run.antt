@@ -6,10 +6,11 @@ use Rattle.slate_types.specs.declared.batches.Batch.{Batch}
 use Rattle.slate_types.specs.Line.{IsPrefix}
 use Rattle.slate_store.specs.Content.{IsSound, content}
 use Rattle.slate_model.specs.Known.{Known}
+use Rattle.slate_model.specs.Stores.{by_objects}
 use Rattle.slate_script.specs.declared.commands.Command.{Command}
 use Rattle.slate_script.specs.declared.replies.Reply.{Reply}
 use Rattle.slate_live.specs.Commands.{Does}
-use Rattle.slate_live.specs.State.{State, by_objects}
+use Rattle.slate_live.specs.State.{State}
 use Rattle.slate_live.specs.Steps.{Chain, StayConfirmed, Step, last_world}
 use Rattle.slate_live.specs.Represents.{Holds, IsReached}
 use Rattle.slate_live.specs.Settings.{Settings}

@@ -1,7 +1,9 @@
 -- Scans and seeks: what is taken of a plain scan, and the reply to it.
 use Rattle.std.specs.Prelude.{◌≡◌, ℕ, ◌⊎◌, List, Result, Ok, Err}
+use Rattle.slate_types.specs.declared.batches.Batch.{Batch}
 use Rattle.slate_types.specs.declared.batches.KeyValue.{KeyValue}
 use Rattle.slate_types.specs.declared.ranges.ByteRange.{ByteRange}
+use Rattle.slate_store.specs.declared.objects.TableId.{TableId}
 use Rattle.slate_rows.specs.Iteration.{Iteration}
 use Rattle.slate_rows.specs.Taken.{all_rows, seek_at}
 use Rattle.slate_rows.specs.declared.seeks.SeekFault.{SeekFault}
@@ -10,7 +12,8 @@ use Rattle.slate_errors.specs.declared.errors.SlateError.{SlateError}
 use Rattle.slate_errors.specs.declared.errors.SlateError.TheVariants.{SeekKeyOutOfRange, SeekKeyLessThanLastReturnedKey, NoMemory}
 use Rattle.slate_errors.specs.Errors.{error_of_read}
 use Rattle.slate_model.specs.Handle.{CloseResult}
-use Rattle.slate_model.specs.Read.{Scans}
+use Rattle.slate_model.specs.Known.{Known}
+use Rattle.slate_model.specs.Read.{Gives, Reads}
 use Rattle.slate_script.specs.declared.replies.Reply.{Reply}
 use Rattle.slate_script.specs.declared.replies.Reply.TheVariants as replies
 use Rattle.slate_live.specs.Replies.{reply_to}
@@ -39,11 +42,12 @@ abbrev pub Takes : (Iteration → Result (List KeyValue) SlateError) → Result 
 Takes taken (Ok it) result = (result ≡ Err NoMemory) ⊎ (result ≡ taken it)
 Takes taken (Err error) result = result ≡ Err error
 
--- The reply where this is taken of a scan of something that closed with this result, or is open; `is_plain` says which
--- iteration is over its plain scan.
-pub record IsTaken (closed : CloseResult) (is_plain : Iteration → Type 0) (taken : Iteration → Result (List KeyValue) SlateError) (reply : Reply) : Type 0 where
+-- The reply where this is taken of a scan of something that closed with this result, or is open, and reads these tables.
+-- `has_rows` says which batches it reads, and `is_scan` which iteration is over the plain scan of some.
+pub record IsTaken {L : Type 0} (closed : CloseResult) (tables : List TableId) (has_rows : List Batch → Type 0) (is_scan : List Batch → Iteration → Type 0)
+    (taken : Iteration → Result (List KeyValue) SlateError) (before : Known L) (reply : Reply) (after : Known L) : Type 0 where
   pub scan : Result Iteration SlateError
   pub result : Result (List KeyValue) SlateError
-  pub scans : Scans closed is_plain scan
+  pub scans : Reads closed tables has_rows (Gives is_scan) before scan after
   pub takes : Takes taken scan result
   pub replied : reply ≡ reply_to replies.Rows result

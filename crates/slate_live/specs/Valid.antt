@@ -1,5 +1,5 @@
 -- Commands that nothing in a world stands against, and the link of a command, which such a one answers.
-use Rattle.std.specs.Prelude.{◌≡◌, ◌≢◌, ℕ, ℤ, ◌<◌, ◌≤◌, true, false, List, [], ◌∷◌, length, slice_get, Option, Some, None, Result, Ok, Err}
+use Rattle.std.specs.Prelude.{◌≡◌, ◌≢◌, ℕ, ℤ, ◌<◌, ◌≤◌, Bool, true, false, List, [], ◌∷◌, length, slice_get, Option, Some, None, Result, Ok, Err}
 use Rattle.slate_types.specs.declared.batches.Batch.{Batch}
 use Rattle.slate_types.specs.declared.batches.KeyOp.{KeyOp}
 use Rattle.slate_types.specs.declared.batches.KeyValue.{KeyValue}
@@ -7,14 +7,14 @@ use Rattle.slate_types.specs.declared.read_faults.ReadFault.{ReadFault}
 use Rattle.slate_types.specs.Counts.{HasRisen}
 use Rattle.slate_types.specs.Line.{IsPrefix, end}
 use Rattle.slate_types.specs.Operator.{Merge as MergeFunction}
-use Rattle.slate_reads.specs.Read.{read_at}
 use Rattle.slate_rows.specs.Iteration.{Iteration}
 use Rattle.slate_store.specs.declared.objects.VersionedManifest.{VersionedManifest}
 use Rattle.slate_store.specs.Objects.{latest_manifest, last_log}
 use Rattle.slate_types.specs.declared.options.FlushType.{FlushType}
 use Rattle.slate_errors.specs.declared.errors.SlateError.{SlateError}
 use Rattle.slate_errors.specs.declared.errors.SlateError.TheVariants as errors
-use Rattle.slate_model.specs.Handle.{CloseResult, Handle, accepted, unstored}
+use Rattle.slate_model.specs.Flush.{has_ids, has_log_for}
+use Rattle.slate_model.specs.Handle.{CloseResult, Handle, accepted}
 use Rattle.slate_model.specs.Follower.{Follower, can_follow, number}
 use Rattle.slate_model.specs.Close.{recorded_fault}
 use Rattle.slate_live.specs.declared.states.Write.{Write}
@@ -25,10 +25,12 @@ use Rattle.slate_script.specs.declared.commands.Command.{Command}
 use Rattle.slate_script.specs.declared.replies.Reply.{Reply}
 use Rattle.slate_script.specs.declared.replies.Reply.TheVariants as replies
 use Rattle.slate_live.specs.Confirmed.{IsBatchOf, Sees, StandsIn}
+use Rattle.slate_model.specs.Tables.{AreStored}
 use Rattle.slate_model.specs.Object.{Object, Handle as AHandle, Follower as AFollower}
-use Rattle.slate_live.specs.Calls.{Call, Write as WriteCall, Merge, Flush, Get, Scan, Seek, Close, Poll, Status, Target, NewHandle, NewFollower, OfWrite, OfObject, call_of, target_of}
-use Rattle.slate_live.specs.Followers.{IsPlainScanAt}
-use Rattle.slate_live.specs.Handles.{IsPlainScan, cut}
+use Rattle.slate_live.specs.Calls.{Call, Write as WriteCall, Merge, Flush, Refresh, Compact, Get, Scan, Seek, Close, Poll, Status, call_of}
+use Rattle.slate_live.specs.Calls.{Target, NewHandle, NewFollower, OfWrite, OfObject, target_of}
+use Rattle.slate_live.specs.Followers.{IsPlainReadAt, IsPlainScanAt}
+use Rattle.slate_live.specs.Handles.{IsPlainRead, IsPlainScan, flush_type_by}
 use Rattle.slate_live.specs.Scans.{scanned, sought}
 use Rattle.slate_live.specs.Rising.{Rise}
 use Rattle.slate_live.specs.Settings.{Settings}
@@ -41,8 +43,7 @@ AtObject None of_handle of_follower = ⊥
 AtObject (Some (AHandle handle)) of_handle of_follower = of_handle handle
 AtObject (Some (AFollower follower)) of_handle of_follower = of_follower follower
 
--- an opening: an existing manifest is initialised, and the ids and the epoch that it uses are left; until tables are
--- built, the manifest names none
+-- an opening: an existing manifest is initialised, and the ids and the epoch that it uses are left
 abbrev pub CanOpen : World → Type 0
 CanOpen w = can_open w.catalogue ≡ true
 
@@ -61,13 +62,28 @@ pub record CanWrite (ops : List KeyOp) (moment : ℤ) (second : Option ℤ) (han
   pub number : accepted handle < last_number
   pub moments : (at : ℤ) × (accepted_moment handle.tick moment second ≡ Some at)
 
--- a flush of a handle: it keeps a log, no handle was opened since, and, where it has something to store, an id for a
--- log file is left
-abbrev pub CanStore : World → Handle → Type 0
-CanStore w handle =
-    (handle.keeps_log ≡ true)
-    × (latest : VersionedManifest) × (latest_manifest w.catalogue ≡ Some latest) × (latest.manifest.writer_epoch ≤ handle.epoch)
-    × (0 < length (unstored handle) → last_log latest.manifest.replay_after_wal_id w.catalogue < last_number)
+-- no handle was opened since this one, by the latest manifest
+abbrev pub IsLatest : World → Handle → VersionedManifest → Type 0
+IsLatest w handle latest = (latest_manifest w.catalogue ≡ Some latest) × (latest.manifest.writer_epoch ≤ handle.epoch)
+
+-- a refresh of a handle: no handle was opened since
+abbrev pub CanRefresh : World → Handle → Type 0
+CanRefresh w handle = (latest : VersionedManifest) × IsLatest w handle latest
+
+-- a flush of a handle: it keeps a log, where that is to be flushed, no handle was opened since, and the ids are left that
+-- it uses
+abbrev pub CanStore : World → FlushType → Handle → Type 0
+CanStore w flush_type handle =
+    (has_log_for flush_type handle ≡ true)
+    × (latest : VersionedManifest) × IsLatest w handle latest
+    × (has_ids flush_type handle latest (last_log latest.manifest.replay_after_wal_id w.catalogue) ≡ true)
+
+-- a compaction by a handle: no handle was opened since, and, where there are tables to join, an id for a table and one for
+-- a manifest is left
+abbrev pub CanCompact : World → Handle → Type 0
+CanCompact w handle =
+    (latest : VersionedManifest) × IsLatest w handle latest
+    × (2 ≤ length latest.manifest.tables → (latest.id < last_number) × (handle.counter < last_number))
 
 -- a close of a handle: one that is open, and that can store its batches where it is to flush, or one that an error
 -- closed
@@ -75,43 +91,50 @@ abbrev pub CanClose : CloseResult → Option FlushType → World → Handle → 
 CanClose (Some (Ok _)) flush_type w handle = ⊥
 CanClose (Some (Err fault)) flush_type w handle = Unit {0}
 CanClose None None w handle = Unit {0}
-CanClose None (Some flush_type) w handle = CanStore w handle
+CanClose None (Some flush_type) w handle = CanStore w flush_type handle
 
--- an opening of a follower: there is a manifest, which is initialised and, until tables are built, names none
-abbrev pub CanFollow : World → Type 0
-CanFollow w = (latest : VersionedManifest) × (latest_manifest w.catalogue ≡ Some latest) × (can_follow true latest ≡ true)
+-- an opening of a follower, or a poll: there is a manifest, which names no table, until followers read them, and is
+-- initialised, where one is opened
+abbrev pub CanFollow : Bool → World → Type 0
+CanFollow opening w = (latest : VersionedManifest) × (latest_manifest w.catalogue ≡ Some latest) × (can_follow opening latest ≡ true)
 
--- a read of something open: the plain read gives an answer, and no fault
-abbrev pub CanRead : {A : Type 0} → CloseResult → Result A ReadFault → Type 0
-CanRead {A} closed plain = (closed ≡ None) × (found : A) × (plain ≡ Ok found)
+-- a read of something open, by these batches: the plain read gives an answer, and no fault
+abbrev pub CanRead : {A : Type 0} → CloseResult → (List Batch → Result A ReadFault → Type 0) → List Batch → Type 0
+CanRead {A} closed is_plain rows = (closed ≡ None) × (found : A) × is_plain rows (Ok found)
 
 -- a scan of something open, or a seek in one: what is taken of the plain scan is rows, and no fault
-abbrev pub CanTake : CloseResult → (Iteration → Type 0) → (Iteration → Result (List KeyValue) SlateError) → Type 0
-CanTake closed is_plain taken = (closed ≡ None) × ((it : Iteration) → is_plain it → (rows : List KeyValue) × (taken it ≡ Ok rows))
+abbrev pub CanTake : CloseResult → (List Batch → Iteration → Type 0) → (Iteration → Result (List KeyValue) SlateError) → List Batch → Type 0
+CanTake closed is_plain taken rows = (closed ≡ None) × ((it : Iteration) → is_plain rows it → (found : List KeyValue) × (taken it ≡ Ok found))
+
+-- what is read by a handle: its line, and all tables of its view are stored
+abbrev pub ByLine : World → Handle → (List Batch → Type 0) → Type 0
+ByLine w handle can = AreStored w.catalogue handle.view.manifest.tables × can handle.line.batches
 
 -- what a handle may be asked; its status always
 abbrev pub CanAsk : Option MergeFunction → World → ℤ → Option ℤ → Call → Handle → Type 0
 CanAsk merge w moment second (WriteCall ops) handle = CanWrite ops moment second handle
 CanAsk merge w moment second (Merge op) handle = (merge ≢ None) × CanWrite (op ∷ []) moment second handle
-CanAsk merge w moment second Flush handle = (handle.result ≡ None) × CanStore w handle
-CanAsk merge w moment second (Get key remote) handle = CanRead handle.result (read_at merge handle.line.batches (cut handle remote) key)
+CanAsk merge w moment second (Flush flush_type) handle = (handle.result ≡ None) × CanStore w (flush_type_by flush_type handle) handle
+CanAsk merge w moment second Refresh handle = (handle.result ≡ None) × CanRefresh w handle
+CanAsk merge w moment second Compact handle = (handle.result ≡ None) × CanCompact w handle
+CanAsk merge w moment second (Get key remote) handle = ByLine w handle (CanRead handle.result (IsPlainRead merge key remote handle))
 CanAsk merge w moment second (Scan range order remote) handle =
-    CanTake handle.result (IsPlainScan merge range order remote handle) scanned
+    ByLine w handle (CanTake handle.result (IsPlainScan merge range order remote handle) scanned)
 CanAsk merge w moment second (Seek range take key order remote) handle =
-    CanTake handle.result (IsPlainScan merge range order remote handle) (sought range take key)
+    ByLine w handle (CanTake handle.result (IsPlainScan merge range order remote handle) (sought range take key))
 CanAsk merge w moment second (Close flush_type) handle = CanClose handle.result flush_type w handle
 CanAsk merge w moment second Status handle = Unit {0}
 CanAsk merge w moment second call handle = ⊥
 
 -- what a follower may be asked; its status always
 abbrev pub CanAskFollower : Option MergeFunction → World → Call → Follower → Type 0
-CanAskFollower merge w (Get key remote) follower = CanRead follower.result (read_at merge w.stored.batches (Some (number follower)) key)
+CanAskFollower merge w (Get key remote) follower = CanRead follower.result (IsPlainReadAt merge key follower) w.stored.batches
 CanAskFollower merge w (Scan range order remote) follower =
-    CanTake follower.result (IsPlainScanAt merge w.stored.batches range order follower) scanned
+    CanTake follower.result (IsPlainScanAt merge range order follower) scanned w.stored.batches
 CanAskFollower merge w (Seek range take key order remote) follower =
-    CanTake follower.result (IsPlainScanAt merge w.stored.batches range order follower) (sought range take key)
+    CanTake follower.result (IsPlainScanAt merge range order follower) (sought range take key) w.stored.batches
 CanAskFollower merge w (Close flush_type) follower = recorded_fault follower.result ≡ None
-CanAskFollower merge w Poll follower = follower.result ≡ None
+CanAskFollower merge w Poll follower = (follower.result ≡ None) × CanFollow false w
 CanAskFollower merge w Status follower = Unit {0}
 CanAskFollower merge w call follower = ⊥
 
@@ -121,8 +144,8 @@ IsDurable w None = ⊥
 IsDurable w (Some write) = AtObject (slice_get w.objects write.handle) (λ handle. write.number ≤ handle.durable) (λ follower. ⊥)
 
 abbrev pub IsValidAt : Option MergeFunction → World → ℤ → Option ℤ → Call → Target → Type 0
-IsValidAt merge w moment second call NewHandle = CanOpen w
-IsValidAt merge w moment second call NewFollower = CanFollow w
+IsValidAt merge w moment second call (NewHandle keeps_log) = CanOpen w
+IsValidAt merge w moment second call NewFollower = CanFollow true w
 IsValidAt merge w moment second call (OfWrite n) = IsDurable w (slice_get w.writes n)
 IsValidAt merge w moment second call (OfObject n) =
     AtObject (slice_get w.objects n) (CanAsk merge w moment second call) (CanAskFollower merge w call)

@@ -5,10 +5,12 @@ ghost use Rattle.slate_types.specs.Operator.{Merge};
 ghost use Rattle.slate_reads.specs.Read.{IsOperator};
 ghost use Rattle.slate_model.specs.Known.{IsContent, known};
 ghost use Rattle.slate_model.specs.Open.{replayed_logs};
+ghost use Rattle.slate_model.specs.Stores.{by_objects};
 ghost use Rattle.slate_live.specs.declared.states.Write.{Write};
 ghost use Rattle.slate_live.specs.Calls.{call_of, most_asked};
-ghost use Rattle.slate_live.specs.Followers.{FollowerActs, GetsFromFollower, PollsFollower, ScansFollower, SeeksFollower, follower_status};
+ghost use Rattle.slate_live.specs.Followers.{FollowerActs, GetsFromFollower, PollsFollower, TakesFromFollower, follower_status};
 ghost use Rattle.slate_live.specs.Replies.{AnswersStatus, follower_ended_reply};
+ghost use Rattle.slate_live.specs.Scans.{scanned, sought};
 
 use crate::handles::{read_reply, refusal, status_reply};
 use crate::scans::{all_rows, rows_reply, rows_with_seek};
@@ -31,9 +33,9 @@ pub(crate) fn act<S: Store, M: MergeOperator, E: PrefixExtractor>(
 ) -> Reply
     requires { extractor ≡ None }
     ensures faults { S.faults store.old ≤ S.faults store.new }
-    ensures calls { IfSome (S.objects store.old) (λ o. S.calls store.new ≤ S.calls store.old + most_asked (replayed_logs o) (call_of command.now.action)) }
+    ensures calls { IfSome (S.objects store.old) (λ o. S.calls store.new ≤ S.calls store.old + most_asked (replayed_logs o) 0 (call_of command.now.action)) }
     ensures does { (merge : Option Merge) (writes : List Write) → IsOperator M.may_answer (option_copied operator.entry) merge →
-        (made : ℕ) × FollowerActs (IsContent (S.objects store.old)) (λ f. f.line.batches) merge (call_of command.now.action) made
+        (made : ℕ) × FollowerActs (by_objects (S.objects store.old)) merge (call_of command.now.action) made
         follower.old (known S.objects S.faults store.old) writes result follower.new (known S.objects S.faults store.new) writes }
 {
     match &command.action {
@@ -72,7 +74,8 @@ fn get<S: Store, M: MergeOperator>(
     operator: Option<&M>,
 ) -> Reply
     ensures store { store.new ≡ store.old }
-    ensures read { (merge : Option Merge) → IsOperator M.may_answer (option_copied operator.entry) merge → GetsFromFollower merge follower.now.line.batches key.now follower.now result }
+    ensures read { (merge : Option Merge) → IsOperator M.may_answer (option_copied operator.entry) merge →
+        GetsFromFollower (by_objects (S.objects store.old)) merge key.now follower.now (known S.objects S.faults store.old) result (known S.objects S.faults store.new) }
 {
     read_reply(follower.get(alloc, store, key.as_slice(), operator))
 }
@@ -88,7 +91,8 @@ fn scan<S: Store, M: MergeOperator>(
 ) -> Reply
     ensures store { store.new ≡ store.old }
     ensures read { (merge : Option Merge) → IsOperator M.may_answer (option_copied operator.entry) merge →
-        ScansFollower merge follower.now.line.batches range.now order follower.now result }
+        TakesFromFollower (by_objects (S.objects store.old)) merge range.now order scanned
+        follower.now (known S.objects S.faults store.old) result (known S.objects S.faults store.new) }
 {
     let scan = follower.scan(alloc, store, range, order, operator);
     rows_reply(all_rows(alloc, scan))
@@ -106,7 +110,8 @@ fn seek<S: Store, M: MergeOperator>(
 ) -> Reply
     ensures store { store.new ≡ store.old }
     ensures read { (merge : Option Merge) → IsOperator M.may_answer (option_copied operator.entry) merge →
-        SeeksFollower merge follower.now.line.batches range.now take_and_key.entry.0 take_and_key.entry.1.now order follower.now result }
+        TakesFromFollower (by_objects (S.objects store.old)) merge range.now order (sought range.now take_and_key.entry.0 take_and_key.entry.1.now)
+        follower.now (known S.objects S.faults store.old) result (known S.objects S.faults store.new) }
 {
     let (take, key) = take_and_key;
     let scan = follower.scan(alloc, store, range, order, operator);

@@ -1,15 +1,18 @@
 // What commands do to a handle that writes.
-ghost use Rattle.std.specs.Prelude.{◌≡◌, ◌≤◌, ℕ, ◌+◌, [], ◌∷◌, ◌++◌, true, false, None, Option, IfErr, IfOk, IsTrue, ◌↔◌};
+ghost use Rattle.std.specs.Prelude.{◌≡◌, ◌≤◌, ℕ, ◌+◌, [], ◌∷◌, ◌++◌, false, length, None, Option, IfErr, IfOk, IsTrue, ◌↔◌};
 ghost use Rattle.std.specs.Option.{option_copied};
 ghost use Rattle.slate_types.specs.Operator.{Merge};
 ghost use Rattle.slate_reads.specs.Read.{IsOperator};
 ghost use Rattle.slate_model.specs.Known.{known};
-ghost use Rattle.slate_model.specs.Read.{Scans};
+ghost use Rattle.slate_model.specs.Object.{Handle};
+ghost use Rattle.slate_model.specs.Read.{Gives, Reads};
+ghost use Rattle.slate_model.specs.Stores.{by_objects, kept_rows};
 ghost use Rattle.slate_model.specs.Write.{Writes};
-ghost use Rattle.slate_script.specs.Built.{IsBuilt, closes_without_table, puts_no_table};
-ghost use Rattle.slate_live.specs.Calls.{call_of, flush_of_close, most_asked, ops_of};
-ghost use Rattle.slate_live.specs.Handles.{ClosesHandle, FlushesHandle, GetsFrom, HandleActs, IsPlainScan, ScansFrom, SeeksFrom, WritesTo, durable_reply, handle_status, level_of, noted};
+ghost use Rattle.slate_live.specs.Calls.{IsCounted, call_of, flush_of_close, most_asked, ops_of};
+ghost use Rattle.slate_live.specs.Handles.{ClosesHandle, CompactsHandle, FlushesHandle, GetsFrom, HandleActs, IsPlainScan, RefreshesHandle};
+ghost use Rattle.slate_live.specs.Handles.{TakesFrom, WritesTo, durable_reply, flush_type_by, handle_status, level_of, noted};
 ghost use Rattle.slate_live.specs.Replies.{AnswersStatus, ended_reply, found_reply, refusal, reply_to};
+ghost use Rattle.slate_live.specs.Scans.{scanned, sought};
 
 use crate::scans::{all_rows, rows_reply, rows_with_seek};
 use crate::states::Write;
@@ -37,12 +40,12 @@ pub(crate) fn act<S: Store, M: MergeOperator, E: PrefixExtractor>(
     extractor: Option<&E>,
     command: &Command,
 ) -> Reply
-    requires extractor { extractor ≡ None }
-    requires built { IsBuilt command.now.action }
+    requires { extractor ≡ None }
     ensures faults { S.faults store.old ≤ S.faults store.new }
-    ensures calls { S.calls store.new ≤ S.calls store.old + most_asked 0 (call_of command.now.action) }
+    ensures calls { IsCounted (call_of command.now.action) →
+        S.calls store.new ≤ S.calls store.old + most_asked 0 (length writer.old.view.manifest.tables) (call_of command.now.action) }
     ensures does { (merge : Option Merge) → IsOperator M.may_answer (option_copied operator.entry) merge →
-        (made : ℕ) × HandleActs (λ batches. batches) merge number command.now.moment command.now.second (call_of command.now.action) made
+        (made : ℕ) × HandleActs (by_objects (S.objects store.old)) merge number command.now.moment command.now.second (call_of command.now.action) made
         writer.old (known S.objects S.faults store.old) writes.old.items result writer.new (known S.objects S.faults store.new) writes.new.items }
 {
     match &command.action {
@@ -56,6 +59,8 @@ pub(crate) fn act<S: Store, M: MergeOperator, E: PrefixExtractor>(
             write(writer, alloc, writes, number, command, extractor)
         }
         Action::Flush { flush_type, .. } => flush(writer, alloc, store, *flush_type),
+        Action::Refresh { .. } => refresh(writer, alloc, store),
+        Action::Compact { .. } => compact(writer, alloc, store),
         Action::Get { key, remote, .. } => get(writer, alloc, store, key, *remote, operator),
         Action::Scan {
             range,
@@ -70,16 +75,10 @@ pub(crate) fn act<S: Store, M: MergeOperator, E: PrefixExtractor>(
             order,
             remote,
             ..
-        } => seek(
-            writer,
-            alloc,
-            store,
-            range,
-            (*take, key),
-            *order,
-            *remote,
-            operator,
-        ),
+        } => {
+            let from = (*take, key);
+            seek(writer, alloc, store, range, from, *order, *remote, operator)
+        }
         Action::Close { options, .. } => close(writer, alloc, store, *options),
         Action::Status { .. } => status(writer, alloc),
         _ => Reply::Unknown,
@@ -183,21 +182,57 @@ pub(crate) fn refusal(error: SlateError) -> Reply
     }
 }
 
-/// Flushes a handle.
+/// Flushes a handle; without a type, to where it stores its batches first.
 fn flush<S: Store>(
     writer: &mut WriterState,
     alloc: Global,
     store: &mut S,
     flush_type: Option<FlushType>,
 ) -> Reply
-    requires { puts_no_table flush_type ≡ true }
     ensures faults { S.faults store.old ≤ S.faults store.new }
-    ensures calls { S.calls store.new ≤ S.calls store.old + 3 }
-    ensures does { (made : ℕ) × FlushesHandle (λ batches. batches) made writer.old (known S.objects S.faults store.old) result writer.new (known S.objects S.faults store.new) }
+    ensures calls { S.calls store.new ≤ S.calls store.old + 5 }
+    ensures does { (made : ℕ) × FlushesHandle (by_objects (S.objects store.old)) made (flush_type_by flush_type writer.old)
+        writer.old (known S.objects S.faults store.old) result writer.new (known S.objects S.faults store.new) }
 {
-    let flush_type = flush_type.unwrap_or(FlushType::Wal);
+    let flush_type = flush_type_by(writer, flush_type);
     match writer.flush(alloc, store, flush_type) {
         Ok(()) => Reply::Flushed,
+        Err(error) => refusal(error),
+    }
+}
+
+/// The type of a flush of a handle: without one, to the log where the handle keeps one, and else to a table.
+fn flush_type_by(writer: &WriterState, flush_type: Option<FlushType>) -> FlushType
+    ensures { result ≡ flush_type_by flush_type writer.now }
+{
+    match flush_type {
+        Some(flush_type) => flush_type,
+        None if writer.keeps_log() => FlushType::Wal,
+        None => FlushType::MemTable,
+    }
+}
+
+/// Lets a handle go by the latest manifest.
+fn refresh<S: Store>(writer: &mut WriterState, alloc: Global, store: &mut S) -> Reply
+    ensures faults { S.faults store.old ≤ S.faults store.new }
+    ensures calls { S.calls store.new ≤ S.calls store.old + 1 }
+    ensures does { RefreshesHandle (by_objects (S.objects store.old))
+        writer.old (known S.objects S.faults store.old) result writer.new (known S.objects S.faults store.new) }
+{
+    match writer.refresh_manifest(alloc, store) {
+        Ok(()) => Reply::Refreshed,
+        Err(error) => refusal(error),
+    }
+}
+
+/// Joins the tables of the latest manifest.
+fn compact<S: Store>(writer: &mut WriterState, alloc: Global, store: &mut S) -> Reply
+    ensures faults { S.faults store.old ≤ S.faults store.new }
+    ensures does { (made : ℕ) × CompactsHandle (by_objects (S.objects store.old)) made
+        writer.old (known S.objects S.faults store.old) result writer.new (known S.objects S.faults store.new) }
+{
+    match writer.compact(alloc, store) {
+        Ok(()) => Reply::Compacted,
         Err(error) => refusal(error),
     }
 }
@@ -211,8 +246,10 @@ fn get<S: Store, M: MergeOperator>(
     remote: bool,
     operator: Option<&M>,
 ) -> Reply
-    ensures store { store.new ≡ store.old }
-    ensures read { (merge : Option Merge) → IsOperator M.may_answer (option_copied operator.entry) merge → GetsFrom merge key.now remote writer.now result }
+    ensures faults { S.faults store.old ≤ S.faults store.new }
+    ensures calls { S.calls store.new ≤ S.calls store.old + length writer.now.view.manifest.tables }
+    ensures read { (merge : Option Merge) → IsOperator M.may_answer (option_copied operator.entry) merge →
+        GetsFrom (by_objects (S.objects store.old)) merge key.now remote writer.now (known S.objects S.faults store.old) result (known S.objects S.faults store.new) }
 {
     let options = read_options(remote);
     read_reply(writer.get(alloc, store, key.as_slice(), &options, None, operator))
@@ -254,8 +291,11 @@ fn scan<S: Store, M: MergeOperator>(
     remote: bool,
     operator: Option<&M>,
 ) -> Reply
-    ensures store { store.new ≡ store.old }
-    ensures read { (merge : Option Merge) → IsOperator M.may_answer (option_copied operator.entry) merge → ScansFrom merge range.now order remote writer.now result }
+    ensures faults { S.faults store.old ≤ S.faults store.new }
+    ensures calls { S.calls store.new ≤ S.calls store.old + length writer.now.view.manifest.tables }
+    ensures read { (merge : Option Merge) → IsOperator M.may_answer (option_copied operator.entry) merge →
+        TakesFrom (by_objects (S.objects store.old)) merge range.now order remote scanned
+        writer.now (known S.objects S.faults store.old) result (known S.objects S.faults store.new) }
 {
     let scan = begin_scan(writer, alloc, store, range, order, remote, operator);
     rows_reply(all_rows(alloc, scan))
@@ -272,9 +312,11 @@ fn seek<S: Store, M: MergeOperator>(
     remote: bool,
     operator: Option<&M>,
 ) -> Reply
-    ensures store { store.new ≡ store.old }
+    ensures faults { S.faults store.old ≤ S.faults store.new }
+    ensures calls { S.calls store.new ≤ S.calls store.old + length writer.now.view.manifest.tables }
     ensures read { (merge : Option Merge) → IsOperator M.may_answer (option_copied operator.entry) merge →
-        SeeksFrom merge range.now take_and_key.entry.0 take_and_key.entry.1.now order remote writer.now result }
+        TakesFrom (by_objects (S.objects store.old)) merge range.now order remote (sought range.now take_and_key.entry.0 take_and_key.entry.1.now)
+        writer.now (known S.objects S.faults store.old) result (known S.objects S.faults store.new) }
 {
     let (take, key) = take_and_key;
     let scan = begin_scan(writer, alloc, store, range, order, remote, operator);
@@ -291,9 +333,11 @@ fn begin_scan<S: Store, M: MergeOperator>(
     remote: bool,
     operator: Option<&M>,
 ) -> Result<DbIterator, SlateError>
-    ensures store { store.new ≡ store.old }
+    ensures faults { S.faults store.old ≤ S.faults store.new }
+    ensures calls { S.calls store.new ≤ S.calls store.old + length writer.now.view.manifest.tables }
     ensures scans { (merge : Option Merge) → IsOperator M.may_answer (option_copied operator.entry) merge →
-        Scans writer.now.result (IsPlainScan merge range.now order remote writer.now) result }
+        Reads writer.now.result writer.now.view.manifest.tables (kept_rows (S.objects store.old) (Handle writer.now))
+        (Gives (IsPlainScan merge range.now order remote writer.now)) (known S.objects S.faults store.old) result (known S.objects S.faults store.new) }
 {
     let options = scan_options(order, remote);
     writer.scan(alloc, store, range, &options, None, operator)
@@ -314,17 +358,17 @@ fn scan_options(order: IterationOrder, remote: bool) -> ScanOptions
     }
 }
 
-/// Closes a handle.
+/// Closes a handle, and then flushes it as the options ask; without them to a table.
 fn close<S: Store>(
     writer: &mut WriterState,
     alloc: Global,
     store: &mut S,
     options: Option<CloseOptions>,
 ) -> Reply
-    requires { closes_without_table options ≡ true }
     ensures faults { S.faults store.old ≤ S.faults store.new }
-    ensures calls { S.calls store.new ≤ S.calls store.old + 3 }
-    ensures does { (made : ℕ) × ClosesHandle (λ batches. batches) made (flush_of_close options) writer.old (known S.objects S.faults store.old) result writer.new (known S.objects S.faults store.new) }
+    ensures calls { S.calls store.new ≤ S.calls store.old + 5 }
+    ensures does { (made : ℕ) × ClosesHandle (by_objects (S.objects store.old)) made (flush_of_close options)
+        writer.old (known S.objects S.faults store.old) result writer.new (known S.objects S.faults store.new) }
 {
     let options = options.unwrap_or_default();
     ended_reply(writer.close(alloc, store, &options))

@@ -5,12 +5,13 @@ ghost use Rattle.slate_types.specs.Operator.{Merge};
 ghost use Rattle.slate_reads.specs.Read.{IsOperator};
 ghost use Rattle.slate_model.specs.Known.{known};
 ghost use Rattle.slate_model.specs.Open.{replayed_logs};
+ghost use Rattle.slate_model.specs.Stores.{by_objects};
 ghost use Rattle.slate_script.specs.Built.{IsBuilt, follows_latest};
-ghost use Rattle.slate_live.specs.Calls.{call_of, most_asked, most_calls};
+ghost use Rattle.slate_live.specs.Calls.{IsCounted, call_of, most_asked, most_calls, tables_of};
 ghost use Rattle.slate_live.specs.Commands.{ActsOn, Does, OpensFollowerIn, OpensHandleIn, write_reply};
 ghost use Rattle.slate_live.specs.Replies.{followed_reply};
 ghost use Rattle.slate_live.specs.Represents.{Links};
-ghost use Rattle.slate_live.specs.State.{by_objects, running};
+ghost use Rattle.slate_live.specs.State.{running};
 ghost use Rattle.slate_live.specs.Valid.{Link};
 
 use crate::handles::refusal;
@@ -62,7 +63,7 @@ impl LiveState {
     }
 
     /// Does one command on the store. It takes the time of the call that the command makes, beside a look at the place
-    /// of its object, and calls the store as often as that call does; a command that makes none doesn't call it.
+    /// of its object, and calls the store as often as that call does; a command that makes none doesn't call it. How often a compaction calls it isn't said.
     ///
     /// Over any store the command does what is said of it: the object that it names answers and changes by its own
     /// call, and all others are as before. Over an honest store the reply is one that the command may have, and the
@@ -80,7 +81,8 @@ impl LiveState {
         requires built { IsBuilt command.now.action }
         ensures options { self.new.options ≡ self.old.options }
         ensures faults { S.faults store.old ≤ S.faults store.new }
-        ensures calls { IfSome (S.objects store.old) (λ o. S.calls store.new ≤ S.calls store.old + most_calls (replayed_logs o) command.now.action) }
+        ensures calls { IsCounted (call_of command.now.action) → IfSome (S.objects store.old) (λ o.
+            S.calls store.new ≤ S.calls store.old + most_calls (replayed_logs o) self.old.objects command.now.action) }
         ensures does { (merge : Option Merge) → IsOperator M.may_answer (option_copied operator.entry) merge →
             (made : ℕ) × Does (by_objects (S.objects store.old)) (record { merge = merge; options = self.old.options }) made
             (running self.old (known S.objects S.faults store.old)) command.now result (running self.new (known S.objects S.faults store.new)) }
@@ -89,7 +91,7 @@ impl LiveState {
             self.old (known S.objects S.faults store.old) result self.new (known S.objects S.faults store.new) }
     {
         match &command.action {
-            Action::Open => self.open(alloc, store, extractor),
+            Action::Open { wal } => self.open(alloc, store, *wal, extractor),
             Action::Follow { mode, skip, .. } => self.follow(
                 alloc,
                 store,
@@ -104,6 +106,8 @@ impl LiveState {
             | Action::Delete { handle: number, .. }
             | Action::Batch { handle: number, .. }
             | Action::Flush { handle: number, .. }
+            | Action::Refresh { handle: number }
+            | Action::Compact { handle: number }
             | Action::Get { object: number, .. }
             | Action::Scan { object: number, .. }
             | Action::Seek { object: number, .. }
@@ -115,25 +119,26 @@ impl LiveState {
         }
     }
 
-    /// Opens a handle.
+    /// Opens a handle, which keeps a log or not.
     fn open<S: Store, E: PrefixExtractor>(
         &mut self,
         alloc: Global,
         store: &mut S,
+        wal: bool,
         extractor: Option<&E>,
     ) -> Reply
         requires { extractor ≡ None }
         ensures options { self.new.options ≡ self.old.options }
         ensures faults { S.faults store.old ≤ S.faults store.new }
         ensures calls { IfSome (S.objects store.old) (λ o. S.calls store.new ≤ S.calls store.old + (replayed_logs o + 5)) }
-        ensures does { (merge : Option Merge) → (made : ℕ) × OpensHandleIn (by_objects (S.objects store.old)) (record { merge = merge; options = self.old.options }) made
+        ensures does { (merge : Option Merge) → (made : ℕ) × OpensHandleIn (by_objects (S.objects store.old)) (record { merge = merge; options = self.old.options }) wal made
             (running self.old (known S.objects S.faults store.old)) result (running self.new (known S.objects S.faults store.new)) }
     {
         if self.objects.reserve(1).is_err() {
             return Reply::NoMemory;
         }
         let object = self.objects.len() as u64;
-        match WriterState::open(alloc, store, &self.writer_options(), extractor) {
+        match WriterState::open(alloc, store, &self.writer_options(wal), extractor) {
             Ok(handle) => {
                 self.objects.push_reserved(Object::Handle(handle));
                 Reply::Handle { object }
@@ -142,13 +147,13 @@ impl LiveState {
         }
     }
 
-    /// How the handles of the run write.
-    fn writer_options(&self) -> WriterOptions
-        ensures log { result.wal_enabled ≡ true }
+    /// How a handle of the run writes, which keeps a log or not.
+    fn writer_options(&self, wal: bool) -> WriterOptions
+        ensures log { result.wal_enabled ≡ wal }
         ensures limit { result.max_unflushed_bytes ≡ self.now.options.max_unflushed_bytes }
     {
         WriterOptions {
-            wal_enabled: true,
+            wal_enabled: wal,
             max_unflushed_bytes: self.options.max_unflushed_bytes,
             compactor: self.options.compactor,
             compaction_worker: self.options.compaction_worker,
@@ -201,11 +206,11 @@ impl LiveState {
         extractor: Option<&E>,
         command: &Command,
     ) -> Reply
-        requires extractor { extractor ≡ None }
-        requires built { IsBuilt command.now.action }
+        requires { extractor ≡ None }
         ensures options { self.new.options ≡ self.old.options }
         ensures faults { S.faults store.old ≤ S.faults store.new }
-        ensures calls { IfSome (S.objects store.old) (λ o. S.calls store.new ≤ S.calls store.old + most_asked (replayed_logs o) (call_of command.now.action)) }
+        ensures calls { IsCounted (call_of command.now.action) → IfSome (S.objects store.old) (λ o.
+            S.calls store.new ≤ S.calls store.old + most_asked (replayed_logs o) (tables_of (slice_get self.old.objects number)) (call_of command.now.action)) }
         ensures does { (merge : Option Merge) → IsOperator M.may_answer (option_copied operator.entry) merge →
             (made : ℕ) × ActsOn (by_objects (S.objects store.old)) merge number command.now made (slice_get self.old.objects number)
             (running self.old (known S.objects S.faults store.old)) result (running self.new (known S.objects S.faults store.new)) }

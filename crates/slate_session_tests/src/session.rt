@@ -105,7 +105,14 @@ fn applied(alloc: Global) -> Result<Vec<u8>, NoMemory> {
         handle: 0,
         flush_type: Some(FlushType::Wal),
     };
-    apply_one(alloc, &mut live, &mut store, &mut text, 0, Action::Open)?;
+    apply_one(
+        alloc,
+        &mut live,
+        &mut store,
+        &mut text,
+        0,
+        Action::Open { wal: true },
+    )?;
     apply_one(
         alloc,
         &mut live,

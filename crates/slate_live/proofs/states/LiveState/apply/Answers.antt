@@ -3,8 +3,9 @@ use Rattle.slate_types.specs.Operator.{Merge}
 use Rattle.slate_script.specs.declared.options.Options.{Options}
 use Rattle.slate_live.specs.Calls.{NewHandle, NewFollower, OfWrite, OfObject, target_of}
 use Rattle.slate_model.specs.Known.{known}
+use Rattle.slate_model.specs.Stores.{by_objects}
 use Rattle.slate_live.specs.Settings.{Settings}
-use Rattle.slate_live.specs.State.{by_objects, running}
+use Rattle.slate_live.specs.State.{running}
 use Rattle.slate_live.proofs.Linking.{does-at, linked, names-object}
 use Rattle.slate_live.proofs.states.LiveState.apply.Goals as goal
 
@@ -18,7 +19,7 @@ returns-in-Open-clause-does g c merge lawful =
     let k = by_objects (g.S.Store.objects c.args.store.now) in
     let store = known g.S.Store.objects g.S.Store.faults c.args.store.now in
     let store' = known g.S.Store.objects g.S.Store.faults c.open.new.store in
-    (d.0, does-at k s c.args.command.now d.0 (running c.args.self.now store) c.open.result (running c.open.new.self store') NewHandle (ap target_of c.in-Open.is) d.1)
+    (d.0, does-at k s c.args.command.now d.0 (running c.args.self.now store) c.open.result (running c.open.new.self store') (NewHandle c.in-Open.wal) (ap target_of c.in-Open.is) d.1)
 
 pub returns-in-Open-clause-link : goal.returns-in-Open-clause-link
 returns-in-Open-clause-link g c merge lawful =
@@ -27,7 +28,7 @@ returns-in-Open-clause-link g c merge lawful =
     let k = by_objects (g.S.Store.objects c.args.store.now) in
     let store = known g.S.Store.objects g.S.Store.faults c.args.store.now in
     let store' = known g.S.Store.objects g.S.Store.faults c.open.new.store in
-    linked s c.args.command.now c.args.self.now c.open.new.self store store' d.0 c.open.result (does-at k s c.args.command.now d.0 (running c.args.self.now store) c.open.result (running c.open.new.self store') NewHandle (ap target_of c.in-Open.is) d.1)
+    linked s c.args.command.now c.args.self.now c.open.new.self store store' d.0 c.open.result (does-at k s c.args.command.now d.0 (running c.args.self.now store) c.open.result (running c.open.new.self store') (NewHandle c.in-Open.wal) (ap target_of c.in-Open.is) d.1)
 
 pub returns-in-Follow-clause-does : goal.returns-in-Follow-clause-does
 returns-in-Follow-clause-does g c merge lawful =

@@ -1,0 +1,62 @@
+-- The cases of what a handle does to the store: a flush, a close, a refresh and a compaction.
+use Rattle.std.proofs.Common.{◌≡◌, ℕ, false, Option, Some, None, Result, Ok, Err}
+use Rattle.slate_types.specs.declared.options.FlushType.{FlushType}
+use Rattle.slate_errors.specs.declared.closing.CloseFault.{CloseFault}
+use Rattle.slate_errors.specs.declared.endings.Ended.{Ended}
+use Rattle.slate_errors.specs.declared.errors.SlateError.{SlateError}
+use Rattle.slate_errors.specs.declared.errors.SlateError.TheVariants as errors
+use Rattle.slate_errors.specs.Errors.{closed_error}
+use Rattle.slate_model.specs.Close.{Closes, closed, closing_flush, ended, fault_again}
+use Rattle.slate_model.specs.Flush.{CanFlush, Flushes, IsFlushed, Stores, flush_result, has_log_for}
+use Rattle.slate_model.specs.Handle.{Handle}
+use Rattle.slate_model.specs.Knowledge.{Knowledge}
+use Rattle.slate_model.specs.Known.{Known, Untouched}
+use Rattle.slate_model.specs.Refresh.{Compacts, JoinsLatest, ReadsLatest, Refreshes}
+use Rattle.slate_live.proofs.Cases.{by-bool, by-option, some-of}
+
+module _ {L : Type 0} (k : Knowledge L) (made : ℕ) (h : Handle) (before : Known L) (h' : Handle) (after : Known L) (G : Type 0) where
+  -- a flush is refused by what closed the handle, or since it keeps no log, or goes to the store
+  pub flush-cases : (t : FlushType) (r : Result (Unit {0}) SlateError) → Flushes k made t h before r h' after
+      → ((q : Result (Unit {0}) CloseFault) → h.result ≡ Some q → r ≡ Err (closed_error q) → h' ≡ h → Untouched made before after → G)
+      → (h.result ≡ None → has_log_for t h ≡ false → r ≡ Err errors.WalDisabled → h' ≡ h → Untouched made before after → G)
+      → (CanFlush t h → IsFlushed k.keep made r (flush_result r) h h' → Stores k made t h before r h' after → G) → G
+  flush-cases t r f when_closed when_disabled when_stored =
+      by-option h.result
+      (λ live. by-bool (has_log_for t h)
+      (λ has. when_stored (live, has) (f.flushed (live, has)) (f.stored (live, has)))
+      (λ without. let d = f.disabled live without in when_disabled live without d.0 d.1 d.2))
+      (λ q is. let c = some-of (λ q. (r ≡ Err (closed_error q)) × (h' ≡ h) × Untouched made before after) h.result q is f.closed in when_closed q is c.0 c.1 c.2)
+
+  -- a close finds the handle closed, or flushes nothing, or the handle keeps no log, or goes to the store
+  pub close-cases : (flush_type : Option FlushType) (e : Ended) → Closes k made flush_type h before e h' after
+      → ((q : Result (Unit {0}) CloseFault) → h.result ≡ Some q → e ≡ ended (fault_again q) → h' ≡ h → Untouched made before after → G)
+      → (h.result ≡ None → flush_type ≡ None → e ≡ ended None → h' ≡ closed h → Untouched made before after → G)
+      → ((t : FlushType) → flush_type ≡ Some t → h.result ≡ None → has_log_for t h ≡ false → e ≡ ended (Some errors.WalDisabled) → h' ≡ closed h → Untouched made before after → G)
+      → ((t : FlushType) → flush_type ≡ Some t → CanFlush t h → e ≡ ended e.fault → IsFlushed k.keep made (closing_flush e.fault) (Some (Ok tt)) h h'
+      → Stores k made t h before (closing_flush e.fault) h' after → G) → G
+  close-cases flush_type e c when_closed when_unflushed when_disabled when_stored =
+      by-option h.result
+      (λ live. by-option flush_type
+      (λ none. let u = c.unflushed live none in when_unflushed live none u.0 u.1 u.2)
+      (λ t is. by-bool (has_log_for t h)
+      (λ has. let f = c.flushed t is (live, has) in when_stored t is (live, has) f.0 f.1 (c.stored t is (live, has)))
+      (λ without. let d = c.disabled t is live without in when_disabled t is live without d.0 d.1 d.2)))
+      (λ q is. let a = some-of (λ q. (e ≡ ended (fault_again q)) × (h' ≡ h) × Untouched made before after) h.result q is c.again in when_closed q is a.0 a.1 a.2)
+
+  -- a refresh is refused by what closed the handle, or looks at the latest manifest
+  pub refresh-cases : (r : Result (Unit {0}) SlateError) → Refreshes k h before r h' after
+      → ((q : Result (Unit {0}) CloseFault) → h.result ≡ Some q → r ≡ Err (closed_error q) → h' ≡ h → after ≡ before → G)
+      → (h.result ≡ None → ReadsLatest k h before r h' after → G) → G
+  refresh-cases r f when_closed when_read =
+      by-option h.result
+      (λ live. when_read live (f.refreshed live))
+      (λ q is. let c = some-of (λ q. (r ≡ Err (closed_error q)) × (h' ≡ h) × (after ≡ before)) h.result q is f.closed in when_closed q is c.0 c.1 c.2)
+
+  -- a compaction is refused by what closed the handle, or joins the tables of the latest manifest
+  pub compact-cases : (r : Result (Unit {0}) SlateError) → Compacts k made h before r h' after
+      → ((q : Result (Unit {0}) CloseFault) → h.result ≡ Some q → r ≡ Err (closed_error q) → h' ≡ h → Untouched made before after → G)
+      → (h.result ≡ None → JoinsLatest k made h before r h' after → G) → G
+  compact-cases r c when_closed when_joined =
+      by-option h.result
+      (λ live. when_joined live (c.compacted live))
+      (λ q is. let a = some-of (λ q. (r ≡ Err (closed_error q)) × (h' ≡ h) × Untouched made before after) h.result q is c.closed in when_closed q is a.0 a.1 a.2)

@@ -42,31 +42,39 @@ fn numbers_of<S: Store>(
     }
 }
 
-// Puts a log file into a new directory, and ends after so many calls of the system: whether the put was answered with
-// Ok. Then the file is there whole, or not at all, and may be put where it isn't.
-fn put_and_end<R: Files + Copy + Abort>(
-    rt: R,
+// Puts a log file into a directory, and ends after so many calls of the system.
+fn put_and_end<F: Files + Copy>(
+    files: F,
     alloc: Global,
     ending: &Ending,
     folder: &str,
     calls: u64,
-) -> Result<bool, Fail> {
+) -> Result<Result<(), StoreError>, Fail> {
+    let batches = batch(alloc, 3)?;
     ending.end_after(u64::MAX);
-    let mut store = open_directory(EndingFiles(ending), alloc, folder)?;
+    let mut store = open_directory(files, alloc, folder)?;
     ending.end_after(calls);
-    let put = store.put_log(alloc, 7, batch(alloc, 3)?.as_slice());
-    assert!(&rt; put == Ok(()) || put == Err(StoreError::Failed));
-    let mut later = open_directory(rt, alloc, folder)?;
-    let found = numbers_of(alloc, &mut later, 7)?;
-    assert!(&rt; found.is_some() || put.is_err());
+    Ok(store.put_log(alloc, 7, batches.as_slice()))
+}
+
+// After such a put the file is there whole, or not at all, and may be put where it isn't.
+fn require_all_or_nothing<S: Store>(
+    rt: &impl Abort,
+    alloc: Global,
+    later: &mut S,
+    put: Result<(), StoreError>,
+) -> Result<(), Fail> {
+    assert!(rt; put == Ok(()) || put == Err(StoreError::Failed));
+    let found = numbers_of(alloc, later, 7)?;
+    assert!(rt; found.is_some() || put.is_err());
     if let Some(numbers) = &found {
-        assert_eq!(&rt; numbers.as_slice(), [3].as_slice());
+        assert_eq!(rt; numbers.as_slice(), [3].as_slice());
     }
     let again = later.put_log(alloc, 7, batch(alloc, 4)?.as_slice());
-    assert_eq!(&rt; again.is_ok(), found.is_none());
+    assert_eq!(rt; again.is_ok(), found.is_none());
     let logs = later.list(alloc)?.logs.into_vec();
-    assert_eq!(&rt; logs.as_slice(), [7].as_slice());
-    Ok(put.is_ok())
+    assert_eq!(rt; logs.as_slice(), [7].as_slice());
+    Ok(())
 }
 
 #[test]
@@ -77,7 +85,10 @@ fn a_put_that_is_broken_off_left_all_or_nothing(rt: HostRuntime) -> Result<(), F
     let mut answered = 0;
     for calls in 0..MOST {
         let _ = fs::remove_dir_all(&rt, folder);
-        if put_and_end(rt, alloc, &ending, folder, calls)? {
+        let put = put_and_end(EndingFiles(&ending), alloc, &ending, folder, calls)?;
+        let mut later = open_directory(rt, alloc, folder)?;
+        require_all_or_nothing(&rt, alloc, &mut later, put)?;
+        if put.is_ok() {
             answered += 1;
         }
     }
@@ -106,13 +117,13 @@ fn an_opening_that_is_broken_off_is_an_error(rt: HostRuntime) -> Result<(), Fail
     Ok(())
 }
 
-#[test]
-fn calls_without_the_system_fail(rt: HostRuntime) -> Result<(), Fail> {
-    let alloc = rt.alloc();
-    let folder = "slate_directory_failing";
-    let _ = fs::remove_dir_all(&rt, folder);
-    let ending = Ending::new(rt);
-    let mut store = open_directory(EndingFiles(&ending), alloc, folder)?;
+// Each call fails where the system does, and none after that.
+fn require_failures<S: Store>(
+    rt: &impl Abort,
+    alloc: Global,
+    store: &mut S,
+    ending: &Ending,
+) -> Result<(), Fail> {
     store.put_log(alloc, 1, batch(alloc, 1)?.as_slice())?;
     ending.end_after(0);
     assert_eq!(rt;
@@ -124,6 +135,30 @@ fn calls_without_the_system_fail(rt: HostRuntime) -> Result<(), Fail> {
     assert_eq!(rt; store.remove_log(alloc, 1), Err(StoreError::Failed));
     ending.end_after(MOST);
     assert_eq!(rt; store.read_log(alloc, 1)?.batches().len(), 1);
+    Ok(())
+}
+
+// The same over a directory with these files.
+fn fail_and_go_on<F: Files + Copy>(
+    rt: &impl Abort,
+    files: F,
+    alloc: Global,
+    ending: &Ending,
+    folder: &str,
+) -> Result<(), Fail> {
+    let mut store = open_directory(files, alloc, folder)?;
+    require_failures(rt, alloc, &mut store, ending)
+}
+
+#[test]
+fn calls_without_the_system_fail(rt: HostRuntime) -> Result<(), Fail> {
+    let alloc = rt.alloc();
+    let folder = "slate_directory_failing";
+    let _ = fs::remove_dir_all(&rt, folder);
+    let ending = Ending::new(rt);
+    fail_and_go_on(&rt, EndingFiles(&ending), alloc, &ending, folder)?;
+    fs::remove_dir_all(&rt, folder)?;
+    let mut store = open_directory(rt, alloc, folder)?;
     fs::remove_dir_all(&rt, folder)?;
     assert_eq!(rt; store.last_log(alloc, 0), Err(StoreError::Failed));
     Ok(())

@@ -20,13 +20,16 @@ struct Batch {
 
 type Rows = BTreeMap<Rc<[u8]>, Row>;
 
-/// Log files in order, and the epoch of the last opening.
+/// Tables in order, the log files behind them, and the epoch of the last opening.
 struct Store {
+    tables: Vec<Rc<Rows>>,
     logs: Vec<Rc<Vec<Batch>>>,
     epoch: u64,
 }
 
+/// Tables in order, and what isn't in them.
 struct Handle {
+    tables: Vec<Rc<Rows>>,
     rows: Rows,
     unflushed: Vec<Batch>,
     last: u64,
@@ -65,7 +68,7 @@ impl Store {
         let mut rows = Rows::new();
         let mut tick = i64::MIN;
         let last = self.replay(0, &mut rows, 0, &mut tick);
-        Handle { rows, unflushed: Vec::new(), last, tick, epoch: self.epoch, durable: last }
+        Handle { tables: self.tables.clone(), rows, unflushed: Vec::new(), last, tick, epoch: self.epoch, durable: last }
     }
 
     fn follow(&self) -> Follower {
@@ -103,6 +106,34 @@ fn flush(store: &mut Store, handle: &mut Handle) -> bool {
     }
     handle.durable = handle.last;
     true
+}
+
+/// Stores what isn't in tables as a table; an opening then begins behind it.
+fn flush_to_table(store: &mut Store, handle: &mut Handle) -> bool {
+    if !flush(store, handle) {
+        return false;
+    }
+    if !handle.rows.is_empty() {
+        store.tables.push(Rc::new(std::mem::take(&mut handle.rows)));
+        store.logs.clear();
+    }
+    handle.tables = store.tables.clone();
+    true
+}
+
+/// Joins all tables into one.
+fn compact(store: &mut Store, handle: &mut Handle) {
+    let mut joined = Rows::new();
+    for table in &store.tables {
+        joined.extend(table.iter().map(|(key, row)| (key.clone(), row.clone())));
+    }
+    store.tables = vec![Rc::new(joined)];
+    handle.tables = store.tables.clone();
+}
+
+/// The row of a key, from memory or from the last table that has one.
+fn find<'a>(handle: &'a Handle, key: &[u8]) -> Option<&'a Row> {
+    handle.rows.get(key).or_else(|| handle.tables.iter().rev().find_map(|table| table.get(key)))
 }
 
 /// The bytes of a byte word.
@@ -237,10 +268,15 @@ impl Live {
                 }
             }
             (b"flush", Object::Handle(handle)) => {
-                let done = flush(&mut self.store, handle);
+                let to_table = fields.next() == Some(b"memtable".as_slice());
+                let done = if to_table { flush_to_table(&mut self.store, handle) } else { flush(&mut self.store, handle) };
                 out.push_str(if done { "flushed\n" } else { "error Closed error: detected newer DB client\n" });
             }
-            (b"get", Object::Handle(handle)) => write_row(out, handle.rows.get(read_word(fields.next()?)?.as_slice())),
+            (b"compact", Object::Handle(handle)) => {
+                compact(&mut self.store, handle);
+                out.push_str("compacted\n");
+            }
+            (b"get", Object::Handle(handle)) => write_row(out, find(handle, read_word(fields.next()?)?.as_slice())),
             (b"get", Object::Follower(follower)) => write_row(out, follower.rows.get(read_word(fields.next()?)?.as_slice())),
             (b"scan", Object::Handle(handle)) => {
                 let low = read_bound(fields.next()?)?;
@@ -260,7 +296,7 @@ impl Live {
 fn main() {
     let mut script = Vec::new();
     std::io::stdin().read_to_end(&mut script).expect("a script");
-    let mut live = Live { store: Store { logs: Vec::new(), epoch: 0 }, objects: Vec::new(), writes: Vec::new() };
+    let mut live = Live { store: Store { tables: Vec::new(), logs: Vec::new(), epoch: 0 }, objects: Vec::new(), writes: Vec::new() };
     let mut out = String::new();
     for line in script.split(|byte| *byte == b'\n') {
         if !line.is_empty() && live.apply(&mut out, line).is_none() {

@@ -82,18 +82,19 @@ fn a_put_that_is_broken_off_left_all_or_nothing(rt: HostRuntime) -> Result<(), F
     let alloc = rt.alloc();
     let folder = "slate_directory_broken_puts";
     let ending = Ending::new(rt);
-    let mut answered = 0;
+    let mut fewest = None;
     for calls in 0..MOST {
         let _ = fs::remove_dir_all(&rt, folder);
         let put = put_and_end(EndingFiles(&ending), alloc, &ending, folder, calls)?;
         let mut later = open_directory(rt, alloc, folder)?;
         require_all_or_nothing(&rt, alloc, &mut later, put)?;
-        if put.is_ok() {
-            answered += 1;
+        if put.is_ok() && fewest.is_none() {
+            fewest = Some(calls);
         }
+        assert_eq!(rt; put.is_ok(), fewest.is_some());
     }
     fs::remove_dir_all(&rt, folder)?;
-    assert!(rt; 40 < answered && answered < MOST);
+    assert!(rt; 6 < fewest.unwrap_or(0));
     Ok(())
 }
 
@@ -103,14 +104,15 @@ fn an_opening_that_is_broken_off_is_an_error(rt: HostRuntime) -> Result<(), Fail
     let folder = "slate_directory_broken_openings";
     let _ = fs::remove_dir_all(&rt, folder);
     let ending = Ending::new(rt);
-    let mut refused = 0;
+    let mut fewest = None;
     for calls in 0..MOST {
         ending.end_after(calls);
-        if open_directory(EndingFiles(&ending), alloc, folder).is_err() {
-            refused += 1;
+        let is_open = open_directory(EndingFiles(&ending), alloc, folder).is_ok();
+        if is_open && fewest.is_none() {
+            fewest = Some(calls);
         }
     }
-    assert!(rt; 6 < refused && refused < MOST);
+    assert!(rt; 6 < fewest.unwrap_or(0));
     let mut store = open_directory(rt, alloc, folder)?;
     assert_eq!(rt; store.last_log(alloc, 0)?, 0);
     fs::remove_dir_all(&rt, folder)?;

@@ -48,7 +48,7 @@ impl Default for ReadOptions {
 pub enum FlushType {
     /// The batches that aren't in log files yet, to a log file.
     Wal,
-    /// The same, and then the batches that aren't in tables yet, to a table. No call takes it until tables are built.
+    /// The same where the handle keeps a log, and then the batches that aren't in tables yet, to a table.
     MemTable,
 }
 
@@ -65,7 +65,7 @@ pub struct CloseOptions {
     pub flush_type: Option<FlushType>,
 }
 
-/// A flush of memory to a table, which no call takes until tables are built.
+/// With a flush of memory to a table.
 impl Default for CloseOptions {
     ghost use Rattle.slate_types.specs.declared.options.FlushType.TheVariants.{MemTable};
 

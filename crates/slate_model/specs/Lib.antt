@@ -2,14 +2,17 @@ pub mod Catalogue
 pub mod Changes
 pub mod Close
 pub mod Flush
+pub mod Follow
 pub mod Follower
 pub mod Handle
 pub mod Known
 pub mod Knowledge
+pub mod Maintain
 pub mod Object
 pub mod Open
 pub mod Read
 pub mod Refresh
+pub mod Refusal
 pub mod Stores
 pub mod Tables
 pub mod Valid

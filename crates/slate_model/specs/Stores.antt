@@ -1,5 +1,5 @@
 -- What a store's own calls know, and what a world knows.
-use Rattle.std.specs.Prelude.{◌≡◌, ◌++◌, true, List, Contains, Option, Some}
+use Rattle.std.specs.Prelude.{◌≡◌, ◌++◌, ℤ, true, List, Contains, Option, Some}
 use Rattle.std.specs.List.{flat_map}
 use Rattle.slate_types.specs.declared.batches.Batch.{Batch}
 use Rattle.slate_types.specs.Line.{Line}
@@ -11,13 +11,15 @@ use Rattle.slate_store.specs.declared.refusals.StoreRefusal.TheVariants as refus
 use Rattle.slate_store.specs.Compaction.{CompactCause}
 use Rattle.slate_store.specs.Content.{table_batches}
 use Rattle.slate_store.specs.Objects.{ChangeOf, Objects, ObjectsOf, is_present, latest_manifest}
+use Rattle.slate_store.specs.Sweeps.{SweepCause}
 use Rattle.slate_errors.specs.declared.errors.SlateError.{SlateError}
 use Rattle.slate_errors.specs.declared.errors.SlateError.TheVariants as errors
 use Rattle.slate_model.specs.Catalogue.{Catalogue, Span, joined_span, span}
+use Rattle.slate_model.specs.Follower.{kept_follower}
 use Rattle.slate_model.specs.Handle.{kept_handle}
 use Rattle.slate_model.specs.Knowledge.{Knowledge}
 use Rattle.slate_model.specs.Known.{IsContent}
-use Rattle.slate_model.specs.Object.{Object, Handle, Follower}
+use Rattle.slate_model.specs.Object.{Object, Handle, Follower, line_of, view_of}
 use Rattle.slate_model.specs.Open.{OpenFault}
 use Rattle.slate_model.specs.Tables.{AreJoined, AreStored}
 
@@ -33,13 +35,18 @@ JoinFault id objects errors.TransactionalObjectVersionExists = CompactCause id o
 JoinFault id objects (errors.ObjectStoreError NotFound) = CompactCause id objects (refusals.ObjectStoreError NotFound)
 JoinFault id objects error = ⊥
 
+-- why a sweep at this moment answers that an object is missing, or there already, over objects that aren't sound
+abbrev pub SweepFault : ℤ → Objects → SlateError → Type 0
+SweepFault moment objects errors.TransactionalObjectVersionExists = SweepCause moment objects refusals.TransactionalObjectVersionExists
+SweepFault moment objects (errors.ObjectStoreError NotFound) = SweepCause moment objects (refusals.ObjectStoreError NotFound)
+SweepFault moment objects error = ⊥
+
 -- the batches that an object reads: those of the tables of its view, and then those in memory
 abbrev pub kept_rows : Option Objects → Object → List Batch → Type 0
-kept_rows objects (Handle handle) rows =
-    (stored : List Batch) × AreJoined objects handle.view.manifest.tables stored × (rows ≡ stored ++ handle.line.batches)
-kept_rows objects (Follower follower) rows = rows ≡ follower.line.batches
+kept_rows objects object rows =
+    (stored : List Batch) × AreJoined objects (view_of object).manifest.tables stored × (rows ≡ stored ++ (line_of object).batches)
 
--- a log file and a table are their batches, of a handle's line only the end is kept, and a line is stored where the
+-- a log file and a table are their batches, of an object's line only the end is kept, and a line is stored where the
 -- store is honest
 abbrev pub by_objects : Option Objects → Knowledge (List Batch)
 by_objects objects =
@@ -47,29 +54,33 @@ by_objects objects =
       summary = λ batches. batches;
       joined = flat_map (λ batches. batches);
       keep = kept_handle;
+      keep_follower = kept_follower;
       is_stored = IsContent objects;
       rows = kept_rows objects;
       unsound = OpenFault;
       stands = Stands;
       unjoined = JoinFault;
+      unswept = SweepFault;
     }
 
--- The batches that an object of a world reads: a handle its line, while the tables of its view are stored, and a follower
+-- The batches that an object of a world reads, while the tables of its view are stored: a handle its line, and a follower
 -- what is stored.
 abbrev pub world_rows : Line → Catalogue → Object → List Batch → Type 0
 world_rows stored catalogue (Handle handle) rows = AreStored catalogue handle.view.manifest.tables × (rows ≡ handle.line.batches)
-world_rows stored catalogue (Follower follower) rows = rows ≡ stored.batches
+world_rows stored catalogue (Follower follower) rows = AreStored catalogue follower.view.manifest.tables × (rows ≡ stored.batches)
 
--- a log file and a table are the spans of their batches, all of a handle's line is there, and this line is stored
+-- a log file and a table are the spans of their batches, all of an object's line is there, and this line is stored
 abbrev pub by_catalogue : Line → Catalogue → Knowledge Span
 by_catalogue stored catalogue =
     record {
       summary = span;
       joined = joined_span;
       keep = λ handle. handle;
+      keep_follower = λ follower. follower;
       is_stored = λ line. line ≡ stored;
       rows = world_rows stored catalogue;
       unsound = λ objects error. ⊥;
       stands = λ changes objects. ⊥;
       unjoined = λ id objects error. ⊥;
+      unswept = λ moment objects error. ⊥;
     }

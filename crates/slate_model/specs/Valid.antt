@@ -1,11 +1,13 @@
--- What holds of each handle of a world that commands lead to.
-use Rattle.std.specs.Prelude.{◌≡◌, ℕ, ◌-◌, ◌≤◌, ◌++◌, take, Some, None}
+-- What holds of each handle of a world that commands lead to, and what its objects read.
+use Rattle.std.specs.Prelude.{◌≡◌, ℕ, ◌-◌, ◌<◌, ◌≤◌, ◌++◌, All, List, take, Some, None, IfSome}
 use Rattle.slate_types.specs.Line.{Line, IsLine, IsPrefix, batches_above, extended}
 use Rattle.slate_store.specs.declared.objects.VersionedManifest.{VersionedManifest}
 use Rattle.slate_store.specs.Content.{table_batches}
-use Rattle.slate_store.specs.Objects.{Objects, latest_manifest, table_at}
+use Rattle.slate_store.specs.declared.objects.TableId.{TableId}
+use Rattle.slate_store.specs.Objects.{Objects, ObjectsOf, latest_manifest, table_at}
 use Rattle.slate_model.specs.Catalogue.{Catalogue}
 use Rattle.slate_model.specs.Handle.{Handle, accepted, unstored}
+use Rattle.slate_model.specs.Object.{Object, line_of, view_of}
 use Rattle.slate_model.specs.Tables.{AreStored}
 
 -- the front of a line, up to a number
@@ -13,26 +15,37 @@ abbrev pub up_to : ℕ → Line → Line
 up_to number line = record { floor = line.floor; batches = take (number - line.floor) line.batches }
 
 -- A handle of a world with this catalogue, in which this line is stored: its line is one, its batches up to its durable
--- number begin what is stored, and those in the tables of its view are among them. The tables of its view are stored, and
--- none is under the id of its next one or a later one. Neither its epoch nor its view's last number in tables is above the
--- latest manifest's. While it is open and its epoch is current, what is stored and then what isn't stored yet is its line,
--- and its view's tables end where the latest manifest's do.
+-- number begin what is stored, and those in the tables of its view are among them. No table is stored under the id of its next
+-- one or of a later one. Neither its epoch nor its view's last number in tables is above the latest manifest's. While it is
+-- open and its epoch is current, what is stored and then what isn't stored yet is its line, and its view's tables end where
+-- the latest manifest's do.
 pub record IsValidHandle (stored : Line) (catalogue : Catalogue) (handle : Handle) : Type 0 where
   pub numbered : IsLine handle.line
   pub floor : handle.line.floor ≤ handle.view.manifest.last_l0_seq
   pub tabled : handle.view.manifest.last_l0_seq ≤ handle.durable
   pub durable : handle.durable ≤ accepted handle
   pub confirmed : IsPrefix (up_to handle.durable handle.line) stored
-  pub tables : AreStored catalogue handle.view.manifest.tables
   pub unused : (index : ℕ) → handle.counter ≤ index → table_at (record { epoch = handle.epoch; index = index }) catalogue ≡ None
   pub behind : (latest : VersionedManifest) × (latest_manifest catalogue ≡ Some latest) × (handle.epoch ≤ latest.manifest.writer_epoch)
       × (handle.view.manifest.last_l0_seq ≤ latest.manifest.last_l0_seq)
   pub current : (latest : VersionedManifest) → handle.result ≡ None → latest_manifest catalogue ≡ Some latest → latest.manifest.writer_epoch ≤ handle.epoch →
       (extended stored (unstored handle) ≡ handle.line) × (latest.manifest.last_l0_seq ≡ handle.view.manifest.last_l0_seq)
 
--- where the tables of a handle's view are stored, they are, joined, the batches of its line up to the view's last number
--- in tables
-abbrev pub ReadsItsLine : Objects → Handle → Type 0
-ReadsItsLine objects handle =
-    let m = handle.view.manifest in
-    AreStored objects m.tables → table_batches objects m.tables ++ batches_above m.last_l0_seq handle.line.batches ≡ handle.line.batches
+-- the tables with these ids, where they are of this handle's epoch, come before its next one
+abbrev pub AreBefore : Handle → List TableId → Type 0
+AreBefore handle ids = All (λ id. id.epoch ≡ handle.epoch → id.index < handle.counter) ids
+
+-- and their epochs aren't above the latest manifest's
+abbrev pub AreOfPast : {L : Type 0} → ObjectsOf L → List TableId → Type 0
+AreOfPast objects ids = All (λ id. IfSome (latest_manifest objects) (λ latest. id.epoch ≤ latest.manifest.writer_epoch)) ids
+
+-- where the tables of this manifest are stored, they are, joined, the batches of a line up to the manifest's last number in
+-- tables
+abbrev pub ReadsLine : Objects → VersionedManifest → Line → Type 0
+ReadsLine objects view line =
+    let m = view.manifest in
+    AreStored objects m.tables → table_batches objects m.tables ++ batches_above m.last_l0_seq line.batches ≡ line.batches
+
+-- so an object reads its line
+abbrev pub ReadsItsLine : Objects → Object → Type 0
+ReadsItsLine objects object = ReadsLine objects (view_of object) (line_of object)

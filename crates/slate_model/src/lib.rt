@@ -1,7 +1,9 @@
 //! What a database is, and what each operation may do to it: definitions that contracts cite, and the answers that they
-//! speak of. No code here runs.
+//! speak of.
 #![tactic(auto)]
 
 mod answers;
+mod refusals;
 
 pub use answers::{PollAnswer, Written};
+pub use refusals::error_of_refusal;

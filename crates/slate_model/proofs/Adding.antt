@@ -1,6 +1,7 @@
 -- Changes that put one table, under an id that is free, leave all others.
 use Rattle.std.proofs.Common.{◌≡◌, ◌≢◌, ℕ, zero, suc, ◌+◌, ◌<◌, ◌≤◌, ◌⊎◌, inl, inr, List, [], ◌∷◌, ◌++◌, length, take, cond, Some, None, Option, Bool, true, false, refl, sym, subst, ap, ◌∙◌, arith, flat_map, ltb}
 use Rattle.std.proofs.lemmas.Bool.{false_from_ne_true}
+use Rattle.std.proofs.lemmas.List.Elements.{All-cons}
 use Rattle.std.specs.BTreeMap.{insert_entry, is_at}
 use Rattle.std.specs.List.{All}
 use Rattle.std.specs.Map.{lookup}
@@ -78,6 +79,21 @@ batches-stay o o' [] stay stored = refl
 batches-stay o o' (id ∷ ids) stay stored =
     ap (λ t. unwrap_or t [] ++ table_batches o' ids) (stay id (stored 0 id (omega arith)))
     ∙ ap (λ bs. unwrap_or (table_at id o) [] ++ bs) (batches-stay o o' ids stay (λ k d less. stored (suc k) d (omega (arith, less))))
+
+-- where a table is stored under this id afterwards, it was stored before, with the same batches
+abbrev pub Lasts : Objects → Objects → TableId → Type 0
+Lasts o o' q = table_at q o' ≢ None → table_at q o' ≡ table_at q o
+
+-- so are the batches of tables that are stored afterwards
+pub lasting : (o o' : Objects) (ids : List TableId) → All (Lasts o o') ids → AreStored o' ids → AreStored o ids × (table_batches o' ids ≡ table_batches o ids)
+lasting o o' [] last stored = (λ k d less. absurd (omega (arith, less)), refl)
+lasting o o' (id ∷ ids) last stored =
+    let some = stored 0 id (omega arith) in
+    let same = last 0 id (omega arith) some in
+    let rest = lasting o o' ids (λ k d less. last (suc k) d (omega (arith, less))) (λ k d less. stored (suc k) d (omega (arith, less))) in (
+      All-cons (λ q. table_at q o ≢ None) id ids (λ none. some (same ∙ none)) rest.0,
+      ap (λ t. unwrap_or t [] ++ table_batches o' ids) same ∙ ap (λ bs. unwrap_or (table_at id o) [] ++ bs) rest.1,
+    )
 
 -- tables that are stored stay, with their batches
 pub record Stay (o o' : Objects) : Type 0 where

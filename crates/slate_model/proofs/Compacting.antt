@@ -16,10 +16,10 @@ use Rattle.slate_model.specs.Flush.{IsCurrent, tables_put}
 use Rattle.slate_model.specs.Handle.{Handle, kept_handle, next_table}
 use Rattle.slate_model.specs.Refresh.{CompactAnswer, JoinsTables, RefreshAnswer, fenced_result}
 use Rattle.slate_model.specs.Stores.{JoinFault, by_objects}
-use Rattle.slate_model.specs.Valid.{IsValidHandle, ReadsItsLine}
-use Rattle.slate_model.proofs.Adding.{AreAdded, compact-puts, one-put, other-table, stay-added}
+use Rattle.slate_model.specs.Valid.{AreBefore, IsValidHandle, ReadsLine}
+use Rattle.slate_model.proofs.Adding.{AreAdded, Lasts, compact-puts, one-put, other-table}
 use Rattle.slate_model.proofs.Flushed.{part_le}
-use Rattle.slate_model.proofs.Moving.{Follows, Moved, none-known, stay-same}
+use Rattle.slate_model.proofs.Moving.{Follows, Moved, none-known}
 use Rattle.slate_model.proofs.Prefixes.{prefix-same}
 use Rattle.slate_model.proofs.Reduced.{whole}
 use Rattle.slate_model.proofs.Viewing.{viewed-moved}
@@ -56,7 +56,7 @@ module _ (o : Objects) (id : TableId) (latest : VersionedManifest) (sound : IsSo
   join-latest false at (suc (suc (suc made))) le = absurd (omega (arith, le))
 
 module _ (stored : Line) (o o' : Objects) (latest : VersionedManifest) (h k : Handle) (r : Result (Unit {0}) SlateError) (made : ℕ)
-    (sound : IsSound o) (holds : content o ≡ stored) (is : latest_manifest o ≡ Some latest) (live : h.result ≡ None) (v : IsValidHandle stored (catalogue_of o) h) (reads : ReadsItsLine o h)
+    (sound : IsSound o) (holds : content o ≡ stored) (is : latest_manifest o ≡ Some latest) (live : h.result ≡ None) (v : IsValidHandle stored (catalogue_of o) h) (reads : ReadsLine o h.view h.line) (before : AreBefore h h.view.manifest.tables)
     (same : whole h k ≡ record h { counter = k.counter; view = k.view; result = fenced_result r }) where
   found-latest : (found : VersionedManifest) → latest_manifest o ≡ Some found → found ≡ latest
   found-latest found at = cc
@@ -103,6 +103,10 @@ module _ (stored : Line) (o o' : Objects) (latest : VersionedManifest) (h k : Ha
     added : AreAdded id o (tables_put (take made cs)) o'
     added = subst (AreAdded id o (tables_put (take made cs))) (sym after) (one-put id made cs o (compact-puts id o latest))
 
+    lasts-same : (q : TableId) → (q.epoch ≡ h.epoch → q.index < h.counter) → Lasts o o' q
+    lasts-same q low some = other-table id q (tables_put (take made cs)) o o' added
+        (λ tied. let less = low (ap (λ (x : TableId). x.epoch) tied) in let i = ap (λ (x : TableId). x.index) tied in absurd (omega (arith, less, i)))
+
     counted : h.counter + tables_put (take made cs) ≤ k.counter
     counted = subst (λ (xs : List Change). h.counter + tables_put (take made xs) ≤ k.counter) changes-are j.counted.0
 
@@ -123,7 +127,6 @@ module _ (stored : Line) (o o' : Objects) (latest : VersionedManifest) (h k : Ha
       sound = keeps.0;
       content = keeps.1 ∙ holds;
       grows = prefix-same stored;
-      stay = stay-added id (tables_put (take made cs)) o o' added free;
       latest_is = at;
       epochs = omega (arith, epoch);
       tabled = omega (arith, number);
@@ -134,7 +137,8 @@ module _ (stored : Line) (o o' : Objects) (latest : VersionedManifest) (h k : Ha
     moved-by n' at epoch number views =
         subst (Moved stored stored o o' latest h) (sym same)
         (viewed-moved stored o o' latest n' h k.counter k.view (fenced_result r) is live v reads (follows-by n' at epoch number) epoch number views
-        (λ q differ. other-table id q (tables_put (take made cs)) o o' added (λ tied. differ (ap (λ (x : TableId). x.epoch) tied))) unused-after)
+        (λ q differ. other-table id q (tables_put (take made cs)) o o' added (λ tied. differ (ap (λ (x : TableId). x.epoch) tied)))
+        before lasts-same (let c = counted in omega (arith, c)) unused-after)
 
     -- the view is the manifest that the compaction left, or the old one
     views-by : (q : Result (Unit {0}) SlateError) → CompactAnswer (JoinFault id o) (kept_handle h) o q k.view → PartMade q (length (compact_changes (flat_map (λ bs. bs)) id o)) made →
@@ -177,8 +181,8 @@ module _ (stored : Line) (o o' : Objects) (latest : VersionedManifest) (h k : Ha
   refresh-moved a counter =
       subst (Moved stored stored o o latest h) (sym same)
       (viewed-moved stored o o latest latest h k.counter k.view (fenced_result r) is live v reads
-      (record { sound = sound; content = holds; grows = prefix-same stored; stay = stay-same o; latest_is = is; epochs = omega arith; tabled = omega arith }) refl refl (views-by r a)
-      (λ q differ. refl) (λ index high. none-known (record { epoch = h.epoch; index = index }) o (v.unused index (omega (arith, counter, high))))) where
+      (record { sound = sound; content = holds; grows = prefix-same stored; latest_is = is; epochs = omega arith; tabled = omega arith }) refl refl (views-by r a)
+      (λ q differ. refl) before (λ q low some. refl) (omega (arith, counter)) (λ index high. none-known (record { epoch = h.epoch; index = index }) o (v.unused index (omega (arith, counter, high))))) where
         views-by : (q : Result (Unit {0}) SlateError) → RefreshAnswer (kept_handle h) o q k.view → (k.view ≡ h.view) ⊎ ((k.view ≡ latest) × (latest.manifest.writer_epoch ≤ h.epoch))
         views-by (Ok x) a = inr (found-latest k.view a.0, found-current k.view a)
         views-by (Err e) a = inl a.1

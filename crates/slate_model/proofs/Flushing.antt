@@ -22,11 +22,11 @@ use Rattle.slate_model.specs.Flush.{CanFlush, DurableAfter, FlushAnswer, Flushes
 use Rattle.slate_model.specs.Handle.{CloseResult, Handle, accepted, kept_handle, next_table, to_log, unstored}
 use Rattle.slate_model.specs.Stores.{Stands, by_objects}
 use Rattle.slate_model.specs.Tables.{AreStored}
-use Rattle.slate_model.specs.Valid.{IsValidHandle, ReadsItsLine, up_to}
-use Rattle.slate_model.proofs.Adding.{AreAdded, Stay, flush-puts, one-put, other-table, stay-added}
+use Rattle.slate_model.specs.Valid.{AreBefore, IsValidHandle, ReadsLine, up_to}
+use Rattle.slate_model.proofs.Adding.{AreAdded, Lasts, Stay, flush-puts, one-put, other-table, stay-added}
 use Rattle.slate_model.proofs.Flushed.{Leaves, flush-leaves, part_le}
 use Rattle.slate_model.proofs.Keeping.{changes-kept, view-kept}
-use Rattle.slate_model.proofs.Moving.{Follows, known-none, known-stored, none-known, stored-known, Moved}
+use Rattle.slate_model.proofs.Moving.{Follows, Moved, known-none, none-known, still-reads}
 use Rattle.slate_model.proofs.Prefixes.{extended-nil, prefix-after, prefix-same, up_to-all}
 use Rattle.slate_model.proofs.Reduced.{whole}
 use Rattle.slate_model.proofs.Tabled.{joined-line, tables-within}
@@ -90,7 +90,7 @@ grown-zero made stored h none = ap (λ n. grown n stored h) none ∙ not-grown h
 
 -- what a flush of a valid handle did, and left of it
 module _ (stored : Line) (o o' : Objects) (latest : VersionedManifest) (t : FlushType) (h k : Handle) (r : Result (Unit {0}) SlateError) (closed : CloseResult) (made : ℕ)
-    (sound : IsSound o) (holds : content o ≡ stored) (is : latest_manifest o ≡ Some latest) (v : IsValidHandle stored (catalogue_of o) h) (reads : ReadsItsLine o h)
+    (sound : IsSound o) (holds : content o ≡ stored) (is : latest_manifest o ≡ Some latest) (v : IsValidHandle stored (catalogue_of o) h) (reads : ReadsLine o h.view h.line) (before : AreBefore h h.view.manifest.tables)
     (can : CanFlush t h) (s : StoresBatches (by_objects (Some o)) t (kept_handle h) o r k made o') (f : IsFlushed (λ a. a) made r closed h (whole h k)) where
   abbrev last : ℕ
   last = last_log latest.manifest.replay_after_wal_id o
@@ -134,6 +134,11 @@ module _ (stored : Line) (o o' : Objects) (latest : VersionedManifest) (t : Flus
   -- a table of another handle is as it was
   pub others-same : (q : TableId) → (q.epoch ≡ h.epoch → ⊥) → table_at q o' ≡ table_at q o
   others-same q differ = other-table (next_table h) q (tables_put (take made cs)) o o' added (λ same. differ (ap (λ (id : TableId). id.epoch) same))
+
+  -- so is one that comes before its next one
+  lasts-same : (q : TableId) → (q.epoch ≡ h.epoch → q.index < h.counter) → Lasts o o' q
+  lasts-same q low some = other-table (next_table h) q (tables_put (take made cs)) o o' added
+      (λ same. let less = low (ap (λ (id : TableId). id.epoch) same) in let i = ap (λ (id : TableId). id.index) same in absurd (omega (arith, less, i)))
 
   counted : h.counter + tables_put (take made cs) ≤ k.counter
   counted = subst (λ (xs : List Change). h.counter + tables_put (take made xs) ≤ k.counter) changes-are s.counted.0
@@ -322,7 +327,6 @@ module _ (stored : Line) (o o' : Objects) (latest : VersionedManifest) (t : Flus
     sound = newest.sound_after;
     content = newest.content_after;
     grows = prefix-after stored stored (nat_le (grows h) made) (unstored h) (prefix-same stored);
-    stay = stays;
     latest_is = newest.is_latest;
     epochs = (let e = next-epoch in omega (arith, e));
     tabled = next-number;
@@ -413,31 +417,30 @@ module _ (stored : Line) (o o' : Objects) (latest : VersionedManifest) (t : Flus
     ]
   ]
 
-  tables-after : AreStored o' k.view.manifest.tables
-  tables-after = elim views [
-    | inl committed ↦ subst (λ (m : VersionedManifest). AreStored o' m.manifest.tables) (sym committed.1) (latest-stored o' next newest.sound_after (committed-latest committed.0 committed.2))
+  view-after : (k.view ≡ h.view) ⊎ AreStored o' k.view.manifest.tables
+  view-after = elim views [
+    | inl committed ↦ inr (subst (λ (m : VersionedManifest). AreStored o' m.manifest.tables) (sym committed.1) (latest-stored o' next newest.sound_after (committed-latest committed.0 committed.2)))
     | inr kept ↦ elim kept [
-      | inl same ↦ subst (λ (m : VersionedManifest). AreStored o' m.manifest.tables) (sym same) (stays.stored h.view.manifest.tables (stored-known o h.view.manifest.tables v.tables))
-      | inr read ↦ subst (λ (m : VersionedManifest). AreStored o' m.manifest.tables) (sym read.0) (stays.stored latest.manifest.tables (latest-stored o latest sound is))
+      | inl same ↦ inl same
+      | inr read ↦ inr (subst (λ (m : VersionedManifest). AreStored o' m.manifest.tables) (sym read.0) (stays.stored latest.manifest.tables (latest-stored o latest sound is)))
     ]
   ]
 
   -- the tables of this manifest, joined, and what is above them are the line
   abbrev MakesLine : VersionedManifest → Type 0
-  MakesLine m = table_batches o' m.manifest.tables ++ batches_above m.manifest.last_l0_seq h.line.batches ≡ h.line.batches
+  MakesLine m = ReadsLine o' m h.line
 
   reads-after : MakesLine k.view
   reads-after = elim views [
     | inl committed ↦
-        subst MakesLine (sym committed.1) (joined-line o' next h.line [] newest.sound_after (committed-latest committed.0 committed.2) (view-line committed.0 committed.2) v.numbered)
+        subst MakesLine (sym committed.1) (λ there. joined-line o' next h.line [] newest.sound_after (committed-latest committed.0 committed.2) (view-line committed.0 committed.2) v.numbered)
     | inr kept ↦ elim kept [
       | inl same ↦
-          let there = stored-known o h.view.manifest.tables v.tables in
-          subst MakesLine (sym same) (ap (λ bs. bs ++ batches_above h.view.manifest.last_l0_seq h.line.batches) (stays.batches h.view.manifest.tables there) ∙ reads there)
+          subst MakesLine (sym same) (still-reads o o' h.view h.line (λ k d less. lasts-same _ (before k d less)) reads)
       | inr read ↦
           let line : h.line ≡ extended (content o) (unstored h) = sym (line-is read.1) ∙ ap (λ l. extended l (unstored h)) (sym holds) in
           subst MakesLine (sym read.0)
-          (ap (λ bs. bs ++ batches_above latest.manifest.last_l0_seq h.line.batches) (stays.batches latest.manifest.tables (latest-stored o latest sound is))
+          (λ there. ap (λ bs. bs ++ batches_above latest.manifest.last_l0_seq h.line.batches) (stays.batches latest.manifest.tables (latest-stored o latest sound is))
           ∙ joined-line o latest h.line (unstored h) sound is line v.numbered)
     ]
   ]
@@ -523,7 +526,6 @@ module _ (stored : Line) (o o' : Objects) (latest : VersionedManifest) (t : Flus
       tabled = tabled-after;
       durable = durable-high;
       confirmed = confirmed-after;
-      tables = known-stored o' k.view.manifest.tables tables-after;
       unused = λ index high. known-none (record { epoch = k.epoch; index = index }) o'
           (subst (λ e. table_at (record { epoch = e; index = index }) o' ≡ None) (sym new-epoch) (unused-after index high));
       behind = (n', newest.is_latest, (let e = next-epoch in let m = new-epoch in let low = low-epoch in omega (arith, e, m, low)), numbers-after);
@@ -536,9 +538,12 @@ module _ (stored : Line) (o o' : Objects) (latest : VersionedManifest) (t : Flus
       next = n';
       follows = follows;
       others = others-same;
+      lasts = lasts-same;
+      counter = (let c = counted in omega (arith, c));
+      view = view-after;
       same_epoch = next-epoch;
       alone = alone;
       epoch = new-epoch;
       mine = flush-valid;
-      reads = λ there. reads-after;
+      reads = reads-after;
     }

@@ -10,8 +10,8 @@ use Rattle.slate_store.specs.declared.objects.VersionedManifest.{VersionedManife
 use Rattle.slate_model.specs.Catalogue.{Span, catalogue_of, span}
 use Rattle.slate_model.specs.Handle.{Handle, unstored}
 use Rattle.slate_model.specs.Tables.{AreStored}
-use Rattle.slate_model.specs.Valid.{IsValidHandle, ReadsItsLine, up_to}
-use Rattle.slate_model.proofs.Adding.{Stay}
+use Rattle.slate_model.specs.Valid.{IsValidHandle, ReadsLine, up_to}
+use Rattle.slate_model.proofs.Adding.{Lasts, lasting}
 use Rattle.slate_model.proofs.Catalogued.{table-known}
 use Rattle.slate_model.proofs.Prefixes.{prefix-same, prefix-then}
 
@@ -33,22 +33,21 @@ pub stored-known : (o : Objects) (ids : List TableId) → AreStored (catalogue_o
 stored-known o ids stored k d less none = stored k d less (known-none _ o none)
 
 -- Sound objects that follow others under which this line was stored, and this manifest was the latest: the line goes on,
--- the tables stay, and neither the epoch nor the last number in tables falls.
+-- and neither the epoch nor the last number in tables falls.
 pub record Follows (stored stored' : Line) (o o' : Objects) (latest latest' : VersionedManifest) : Type 0 where
   pub sound : IsSound o'
   pub content : content o' ≡ stored'
   pub grows : IsPrefix stored stored'
-  pub stay : Stay o o'
   pub latest_is : latest_manifest o' ≡ Some latest'
   pub epochs : latest.manifest.writer_epoch ≤ latest'.manifest.writer_epoch
   pub tabled : latest.manifest.last_l0_seq ≤ latest'.manifest.last_l0_seq
 
 module _ (stored stored' : Line) (o o' : Objects) (latest latest' : VersionedManifest) (is : latest_manifest o ≡ Some latest) (f : Follows stored stored' o o' latest latest') where
   -- a handle that didn't change
-  pub still-valid : (g : Handle) → ((index : ℕ) → g.counter ≤ index → table_at (record { epoch = g.epoch; index = index }) o' ≡ table_at (record { epoch = g.epoch; index = index }) o) →
+  pub still-valid : (g : Handle) → ((index : ℕ) → g.counter ≤ index → table_at (record { epoch = g.epoch; index = index }) o ≡ None → table_at (record { epoch = g.epoch; index = index }) o' ≡ None) →
       ((found : VersionedManifest) → g.result ≡ None → latest_manifest o' ≡ Some found → found.manifest.writer_epoch ≤ g.epoch → (extended stored' (unstored g) ≡ g.line) × (found.manifest.last_l0_seq ≡ g.view.manifest.last_l0_seq)) →
       IsValidHandle stored (catalogue_of o) g → IsValidHandle stored' (catalogue_of o') g
-  still-valid g same current v =
+  still-valid g unput current v =
       let found : v.behind.0 ≡ latest = (let b = v.behind.1 in cc) in
       let epoch = ap (λ (m : VersionedManifest). m.manifest.writer_epoch) found in
       let number = ap (λ (m : VersionedManifest). m.manifest.last_l0_seq) found in
@@ -62,38 +61,42 @@ module _ (stored stored' : Line) (o o' : Objects) (latest latest' : VersionedMan
         tabled = v.tabled;
         durable = v.durable;
         confirmed = prefix-then (up_to g.durable g.line) stored stored' v.confirmed f.grows;
-        tables = known-stored o' g.view.manifest.tables ((f.stay).stored g.view.manifest.tables (stored-known o g.view.manifest.tables v.tables));
-        unused = λ index high. known-none (record { epoch = g.epoch; index = index }) o' (same index high ∙ none-known (record { epoch = g.epoch; index = index }) o (v.unused index high));
+        unused = λ index high. known-none (record { epoch = g.epoch; index = index }) o' (unput index high (none-known (record { epoch = g.epoch; index = index }) o (v.unused index high)));
         behind = (latest', f.latest_is, omega (arith, epoch, low, epochs), omega (arith, number, low_number, tabled));
         current = current;
       }
 
-  -- and what it reads
-  pub still-reads : (g : Handle) → AreStored o g.view.manifest.tables → ReadsItsLine o g → ReadsItsLine o' g
-  still-reads g there reads again =
-      ap (λ bs. bs ++ batches_above g.view.manifest.last_l0_seq g.line.batches) ((f.stay).batches g.view.manifest.tables there) ∙ reads there
+-- what an object reads, where the tables of its view last
+pub still-reads : (o o' : Objects) (view : VersionedManifest) (line : Line) → All (Lasts o o') view.manifest.tables → ReadsLine o view line → ReadsLine o' view line
+still-reads o o' view line last reads there =
+    let before = lasting o o' view.manifest.tables last there in
+    ap (λ bs. bs ++ batches_above view.manifest.last_l0_seq line.batches) before.1 ∙ reads before.0
 
--- A handle that changed with the objects: these follow, no table of another handle changed, and nothing that is stored did
--- unless its epoch is current.
+-- A handle that changed with the objects: these follow, no table of another handle changed and none that comes before its
+-- next one, and nothing that is stored did unless its epoch is current. It goes by its old view, or by one whose tables are
+-- stored.
 pub record Moved (stored stored' : Line) (o o' : Objects) (latest : VersionedManifest) (h new : Handle) : Type 0 where
   pub next : VersionedManifest
   pub follows : Follows stored stored' o o' latest next
   pub others : (q : TableId) → (q.epoch ≡ h.epoch → ⊥) → table_at q o' ≡ table_at q o
+  pub lasts : (q : TableId) → (q.epoch ≡ h.epoch → q.index < h.counter) → Lasts o o' q
+  pub counter : h.counter ≤ new.counter
+  pub view : (new.view ≡ h.view) ⊎ AreStored o' new.view.manifest.tables
   pub same_epoch : next.manifest.writer_epoch ≡ latest.manifest.writer_epoch
   pub alone : ((stored' ≡ stored) × (next.manifest.last_l0_seq ≡ latest.manifest.last_l0_seq)) ⊎ (latest.manifest.writer_epoch ≤ h.epoch)
   pub epoch : new.epoch ≡ h.epoch
   pub mine : IsValidHandle stored' (catalogue_of o') new
-  pub reads : ReadsItsLine o' new
-
-pub stay-same : (o : Objects) → Stay o o
-stay-same o = record { stored = λ ids there. there; batches = λ ids there. refl }
+  pub reads : ReadsLine o' new.view new.line
 
 -- one that changed alone
-pub unmoved : (stored : Line) (o : Objects) (latest : VersionedManifest) (h new : Handle) → IsSound o → content o ≡ stored → latest_manifest o ≡ Some latest → new.epoch ≡ h.epoch → IsValidHandle stored (catalogue_of o) new → ReadsItsLine o new → Moved stored stored o o latest h new
-unmoved stored o latest h new sound holds is epoch mine reads = record {
+pub unmoved : (stored : Line) (o : Objects) (latest : VersionedManifest) (h new : Handle) → IsSound o → content o ≡ stored → latest_manifest o ≡ Some latest → new.epoch ≡ h.epoch → h.counter ≤ new.counter → new.view ≡ h.view → IsValidHandle stored (catalogue_of o) new → ReadsLine o new.view new.line → Moved stored stored o o latest h new
+unmoved stored o latest h new sound holds is epoch counter view mine reads = record {
   next = latest;
-  follows = record { sound = sound; content = holds; grows = prefix-same stored; stay = stay-same o; latest_is = is; epochs = omega arith; tabled = omega arith };
+  follows = record { sound = sound; content = holds; grows = prefix-same stored; latest_is = is; epochs = omega arith; tabled = omega arith };
   others = λ q differ. refl;
+  lasts = λ q before some. refl;
+  counter = counter;
+  view = inl view;
   same_epoch = refl;
   alone = inl (refl, refl);
   epoch = epoch;

@@ -18,7 +18,7 @@ use Rattle.slate_model.specs.Catalogue.{catalogue_of}
 use Rattle.slate_model.specs.Changes.{after_part}
 use Rattle.slate_model.specs.Handle.{Handle, unstored}
 use Rattle.slate_model.specs.Open.{found_log, next_manifest, open_changes, opened_handle, opened_manifest}
-use Rattle.slate_model.specs.Valid.{IsValidHandle, ReadsItsLine, up_to}
+use Rattle.slate_model.specs.Valid.{IsValidHandle, ReadsLine, up_to}
 use Rattle.slate_model.proofs.Adding.{none-put, stay-tables}
 use Rattle.slate_model.proofs.Flushing.{latest-stored}
 use Rattle.slate_model.proofs.Moving.{Follows, known-none, known-stored, none-known, still-valid}
@@ -50,7 +50,7 @@ module _ (stored : Line) (o : Objects) (made : ℕ) (sound : IsSound o) (holds :
   same-tables : o'.tables ≡ o.tables
   same-tables = (none-put made (open_changes (λ xs. xs) o) o tt).0
 
-  same-table_at : (q : TableId) → table_at q o' ≡ table_at q o
+  pub same-table_at : (q : TableId) → table_at q o' ≡ table_at q o
   same-table_at q = ap (lookup (is_at (table_cmp q))) same-tables
 
   content-is : content o' ≡ stored
@@ -65,7 +65,6 @@ module _ (stored : Line) (o : Objects) (made : ℕ) (sound : IsSound o) (holds :
         sound = b.sound;
         content = content-is;
         grows = prefix-same stored;
-        stay = stay-tables o o' same-tables;
         latest_is = b.latest;
         epochs = omega (arith, epoch);
         tabled = omega (arith, number);
@@ -79,7 +78,7 @@ module _ (stored : Line) (o : Objects) (made : ℕ) (sound : IsSound o) (holds :
       let b = opened o made sound some few in
       let epoch : v.manifest.writer_epoch ≡ latest.manifest.writer_epoch + 1 = ap (λ x. (next_manifest x (found_log o)).manifest.writer_epoch) is in
       let low = valid.behind.2 in
-      still-valid stored stored o o' latest v is (opened-follows latest is) g (λ index high. same-table_at (record { epoch = g.epoch; index = index }))
+      still-valid stored stored o o' latest v is (opened-follows latest is) g (λ index high none. same-table_at (record { epoch = g.epoch; index = index }) ∙ none)
       (λ found live at current.
       let same : v ≡ found = (let a = b.latest in cc) in
       let e = ap (λ (m : VersionedManifest). m.manifest.writer_epoch) same in
@@ -110,7 +109,6 @@ module _ (stored : Line) (o : Objects) (made : ℕ) (sound : IsSound o) (holds :
           tabled = tables-within o' v stored [] b.sound b.latest whole-line line;
           durable = omega arith;
           confirmed = subst (λ l. IsPrefix l stored) (sym (up_to-all (end stored) stored (omega arith))) (prefix-same stored);
-          tables = known-stored o' v.manifest.tables (latest-stored o' v b.sound b.latest);
           unused = λ index high. known-none (record { epoch = v.manifest.writer_epoch; index = index }) o'
               (same-table_at (record { epoch = v.manifest.writer_epoch; index = index })
               ∙ new-epoch o (latest_manifest o) (found_log o) (record { epoch = v.manifest.writer_epoch; index = index }) sound refl refl);
@@ -120,5 +118,5 @@ module _ (stored : Line) (o : Objects) (made : ℕ) (sound : IsSound o) (holds :
               (ap (extended stored) none ∙ extended-nil stored, sym (ap (λ (m : VersionedManifest). m.manifest.last_l0_seq) same));
         }
 
-    pub opened-reads : ReadsItsLine o' new
+    pub opened-reads : ReadsLine o' new.view new.line
     opened-reads there = let b = opened o made sound some few in joined-line o' v stored [] b.sound b.latest whole-line line

@@ -18,7 +18,8 @@ use Rattle.slate_errors.specs.Errors.{closed_error}
 use Rattle.slate_model.specs.Catalogue.{Span, catalogue_of, span, Catalogue, joined_span}
 use Rattle.slate_model.specs.declared.answers.PollAnswer.{PollAnswer}
 use Rattle.slate_model.specs.Close.{Closes, ended, fault_again, closing_flush}
-use Rattle.slate_model.specs.Follower.{FollowCause, Follower, Polls, Rebuilds, SeesAll, built, can_follow}
+use Rattle.slate_model.specs.Follow.{FollowCause, Polls, Rebuilds, SeesAll, built, can_follow}
+use Rattle.slate_model.specs.Follower.{Follower, kept_follower, number, rebuilt}
 use Rattle.slate_model.specs.Handle.{Handle, CloseResult, accepted, kept_handle, line_above, next_table}
 use Rattle.slate_model.specs.Known.{IsContent, Known, Untouched}
 use Rattle.slate_model.proofs.Reopened.{no-fault}
@@ -340,22 +341,55 @@ if_err : {A : Type 0} {P Q : SlateError → Type 0} (r : Result A SlateError) �
 if_err (Ok x) f h = tt
 if_err (Err e) f h = f e h
 
+-- the whole follower that was rebuilt under a manifest, of which the code keeps a part
+abbrev pub rebuilt-whole : Line → Result (Follower × PollAnswer) SlateError → Result (Follower × PollAnswer) SlateError
+rebuilt-whole stored (Ok b) = Ok (rebuilt b.0.view stored, b.1)
+rebuilt-whole stored (Err e) = Err e
+
 -- a follower that is rebuilt from sound objects sees what is stored
-pub rebuilds-reduced : (stored : Line) (opening : Bool) (r : Result (Follower × PollAnswer) SlateError) (o o' : Objects) (f f' : ℕ) → IsSound o → content o ≡ stored → Rebuilds (IsContent (Some o)) opening (holding o f) r (holding o' f') → Rebuilds (λ line. line ≡ stored) opening (catalogued o f) r (catalogued o' f')
-rebuilds-reduced stored opening r o o' f f' sound is s = record {
+pub rebuilds-reduced : (stored : Line) (opening : Bool) (r : Result (Follower × PollAnswer) SlateError) (o o' : Objects) (f f' : ℕ) → IsSound o → content o ≡ stored → Rebuilds (by_objects (Some o)) opening (holding o f) r (holding o' f') → Rebuilds (by_catalogue stored (catalogue_of o)) opening (catalogued o f) (rebuilt-whole stored r) (catalogued o' f')
+rebuilds-reduced stored opening (Ok b) o o' f f' sound is s =
+    let all = s.sees o stored refl (o, refl, sound, sym is) in
+    record {
+      kept = kept-known o o' f f' s.kept;
+      faults = record { count = s.faults.count; unavailable = λ no. absurd (cc); none_missing = λ no. absurd (cc) };
+      cause = tt;
+      answer = (refl, inl all.3);
+      can = λ c at. subst (λ x. (latest_manifest x ≡ Some b.0.view) × (can_follow opening b.0.view ≡ true)) (some-same (catalogue_of o) c at) (s.can o refl);
+      sees = λ c line at stored_is.
+          subst (λ x. SeesAll (λ a. a) x line (rebuilt b.0.view stored) b.1) (some-same (catalogue_of o) c at)
+          (subst (λ l. SeesAll (λ a. a) (catalogue_of o) l (rebuilt b.0.view stored) b.1) (sym stored_is) ((b.0).view, (s.can o refl).0, refl, all.3));
+    }
+rebuilds-reduced stored opening (Err e) o o' f f' sound is s = record {
   kept = kept-known o o' f f' s.kept;
   faults = s.faults;
-  cause = if_err r (follow_cause-known opening o) s.cause;
-  answer = s.answer;
-  can = if_ok r (λ b same c at. subst (λ x. (latest_manifest x ≡ Some b.0.view) × (can_follow opening b.0.view ≡ true)) (some-same (catalogue_of o) c at) (same o refl)) s.can;
-  sees = if_ok r (λ b same c line at stored_is.
-      let all = same o line refl (o, refl, sound, stored_is ∙ sym is) in
-      subst (λ x. SeesAll x line b.0 b.1) (some-same (catalogue_of o) c at) all) s.sees;
+  cause = follow_cause-known opening o e s.cause;
+  answer = tt;
+  can = tt;
+  sees = tt;
 }
 
-pub polls-reduced : (stored : Line) (r : Result PollAnswer SlateError) (a b : Follower) (o o' : Objects) (f f' : ℕ) → IsSound o → content o ≡ stored → Polls (IsContent (Some o)) a (holding o f) r b (holding o' f') → Polls (λ line. line ≡ stored) a (catalogued o f) r b (catalogued o' f')
+-- the whole follower after a poll, of which the code keeps a part
+abbrev pub polled-whole : Line → CloseResult → Follower → Follower → Result PollAnswer SlateError → Follower
+polled-whole stored None a b (Ok answer) = rebuilt b.view stored
+polled-whole stored (Some closed) a b (Ok answer) = a
+polled-whole stored closed a b (Err e) = a
+
+pub polls-reduced : (stored : Line) (r : Result PollAnswer SlateError) (a b : Follower) (o o' : Objects) (f f' : ℕ) → IsSound o → content o ≡ stored → Polls (by_objects (Some o)) (kept_follower a) (holding o f) r b (holding o' f') → Polls (by_catalogue stored (catalogue_of o)) a (catalogued o f) r (polled-whole stored a.result a b r) (catalogued o' f')
 polls-reduced stored r a b o o' f f' sound is s = record {
   closed = if_some {Q = λ q. (r ≡ Err (closed_error q)) × (catalogued o' f' ≡ catalogued o f)} a.result (λ q c. (c.0, same-known o o' f f' c.1)) s.closed;
-  failed = s.failed;
-  rebuilds = λ live. rebuilds-reduced stored false (built b r) o o' f f' sound is (s.rebuilds live);
-}
+  failed = failed-by r;
+  rebuilds = λ live. rebuilt-by r live (s.rebuilds live);
+} where
+  failed-by : (r : Result PollAnswer SlateError) → IfErr r (λ e. polled-whole stored a.result a b r ≡ a)
+  failed-by (Ok answer) = tt
+  failed-by (Err e) = by a.result where
+    by : (closed : CloseResult) → polled-whole stored closed a b (Err e) ≡ a
+    by None = refl
+    by (Some q) = refl
+
+  rebuilt-by : (r : Result PollAnswer SlateError) → a.result ≡ None → Rebuilds (by_objects (Some o)) false (holding o f) (built b r) (holding o' f') → Rebuilds (by_catalogue stored (catalogue_of o)) false (catalogued o f) (built (polled-whole stored a.result a b r) r) (catalogued o' f')
+  rebuilt-by (Ok answer) live d =
+      subst (λ closed. Rebuilds (by_catalogue stored (catalogue_of o)) false (catalogued o f) (built (polled-whole stored closed a b (Ok answer)) (Ok answer)) (catalogued o' f')) (sym live)
+      (rebuilds-reduced stored false (Ok (b, answer)) o o' f f' sound is d)
+  rebuilt-by (Err e) live d = rebuilds-reduced stored false (Err e) o o' f f' sound is d

@@ -1,5 +1,5 @@
 -- A valid handle that goes by another manifest, over the same content, stays valid.
-use Rattle.std.proofs.Common.{◌≡◌, ℕ, ◌+◌, ◌≤◌, ◌⊎◌, inl, inr, List, ◌++◌, Some, None, refl, sym, subst, ap, ◌∙◌, arith}
+use Rattle.std.proofs.Common.{◌≡◌, ℕ, ◌+◌, ◌<◌, ◌≤◌, ◌⊎◌, inl, inr, List, ◌++◌, Some, None, refl, sym, subst, ap, ◌∙◌, arith}
 use Rattle.slate_types.specs.Line.{Line, batches_above, extended}
 use Rattle.slate_store.specs.Content.{content, table_batches}
 use Rattle.slate_store.specs.Objects.{Objects, latest_manifest, table_at}
@@ -8,16 +8,18 @@ use Rattle.slate_store.specs.declared.objects.VersionedManifest.{VersionedManife
 use Rattle.slate_model.specs.Catalogue.{catalogue_of}
 use Rattle.slate_model.specs.Handle.{CloseResult, Handle, unstored}
 use Rattle.slate_model.specs.Tables.{AreStored}
-use Rattle.slate_model.specs.Valid.{IsValidHandle, ReadsItsLine}
+use Rattle.slate_model.specs.Valid.{AreBefore, IsValidHandle, ReadsLine}
+use Rattle.slate_model.proofs.Adding.{Lasts}
 use Rattle.slate_model.proofs.Flushing.{latest-stored}
 use Rattle.slate_model.proofs.Moving.{Follows, Moved, known-none, known-stored, still-reads, stored-known}
 use Rattle.slate_model.proofs.Tabled.{joined-line}
 
 module _ (stored : Line) (o o' : Objects) (latest n' : VersionedManifest) (h : Handle) (counter : ℕ) (view : VersionedManifest) (result : CloseResult)
-    (is : latest_manifest o ≡ Some latest) (live : h.result ≡ None) (v : IsValidHandle stored (catalogue_of o) h) (reads : ReadsItsLine o h)
+    (is : latest_manifest o ≡ Some latest) (live : h.result ≡ None) (v : IsValidHandle stored (catalogue_of o) h) (reads : ReadsLine o h.view h.line)
     (f : Follows stored stored o o' latest n') (epoch : n'.manifest.writer_epoch ≡ latest.manifest.writer_epoch) (tabled : n'.manifest.last_l0_seq ≡ latest.manifest.last_l0_seq)
     (views : (view ≡ h.view) ⊎ ((view ≡ n') × (latest.manifest.writer_epoch ≤ h.epoch)))
     (others : (q : TableId) → (q.epoch ≡ h.epoch → ⊥) → table_at q o' ≡ table_at q o)
+    (before : AreBefore h h.view.manifest.tables) (lasts : (q : TableId) → (q.epoch ≡ h.epoch → q.index < h.counter) → Lasts o o' q) (raised : h.counter ≤ counter)
     (unused : (index : ℕ) → counter ≤ index → table_at (record { epoch = h.epoch; index = index }) o' ≡ None) where
   abbrev new : Handle
   new = record h { counter = counter; view = view; result = result }
@@ -46,10 +48,10 @@ module _ (stored : Line) (o o' : Objects) (latest n' : VersionedManifest) (h : H
     | inr read ↦ (let e = number read.0 in let t = tabled in let same = (v.current latest live is read.1).1 in let d = v.tabled in omega (arith, e, t, same, d))
   ]
 
-  tables-after : AreStored o' view.manifest.tables
-  tables-after = elim views [
-    | inl same ↦ subst (λ (m : VersionedManifest). AreStored o' m.manifest.tables) (sym same) ((f.stay).stored h.view.manifest.tables (stored-known o h.view.manifest.tables v.tables))
-    | inr read ↦ subst (λ (m : VersionedManifest). AreStored o' m.manifest.tables) (sym read.0) (latest-stored o' n' f.sound f.latest_is)
+  view-after : (view ≡ h.view) ⊎ AreStored o' view.manifest.tables
+  view-after = elim views [
+    | inl same ↦ inl same
+    | inr read ↦ inr (subst (λ (m : VersionedManifest). AreStored o' m.manifest.tables) (sym read.0) (latest-stored o' n' f.sound f.latest_is))
   ]
 
   numbers-after : view.manifest.last_l0_seq ≤ n'.manifest.last_l0_seq
@@ -59,15 +61,14 @@ module _ (stored : Line) (o o' : Objects) (latest n' : VersionedManifest) (h : H
   ]
 
   abbrev MakesLine : VersionedManifest → Type 0
-  MakesLine m = table_batches o' m.manifest.tables ++ batches_above m.manifest.last_l0_seq h.line.batches ≡ h.line.batches
+  MakesLine m = ReadsLine o' m h.line
 
   reads-after : MakesLine view
   reads-after = elim views [
-    | inl same ↦ (let there = stored-known o h.view.manifest.tables v.tables in
-        subst MakesLine (sym same) (still-reads stored stored o o' latest n' is f h there reads ((f.stay).stored h.view.manifest.tables there)))
+    | inl same ↦ subst MakesLine (sym same) (still-reads o o' h.view h.line (λ k d less. lasts _ (before k d less)) reads)
     | inr read ↦
         let line : h.line ≡ extended (content o') (unstored h) = sym (v.current latest live is read.1).0 ∙ ap (λ l. extended l (unstored h)) (sym f.content) in
-        subst MakesLine (sym read.0) (joined-line o' n' h.line (unstored h) f.sound f.latest_is line v.numbered)
+        subst MakesLine (sym read.0) (λ there. joined-line o' n' h.line (unstored h) f.sound f.latest_is line v.numbered)
   ]
 
   numbers-same : latest.manifest.writer_epoch ≤ h.epoch → n'.manifest.last_l0_seq ≡ view.manifest.last_l0_seq
@@ -81,6 +82,9 @@ module _ (stored : Line) (o o' : Objects) (latest n' : VersionedManifest) (h : H
     next = n';
     follows = f;
     others = others;
+    lasts = lasts;
+    counter = raised;
+    view = view-after;
     same_epoch = epoch;
     alone = inl (refl, tabled);
     epoch = refl;
@@ -90,7 +94,6 @@ module _ (stored : Line) (o o' : Objects) (latest n' : VersionedManifest) (h : H
       tabled = tabled-after;
       durable = v.durable;
       confirmed = v.confirmed;
-      tables = known-stored o' view.manifest.tables tables-after;
       unused = λ index high. known-none (record { epoch = h.epoch; index = index }) o' (unused index high);
       behind = (n', f.latest_is, (let e = epoch in let low = low-epoch in omega (arith, e, low)), numbers-after);
       current = λ found open_is at low.
@@ -100,5 +103,5 @@ module _ (stored : Line) (o o' : Objects) (latest n' : VersionedManifest) (h : H
           let cur : latest.manifest.writer_epoch ≤ h.epoch = omega (arith, e, ep, low) in
           ((v.current latest live is cur).0, sym (number same) ∙ numbers-same cur);
     };
-    reads = λ there. reads-after;
+    reads = reads-after;
   }

@@ -13,7 +13,7 @@ use Rattle.slate_errors.specs.declared.errors.SlateError.TheVariants.{NoMemory}
 use Rattle.slate_model.specs.declared.answers.Written.{Written}
 use Rattle.slate_model.specs.Catalogue.{Catalogue}
 use Rattle.slate_model.specs.Handle.{Handle, accepted, kept_handle, line_above, unstored}
-use Rattle.slate_model.specs.Valid.{IsValidHandle, ReadsItsLine}
+use Rattle.slate_model.specs.Valid.{IsValidHandle, ReadsLine}
 use Rattle.slate_model.specs.Write.{Writes, accepted_moment, batch_refusal, clock_refusal, closed_refusal, next_batch, number_refusal, write_refusal, written}
 use Rattle.slate_model.proofs.Keeping.{above-length, accepted-kept}
 
@@ -83,7 +83,6 @@ module _ (stored : Line) (catalogue : Catalogue) (h : Handle) (ops : List KeyOp)
         tabled = v.tabled;
         durable = simp length-append (omega (arith, durable));
         confirmed = subst (λ bs. IsPrefix (record { floor = h.line.floor; batches = bs }) stored) (sym (take-append-le (h.durable - h.line.floor) line (b ∷ []) (omega (arith, durable)))) v.confirmed;
-        tables = v.tables;
         unused = v.unused;
         behind = v.behind;
         current = λ latest live is low.
@@ -95,7 +94,7 @@ module _ (stored : Line) (catalogue : Catalogue) (h : Handle) (ops : List KeyOp)
             );
       }
 
-  pub written-reads : (o : Objects) → ReadsItsLine o h → ReadsItsLine o (written h ops at)
+  pub written-reads : (o : Objects) → ReadsLine o h.view h.line → ReadsLine o h.view (written h ops at).line
   written-reads o reads there =
       let n = h.view.manifest.last_l0_seq in
       let joined = table_batches o h.view.manifest.tables in

@@ -7,21 +7,30 @@ use Rattle.slate_types.specs.declared.options.FlushType.{FlushType}
 use Rattle.slate_types.specs.declared.options.FlushType.TheVariants.{MemTable}
 use Rattle.slate_types.specs.declared.ranges.ByteRange.{ByteRange}
 use Rattle.slate_types.specs.declared.scan_options.IterationOrder.{IterationOrder}
-use Rattle.slate_model.specs.Object.{Object, Handle}
+use Rattle.slate_store.specs.Compaction.{compact_calls}
+use Rattle.slate_store.specs.Objects.{Objects}
+use Rattle.slate_store.specs.Sweeps.{sweep_calls}
+use Rattle.slate_model.specs.Object.{Object, view_of}
+use Rattle.slate_model.specs.Open.{replayed_logs}
 use Rattle.slate_script.specs.declared.commands.Action.{Action}
 use Rattle.slate_script.specs.declared.commands.Action.TheVariants as actions
+use Rattle.slate_script.specs.declared.commands.Command.{Command}
 
--- where a command goes: it opens a handle, which keeps a log or not, or a follower, asks for the write with a number, or
--- names the object with one
+-- where a command goes: it opens a handle, which keeps a log or not, or a follower, commits a checkpoint of the store, with
+-- a lifetime or without an end, sweeps the store, asks for the write with a number, or names the object with one
 pub data Target : Type 0 where
   NewHandle : (keeps_log : Bool) → Target
   NewFollower : Target
+  NewCheckpoint : (lifetime : Option ℕ) → Target
+  WholeStore : Target
   OfWrite : (n : ℕ) → Target
   OfObject : (n : ℕ) → Target
 
 abbrev pub target_of : Action → Target
 target_of (actions.Open wal) = NewHandle wal
 target_of (actions.Follow mode managed skip) = NewFollower
+target_of (actions.Checkpoint lifetime) = NewCheckpoint lifetime
+target_of actions.Sweep = WholeStore
 target_of (actions.Await n) = OfWrite n
 target_of (actions.Put n key value expire) = OfObject n
 target_of (actions.Merge n key value expire) = OfObject n
@@ -90,40 +99,39 @@ call_of (actions.Poll n) = Poll
 call_of (actions.Status n) = Status
 call_of action = Nothing
 
--- whether it is known how often what is asked calls the store at most; of a compaction it isn't
-abbrev pub IsCounted : Call → Type 0
-IsCounted Compact = ⊥
-IsCounted call = Unit {0}
-
--- How often what is asked of an object calls the store at most, where a poll replays so many log files, and a read reads
--- so many tables. Of what isn't counted nothing is said.
-abbrev pub most_asked : (logs tables : ℕ) → Call → ℕ
-most_asked logs tables (Flush flush_type) = 5
-most_asked logs tables Refresh = 1
-most_asked logs tables (Get key remote) = tables
-most_asked logs tables (Scan range order remote) = tables
-most_asked logs tables (Seek range take key order remote) = tables
-most_asked logs tables (Close flush_type) = 5
-most_asked logs tables Poll = logs + 2
-most_asked logs tables call = 0
-
--- how many tables a read of an object reads: those of a handle's view
+-- how many tables a read of an object reads: those of its view
 abbrev pub tables_of : Option Object → ℕ
-tables_of (Some (Handle handle)) = length handle.view.manifest.tables
-tables_of object = 0
+tables_of None = 0
+tables_of (Some object) = length (view_of object).manifest.tables
 
--- and how often a command does; an opening calls it once more where its replay ends early
-abbrev pub most_made : (logs tables : ℕ) → Target → Call → ℕ
-most_made logs tables (NewHandle keeps_log) call = logs + 5
-most_made logs tables NewFollower call = logs + 2
-most_made logs tables (OfWrite n) call = 0
-most_made logs tables (OfObject n) call = most_asked logs tables call
+-- how often what is asked of an object calls a store at most that holds these objects, where the object's view names so many
+-- tables
+abbrev pub most_asked : Objects → (tables : ℕ) → Call → ℕ
+most_asked objects tables (Flush flush_type) = 5
+most_asked objects tables Refresh = 1
+most_asked objects tables Compact = compact_calls objects
+most_asked objects tables (Get key remote) = tables
+most_asked objects tables (Scan range order remote) = tables
+most_asked objects tables (Seek range take key order remote) = tables
+most_asked objects tables (Close flush_type) = 5
+most_asked objects tables Poll = replayed_logs objects + 2
+most_asked objects tables call = 0
+
+-- and how often a command at a moment does; an opening calls it once more where its replay ends early
+abbrev pub most_made : Objects → (tables : ℕ) → ℤ → Target → Call → ℕ
+most_made objects tables moment (NewHandle keeps_log) call = replayed_logs objects + 5
+most_made objects tables moment NewFollower call = replayed_logs objects + 2
+most_made objects tables moment (NewCheckpoint lifetime) call = 16
+most_made objects tables moment WholeStore call = sweep_calls moment objects
+most_made objects tables moment (OfWrite n) call = 0
+most_made objects tables moment (OfObject n) call = most_asked objects tables call
 
 -- the object that a command names, where it names one
 abbrev pub named : List Object → Target → Option Object
 named objects (OfObject n) = slice_get objects n
 named objects target = None
 
--- how often a command calls the store at most, where so many log files are replayed
-abbrev pub most_calls : (logs : ℕ) → List Object → Action → ℕ
-most_calls logs objects action = most_made logs (tables_of (named objects (target_of action))) (target_of action) (call_of action)
+-- how often a command calls a store at most that holds these objects, in a run with these live ones
+abbrev pub most_calls : Objects → List Object → Command → ℕ
+most_calls objects live command =
+    most_made objects (tables_of (named live (target_of command.action))) command.moment (target_of command.action) (call_of command.action)

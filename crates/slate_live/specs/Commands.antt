@@ -1,17 +1,19 @@
--- What a command does: it opens an object, or it names one, which does what is asked, or it asks for a write.
+-- What a command does: it opens an object, or it names one, which does what is asked, or it goes to the store alone, or
+-- it asks for a write.
 use Rattle.std.specs.Prelude.{◌≡◌, ℕ, Bool, List, [], ◌∷◌, ◌++◌, length, slice_get, slice_set, Option, Some, None, Result, Ok, Err, true}
 use Rattle.slate_types.specs.Operator.{Merge}
 use Rattle.slate_errors.specs.declared.errors.SlateError.{SlateError}
-use Rattle.slate_model.specs.Follower.{Rebuilds}
+use Rattle.slate_model.specs.Follow.{Rebuilds}
 use Rattle.slate_model.specs.Knowledge.{Knowledge}
 use Rattle.slate_model.specs.Known.{Known}
+use Rattle.slate_model.specs.Maintain.{Checkpoints, Sweeps}
 use Rattle.slate_model.specs.Object.{Object, Handle, Follower}
 use Rattle.slate_model.specs.Open.{OpensHandle}
 use Rattle.slate_script.specs.declared.commands.Command.{Command}
 use Rattle.slate_script.specs.declared.replies.Reply.{Reply}
 use Rattle.slate_script.specs.declared.replies.Reply.TheVariants as replies
 use Rattle.slate_live.specs.declared.states.Write.{Write}
-use Rattle.slate_live.specs.Calls.{Target, NewHandle, NewFollower, OfWrite, OfObject, call_of, target_of}
+use Rattle.slate_live.specs.Calls.{Target, NewHandle, NewFollower, NewCheckpoint, WholeStore, OfWrite, OfObject, call_of, target_of}
 use Rattle.slate_live.specs.Followers.{FollowerActs}
 use Rattle.slate_live.specs.Handles.{HandleActs, durable_reply}
 use Rattle.slate_live.specs.Replies.{followed_reply, reply_to}
@@ -34,6 +36,14 @@ pub record Adds {L A : Type 0} (did : Known L → Result A SlateError → Known 
   pub replied : reply ≡ reply_to (done (length s.objects)) result
   pub does : did s.store result s'.store
   pub objects : s'.objects ≡ s.objects ++ added object result
+  pub writes : s'.writes ≡ s.writes
+
+-- A command that goes to the store alone did this to it. All objects and writes are as before.
+pub record DoesToStore {L A : Type 0} (did : Known L → Result A SlateError → Known L → Type 0) (done : A → Reply) (s : State L) (reply : Reply) (s' : State L) : Type 0 where
+  pub result : Result A SlateError
+  pub replied : reply ≡ reply_to done result
+  pub does : did s.store result s'.store
+  pub objects : s'.objects ≡ s.objects
   pub writes : s'.writes ≡ s.writes
 
 -- what an object does at a command, by its kind
@@ -71,12 +81,15 @@ module _ {L : Type 0} (k : Knowledge L) (settings : Settings) where
 
   abbrev pub OpensFollowerIn : ℕ → State L → Reply → State L → Type 0
   OpensFollowerIn made s reply s' =
-      Adds (Rebuilds k.is_stored true) (λ b. Follower b.0) (λ n b. followed_reply n b.1) s reply s' × (made ≡ 0)
+      Adds (Rebuilds k true) (λ b. Follower b.0) (λ n b. followed_reply n b.1) s reply s' × (made ≡ 0)
 
   -- what a command does, by where it goes; so many of its changes were made
   abbrev pub DoesBy : Command → Target → ℕ → State L → Reply → State L → Type 0
   DoesBy command (NewHandle keeps_log) made s reply s' = OpensHandleIn keeps_log made s reply s'
   DoesBy command NewFollower made s reply s' = OpensFollowerIn made s reply s'
+  DoesBy command (NewCheckpoint lifetime) made s reply s' =
+      DoesToStore (Checkpoints k made lifetime command.moment) (λ checkpoint. replies.Checkpointed checkpoint.manifest_id) s reply s'
+  DoesBy command WholeStore made s reply s' = DoesToStore (Sweeps k made command.moment) (λ _. replies.Swept) s reply s'
   DoesBy command (OfWrite n) made s reply s' = OnlyAnswers (write_reply s.objects (slice_get s.writes n)) made s reply s'
   DoesBy command (OfObject n) made s reply s' = ActsOn k settings.merge n command made (slice_get s.objects n) s reply s'
 

@@ -1,11 +1,10 @@
 -- What commands do to a follower.
-use Rattle.std.specs.Prelude.{◌≡◌, ℕ, List, Option, Some, Result, []}
+use Rattle.std.specs.Prelude.{◌≡◌, ℕ, List, Option, Some, Result}
 use Rattle.slate_types.specs.declared.batches.Batch.{Batch}
 use Rattle.slate_types.specs.declared.batches.KeyValue.{KeyValue}
 use Rattle.slate_types.specs.declared.read_faults.ReadFault.{ReadFault}
 use Rattle.slate_types.specs.declared.ranges.ByteRange.{ByteRange}
 use Rattle.slate_types.specs.declared.scan_options.IterationOrder.{IterationOrder}
-use Rattle.slate_types.specs.Line.{Line}
 use Rattle.slate_types.specs.Operator.{Merge}
 use Rattle.slate_reads.specs.Read.{read_at}
 use Rattle.slate_rows.specs.Iteration.{Iteration}
@@ -13,7 +12,8 @@ use Rattle.slate_rows.specs.Scan.{BeginsScan}
 use Rattle.slate_errors.specs.declared.errors.SlateError.{SlateError}
 use Rattle.slate_model.specs.Close.{closed_follower, ended, recorded_fault}
 use Rattle.slate_model.specs.declared.answers.PollAnswer.{PollAnswer}
-use Rattle.slate_model.specs.Follower.{Follower, Polls, number}
+use Rattle.slate_model.specs.Follow.{Polls}
+use Rattle.slate_model.specs.Follower.{Follower, number}
 use Rattle.slate_model.specs.Knowledge.{Knowledge}
 use Rattle.slate_model.specs.Known.{Known, Untouched}
 use Rattle.slate_model.specs.Object.{Follower as AFollower}
@@ -34,24 +34,23 @@ IsPlainReadAt merge key follower rows answer = answer ≡ read_at merge rows (So
 abbrev pub IsPlainScanAt : Option Merge → ByteRange → IterationOrder → Follower → List Batch → Iteration → Type 0
 IsPlainScanAt merge range order follower rows it = BeginsScan merge rows (Some (number follower)) range order it
 
--- Until followers read tables, their reads call no store.
 module _ {L : Type 0} (k : Knowledge L) (merge : Option Merge) where
   abbrev pub GetsFromFollower : List ℕ → Follower → Known L → Reply → Known L → Type 0
   GetsFromFollower key follower =
-      IsRead found_reply follower.result [] (k.rows (AFollower follower)) (IsPlainReadAt merge key follower)
+      IsRead found_reply follower.result follower.view.manifest.tables (k.rows (AFollower follower)) (IsPlainReadAt merge key follower)
 
   abbrev pub TakesFromFollower : ByteRange → IterationOrder → (Iteration → Result (List KeyValue) SlateError) → Follower → Known L → Reply → Known L → Type 0
   TakesFromFollower range order taken follower =
-      IsTaken follower.result [] (k.rows (AFollower follower)) (IsPlainScanAt merge range order follower) taken
+      IsTaken follower.result follower.view.manifest.tables (k.rows (AFollower follower)) (IsPlainScanAt merge range order follower) taken
 
 -- the status of a follower: the number of the last batch that it sees, the manifest that it goes by, and why it closed
 abbrev pub follower_status : Follower → DbStatus
 follower_status follower = status_by (number follower) follower.view follower.result
 
-pub record PollsFollower {L : Type 0} (is_stored : Line → Type 0) (old : Follower) (before : Known L) (reply : Reply) (new : Follower) (after : Known L) : Type 0 where
+pub record PollsFollower {L : Type 0} (k : Knowledge L) (old : Follower) (before : Known L) (reply : Reply) (new : Follower) (after : Known L) : Type 0 where
   pub result : Result PollAnswer SlateError
   pub replied : reply ≡ reply_to polled_reply result
-  pub does : Polls is_stored old before result new after
+  pub does : Polls k old before result new after
 
 -- What a command that asks this does to a follower; it makes no change to the store. What isn't for a follower is answered
 -- that it is unknown.
@@ -66,7 +65,7 @@ module _ {L : Type 0} (k : Knowledge L) (merge : Option Merge) where
   FollowerActs (Close flush_type) made old before writes reply new after writes' =
       (reply ≡ follower_ended_reply (ended (recorded_fault old.result))) × (new ≡ closed_follower old) × Untouched made before after × (writes' ≡ writes)
   FollowerActs Poll made old before writes reply new after writes' =
-      PollsFollower k.is_stored old before reply new after × (made ≡ 0) × (writes' ≡ writes)
+      PollsFollower k old before reply new after × (made ≡ 0) × (writes' ≡ writes)
   FollowerActs Status made old before writes reply new after writes' =
       AnswersStatus (follower_status old) reply × (new ≡ old) × Untouched made before after × (writes' ≡ writes)
   FollowerActs call made old before writes reply new after writes' =

@@ -9,8 +9,8 @@ use Rattle.slate_model.specs.Catalogue.{Catalogue, catalogue_of}
 use Rattle.slate_model.specs.Follower.{Follower}
 use Rattle.slate_model.specs.Handle.{Handle, accepted, unstored}
 use Rattle.slate_model.specs.Known.{Known}
-use Rattle.slate_model.specs.Object.{Object, Handle as AHandle, Follower as AFollower, kept}
-pub use Rattle.slate_model.specs.Valid.{IsValidHandle, ReadsItsLine, up_to}
+use Rattle.slate_model.specs.Object.{Object, Handle as AHandle, Follower as AFollower, kept, view_of}
+pub use Rattle.slate_model.specs.Valid.{AreBefore, AreOfPast, IsValidHandle, ReadsItsLine, up_to}
 use Rattle.slate_script.specs.declared.replies.Reply.{Reply}
 use Rattle.slate_live.specs.State.{Live}
 use Rattle.slate_live.specs.World.{World}
@@ -30,12 +30,16 @@ IsValidFollower stored follower = IsPrefix follower.line stored
 abbrev pub IsFollowerAt : List Object → ℕ → Follower → Type 0
 IsFollowerAt live n follower = slice_get live n ≡ Some (AFollower follower)
 
--- what holds of every world that commands lead to: a line is stored, its handles and followers are valid, and no two
--- handles have the same epoch
+-- What holds of every world that commands lead to: a line is stored, its handles and followers are valid, and no two
+-- handles have the same epoch. The tables that an object's view names were put: those of a handle come before its next one,
+-- and their epochs aren't above the latest manifest's. So no table is put under an id that a view names.
 pub record IsValid (w : World) : Type 0 where
   pub line : IsLine w.stored
   pub followers : (n : ℕ) (follower : Follower) → IsFollowerAt w.objects n follower → IsValidFollower w.stored follower
   pub handles : (n : ℕ) (handle : Handle) → IsHandleAt w.objects n handle → IsValidHandle w.stored w.catalogue handle
+  pub named : (m n : ℕ) (handle : Handle) (object : Object) → IsHandleAt w.objects m handle → slice_get w.objects n ≡ Some object →
+      AreBefore handle (view_of object).manifest.tables
+  pub past : (n : ℕ) (object : Object) → slice_get w.objects n ≡ Some object → AreOfPast w.catalogue (view_of object).manifest.tables
   pub distinct : (m n : ℕ) (a b : Handle) → IsHandleAt w.objects m a → IsHandleAt w.objects n b → a.epoch ≡ b.epoch → m ≡ n
 
 -- what holds of every world that a run leads to: it is valid, and its manifests have rising ids
@@ -45,7 +49,7 @@ IsReached w = IsValid w × AreRising (map (λ entry. entry.0) w.catalogue.manife
 -- a live state, over an honest store that holds these objects and has failed so often, represents a world: its objects
 -- are the world's, each as the code keeps it
 pub record Represents (live : Live) (store : Known (List Batch)) (w : World) : Type 0 where
-  pub held : (o : Objects) × (store.objects ≡ Some o) × IsSound o × Holds o w × ((n : ℕ) (handle : Handle) → IsHandleAt w.objects n handle → ReadsItsLine o handle)
+  pub held : (o : Objects) × (store.objects ≡ Some o) × IsSound o × Holds o w × ((n : ℕ) (object : Object) → slice_get w.objects n ≡ Some object → ReadsItsLine o object)
   pub faults : store.faults ≡ w.faults
   pub objects : live.objects ≡ map kept w.objects
   pub writes : live.writes ≡ w.writes

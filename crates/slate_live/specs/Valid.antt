@@ -10,12 +10,14 @@ use Rattle.slate_types.specs.Operator.{Merge as MergeFunction}
 use Rattle.slate_rows.specs.Iteration.{Iteration}
 use Rattle.slate_store.specs.declared.objects.VersionedManifest.{VersionedManifest}
 use Rattle.slate_store.specs.Objects.{latest_manifest, last_log}
+use Rattle.slate_store.specs.Sweeps.{has_expired}
 use Rattle.slate_types.specs.declared.options.FlushType.{FlushType}
 use Rattle.slate_errors.specs.declared.errors.SlateError.{SlateError}
 use Rattle.slate_errors.specs.declared.errors.SlateError.TheVariants as errors
 use Rattle.slate_model.specs.Flush.{has_ids, has_log_for}
 use Rattle.slate_model.specs.Handle.{CloseResult, Handle, accepted}
-use Rattle.slate_model.specs.Follower.{Follower, can_follow, number}
+use Rattle.slate_model.specs.Follow.{can_follow}
+use Rattle.slate_model.specs.Follower.{Follower}
 use Rattle.slate_model.specs.Close.{recorded_fault}
 use Rattle.slate_live.specs.declared.states.Write.{Write}
 use Rattle.slate_model.specs.Open.{can_open}
@@ -28,7 +30,7 @@ use Rattle.slate_live.specs.Confirmed.{IsBatchOf, Sees, StandsIn}
 use Rattle.slate_model.specs.Tables.{AreStored}
 use Rattle.slate_model.specs.Object.{Object, Handle as AHandle, Follower as AFollower}
 use Rattle.slate_live.specs.Calls.{Call, Write as WriteCall, Merge, Flush, Refresh, Compact, Get, Scan, Seek, Close, Poll, Status, call_of}
-use Rattle.slate_live.specs.Calls.{Target, NewHandle, NewFollower, OfWrite, OfObject, target_of}
+use Rattle.slate_live.specs.Calls.{Target, NewHandle, NewFollower, NewCheckpoint, WholeStore, OfWrite, OfObject, target_of}
 use Rattle.slate_live.specs.Followers.{IsPlainReadAt, IsPlainScanAt}
 use Rattle.slate_live.specs.Handles.{IsPlainRead, IsPlainScan, flush_type_by}
 use Rattle.slate_live.specs.Scans.{scanned, sought}
@@ -93,10 +95,18 @@ CanClose (Some (Err fault)) flush_type w handle = Unit {0}
 CanClose None None w handle = Unit {0}
 CanClose None (Some flush_type) w handle = CanStore w flush_type handle
 
--- an opening of a follower, or a poll: there is a manifest, which names no table, until followers read them, and is
--- initialised, where one is opened
+-- an opening of a follower, or a poll: there is a manifest, and it is initialised, where one is opened
 abbrev pub CanFollow : Bool → World → Type 0
 CanFollow opening w = (latest : VersionedManifest) × (latest_manifest w.catalogue ≡ Some latest) × (can_follow opening latest ≡ true)
+
+-- a checkpoint: there is a manifest, and the id of another is left
+abbrev pub CanCheckpoint : World → Type 0
+CanCheckpoint w = (latest : VersionedManifest) × (latest_manifest w.catalogue ≡ Some latest) × (latest.id < last_number)
+
+-- a sweep at a moment: there is a manifest, and the id of another is left, where expired checkpoints are to be taken out
+abbrev pub CanSweep : World → ℤ → Type 0
+CanSweep w moment =
+    (latest : VersionedManifest) × (latest_manifest w.catalogue ≡ Some latest) × (has_expired moment latest ≡ true → latest.id < last_number)
 
 -- a read of something open, by these batches: the plain read gives an answer, and no fault
 abbrev pub CanRead : {A : Type 0} → CloseResult → (List Batch → Result A ReadFault → Type 0) → List Batch → Type 0
@@ -106,9 +116,17 @@ CanRead {A} closed is_plain rows = (closed ≡ None) × (found : A) × is_plain 
 abbrev pub CanTake : CloseResult → (List Batch → Iteration → Type 0) → (Iteration → Result (List KeyValue) SlateError) → List Batch → Type 0
 CanTake closed is_plain taken rows = (closed ≡ None) × ((it : Iteration) → is_plain rows it → (found : List KeyValue) × (taken it ≡ Ok found))
 
--- what is read by a handle: its line, and all tables of its view are stored
+-- what is read by an object that goes by this manifest: these batches, and all tables that it names are stored
+abbrev pub ReadsBy : World → VersionedManifest → List Batch → (List Batch → Type 0) → Type 0
+ReadsBy w view rows can = AreStored w.catalogue view.manifest.tables × can rows
+
+-- a handle reads its line
 abbrev pub ByLine : World → Handle → (List Batch → Type 0) → Type 0
-ByLine w handle can = AreStored w.catalogue handle.view.manifest.tables × can handle.line.batches
+ByLine w handle can = ReadsBy w handle.view handle.line.batches can
+
+-- and a follower what is stored
+abbrev pub ByStored : World → Follower → (List Batch → Type 0) → Type 0
+ByStored w follower can = ReadsBy w follower.view w.stored.batches can
 
 -- what a handle may be asked; its status always
 abbrev pub CanAsk : Option MergeFunction → World → ℤ → Option ℤ → Call → Handle → Type 0
@@ -128,11 +146,11 @@ CanAsk merge w moment second call handle = ⊥
 
 -- what a follower may be asked; its status always
 abbrev pub CanAskFollower : Option MergeFunction → World → Call → Follower → Type 0
-CanAskFollower merge w (Get key remote) follower = CanRead follower.result (IsPlainReadAt merge key follower) w.stored.batches
+CanAskFollower merge w (Get key remote) follower = ByStored w follower (CanRead follower.result (IsPlainReadAt merge key follower))
 CanAskFollower merge w (Scan range order remote) follower =
-    CanTake follower.result (IsPlainScanAt merge range order follower) scanned w.stored.batches
+    ByStored w follower (CanTake follower.result (IsPlainScanAt merge range order follower) scanned)
 CanAskFollower merge w (Seek range take key order remote) follower =
-    CanTake follower.result (IsPlainScanAt merge range order follower) (sought range take key) w.stored.batches
+    ByStored w follower (CanTake follower.result (IsPlainScanAt merge range order follower) (sought range take key))
 CanAskFollower merge w (Close flush_type) follower = recorded_fault follower.result ≡ None
 CanAskFollower merge w Poll follower = (follower.result ≡ None) × CanFollow false w
 CanAskFollower merge w Status follower = Unit {0}
@@ -146,6 +164,8 @@ IsDurable w (Some write) = AtObject (slice_get w.objects write.handle) (λ handl
 abbrev pub IsValidAt : Option MergeFunction → World → ℤ → Option ℤ → Call → Target → Type 0
 IsValidAt merge w moment second call (NewHandle keeps_log) = CanOpen w
 IsValidAt merge w moment second call NewFollower = CanFollow true w
+IsValidAt merge w moment second call (NewCheckpoint lifetime) = CanCheckpoint w
+IsValidAt merge w moment second call WholeStore = CanSweep w moment
 IsValidAt merge w moment second call (OfWrite n) = IsDurable w (slice_get w.writes n)
 IsValidAt merge w moment second call (OfObject n) =
     AtObject (slice_get w.objects n) (CanAsk merge w moment second call) (CanAskFollower merge w call)

@@ -1,5 +1,5 @@
 -- A compaction, from what it is to put and what was put.
-use Rattle.std.proofs.Common.{◌≡◌, ◌⊎◌, inl, inr, ℕ, ◌+◌, ◌≤◌, List, [], ◌∷◌, length, cond, Option, Some, None, true, false, Result, Ok, Err, refl, sym, ap, subst, ◌∙◌}
+use Rattle.std.proofs.Common.{◌≡◌, ◌⊎◌, inl, inr, ℕ, zero, ◌+◌, ◌≤◌, List, [], ◌∷◌, length, cond, Option, Some, None, true, false, Result, Ok, Err, refl, sym, ap, subst, ◌∙◌, arith}
 use Rattle.std.proofs.lemmas.Bool.{le-ltb}
 use Rattle.std.specs.List.{flat_map}
 use Rattle.std.specs.Option.{IfSome, is_some}
@@ -19,6 +19,7 @@ use Rattle.slate_store.specs.Objects.{Change, Objects, PutManifest, PutTable, is
 use Rattle.slate_store.specs.Refusals.{KeepsContent, PartMade}
 use Rattle.slate_store.specs.Steps.{IsOfPuts, PlansJoin, PutsBoth, WasOpened}
 use Rattle.slate_store.proofs.Compacted.{compacts-keep, joined-batches}
+use Rattle.slate_store.proofs.Tries.{none_made}
 
 no_some : {X : Type 0} (x : Option X) → is_some x ≡ false → x ≡ None
 no_some None h = refl
@@ -71,6 +72,7 @@ module _ (id : TableId) (o : Objects) (manifest : VersionedManifest) (table : Li
         answer = (plan.0, plan.1, plan.3 ∙ sym (ap (λ t. cond t plan.0 (with_table id plan.0)) no));
         part = puts.part ∙ sym two;
         counted = inr refl;
+        raised = λ up. (plan.0, plan.1, plan.2);
         used = λ some. refl;
         free = λ some. no_some (table_at id o) (puts.free some);
         after = puts.after ∙ ap (λ cs. after_part made cs o) (sym changes-are);
@@ -80,6 +82,7 @@ module _ (id : TableId) (o : Objects) (manifest : VersionedManifest) (table : Li
         answer = cause e of (λ same. puts.exists (ap Err same));
         part = subst (λ n. PartMade {A = VersionedManifest} (Err e) n made) (sym two) puts.part;
         counted = inr refl;
+        raised = λ up. (plan.0, plan.1, plan.2);
         used = λ some. refl;
         free = λ some. no_some (table_at id o) (puts.free some);
         after = puts.after ∙ ap (λ cs. after_part made cs o) (sym changes-are);
@@ -95,6 +98,29 @@ module _ (id : TableId) (manifest : VersionedManifest) {a b : Option Objects} (k
             let plan = subst (λ x. IfSome x (λ o. PlansJoin id o (Ok (manifest, Some table)))) h plans in
             (p.0, p.1, (p.2.0, joined id o manifest table plan r p.2.0 p.0 of p.2.1));
       }
+
+-- where it refuses before it puts anything, the count of tables stays
+pub unjoined : {a b : Option Objects} (id : TableId) (e : StoreRefusal) → b ≡ a → IfSome a (λ o. PlansJoin id o (Err e)) → WhereModelled (λ o o'. (made : ℕ) × Compacts id.epoch id.index id.index o (Err e) made o') a b
+unjoined id e kept plans =
+    record {
+      none = λ h. kept ∙ h;
+      some = λ o h. (
+        o,
+        kept ∙ h,
+        (
+          zero,
+          record {
+            answer = subst (λ x. IfSome x (λ o. PlansJoin id o (Err e))) h plans;
+            part = none_made VersionedManifest e _;
+            counted = inl refl;
+            raised = λ up. absurd (omega (arith, up));
+            used = λ some. absurd (omega (arith, some));
+            free = λ some. absurd (omega (arith, some));
+            after = refl;
+          },
+        ),
+      );
+    }
 
 -- and it keeps the content, where the writer's epoch isn't above the latest one
 opened-low : (epoch : ℕ) (o : Objects) → WasOpened epoch o → (latest : VersionedManifest) → latest_manifest o ≡ Some latest → epoch ≤ latest.manifest.writer_epoch

@@ -1,11 +1,13 @@
 -- What the steps of a sweep make together.
-use Rattle.std.proofs.Common.{◌≡◌, ℕ, ℤ, ◌≤◌, List, [], ◌∷◌, ◌++◌, length, Option, Some, None, unwrap_or, Bool, true, false, cond, not, Result, Ok, Err, refl, sym, ap, subst, ◌∙◌, eqb-true}
+use Rattle.std.proofs.Common.{◌≡◌, ℕ, ℤ, ◌+◌, ◌≤◌, List, [], ◌∷◌, ◌++◌, length, Option, Some, None, unwrap_or, Bool, true, false, cond, not, Result, Ok, Err, refl, sym, ap, subst, ◌∙◌, eqb-true, arith, length-append}
 use Rattle.std.specs.List.{Contains, filter}
+use Rattle.std.specs.Option.{IfSome, option_map_or}
 use Rattle.std.specs.BTreeMap.{insert_entry, is_at}
 use Rattle.std.specs.Cmp.{unsigned_ties}
 use Rattle.std.proofs.lemmas.List.Elements.{All-contains, All-filter, Contains-get_or}
 use Rattle.std.specs.Ordering.{nat_cmp}
 use Rattle.std.proofs.lemmas.Cmp.{nat_cmp_total}
+use Rattle.slate_types.specs.declared.batches.Batch.{Batch}
 use Rattle.slate_types.specs.declared.store_errors.StoreFault.TheVariants as fault
 use Rattle.slate_types.specs.Modelled.{WhereModelled}
 use Rattle.slate_types.proofs.Modelled.{modelled_as, modelled_then}
@@ -19,7 +21,7 @@ use Rattle.slate_store.specs.Checkpoints.{is_expired, with_checkpoints}
 use Rattle.slate_store.specs.Objects.{Change, Objects, PutManifest, changed_all, entry_at, latest_manifest}
 use Rattle.slate_store.specs.Refusals.{FindsLatest, KeepsContent, PartMade}
 use Rattle.slate_store.specs.Steps.{RemovesUnprotected, TakesOut, UnprotectedCause}
-use Rattle.slate_store.specs.Sweeps.{SweepCause, Sweeps, expiries, has_expired, removals, sweep_changes, sweep_changes_by, without_expired}
+use Rattle.slate_store.specs.Sweeps.{SweepCause, Sweeps, expiries, has_expired, removals, sweep_calls, sweep_changes, sweep_changes_by, without_expired}
 use Rattle.slate_store.proofs.Entries.{lookup-insert_other, lookup-insert_same}
 use Rattle.slate_store.proofs.Leaves.{removals-leave}
 use Rattle.slate_store.proofs.Making.{SomeMade, all-made, all-then, part-all, some-stop, some-then}
@@ -42,6 +44,20 @@ absent-before id k m es none = by (is_at (nat_cmp id) k) refl where
 -- an element that a filter keeps is an element
 among-filtered : {X : Type 0} (test : X → Bool) (xs : List X) (x : X) → Contains (filter test xs) x → Contains xs x
 among-filtered test xs x among = All-contains (Contains xs) (filter test xs) x (All-filter test (Contains xs) xs (λ k d less. Contains-get_or xs k d less)) among
+
+-- what is known of the objects before a call, from what it makes of them
+module _ {X : Type 0} {a b : Option X} {P : X → X → Type 0} (R : X → Type 0) (modelled : WhereModelled P a b) where
+  known-before : ((x y : X) → P x y → R x) → IfSome a R
+  known-before f = go a refl where
+    go : (x : Option X) → a ≡ x → IfSome x R
+    go None is = tt
+    go (Some x) is = let t = modelled.some x is in f x t.0 t.2
+
+  known-then : {Q : X → Type 0} → IfSome b Q → ((x y : X) → P x y → Q y → R x) → IfSome a R
+  known-then {Q} q f = go a refl where
+    go : (x : Option X) → a ≡ x → IfSome x R
+    go None is = tt
+    go (Some x) is = let t = modelled.some x is in f x t.0 t.2 (subst (λ o. IfSome o Q) t.1 q)
 
 module _ (moment : ℤ) (latest : VersionedManifest) where
   abbrev first : List Change
@@ -146,6 +162,29 @@ module _ (moment : ℤ) (latest : VersionedManifest) where
   swept-after latest1 r begun removes =
       modelled_then (λ o o'. (made : ℕ) × Sweeps moment o r made o') begun removes
       (λ x y z p q. removed r x y z p.0 (subst (λ v. RemovesUnprotected v r y z) p.1 q))
+
+  -- ---- the calls of the store that it makes
+  calls-are : (o : Objects) → latest_manifest o ≡ Some latest → sweep_calls moment o ≡ 2 + (length first + length (later o)) + length (without_expired moment latest).manifest.checkpoints
+  calls-are o is =
+      let left = length (without_expired moment latest).manifest.checkpoints in
+      ap (λ found. option_map_or (λ v. 2 + length (sweep_changes moment o) + length (without_expired moment v).manifest.checkpoints) found 1) is
+      ∙ ap (λ n. 2 + n + left) (ap length (changes-are o is) ∙ length-append first (later o))
+
+  module _ (n : ℕ) where
+    -- where the first manifest wasn't put
+    pub calls-before : {a b : Option Objects} (m : ℕ) → WhereModelled (λ o o'. (o' ≡ o) × FindsLatest o (Ok latest)) a b → m ≤ n + 1 + length (expiries {L = List Batch} moment latest) → IfSome a (λ o. m ≤ n + sweep_calls moment o)
+    calls-before m found few =
+        known-before (λ o. m ≤ n + sweep_calls moment o) found (λ x y p. let all = calls-are x p.1 in omega (arith, few, all))
+
+    -- where it was, of those after it too
+    pub calls-after : {a b : Option Objects} (latest1 : VersionedManifest) (k m : ℕ) → WhereModelled (λ o o'. Begun o o' × (latest1 ≡ without_expired moment latest)) a b → k ≤ n + 1 + length (expiries {L = List Batch} moment latest) → IfSome b (λ o. m ≤ k + 1 + length latest1.manifest.checkpoints + length (removals latest1 o)) → IfSome a (λ o. m ≤ n + sweep_calls moment o)
+    calls-after latest1 k m begun few many =
+        known-then (λ o. m ≤ n + sweep_calls moment o) begun many
+        (λ x y p q.
+        let all = calls-are x p.0.latest_is in
+        let same : length (removals latest1 y) ≡ length (later x) = ap (λ v. length (removals v y)) p.1 ∙ ap (λ o. length (removals (without_expired moment latest) o)) p.0.begun in
+        let left : length latest1.manifest.checkpoints ≡ length (without_expired moment latest).manifest.checkpoints = ap (λ (v : VersionedManifest). length v.manifest.checkpoints) p.1 in
+        omega (arith, few, q, all, same, left))
 
 -- which it does
 pub keeps-sound : {a b : Option Objects} (moment : ℤ) (r : Result ℕ StoreRefusal) → WhereModelled (λ o o'. (made : ℕ) × Sweeps moment o r made o') a b → WhereModelled KeepsContent a b

@@ -18,7 +18,8 @@ given answer (Ok true) = Ok (Some answer)
 given answer (Ok false) = Ok None
 given answer (Err e) = Err e
 
-none_made : (A : Type 0) (e : StoreRefusal) (n : ℕ) → PartMade {A = A} (Err e) n 0
+-- a refusal where no change was made
+pub none_made : (A : Type 0) (e : StoreRefusal) (n : ℕ) → PartMade {A = A} (Err e) n 0
 none_made A (CheckpointMissing id) n = refl
 none_made A LatestTransactionalObjectVersionMissing n = refl
 none_made A Fenced n = refl

@@ -1,7 +1,7 @@
 -- Joining the tables of the latest manifest into one.
 use Rattle.std.specs.Prelude.{◌≡◌, ℕ, ◌+◌, ◌<◌, ◌≤◌, ◌⊎◌, true, nat_lt, if◌then◌else◌, Contains, List, [], ◌∷◌, length, Option, Some, None, Result, Ok, Err}
 use Rattle.std.specs.List.{flat_map}
-use Rattle.std.specs.Option.{option_to_list}
+use Rattle.std.specs.Option.{option_map_or, option_to_list}
 use Rattle.slate_types.specs.declared.store_errors.StoreFault.TheVariants.{NotFound, Unavailable}
 use Rattle.slate_reads.specs.Index.{AreRising}
 use Rattle.slate_store.specs.declared.objects.TableId.{TableId}
@@ -40,6 +40,11 @@ module _ {L : Type 0} (joined : List L → L) (id : TableId) where
 abbrev pub MayCompact : {L : Type 0} → TableId → ObjectsOf L → VersionedManifest → Type 0
 MayCompact id objects latest = (latest_manifest objects ≡ Some latest) × (latest.manifest.writer_epoch ≤ id.epoch)
 
+-- The most calls of the store that a compaction makes: it reads the latest manifest and each of its tables, and puts a
+-- table and a manifest.
+abbrev pub compact_calls : {L : Type 0} → ObjectsOf L → ℕ
+compact_calls objects = option_map_or (λ latest. 3 + length latest.manifest.tables) (latest_manifest objects) 1
+
 -- Why a compaction into the table with this id refuses, over a store that is modelled. InvalidDBState: there are tables
 -- to join, and the manifest's id or the table's index is the greatest, or their batches don't come one after another.
 abbrev pub CompactCause : TableId → Objects → StoreRefusal → Type 0
@@ -68,6 +73,7 @@ pub record Compacts (epoch index index' : ℕ) (objects : Objects) (result : Res
   pub answer : CompactAnswer (record { epoch = epoch; index = index }) objects result
   pub part : PartMade result (length (compact_changes (flat_map (λ batches. batches)) (record { epoch = epoch; index = index }) objects)) made
   pub counted : (index' ≡ index) ⊎ (index' ≡ index + 1)
+  pub raised : index' ≡ index + 1 → (latest : VersionedManifest) × MayCompact (record { epoch = epoch; index = index }) objects latest × (2 ≤ length latest.manifest.tables)
   pub used : 0 < made → index' ≡ index + 1
   pub free : 0 < made → table_at (record { epoch = epoch; index = index }) objects ≡ None
   pub after : objects' ≡ after_part made (compact_changes (flat_map (λ batches. batches)) (record { epoch = epoch; index = index }) objects) objects

@@ -1,7 +1,7 @@
 -- What is protected, and what a sweep removes.
 use Rattle.std.specs.Prelude.{◌≡◌, ℕ, ℤ, ◌+◌, ◌≤◌, ◌==◌, ◌||◌, Bool, true, not, nat_lt, if◌then◌else◌, Contains, List, [], ◌∷◌, ◌++◌, filter, length, map, Option, Some, None, Result, Ok, Err}
 use Rattle.std.specs.List.{flat_map, list_any}
-use Rattle.std.specs.Option.{option_to_list}
+use Rattle.std.specs.Option.{option_map_or, option_to_list}
 use Rattle.std.specs.Ordering.{eq_by_cmp}
 use Rattle.slate_types.specs.declared.store_errors.StoreFault.TheVariants.{NotFound, Unavailable}
 use Rattle.slate_store.specs.declared.objects.Checkpoint.{Checkpoint}
@@ -70,6 +70,12 @@ sweep_changes_by moment objects (Some latest) =
 
 abbrev pub sweep_changes : {L : Type 0} → ℤ → ObjectsOf L → List (ChangeOf L)
 sweep_changes moment objects = sweep_changes_by moment objects (latest_manifest objects)
+
+-- The most calls of the store that a sweep makes: it reads the latest manifest and lists what is stored, makes each of
+-- its changes, and reads the manifest of each checkpoint that is left.
+abbrev pub sweep_calls : {L : Type 0} → ℤ → ObjectsOf L → ℕ
+sweep_calls moment objects =
+    option_map_or (λ latest. 2 + length (sweep_changes moment objects) + length (without_expired moment latest).manifest.checkpoints) (latest_manifest objects) 1
 
 -- what is stored after a sweep, where this was the latest manifest
 abbrev pub swept : {L : Type 0} → ℤ → VersionedManifest → ObjectsOf L → ObjectsOf L

@@ -1,7 +1,7 @@
 // Joining the tables of a database into one.
-ghost use Rattle.std.specs.Prelude.{◌≡◌, ◌<◌, ℕ, IfErr, IfOk, IfSome, IsSome};
+ghost use Rattle.std.specs.Prelude.{◌≡◌, ◌+◌, ◌<◌, ◌≤◌, ℕ, IfErr, IfOk, IfSome, IsSome, length};
 ghost use Rattle.slate_store.specs.Calls.{WhereModelled};
-ghost use Rattle.slate_store.specs.Compaction.{Compacts, with_table};
+ghost use Rattle.slate_store.specs.Compaction.{Compacts, compact_calls, with_table};
 ghost use Rattle.slate_store.specs.Objects.{PutManifest, PutTable};
 ghost use Rattle.slate_store.specs.Refusals.{CountsFaults, KeepsContent};
 ghost use Rattle.slate_store.specs.Steps.{Adds, IsOfPuts, Joins, PlansJoin, PutsBoth, WasOpened};
@@ -16,15 +16,15 @@ use std::alloc::Global;
 /// one alone; it answers that manifest. Where there are fewer than two tables, nothing is put, and it answers the latest
 /// manifest. No batch is dropped, and the tables that were joined stay stored.
 ///
-/// The new table has the id of this epoch and `next_index`, which is raised by one before the table is put, and else
-/// stays. It answers `LatestTransactionalObjectVersionMissing` where no manifest is stored; `Fenced` where the latest one
+/// The new table has the id of this epoch and `next_index`. That one is raised by one where two tables or more were
+/// joined, before the new one is put, and else stays. It answers `LatestTransactionalObjectVersionMissing` where no manifest is stored; `Fenced` where the latest one
 /// has a greater epoch; `InvalidDBState` where there are tables to join, and the manifest's id or the index is the
 /// greatest `u64`, or the batches of the tables don't come one after another; `ObjectStoreError` with `NotFound` where a
 /// table isn't stored; and `TransactionalObjectVersionExists` where a table or a manifest is stored under the new id.
 /// After a refusal nothing was put, but after the last one, a fault or want of memory, when the table may be stored, or
 /// it and the manifest.
 ///
-/// It calls the store three times and once for each table. It takes time linear in the operations of the tables, with a
+/// It calls the store at most three times and once for each table, and once where no manifest is stored. It takes time linear in the operations of the tables, with a
 /// logarithm of the keys for each key, and copies no keys and no values.
 pub fn compact_tables<S: Store>(
     alloc: Global,
@@ -33,8 +33,10 @@ pub fn compact_tables<S: Store>(
     next_index: &mut u64,
 ) -> Result<VersionedManifest, StoreRefusal>
     ensures compacts { WhereModelled (λ o o'. (made : ℕ) × Compacts epoch next_index.old next_index.new o result made o') (S.objects store.old) (S.objects store.new) }
+    ensures index { (next_index.old ≤ next_index.new) × (next_index.new ≤ next_index.old + 1) }
     ensures sound { WhereModelled (λ o o'. WasOpened epoch o → KeepsContent o o') (S.objects store.old) (S.objects store.new) }
     ensures faults { CountsFaults (S.faults store.old) (S.faults store.new) result }
+    ensures calls { IfSome (S.objects store.old) (λ o. S.calls store.new ≤ S.calls store.old + compact_calls o) }
 {
     compact(alloc, store, epoch, next_index)
 }
@@ -47,7 +49,9 @@ fn compact<S: Store>(
     next_index: &mut u64,
 ) -> Result<VersionedManifest, StoreRefusal>
     ensures compacts { WhereModelled (λ o o'. (made : ℕ) × Compacts epoch next_index.old next_index.new o result made o') (S.objects store.old) (S.objects store.new) }
+    ensures index { (next_index.old ≤ next_index.new) × (next_index.new ≤ next_index.old + 1) }
     ensures faults { CountsFaults (S.faults store.old) (S.faults store.new) result }
+    ensures calls { IfSome (S.objects store.old) (λ o. S.calls store.new ≤ S.calls store.old + compact_calls o) }
 {
     let id = TableId {
         epoch,
@@ -73,6 +77,8 @@ fn join<S: Store>(
     ensures plans { IfSome (S.objects store.old) (λ o. PlansJoin id o result) }
     ensures index { IfOk result (λ plan. IsSome plan.1 → id.index < u64.MAX) }
     ensures faults { CountsFaults (S.faults store.old) (S.faults store.new) result }
+    ensures calls { IfSome (S.objects store.old) (λ o. S.calls store.new ≤ S.calls store.old + compact_calls o) }
+    ensures puts { IfOk result (λ plan. IfSome (S.objects store.old) (λ o. S.calls store.new + 2 ≤ S.calls store.old + compact_calls o)) }
 {
     let latest = latest_of(alloc, store)?;
     if latest.manifest.writer_epoch > id.epoch {
@@ -97,6 +103,7 @@ fn join_tables<S: Store>(
     ensures kept { S.objects store.new ≡ S.objects store.old }
     ensures joins { IfSome (S.objects store.old) (λ o. Joins ids.now o result) }
     ensures faults { CountsFaults (S.faults store.old) (S.faults store.new) result }
+    ensures calls { S.calls store.new ≤ S.calls store.old + length ids.now }
 {
     let mut joined = IndexedTable::new(alloc);
     for id in ids {
@@ -156,6 +163,7 @@ fn put_both<S: Store>(
 ) -> Result<(), StoreRefusal>
     ensures puts { WhereModelled (λ o o'. (made : ℕ) × PutsBoth (PutTable id table.now) (PutManifest next.now.id next.now.manifest) result made o o') (S.objects store.old) (S.objects store.new) }
     ensures faults { CountsFaults (S.faults store.old) (S.faults store.new) result }
+    ensures calls { S.calls store.new ≤ S.calls store.old + 2 }
     ensures refusals { IfErr result IsOfPuts }
 {
     store.put_table(alloc, id, table)?;

@@ -1,13 +1,14 @@
 // Removing what neither the latest manifest nor a checkpoint needs.
-ghost use Rattle.std.specs.Prelude.{◌≡◌, ◌==◌, ℕ, IfErr, IfOk, IfSome, map, filter, length, nat_lt, not, ◌∷◌};
+ghost use Rattle.std.specs.Prelude.{◌≡◌, ◌+◌, ◌≤◌, List, ◌==◌, ℕ, IfErr, IfOk, IfSome, map, filter, length, nat_lt, not, ◌∷◌};
 ghost use Rattle.std.specs.List.{list_any};
 ghost use Rattle.std.specs.Ordering.{eq_by_cmp};
+ghost use Rattle.slate_types.specs.declared.batches.Batch.{Batch};
 ghost use Rattle.slate_store.specs.Calls.{WhereModelled};
 ghost use Rattle.slate_store.specs.Checkpoints.{is_expired};
 ghost use Rattle.slate_store.specs.Objects.{Objects, RemoveLog, RemoveManifest, RemoveTable, listing_of, table_cmp};
 ghost use Rattle.slate_store.specs.Refusals.{CountsFaults, KeepsContent};
 ghost use Rattle.slate_store.specs.Steps.{FindsUnprotected, GivesUnexpired, IsOfStore, Makes, ReadsKept, RemovesUnprotected, TakesOut, removals_of};
-ghost use Rattle.slate_store.specs.Sweeps.{Sweeps, keeps_log, keeps_manifest, keeps_table, protecting, removals};
+ghost use Rattle.slate_store.specs.Sweeps.{Sweeps, expiries, keeps_log, keeps_manifest, keeps_table, protecting, removals, sweep_calls};
 
 use crate::checkpoints::{next_id, with_checkpoints};
 use crate::commits::latest_of;
@@ -25,12 +26,13 @@ use std::alloc::{AllocError, Global};
 /// nothing was changed. After any other refusal some first ones of its changes may be made, in this order: the manifest,
 /// then the removals of tables, of log files and of manifests, each in the order of the store's list.
 ///
-/// It calls the store twice, once where a checkpoint is expired, once for each checkpoint that isn't, and once for each
-/// object that it removes. It takes time linear in the objects, times the checkpoints and their tables.
+/// It calls the store at most twice, once where a checkpoint is expired, once for each checkpoint that isn't, and once for
+/// each object that it removes; and once where no manifest is stored. It takes time linear in the objects, times the checkpoints and their tables.
 pub fn sweep<S: Store>(alloc: Global, store: &mut S, moment: i64) -> Result<u64, StoreRefusal>
     ensures sweeps { WhereModelled (λ o o'. (made : ℕ) × Sweeps moment o result made o') (S.objects store.old) (S.objects store.new) }
     ensures sound { WhereModelled KeepsContent (S.objects store.old) (S.objects store.new) }
     ensures faults { CountsFaults (S.faults store.old) (S.faults store.new) result }
+    ensures calls { IfSome (S.objects store.old) (λ o. S.calls store.new ≤ S.calls store.old + sweep_calls moment o) }
 {
     let latest = latest_of(alloc, store)?;
     let latest = take_out_expired(alloc, store, &latest, moment)?.unwrap_or(latest);
@@ -46,6 +48,7 @@ fn take_out_expired<S: Store>(
 ) -> Result<Option<VersionedManifest>, StoreRefusal>
     ensures takes_out { WhereModelled (λ o o'. (made : ℕ) × TakesOut moment latest.now o result made o') (S.objects store.old) (S.objects store.new) }
     ensures faults { CountsFaults (S.faults store.old) (S.faults store.new) result }
+    ensures calls { S.calls store.new ≤ S.calls store.old + length (expiries {L = List Batch} moment latest.now) }
 {
     let Some(next) = without_expired(alloc, latest, moment)? else {
         return Ok(None);
@@ -110,6 +113,7 @@ fn remove_unprotected<S: Store>(
 ) -> Result<u64, StoreRefusal>
     ensures removes { WhereModelled (RemovesUnprotected latest.now result) (S.objects store.old) (S.objects store.new) }
     ensures faults { CountsFaults (S.faults store.old) (S.faults store.new) result }
+    ensures calls { IfSome (S.objects store.old) (λ o. S.calls store.new ≤ S.calls store.old + 1 + length latest.now.manifest.checkpoints + length (removals latest.now o)) }
 {
     let unprotected = find_unprotected(alloc, store, latest)?;
     remove_all(alloc, store, &unprotected)?;
@@ -125,6 +129,7 @@ fn find_unprotected<S: Store>(
     ensures kept { S.objects store.new ≡ S.objects store.old }
     ensures finds { IfSome (S.objects store.old) (λ o. FindsUnprotected latest.now o result) }
     ensures faults { CountsFaults (S.faults store.old) (S.faults store.new) result }
+    ensures calls { S.calls store.new ≤ S.calls store.old + 1 + length latest.now.manifest.checkpoints }
 {
     let kept = read_kept(alloc, store, latest.manifest.checkpoints.as_slice())?;
     let listing = store.list(alloc)?;
@@ -144,6 +149,7 @@ fn read_kept<S: Store>(
     ensures kept { S.objects store.new ≡ S.objects store.old }
     ensures reads { IfSome (S.objects store.old) (λ o. ReadsKept checkpoints.now o result) }
     ensures faults { CountsFaults (S.faults store.old) (S.faults store.new) result }
+    ensures calls { S.calls store.new ≤ S.calls store.old + length checkpoints.now }
 {
     let mut kept = Vec::new(alloc);
     for checkpoint in checkpoints {
@@ -260,6 +266,7 @@ fn is_named(manifest: &Manifest, id: TableId) -> bool
 fn remove_all<S: Store>(alloc: Global, store: &mut S, listing: &Listing) -> Result<(), StoreRefusal>
     ensures made { WhereModelled (Makes (removals_of listing.now) result) (S.objects store.old) (S.objects store.new) }
     ensures faults { CountsFaults (S.faults store.old) (S.faults store.new) result }
+    ensures calls { S.calls store.new ≤ S.calls store.old + length (removals_of listing.now) }
     ensures refusals { IfErr result IsOfStore }
 {
     remove_tables(alloc, store, listing.tables.as_slice())?;
@@ -274,6 +281,7 @@ fn remove_tables<S: Store>(
 ) -> Result<(), StoreRefusal>
     ensures made { WhereModelled (Makes (map (λ id. RemoveTable id) ids.now) result) (S.objects store.old) (S.objects store.new) }
     ensures faults { CountsFaults (S.faults store.old) (S.faults store.new) result }
+    ensures calls { S.calls store.new ≤ S.calls store.old + length ids.now }
     ensures refusals { IfErr result IsOfStore }
 {
     for id in ids {
@@ -285,6 +293,7 @@ fn remove_tables<S: Store>(
 fn remove_logs<S: Store>(alloc: Global, store: &mut S, ids: &[u64]) -> Result<(), StoreRefusal>
     ensures made { WhereModelled (Makes (map (λ id. RemoveLog id) ids.now) result) (S.objects store.old) (S.objects store.new) }
     ensures faults { CountsFaults (S.faults store.old) (S.faults store.new) result }
+    ensures calls { S.calls store.new ≤ S.calls store.old + length ids.now }
     ensures refusals { IfErr result IsOfStore }
 {
     for id in ids {
@@ -296,6 +305,7 @@ fn remove_logs<S: Store>(alloc: Global, store: &mut S, ids: &[u64]) -> Result<()
 fn remove_manifests<S: Store>(alloc: Global, store: &mut S, ids: &[u64]) -> Result<(), StoreRefusal>
     ensures made { WhereModelled (Makes (map (λ id. RemoveManifest id) ids.now) result) (S.objects store.old) (S.objects store.new) }
     ensures faults { CountsFaults (S.faults store.old) (S.faults store.new) result }
+    ensures calls { S.calls store.new ≤ S.calls store.old + length ids.now }
     ensures refusals { IfErr result IsOfStore }
 {
     for id in ids {

@@ -3,8 +3,16 @@ use Rattle.std.specs.Option.{IfSome}
 use Rattle.std.proofs.lemmas.Result.{err_from_is_err_and}
 use Rattle.slate_store.specs.declared.objects.TableId.{TableId}
 use Rattle.slate_store.specs.Steps.{PlansJoin}
-use Rattle.slate_store.proofs.Compacting.{all-joined}
+use Rattle.slate_store.proofs.Compacting.{all-joined, unjoined}
 use Rattle.slate_store.proofs.compactions.compact.Goals as goal
+
+pub returns-in_err-manifest-clause-compacts : goal.returns-in_err-manifest-clause-compacts
+returns-in_err-manifest-clause-compacts g c =
+    let id : TableId = record { epoch = c.args.epoch; index = c.args.next_index.now } in
+    let p = err_from_is_err_and c.from_residual.result c.from_residual.ensures.1 in
+    let all = unjoined id c.in_err-manifest.field-0.0 c.in_err-manifest.ensures.kept c.in_err-manifest.ensures.plans in
+    let same : c.from_residual.result ≡ Err c.in_err-manifest.field-0.0 = p.1 ∙ ap Err p.2 in
+    rw same all
 
 pub returns-in_err-put_both-clause-compacts : goal.returns-in_err-put_both-clause-compacts
 returns-in_err-put_both-clause-compacts g c =

@@ -23,6 +23,7 @@ loop-id-preserved g c =
     record {
       kept = c.read_table.ensures.kept ∙ i.kept;
       faults = let n = c.read_table.ensures.counts.fault_count in omega (arith, n, i.faults);
+      calls = let n = c.read_table.ensures.counts.call_count in omega (arith, n, i.calls);
       joined = both-known _ _ i.kept i.joined c.in_ok-table.ensures.found
           (λ o so_far found. let added = rw c.batches.ensures.value at c.in_ok-add_copies.ensures in added ∙ (ap (λ xs. xs ++ c.in_ok-table.table) so_far ∙ sym (batches-more o c.args.ids.now c.loop-id.id-index _ _ c.in_ok-table.table (omega arith) refl found)));
     }

@@ -1,6 +1,6 @@
 -- The forms of a script's commands, and what a line is.
 use Rattle.std.specs.Prelude.{ℕ, ◌==◌, Bool, true, false, List, [], ◌∷◌, Option, Some, None, codes, if◌then◌else◌}
-use Rattle.std.specs.Option.{option_or}
+use Rattle.std.specs.Option.{option_map, option_or}
 use Rattle.std.specs.Str.{bytes_eq}
 use Rattle.slate_types.specs.declared.options.CloseOptions.{CloseOptions}
 use Rattle.slate_types.specs.declared.options.FlushType.{FlushType}
@@ -51,19 +51,23 @@ close_options_of word = if bytes_eq word (codes "none") then Some (record { flus
   flush_type ← flush_type_of word
   Some (record { flush_type = Some flush_type }))
 
--- refresh H
-abbrev pub refresh_form : List (List ℕ) → Option Action
-refresh_form (h ∷ []) = do
-  handle ← number_of h
-  Some (actions.Refresh handle)
-refresh_form fields = None
+-- one number and no other field
+abbrev pub one_number : List (List ℕ) → Option ℕ
+one_number (n ∷ []) = number_of n
+one_number fields = None
 
--- compact H
-abbrev pub compact_form : List (List ℕ) → Option Action
-compact_form (h ∷ []) = do
-  handle ← number_of h
-  Some (actions.Compact handle)
-compact_form fields = None
+-- checkpoint, checkpoint LIFETIME
+abbrev pub checkpoint_form : List (List ℕ) → Option Action
+checkpoint_form [] = Some (actions.Checkpoint None)
+checkpoint_form (l ∷ []) = do
+  lifetime ← number_of l
+  Some (actions.Checkpoint (Some lifetime))
+checkpoint_form fields = None
+
+-- sweep
+abbrev pub sweep_form : List (List ℕ) → Option Action
+sweep_form [] = Some actions.Sweep
+sweep_form fields = None
 
 -- close O, close O none, close O wal, close O memtable
 abbrev pub close_form : List (List ℕ) → Option Action
@@ -81,34 +85,14 @@ abbrev pub follow_form : List (List ℕ) → Option Action
 follow_form (m ∷ []) = if bytes_eq m (codes "latest") then Some (actions.Follow FollowLatest None false) else None
 follow_form fields = None
 
--- poll F
-abbrev pub poll_form : List (List ℕ) → Option Action
-poll_form (f ∷ []) = do
-  follower ← number_of f
-  Some (actions.Poll follower)
-poll_form fields = None
-
--- await W
-abbrev pub await_form : List (List ℕ) → Option Action
-await_form (w ∷ []) = do
-  write ← number_of w
-  Some (actions.Await write)
-await_form fields = None
-
--- status O
-abbrev pub status_form : List (List ℕ) → Option Action
-status_form (o ∷ []) = do
-  object ← number_of o
-  Some (actions.Status object)
-status_form fields = None
-
--- the command of a name and the fields behind it, where that follows, polls, or asks for a write or a status
+-- the command of a name and the fields behind it, where that follows, polls, or asks for a write or a status:
+-- follow, poll F, await W, status O
 abbrev pub reader_of : List ℕ → List (List ℕ) → Option Action
 reader_of name fields =
     if bytes_eq name (codes "follow") then follow_form fields
-    else (if bytes_eq name (codes "poll") then poll_form fields
-    else (if bytes_eq name (codes "await") then await_form fields
-    else (if bytes_eq name (codes "status") then status_form fields
+    else (if bytes_eq name (codes "poll") then option_map (λ follower. actions.Poll follower) (one_number fields)
+    else (if bytes_eq name (codes "await") then option_map (λ write. actions.Await write) (one_number fields)
+    else (if bytes_eq name (codes "status") then option_map (λ object. actions.Status object) (one_number fields)
     else None)))
 
 -- the command of a name and the fields behind it, where that neither writes nor reads keys
@@ -116,10 +100,12 @@ abbrev pub other_of : List ℕ → List (List ℕ) → Option Action
 other_of name fields =
     if bytes_eq name (codes "open") then open_form fields
     else (if bytes_eq name (codes "flush") then flush_form fields
-    else (if bytes_eq name (codes "refresh") then refresh_form fields
-    else (if bytes_eq name (codes "compact") then compact_form fields
+    else (if bytes_eq name (codes "refresh") then option_map (λ handle. actions.Refresh handle) (one_number fields)
+    else (if bytes_eq name (codes "compact") then option_map (λ handle. actions.Compact handle) (one_number fields)
+    else (if bytes_eq name (codes "checkpoint") then checkpoint_form fields
+    else (if bytes_eq name (codes "sweep") then sweep_form fields
     else (if bytes_eq name (codes "close") then close_form fields
-    else reader_of name fields))))
+    else reader_of name fields))))))
 
 -- the action that a name and the fields after it spell
 abbrev pub action_of : List ℕ → List (List ℕ) → Option Action

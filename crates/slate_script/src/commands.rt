@@ -52,6 +52,12 @@ pub enum Action {
     Compact {
         handle: u64,
     },
+    /// Commits a checkpoint of what is stored, without an end or with a lifetime in milliseconds.
+    Checkpoint {
+        lifetime: Option<u64>,
+    },
+    /// Removes what is stored and no longer needed.
+    Sweep,
     /// Reads a key of an object, from durable batches alone where `remote` is true.
     Get {
         object: u64,

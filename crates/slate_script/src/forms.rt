@@ -2,8 +2,8 @@
 ghost use Rattle.std.specs.Prelude.{◌≡◌, IfOk, IfSome};
 ghost use Rattle.slate_script.specs.Built.{IsBuilt};
 ghost use Rattle.slate_script.specs.declared.commands.Command.{Command};
-ghost use Rattle.slate_script.specs.Forms.{wal_of, open_form, flush_type_of, flush_form, refresh_form, compact_form, close_options_of, close_form};
-ghost use Rattle.slate_script.specs.Forms.{follow_form, poll_form, await_form, status_form, reader_of, other_of, action_of, command_of, line_of};
+ghost use Rattle.slate_script.specs.Forms.{wal_of, open_form, flush_type_of, flush_form, one_number, checkpoint_form, sweep_form, close_options_of, close_form};
+ghost use Rattle.slate_script.specs.Forms.{follow_form, reader_of, other_of, action_of, command_of, line_of};
 
 use crate::fields::cut_fields;
 use crate::queries::read_query;
@@ -79,26 +79,41 @@ fn read_flush(fields: &[Bytes]) -> Option<Action>
     }
 }
 
-fn read_refresh(fields: &[Bytes]) -> Option<Action>
-    ensures form { result ≡ refresh_form fields.now }
-    ensures built { IfSome result IsBuilt }
+/// One number and no other field.
+fn read_one_number(fields: &[Bytes]) -> Option<u64>
+    ensures { result ≡ one_number fields.now }
 {
-    let [handle] = fields else {
+    let [number] = fields else {
         return None;
     };
-    let handle = read_number(handle.as_slice())?;
-    Some(Action::Refresh { handle })
+    read_number(number.as_slice())
 }
 
-fn read_compact(fields: &[Bytes]) -> Option<Action>
-    ensures form { result ≡ compact_form fields.now }
+fn read_checkpoint(fields: &[Bytes]) -> Option<Action>
+    ensures form { result ≡ checkpoint_form fields.now }
     ensures built { IfSome result IsBuilt }
 {
-    let [handle] = fields else {
-        return None;
-    };
-    let handle = read_number(handle.as_slice())?;
-    Some(Action::Compact { handle })
+    match fields {
+        [] => Some(Action::Checkpoint { lifetime: None }),
+        [lifetime] => {
+            let lifetime = read_number(lifetime.as_slice())?;
+            Some(Action::Checkpoint {
+                lifetime: Some(lifetime),
+            })
+        }
+        _ => None,
+    }
+}
+
+fn read_sweep(fields: &[Bytes]) -> Option<Action>
+    ensures form { result ≡ sweep_form fields.now }
+    ensures built { IfSome result IsBuilt }
+{
+    if fields.is_empty() {
+        Some(Action::Sweep)
+    } else {
+        None
+    }
 }
 
 /// What a close flushes.
@@ -155,39 +170,6 @@ fn read_follow(fields: &[Bytes]) -> Option<Action>
     })
 }
 
-fn read_poll(fields: &[Bytes]) -> Option<Action>
-    ensures form { result ≡ poll_form fields.now }
-    ensures built { IfSome result IsBuilt }
-{
-    let [follower] = fields else {
-        return None;
-    };
-    let follower = read_number(follower.as_slice())?;
-    Some(Action::Poll { follower })
-}
-
-fn read_await(fields: &[Bytes]) -> Option<Action>
-    ensures form { result ≡ await_form fields.now }
-    ensures built { IfSome result IsBuilt }
-{
-    let [write] = fields else {
-        return None;
-    };
-    let write = read_number(write.as_slice())?;
-    Some(Action::Await { write })
-}
-
-fn read_status(fields: &[Bytes]) -> Option<Action>
-    ensures form { result ≡ status_form fields.now }
-    ensures built { IfSome result IsBuilt }
-{
-    let [object] = fields else {
-        return None;
-    };
-    let object = read_number(object.as_slice())?;
-    Some(Action::Status { object })
-}
-
 // The command of a name and the fields behind it, where that follows, polls, or asks for a write or a status.
 fn read_reader(name: &[u8], fields: &[Bytes]) -> Option<Action>
     ensures form { result ≡ reader_of name.now fields.now }
@@ -196,11 +178,14 @@ fn read_reader(name: &[u8], fields: &[Bytes]) -> Option<Action>
     if name == b"follow".as_slice() {
         read_follow(fields)
     } else if name == b"poll".as_slice() {
-        read_poll(fields)
+        let follower = read_one_number(fields)?;
+        Some(Action::Poll { follower })
     } else if name == b"await".as_slice() {
-        read_await(fields)
+        let write = read_one_number(fields)?;
+        Some(Action::Await { write })
     } else if name == b"status".as_slice() {
-        read_status(fields)
+        let object = read_one_number(fields)?;
+        Some(Action::Status { object })
     } else {
         None
     }
@@ -216,9 +201,15 @@ fn read_other(name: &[u8], fields: &[Bytes]) -> Option<Action>
     } else if name == b"flush".as_slice() {
         read_flush(fields)
     } else if name == b"refresh".as_slice() {
-        read_refresh(fields)
+        let handle = read_one_number(fields)?;
+        Some(Action::Refresh { handle })
     } else if name == b"compact".as_slice() {
-        read_compact(fields)
+        let handle = read_one_number(fields)?;
+        Some(Action::Compact { handle })
+    } else if name == b"checkpoint".as_slice() {
+        read_checkpoint(fields)
+    } else if name == b"sweep".as_slice() {
+        read_sweep(fields)
     } else if name == b"close".as_slice() {
         read_close(fields)
     } else {

@@ -100,6 +100,13 @@ fn write_handle(out: &mut Vec<u8>, object: u64) -> Result<(), NoMemory>
     write_labelled(out, "handle ", object)
 }
 
+fn write_checkpointed(out: &mut Vec<u8>, id: u64) -> Result<(), NoMemory>
+    ensures ok { OnOk result (out.new.items ≡ out.old.items ++ reply_words (Reply.Checkpointed id)) }
+    ensures err { OnErr result (take (length out.old.items) out.new.items ≡ out.old.items) }
+{
+    write_labelled(out, "checkpoint ", id)
+}
+
 fn task_name(name: TaskName) -> &'static str
     ensures { result.now ≡ task_text name }
 {
@@ -241,6 +248,8 @@ fn write_words(out: &mut Vec<u8>, reply: &Reply) -> Result<(), NoMemory>
         Reply::Flushed => write_text(out, "flushed"),
         Reply::Refreshed => write_text(out, "refreshed"),
         Reply::Compacted => write_text(out, "compacted"),
+        Reply::Checkpointed { id } => write_checkpointed(out, *id),
+        Reply::Swept => write_text(out, "swept"),
         Reply::Follower { object, whole, at } => write_follower(out, *object, *whole, *at),
         Reply::Durable => write_text(out, "durable"),
         Reply::Pending => write_text(out, "pending"),

@@ -33,6 +33,12 @@ pub enum Reply {
     Refreshed,
     /// The tables are joined, where there were two or more.
     Compacted,
+    /// A checkpoint was committed, under this number.
+    Checkpointed {
+        id: u64,
+    },
+    /// What was no longer needed is removed.
+    Swept,
     /// The write is durable.
     Durable,
     /// The write isn't durable yet.

@@ -6,7 +6,6 @@ use Rattle.slate_errors.specs.declared.errors.SlateError.{SlateError}
 use Rattle.slate_model.specs.Follow.{Rebuilds}
 use Rattle.slate_model.specs.Knowledge.{Knowledge}
 use Rattle.slate_model.specs.Known.{Known}
-use Rattle.slate_model.specs.Maintain.{Checkpoints, Sweeps}
 use Rattle.slate_model.specs.Object.{Object, Handle, Follower}
 use Rattle.slate_model.specs.Open.{OpensHandle}
 use Rattle.slate_script.specs.declared.commands.Command.{Command}
@@ -16,6 +15,7 @@ use Rattle.slate_live.specs.declared.states.Write.{Write}
 use Rattle.slate_live.specs.Calls.{Target, NewHandle, NewFollower, NewCheckpoint, WholeStore, OfWrite, OfObject, call_of, target_of}
 use Rattle.slate_live.specs.Followers.{FollowerActs}
 use Rattle.slate_live.specs.Handles.{HandleActs, durable_reply}
+use Rattle.slate_live.specs.Maintenance.{CommitsTo, SweepsTo}
 use Rattle.slate_live.specs.Replies.{followed_reply, reply_to}
 use Rattle.slate_live.specs.Settings.{Settings}
 use Rattle.slate_live.specs.State.{State}
@@ -39,10 +39,8 @@ pub record Adds {L A : Type 0} (did : Known L → Result A SlateError → Known 
   pub writes : s'.writes ≡ s.writes
 
 -- A command that goes to the store alone did this to it. All objects and writes are as before.
-pub record DoesToStore {L A : Type 0} (did : Known L → Result A SlateError → Known L → Type 0) (done : A → Reply) (s : State L) (reply : Reply) (s' : State L) : Type 0 where
-  pub result : Result A SlateError
-  pub replied : reply ≡ reply_to done result
-  pub does : did s.store result s'.store
+pub record DoesToStore {L : Type 0} (did : Known L → Reply → Known L → Type 0) (s : State L) (reply : Reply) (s' : State L) : Type 0 where
+  pub does : did s.store reply s'.store
   pub objects : s'.objects ≡ s.objects
   pub writes : s'.writes ≡ s.writes
 
@@ -87,9 +85,8 @@ module _ {L : Type 0} (k : Knowledge L) (settings : Settings) where
   abbrev pub DoesBy : Command → Target → ℕ → State L → Reply → State L → Type 0
   DoesBy command (NewHandle keeps_log) made s reply s' = OpensHandleIn keeps_log made s reply s'
   DoesBy command NewFollower made s reply s' = OpensFollowerIn made s reply s'
-  DoesBy command (NewCheckpoint lifetime) made s reply s' =
-      DoesToStore (Checkpoints k made lifetime command.moment) (λ checkpoint. replies.Checkpointed checkpoint.manifest_id) s reply s'
-  DoesBy command WholeStore made s reply s' = DoesToStore (Sweeps k made command.moment) (λ _. replies.Swept) s reply s'
+  DoesBy command (NewCheckpoint lifetime) made s reply s' = DoesToStore (CommitsTo k made lifetime command.moment) s reply s'
+  DoesBy command WholeStore made s reply s' = DoesToStore (SweepsTo k made command.moment) s reply s'
   DoesBy command (OfWrite n) made s reply s' = OnlyAnswers (write_reply s.objects (slice_get s.writes n)) made s reply s'
   DoesBy command (OfObject n) made s reply s' = ActsOn k settings.merge n command made (slice_get s.objects n) s reply s'
 

@@ -1,9 +1,9 @@
 // What commands do to a reader that follows a database.
-ghost use Rattle.std.specs.Prelude.{◌≡◌, ◌≤◌, ◌+◌, ℕ, None, List, Option, IfSome};
+ghost use Rattle.std.specs.Prelude.{◌≡◌, ◌≤◌, ◌+◌, ℕ, None, length, List, Option, IfSome};
 ghost use Rattle.std.specs.Option.{option_copied};
 ghost use Rattle.slate_types.specs.Operator.{Merge};
 ghost use Rattle.slate_reads.specs.Read.{IsOperator};
-ghost use Rattle.slate_model.specs.Known.{IsContent, known};
+ghost use Rattle.slate_model.specs.Known.{known};
 ghost use Rattle.slate_model.specs.Open.{replayed_logs};
 ghost use Rattle.slate_model.specs.Stores.{by_objects};
 ghost use Rattle.slate_live.specs.declared.states.Write.{Write};
@@ -33,7 +33,7 @@ pub(crate) fn act<S: Store, M: MergeOperator, E: PrefixExtractor>(
 ) -> Reply
     requires { extractor ≡ None }
     ensures faults { S.faults store.old ≤ S.faults store.new }
-    ensures calls { IfSome (S.objects store.old) (λ o. S.calls store.new ≤ S.calls store.old + most_asked (replayed_logs o) 0 (call_of command.now.action)) }
+    ensures calls { IfSome (S.objects store.old) (λ o. S.calls store.new ≤ S.calls store.old + most_asked o (length follower.old.view.manifest.tables) (call_of command.now.action)) }
     ensures does { (merge : Option Merge) (writes : List Write) → IsOperator M.may_answer (option_copied operator.entry) merge →
         (made : ℕ) × FollowerActs (by_objects (S.objects store.old)) merge (call_of command.now.action) made
         follower.old (known S.objects S.faults store.old) writes result follower.new (known S.objects S.faults store.new) writes }
@@ -73,7 +73,8 @@ fn get<S: Store, M: MergeOperator>(
     key: &Bytes,
     operator: Option<&M>,
 ) -> Reply
-    ensures store { store.new ≡ store.old }
+    ensures faults { S.faults store.old ≤ S.faults store.new }
+    ensures calls { S.calls store.new ≤ S.calls store.old + length follower.now.view.manifest.tables }
     ensures read { (merge : Option Merge) → IsOperator M.may_answer (option_copied operator.entry) merge →
         GetsFromFollower (by_objects (S.objects store.old)) merge key.now follower.now (known S.objects S.faults store.old) result (known S.objects S.faults store.new) }
 {
@@ -89,7 +90,8 @@ fn scan<S: Store, M: MergeOperator>(
     order: IterationOrder,
     operator: Option<&M>,
 ) -> Reply
-    ensures store { store.new ≡ store.old }
+    ensures faults { S.faults store.old ≤ S.faults store.new }
+    ensures calls { S.calls store.new ≤ S.calls store.old + length follower.now.view.manifest.tables }
     ensures read { (merge : Option Merge) → IsOperator M.may_answer (option_copied operator.entry) merge →
         TakesFromFollower (by_objects (S.objects store.old)) merge range.now order scanned
         follower.now (known S.objects S.faults store.old) result (known S.objects S.faults store.new) }
@@ -108,7 +110,8 @@ fn seek<S: Store, M: MergeOperator>(
     order: IterationOrder,
     operator: Option<&M>,
 ) -> Reply
-    ensures store { store.new ≡ store.old }
+    ensures faults { S.faults store.old ≤ S.faults store.new }
+    ensures calls { S.calls store.new ≤ S.calls store.old + length follower.now.view.manifest.tables }
     ensures read { (merge : Option Merge) → IsOperator M.may_answer (option_copied operator.entry) merge →
         TakesFromFollower (by_objects (S.objects store.old)) merge range.now order (sought range.now take_and_key.entry.0 take_and_key.entry.1.now)
         follower.now (known S.objects S.faults store.old) result (known S.objects S.faults store.new) }
@@ -129,7 +132,7 @@ fn poll<S: Store, E: PrefixExtractor>(
     requires { extractor ≡ None }
     ensures faults { S.faults store.old ≤ S.faults store.new }
     ensures calls { IfSome (S.objects store.old) (λ o. S.calls store.new ≤ S.calls store.old + (replayed_logs o + 2)) }
-    ensures does { PollsFollower (IsContent (S.objects store.old)) follower.old (known S.objects S.faults store.old) result follower.new (known S.objects S.faults store.new) }
+    ensures does { PollsFollower (by_objects (S.objects store.old)) follower.old (known S.objects S.faults store.old) result follower.new (known S.objects S.faults store.new) }
 {
     match follower.poll(alloc, store, extractor, moment) {
         Ok(PollAnswer::Whole { at }) => Reply::Polled { whole: true, at },

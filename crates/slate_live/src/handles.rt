@@ -1,14 +1,15 @@
 // What commands do to a handle that writes.
-ghost use Rattle.std.specs.Prelude.{◌≡◌, ◌≤◌, ℕ, ◌+◌, [], ◌∷◌, ◌++◌, false, length, None, Option, IfErr, IfOk, IsTrue, ◌↔◌};
+ghost use Rattle.std.specs.Prelude.{◌≡◌, ◌≤◌, ℕ, ◌+◌, [], ◌∷◌, ◌++◌, false, length, None, Option, IfErr, IfOk, IfSome, IsTrue, ◌↔◌};
 ghost use Rattle.std.specs.Option.{option_copied};
 ghost use Rattle.slate_types.specs.Operator.{Merge};
 ghost use Rattle.slate_reads.specs.Read.{IsOperator};
+ghost use Rattle.slate_store.specs.Compaction.{compact_calls};
 ghost use Rattle.slate_model.specs.Known.{known};
 ghost use Rattle.slate_model.specs.Object.{Handle};
 ghost use Rattle.slate_model.specs.Read.{Gives, Reads};
 ghost use Rattle.slate_model.specs.Stores.{by_objects, kept_rows};
 ghost use Rattle.slate_model.specs.Write.{Writes};
-ghost use Rattle.slate_live.specs.Calls.{IsCounted, call_of, flush_of_close, most_asked, ops_of};
+ghost use Rattle.slate_live.specs.Calls.{call_of, flush_of_close, most_asked, ops_of};
 ghost use Rattle.slate_live.specs.Handles.{ClosesHandle, CompactsHandle, FlushesHandle, GetsFrom, HandleActs, IsPlainScan, RefreshesHandle};
 ghost use Rattle.slate_live.specs.Handles.{TakesFrom, WritesTo, durable_reply, flush_type_by, handle_status, level_of, noted};
 ghost use Rattle.slate_live.specs.Replies.{AnswersStatus, ended_reply, found_reply, refusal, reply_to};
@@ -42,8 +43,8 @@ pub(crate) fn act<S: Store, M: MergeOperator, E: PrefixExtractor>(
 ) -> Reply
     requires { extractor ≡ None }
     ensures faults { S.faults store.old ≤ S.faults store.new }
-    ensures calls { IsCounted (call_of command.now.action) →
-        S.calls store.new ≤ S.calls store.old + most_asked 0 (length writer.old.view.manifest.tables) (call_of command.now.action) }
+    ensures calls { IfSome (S.objects store.old) (λ o.
+        S.calls store.new ≤ S.calls store.old + most_asked o (length writer.old.view.manifest.tables) (call_of command.now.action)) }
     ensures does { (merge : Option Merge) → IsOperator M.may_answer (option_copied operator.entry) merge →
         (made : ℕ) × HandleActs (by_objects (S.objects store.old)) merge number command.now.moment command.now.second (call_of command.now.action) made
         writer.old (known S.objects S.faults store.old) writes.old.items result writer.new (known S.objects S.faults store.new) writes.new.items }
@@ -228,6 +229,7 @@ fn refresh<S: Store>(writer: &mut WriterState, alloc: Global, store: &mut S) -> 
 /// Joins the tables of the latest manifest.
 fn compact<S: Store>(writer: &mut WriterState, alloc: Global, store: &mut S) -> Reply
     ensures faults { S.faults store.old ≤ S.faults store.new }
+    ensures calls { IfSome (S.objects store.old) (λ o. S.calls store.new ≤ S.calls store.old + compact_calls o) }
     ensures does { (made : ℕ) × CompactsHandle (by_objects (S.objects store.old)) made
         writer.old (known S.objects S.faults store.old) result writer.new (known S.objects S.faults store.new) }
 {

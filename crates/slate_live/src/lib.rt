@@ -4,6 +4,7 @@
 
 mod followers;
 mod handles;
+mod maintenance;
 mod objects;
 mod runs;
 mod scans;

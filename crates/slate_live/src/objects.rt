@@ -4,9 +4,8 @@ ghost use Rattle.std.specs.Option.{option_copied};
 ghost use Rattle.slate_types.specs.Operator.{Merge};
 ghost use Rattle.slate_reads.specs.Read.{IsOperator};
 ghost use Rattle.slate_model.specs.Known.{known};
-ghost use Rattle.slate_model.specs.Open.{replayed_logs};
 ghost use Rattle.slate_model.specs.Stores.{by_objects};
-ghost use Rattle.slate_live.specs.Calls.{IsCounted, call_of, most_asked, tables_of};
+ghost use Rattle.slate_live.specs.Calls.{call_of, most_asked, tables_of};
 ghost use Rattle.slate_live.specs.Commands.{Acts, asked_reply};
 ghost use Rattle.slate_live.specs.Objects.{object_of};
 
@@ -42,8 +41,8 @@ impl Object {
     ) -> Reply
         requires { extractor ≡ None }
         ensures faults { S.faults store.old ≤ S.faults store.new }
-        ensures calls { IsCounted (call_of command.now.action) → IfSome (S.objects store.old) (λ o.
-            S.calls store.new ≤ S.calls store.old + most_asked (replayed_logs o) (tables_of (Some (object_of self.old))) (call_of command.now.action)) }
+        ensures calls { IfSome (S.objects store.old) (λ o.
+            S.calls store.new ≤ S.calls store.old + most_asked o (tables_of (Some (object_of self.old))) (call_of command.now.action)) }
         ensures does { (merge : Option Merge) → IsOperator M.may_answer (option_copied operator.entry) merge →
             (made : ℕ) × Acts (by_objects (S.objects store.old)) merge number command.now made
             (object_of self.old) (known S.objects S.faults store.old) writes.old.items result (object_of self.new) (known S.objects S.faults store.new) writes.new.items }

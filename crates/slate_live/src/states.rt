@@ -7,7 +7,7 @@ ghost use Rattle.slate_model.specs.Known.{known};
 ghost use Rattle.slate_model.specs.Open.{replayed_logs};
 ghost use Rattle.slate_model.specs.Stores.{by_objects};
 ghost use Rattle.slate_script.specs.Built.{IsBuilt, follows_latest};
-ghost use Rattle.slate_live.specs.Calls.{IsCounted, call_of, most_asked, most_calls, tables_of};
+ghost use Rattle.slate_live.specs.Calls.{call_of, most_asked, most_calls, tables_of};
 ghost use Rattle.slate_live.specs.Commands.{ActsOn, Does, OpensFollowerIn, OpensHandleIn, write_reply};
 ghost use Rattle.slate_live.specs.Replies.{followed_reply};
 ghost use Rattle.slate_live.specs.Represents.{Links};
@@ -15,6 +15,7 @@ ghost use Rattle.slate_live.specs.State.{running};
 ghost use Rattle.slate_live.specs.Valid.{Link};
 
 use crate::handles::refusal;
+use crate::maintenance::{checkpoint, sweep};
 use crate::objects::Object;
 use slate_follow::{DbReaderMode, DbReaderOptions, FollowerState, PollAnswer};
 use slate_script::{Action, Command, Options, Reply};
@@ -63,7 +64,7 @@ impl LiveState {
     }
 
     /// Does one command on the store. It takes the time of the call that the command makes, beside a look at the place
-    /// of its object, and calls the store as often as that call does; a command that makes none doesn't call it. How often a compaction calls it isn't said.
+    /// of its object, and calls the store as often as that call does; a command that makes none doesn't call it.
     ///
     /// Over any store the command does what is said of it: the object that it names answers and changes by its own
     /// call, and all others are as before. Over an honest store the reply is one that the command may have, and the
@@ -81,8 +82,7 @@ impl LiveState {
         requires built { IsBuilt command.now.action }
         ensures options { self.new.options ≡ self.old.options }
         ensures faults { S.faults store.old ≤ S.faults store.new }
-        ensures calls { IsCounted (call_of command.now.action) → IfSome (S.objects store.old) (λ o.
-            S.calls store.new ≤ S.calls store.old + most_calls (replayed_logs o) self.old.objects command.now.action) }
+        ensures calls { IfSome (S.objects store.old) (λ o. S.calls store.new ≤ S.calls store.old + most_calls o self.old.objects command.now) }
         ensures does { (merge : Option Merge) → IsOperator M.may_answer (option_copied operator.entry) merge →
             (made : ℕ) × Does (by_objects (S.objects store.old)) (record { merge = merge; options = self.old.options }) made
             (running self.old (known S.objects S.faults store.old)) command.now result (running self.new (known S.objects S.faults store.new)) }
@@ -100,6 +100,8 @@ impl LiveState {
                 command.moment,
                 extractor,
             ),
+            Action::Checkpoint { lifetime } => checkpoint(alloc, store, *lifetime, command.moment),
+            Action::Sweep => sweep(alloc, store, command.moment),
             Action::Await { write } => self.write_reply(*write),
             Action::Put { handle: number, .. }
             | Action::Merge { handle: number, .. }
@@ -209,8 +211,8 @@ impl LiveState {
         requires { extractor ≡ None }
         ensures options { self.new.options ≡ self.old.options }
         ensures faults { S.faults store.old ≤ S.faults store.new }
-        ensures calls { IsCounted (call_of command.now.action) → IfSome (S.objects store.old) (λ o.
-            S.calls store.new ≤ S.calls store.old + most_asked (replayed_logs o) (tables_of (slice_get self.old.objects number)) (call_of command.now.action)) }
+        ensures calls { IfSome (S.objects store.old) (λ o.
+            S.calls store.new ≤ S.calls store.old + most_asked o (tables_of (slice_get self.old.objects number)) (call_of command.now.action)) }
         ensures does { (merge : Option Merge) → IsOperator M.may_answer (option_copied operator.entry) merge →
             (made : ℕ) × ActsOn (by_objects (S.objects store.old)) merge number command.now made (slice_get self.old.objects number)
             (running self.old (known S.objects S.faults store.old)) result (running self.new (known S.objects S.faults store.new)) }

@@ -1,30 +1,28 @@
 -- A compaction of a store's own is what a handle's is.
-use Rattle.std.proofs.Common.{◌≡◌, ℕ, ◌+◌, ◌<◌, ◌≤◌, ◌⊎◌, List, [], ◌∷◌, length, take, cond, Bool, true, false, Option, Some, None, Result, Ok, Err, refl, sym, subst, ap, ◌∙◌, inl, inr, arith}
+use Rattle.std.proofs.Common.{◌≡◌, ℕ, zero, suc, ◌+◌, ◌<◌, ◌≤◌, ◌⊎◌, List, [], ◌∷◌, length, take, cond, Bool, true, false, Option, Some, None, Result, Ok, Err, refl, sym, subst, ap, ◌∙◌, inl, inr, arith}
 use Rattle.std.specs.List.{flat_map}
 use Rattle.std.specs.Prelude.{nat_lt}
-use Rattle.std.proofs.lemmas.Bool.{le-ltb, lt-ltb}
+use Rattle.std.proofs.lemmas.Bool.{le-ltb}
 use Rattle.slate_types.specs.declared.store_errors.StoreFault.TheVariants.{NotFound, Unavailable}
 use Rattle.slate_store.specs.declared.objects.TableId.{TableId}
 use Rattle.slate_store.specs.declared.objects.VersionedManifest.{VersionedManifest}
 use Rattle.slate_store.specs.declared.refusals.StoreRefusal.{StoreRefusal}
 use Rattle.slate_store.specs.declared.refusals.StoreRefusal.TheVariants as refusals
-use Rattle.slate_store.specs.Compaction.{CompactAnswer as StoreAnswer, CompactCause as StoreCause, Compacts, MayCompact, compact_changes, compact_changes_by, tables_at, with_table}
+use Rattle.slate_store.specs.Compaction.{CompactAnswer as StoreAnswer, CompactCause as StoreCause, Compacts, compact_changes, compact_changes_by, tables_at, with_table}
 use Rattle.slate_store.specs.Objects.{Change, Objects, PutManifest, PutTable, latest_manifest}
 use Rattle.slate_store.specs.Refusals.{PartMade as StorePart}
 use Rattle.slate_errors.specs.declared.errors.SlateError.{SlateError}
 use Rattle.slate_model.specs.Changes.{PartMade}
-use Rattle.slate_model.specs.Flush.{tables_put, IsCurrent, FindsCurrent, ManifestCause}
+use Rattle.slate_model.specs.Flush.{tables_put}
 use Rattle.slate_model.specs.Handle.{Handle, next_table}
 use Rattle.slate_model.specs.Refresh.{CompactAnswer, CompactCause, JoinsTables}
 use Rattle.slate_model.specs.Stores.{JoinFault, by_objects}
 use Rattle.slate_errors.specs.declared.errors.SlateError.TheVariants as errors
-use Rattle.slate_writer.specs.Joined.{Joins, JoinsSeveral}
-use Rattle.slate_writer.specs.Refusal.{error_of_refusal}
+use Rattle.slate_writer.specs.Joined.{Joins}
+use Rattle.slate_model.specs.Refusal.{error_of_refusal}
 use Rattle.slate_types.specs.Modelled.{WhereModelled}
 use Rattle.slate_writer.proofs.Modelled.{modelled_from}
 use Rattle.slate_writer.proofs.Puts.{part-tables}
-use Rattle.slate_model.specs.Write.{last_number}
-use Rattle.std.specs.Option.{IfSome}
 
 cause : (h : Handle) (o : Objects) (r : StoreRefusal) → StoreCause (next_table h) o r → CompactCause (JoinFault (next_table h) o) h o (error_of_refusal r)
 cause h o refusals.LatestTransactionalObjectVersionMissing c = c
@@ -96,87 +94,41 @@ none-put : (made : ℕ) (cs : List Change) → made ≡ 0 → tables_put (take m
 none-put made cs none = ap (λ n. tables_put (take n cs)) none
 
 module _ (h new : Handle) (o o' : Objects) (r : Result VersionedManifest StoreRefusal) (made index' : ℕ)
-    (view : new.view ≡ joined_view h r) (raised : new.counter ≡ h.counter + 1) (c : Compacts h.epoch h.counter index' o r made o')
-    (latest : VersionedManifest) (current : IsCurrent h.epoch o latest) (many : 2 ≤ length latest.manifest.tables) where
+    (view : new.view ≡ joined_view h r) (counter : new.counter ≡ index') (c : Compacts h.epoch h.counter index' o r made o') where
   abbrev its_changes : List Change
   its_changes = compact_changes (flat_map (λ batches. batches)) (next_table h) o
 
-  -- a compaction of several tables, of which the count was raised before
-  pub joins : JoinsTables (by_objects (Some o)) h o (joined_answer r) new made o'
-  joins =
-      let one = one-put h o latest current.0 many in
+  -- the count is raised where a table is put, and nowhere else
+  counted-by : ((index' ≡ h.counter) ⊎ (index' ≡ h.counter + 1)) → (h.counter + tables_put (take made its_changes) ≤ new.counter) × (new.counter ≤ h.counter + tables_put its_changes)
+  counted-by (inl same) =
+      let nothing : made ≡ 0 = unused made refl in
+      (let none = none-put made its_changes nothing in omega (arith, none, counter, same), omega (arith, counter, same)) where
+        unused : (n : ℕ) → made ≡ n → made ≡ 0
+        unused zero is = is
+        unused (suc n) is = let raised = c.used (omega (arith, is)) in absurd (omega (arith, raised, same))
+  counted-by (inr more) =
       let few = part-tables made its_changes in
       let most = one-most h o (latest_manifest o) in
-      record {
-        answer = subst (CompactAnswer (JoinFault (next_table h) o) h o (joined_answer r)) (sym view) (answers_of h o r c.answer);
-        part = parts_of r (length its_changes) made c.part;
-        current = λ some. (latest, current);
-        counted = (omega (arith, few, most, raised), omega (arith, one, raised));
-        after = c.after;
-      }
+      let several = c.raised more in
+      let one = one-put h o several.0 several.1.0 several.2 in
+      (omega (arith, few, most, counter, more), omega (arith, one, counter, more))
+
+  pub joins : JoinsTables (by_objects (Some o)) h o (joined_answer r) new made o'
+  joins = record {
+    answer = subst (CompactAnswer (JoinFault (next_table h) o) h o (joined_answer r)) (sym view) (answers_of h o r c.answer);
+    part = parts_of r (length its_changes) made c.part;
+    current = λ some. let several = c.raised (c.used some) in (several.0, several.1);
+    counted = counted-by c.counted;
+    after = c.after;
+  }
 
 -- the same over any store
-pub all-joins : (h new : Handle) (epoch index index' : ℕ) (a b : Option Objects) (r : Result VersionedManifest StoreRefusal) (answer : Result (Unit {0}) SlateError) → epoch ≡ h.epoch → index ≡ h.counter → new.counter ≡ h.counter + 1 → answer ≡ joined_answer r → new.view ≡ joined_view h r →
-    WhereModelled (λ o o'. (made : ℕ) × Compacts epoch index index' o r made o') a b → WhereModelled (λ o o'. (made : ℕ) × JoinsSeveral h answer new made o o') a b
-all-joins h new epoch index index' a b r answer by at raised is view compacts =
+pub all-joins : (h new : Handle) (epoch index index' : ℕ) (a b : Option Objects) (r : Result VersionedManifest StoreRefusal) (answer : Result (Unit {0}) SlateError) → epoch ≡ h.epoch → index ≡ h.counter → new.counter ≡ index' → answer ≡ joined_answer r → new.view ≡ joined_view h r →
+    WhereModelled (λ o o'. (made : ℕ) × Compacts epoch index index' o r made o') a b → WhereModelled (λ o o'. (made : ℕ) × Joins h answer new made o o') a b
+all-joins h new epoch index index' a b r answer by at counter is view compacts =
     modelled_from {P = λ o o'. (made : ℕ) × Compacts epoch index index' o r made o'} refl compacts
     (λ o o' there k. (
       k.0,
-      λ latest current many.
-          subst (λ answer. Joins h answer new k.0 o o') (sym is)
-          (joins h new o o' r k.0 index' view raised (subst (λ e. Compacts e h.counter index' o r k.0 o') by (subst (λ i. Compacts epoch i index' o r k.0 o') at k.1)) latest current many),
+      subst (λ answer. Joins h answer new k.0 o o') (sym is)
+      (joins h new o o' r k.0 index' view counter (subst (λ e. Compacts e h.counter index' o r k.0 o') by (subst (λ i. Compacts epoch i index' o r k.0 o') at k.1))),
     ))
-
--- where no index is left, nothing is put
-pub full-joins : (h : Handle) (o : Objects) → last_number ≤ h.counter → JoinsSeveral h (Err errors.InvalidDBState) h 0 o o
-full-joins h o full latest current many =
-    record {
-      answer = (inl (latest, current, many, inr full), refl);
-      part = omega arith;
-      current = λ some. absurd (omega (arith, some));
-      counted = (omega arith, omega arith);
-      after = refl;
-    }
-
--- the manifest of a handle that joins nothing
-few-changes : (h : Handle) (o : Objects) (latest : VersionedManifest) → latest_manifest o ≡ Some latest → nat_lt (length latest.manifest.tables) 2 ≡ true → compact_changes (flat_map (λ batches. batches)) (next_table h) o ≡ []
-few-changes h o latest is few =
-    ap (changes_by h o) is
-    ∙ ap (λ x. cond x [] (PutTable (next_table h) (flat_map (λ batches. batches) (tables_at o latest.manifest.tables)) ∷ PutManifest (with_table (next_table h) latest).id (with_table (next_table h) latest).manifest ∷ [])) few
-
-pub few-joins : (h : Handle) (view : VersionedManifest) (o : Objects) → IsCurrent h.epoch o view → length view.manifest.tables < 2 → Joins h (Ok tt) (record h { view = view }) 0 o o
-few-joins h view o current few =
-    let yes_few : nat_lt (length view.manifest.tables) 2 ≡ true = lt-ltb (length view.manifest.tables) 2 few in
-    let none = few-changes h o view current.0 yes_few in
-    record {
-      answer = (view, current, sym (ap (λ x. cond x view (with_table (next_table h) view)) yes_few));
-      part = sym (ap length none);
-      current = λ some. absurd (omega (arith, some));
-      counted = (omega arith, omega arith);
-      after = refl;
-    }
-
-manifest-cause : (h : Handle) (o : Objects) (e : SlateError) → ManifestCause h.epoch o e → CompactCause (JoinFault (next_table h) o) h o e × PartMade {A = Unit {0}} (Err e) (length (compact_changes (flat_map (λ batches. batches)) (next_table h) o)) 0
-manifest-cause h o errors.LatestTransactionalObjectVersionMissing cause = (cause, refl)
-manifest-cause h o errors.Fenced cause = (cause, refl)
-manifest-cause h o (errors.ObjectStoreError Unavailable) cause = (tt, omega arith)
-manifest-cause h o errors.NoMemory cause = (tt, omega arith)
-manifest-cause h o e cause = absurd cause
-
--- one that doesn't find its epoch current puts nothing
-pub unfound-joins : (h : Handle) (o : Objects) (e : SlateError) → FindsCurrent h.epoch o (Err e) → Joins h (Err e) h 0 o o
-unfound-joins h o e cause =
-    let c = manifest-cause h o e cause in
-    record {
-      answer = (c.0, refl);
-      part = c.1;
-      current = λ some. absurd (omega (arith, some));
-      counted = (omega arith, omega arith);
-      after = refl;
-    }
-
--- one that finds it, and several tables
-pub several-join : (h new : Handle) (a b c : Option Objects) (r : Result (Unit {0}) SlateError) (latest : VersionedManifest) → b ≡ a → IfSome a (λ o. FindsCurrent h.epoch o (Ok latest)) → 2 ≤ length latest.manifest.tables →
-    WhereModelled (λ o o'. (made : ℕ) × JoinsSeveral h r new made o o') b c → WhereModelled (λ o o'. (made : ℕ) × Joins h r new made o o') a c
-several-join h new a b c r latest kept found many joins =
-    modelled_from kept joins (λ o o' there k. (k.0, k.1 latest (subst (λ x. IfSome x (λ o. FindsCurrent h.epoch o (Ok latest))) there found) many))

@@ -5,13 +5,14 @@ ghost use Rattle.slate_model.specs.Known.{CountsFaults, FaultsRise, known};
 ghost use Rattle.slate_model.specs.Refresh.{Compacts, RefreshAnswer, Refreshes, fenced_result};
 ghost use Rattle.slate_model.specs.Stores.{by_objects};
 ghost use Rattle.slate_store.specs.Calls.{WhereModelled};
-ghost use Rattle.slate_writer.specs.Joined.{Joins, JoinsSeveral};
-ghost use Rattle.slate_writer.specs.Refusal.{error_of_refusal};
+ghost use Rattle.slate_store.specs.Compaction.{compact_calls};
+ghost use Rattle.slate_writer.specs.Joined.{Joins};
 
 use crate::WriterState;
 use crate::flushes::current_manifest;
 use slate_errors::{CloseFault, SlateError};
-use slate_store::{Store, StoreRefusal, compact_tables};
+use slate_model::error_of_refusal;
+use slate_store::{Store, compact_tables};
 use std::alloc::Global;
 
 impl WriterState {
@@ -45,7 +46,7 @@ impl WriterState {
     /// the batches from memory that are in its tables. The tables that were joined stay stored, and all rows are read as
     /// before.
     ///
-    /// It calls the store four times and once for each table. It takes time linear in the operations of the tables, with a
+    /// It calls the store three times and once for each table. It takes time linear in the operations of the tables, with a
     /// logarithm of the keys for each key, and copies no keys and no values.
     ///
     /// On a closed handle it answers `Closed` or the error that closed it, and touches no store. `Fenced`, where another
@@ -58,6 +59,7 @@ impl WriterState {
     pub fn compact<S: Store>(&mut self, alloc: Global, store: &mut S) -> Result<(), SlateError>
         ensures does { (made : ℕ) × Compacts (by_objects (S.objects store.old)) made self.old (known S.objects S.faults store.old) result self.new (known S.objects S.faults store.new) }
         ensures count { S.faults store.old ≤ S.faults store.new }
+        ensures calls { IfSome (S.objects store.old) (λ o. S.calls store.new ≤ S.calls store.old + compact_calls o) }
         ensures untouched { (self.old.result ≡ None → ⊥) → store.new ≡ store.old }
     {
         if let Some(result) = self.closed() {
@@ -87,32 +89,14 @@ impl WriterState {
     fn join_tables<S: Store>(&mut self, alloc: Global, store: &mut S) -> Result<(), SlateError>
         ensures moved { self.new ≡ record self.old { counter = self.new.counter; view = self.new.view } }
         ensures faults { FaultsRise (S.faults store.old) (S.faults store.new) result }
+        ensures calls { IfSome (S.objects store.old) (λ o. S.calls store.new ≤ S.calls store.old + compact_calls o) }
         ensures joins { WhereModelled (λ o o'. (made : ℕ) × Joins self.old result self.new made o o') (S.objects store.old) (S.objects store.new) }
         ensures counter { (self.old.counter ≤ self.new.counter) × (self.new.counter ≤ self.old.counter + 1) }
     {
-        let latest = current_manifest(alloc, store, self.epoch)?;
-        if latest.manifest.tables.as_slice().len() >= 2 {
-            return self.join_several(alloc, store);
-        }
-        let durable = self.durable();
-        self.status.report_view(durable, latest);
-        Ok(())
-    }
-
-    /// Joins the tables of the latest manifest, by which it may write and of which there are several. The count of its
-    /// tables is raised before.
-    fn join_several<S: Store>(&mut self, alloc: Global, store: &mut S) -> Result<(), SlateError>
-        ensures moved { self.new ≡ record self.old { counter = self.new.counter; view = self.new.view } }
-        ensures faults { FaultsRise (S.faults store.old) (S.faults store.new) result }
-        ensures joins { WhereModelled (λ o o'. (made : ℕ) × JoinsSeveral self.old result self.new made o o') (S.objects store.old) (S.objects store.new) }
-        ensures counter { (self.old.counter ≤ self.new.counter) × (self.new.counter ≤ self.old.counter + 1) }
-    {
         let mut index = self.counter;
-        let Some(next_index) = index.checked_add(1) else {
-            return Err(SlateError::InvalidDBState);
-        };
-        self.counter = next_index;
-        match compact_tables(alloc, store, self.epoch, &mut index) {
+        let joined = compact_tables(alloc, store, self.epoch, &mut index);
+        self.counter = index;
+        match joined {
             Ok(manifest) => {
                 let durable = self.durable();
                 self.status.report_view(durable, manifest);
@@ -132,27 +116,5 @@ impl WriterState {
         if let Err(SlateError::Fenced) = answer {
             self.status.report_closed(Err(CloseFault::Fenced));
         }
-    }
-}
-
-/// The error that a refusal is answered with: that of its name.
-fn error_of_refusal(refusal: StoreRefusal) -> SlateError
-    ensures { result ≡ error_of_refusal refusal }
-{
-    match refusal {
-        StoreRefusal::CheckpointMissing(id) => SlateError::CheckpointMissing(id),
-        StoreRefusal::LatestTransactionalObjectVersionMissing => {
-            SlateError::LatestTransactionalObjectVersionMissing
-        }
-        StoreRefusal::Fenced => SlateError::Fenced,
-        StoreRefusal::InvalidDBState => SlateError::InvalidDBState,
-        StoreRefusal::ObjectStoreError(fault) => SlateError::ObjectStoreError(fault),
-        StoreRefusal::TransactionalObjectVersionExists => {
-            SlateError::TransactionalObjectVersionExists
-        }
-        StoreRefusal::TransactionalObjectTimeout { tries } => {
-            SlateError::TransactionalObjectTimeout { tries }
-        }
-        StoreRefusal::NoMemory => SlateError::NoMemory,
     }
 }

@@ -1,21 +1,22 @@
 -- What a committed checkpoint and a sweep leave of objects, and what a world knows of it.
-use Rattle.std.proofs.Common.{◌≡◌, ◌≢◌, ◌⊎◌, ℕ, zero, suc, ◌+◌, ◌<◌, ◌≤◌, ◌∙◌, List, [], ◌∷◌, ◌++◌, length, map, cond, not, ltb, Bool, true, false, Option, Some, None, Result, Ok, Err, refl, sym, ap, subst, inl, inr, arith}
+use Rattle.std.proofs.Common.{◌≡◌, ◌≢◌, ◌⊎◌, ℕ, zero, suc, ◌+◌, ◌∙◌, List, [], ◌∷◌, ◌++◌, length, map, cond, not, Bool, true, false, Option, Some, None, Result, Ok, Err, refl, sym, ap, subst, inl, inr, arith}
 use Rattle.std.proofs.lemmas.Bool.{ltb-false}
 use Rattle.std.proofs.lemmas.List.Elements.{All-append, All-cons, All-head, All-map, All-nil, All-tail}
+use Rattle.std.proofs.lemmas.List.{length-map, map-append}
 use Rattle.std.proofs.lemmas.Map.Entries.{lookup-filter-keys}
 use Rattle.std.specs.BTreeMap.{is_at}
 use Rattle.std.specs.List.{All, Contains, filter}
 use Rattle.std.specs.Option.{option_map}
 use Rattle.std.specs.Prelude.{ℤ, nat_lt}
 use Rattle.slate_store.proofs.Checkpointed.{recheckpointed, some-differ, some-kept, write-keeps}
-use Rattle.slate_store.proofs.Entries.{insert-last, last-push, lookup-without, same_table, table_total, tied}
-use Rattle.slate_store.proofs.Latest.{all-greatest, ids-within}
+use Rattle.slate_store.proofs.Entries.{absent, insert-last, last-push, lookup-without, same_table, table_total, tied}
+use Rattle.slate_store.proofs.Latest.{all-greatest, ids-within, its-objects}
 use Rattle.slate_store.proofs.Parts.{part-more, part-none, part-one}
 use Rattle.slate_store.proofs.Removed.{IsSpare, removed-part}
 use Rattle.slate_store.proofs.Swept.{fails, sweep-keeps}
 use Rattle.slate_store.specs.Checkpoints.{Plan, is_expired, new_checkpoint, to_write, with_checkpoints}
-use Rattle.slate_store.specs.Content.{IsSound, content}
-use Rattle.slate_store.specs.Objects.{Change, ChangeOf, Objects, PutLog, PutManifest, PutTable, RemoveLog, RemoveManifest, RemoveTable, changed, changed_all, is_present, last, latest_manifest, table_at, table_cmp, versioned}
+use Rattle.slate_store.specs.Content.{IsPinned, IsSound, content}
+use Rattle.slate_store.specs.Objects.{Change, ChangeOf, Objects, PutLog, PutManifest, PutTable, RemoveLog, RemoveManifest, RemoveTable, changed, changed_all, entry_at, is_present, last, latest_manifest, table_at, table_cmp, versioned}
 use Rattle.slate_store.specs.Refusals as calls
 use Rattle.slate_store.specs.Refusals.{FollowsPlan, planned, planned_after}
 use Rattle.slate_store.specs.Sweeps as sweeps
@@ -26,13 +27,18 @@ use Rattle.slate_store.specs.declared.objects.TableId.{TableId}
 use Rattle.slate_store.specs.declared.objects.VersionedManifest.{VersionedManifest}
 use Rattle.slate_store.specs.declared.refusals.StoreRefusal.TheVariants as refusals
 use Rattle.slate_store.specs.declared.refusals.StoreRefusal.{StoreRefusal}
+use Rattle.slate_types.specs.Line.{Line}
+use Rattle.slate_types.specs.declared.batches.Batch.{Batch}
 use Rattle.slate_types.specs.declared.store_errors.StoreFault.TheVariants.{NotFound, Unavailable}
 use Rattle.slate_errors.specs.declared.errors.SlateError.{SlateError}
 use Rattle.slate_errors.specs.declared.errors.SlateError.TheVariants as errors
+use Rattle.slate_model.proofs.Catalogued.{catalogue-after, reduced, spanned}
+use Rattle.slate_model.proofs.Reduced.{as_modelled, catalogued, holding, modelled}
+use Rattle.slate_model.specs.Catalogue.{Span, catalogue_of}
 use Rattle.slate_model.specs.Changes.{PartMade, after_part}
-use Rattle.slate_model.specs.Maintain.{CheckpointAnswer, CheckpointCause, CommitsCheckpoint, SweepsAnswer, SweepsCause, SweepsObjects, commit_changes}
+use Rattle.slate_model.specs.Maintain.{CheckpointAnswer, CheckpointCause, Checkpoints, CommitsCheckpoint, Sweeps, SweepsAnswer, SweepsCause, SweepsObjects, commit_changes}
 use Rattle.slate_model.specs.Refusal.{error_of_refusal}
-use Rattle.slate_model.specs.Stores.{Stands, SweepFault, by_objects}
+use Rattle.slate_model.specs.Stores.{Stands, SweepFault, by_catalogue, by_objects}
 use Rattle.slate_model.specs.Write.{last_number}
 
 -- ---- what they leave of sound objects
@@ -296,3 +302,211 @@ sweeps-by moment o o' made r swept = record {
   part = answered-part r (length (sweep_changes moment o)) made swept.part;
   after = swept.after;
 }
+
+-- ---- what a world knows of them
+-- the entries that pass a test of their ids, as they are known
+passed-known : {K : Type 0} (test : K → Bool) (es : List (K × List Batch)) → map spanned (filter (λ e. test e.0) es) ≡ filter (λ e. test e.0) (map spanned es)
+passed-known test [] = refl
+passed-known {K} test (e ∷ es) = by (test e.0) (passed-known test es) where
+  by : (b : Bool) → map spanned (filter (λ e. test e.0) es) ≡ filter (λ e. test e.0) (map spanned es) → map spanned (cond b (e ∷ filter (λ e. test e.0) es) (filter (λ e. test e.0) es)) ≡ cond b (spanned e ∷ filter (λ e. test e.0) (map spanned es)) (filter (λ e. test e.0) (map spanned es))
+  by true later = ap (λ rest. spanned e ∷ rest) later
+  by false later = later
+
+-- what is protected, as it is known
+protected-known : (latest : VersionedManifest) (o : Objects) → catalogue_of (sweeps.protected latest o) ≡ sweeps.protected latest (catalogue_of o)
+protected-known latest o =
+    let logs = passed-known (keeps_log (protecting latest o)) o.logs in
+    let tables = passed-known (keeps_table (protecting latest o)) o.tables in
+    λ i. record { manifests = filter (λ entry. keeps_manifest latest entry.0) o.manifests; logs = logs i; tables = tables i }
+
+-- the changes that name the ids of entries
+named-known : {K X : Type 0} (f : K → Change) (g : K → ChangeOf Span) → ((k : K) → reduced (f k) ≡ g k) → (es : List (K × X)) → map reduced (map (λ e. f e.0) es) ≡ map (λ e. g e.0) es
+named-known f g same [] = refl
+named-known f g same (e ∷ es) = ap (λ c. c ∷ map reduced (map (λ e. f e.0) es)) (same e.0) ∙ ap (λ cs. g e.0 ∷ cs) (named-known f g same es)
+
+ids-known : {K : Type 0} (g : K → ChangeOf Span) (es : List (K × List Batch)) → map (λ e. g e.0) es ≡ map (λ e. g e.0) (map spanned es)
+ids-known g [] = refl
+ids-known g (e ∷ es) = ap (λ cs. g e.0 ∷ cs) (ids-known g es)
+
+-- the removals of the log files or tables that pass a test
+removed-known : {K : Type 0} (f : K → Change) (g : K → ChangeOf Span) (test : K → Bool) → ((k : K) → reduced (f k) ≡ g k) → (es : List (K × List Batch)) → map reduced (map (λ e. f e.0) (filter (λ e. test e.0) es)) ≡ map (λ e. g e.0) (filter (λ e. test e.0) (map spanned es))
+removed-known f g test same es =
+    named-known f g same (filter (λ e. test e.0) es)
+    ∙ (ids-known g (filter (λ e. test e.0) es) ∙ ap (map (λ e. g e.0)) (passed-known test es))
+
+removals-known : (latest : VersionedManifest) (o : Objects) → map reduced (removals latest o) ≡ removals latest (catalogue_of o)
+removals-known latest o =
+    let tables = map (λ table. RemoveTable table.0) (filter (λ table. not (keeps_table (protecting latest o) table.0)) o.tables) in
+    let logs = map (λ log. RemoveLog log.0) (filter (λ log. not (keeps_log (protecting latest o) log.0)) o.logs) in
+    let manifests = filter (λ entry. not (keeps_manifest latest entry.0)) o.manifests in
+    let known_tables = removed-known (λ id. RemoveTable id) (λ id. RemoveTable id) (λ id. not (keeps_table (protecting latest o) id)) (λ id. refl) o.tables in
+    let known_logs = removed-known (λ id. RemoveLog id) (λ id. RemoveLog id) (λ id. not (keeps_log (protecting latest o) id)) (λ id. refl) o.logs in
+    let known_manifests = named-known (λ id. RemoveManifest id) (λ id. RemoveManifest id) (λ id. refl) manifests in
+    let one : List (ChangeOf Span) = map (λ table. RemoveTable table.0) (filter (λ table. not (keeps_table (protecting latest o) table.0)) (catalogue_of o).tables) in
+    let two : List (ChangeOf Span) = map (λ log. RemoveLog log.0) (filter (λ log. not (keeps_log (protecting latest o) log.0)) (catalogue_of o).logs) in
+    map-append reduced tables (logs ++ map (λ entry. RemoveManifest entry.0) manifests)
+    ∙ (ap (λ cs. cs ++ map reduced (logs ++ map (λ entry. RemoveManifest entry.0) manifests)) known_tables
+    ∙ ap (λ cs. one ++ cs)
+    (map-append reduced logs (map (λ entry. RemoveManifest entry.0) manifests)
+    ∙ (ap (λ cs. cs ++ map reduced (map (λ entry. RemoveManifest entry.0) manifests)) known_logs ∙ ap (λ cs. two ++ cs) known_manifests)))
+
+-- the changes that take out the expired checkpoints
+abbrev expiries_by : {L : Type 0} → ℤ → VersionedManifest → Bool → List (ChangeOf L)
+expiries_by moment latest b = let next = cond b (unexpired moment latest) latest in cond b (PutManifest next.id next.manifest ∷ []) []
+
+expiries_by-known : (moment : ℤ) (latest : VersionedManifest) (b : Bool) → map reduced (expiries_by moment latest b) ≡ expiries_by moment latest b
+expiries_by-known moment latest true = refl
+expiries_by-known moment latest false = refl
+
+expired_by-known : (moment : ℤ) (latest : VersionedManifest) (b : Bool) (o : Objects) → catalogue_of (changed_all (expiries_by moment latest b) o) ≡ changed_all (expiries_by moment latest b) (catalogue_of o)
+expired_by-known moment latest true o = refl
+expired_by-known moment latest false o = refl
+
+module _ (moment : ℤ) (latest : VersionedManifest) (o : Objects) where
+  expired-known : catalogue_of (changed_all (expiries moment latest) o) ≡ changed_all (expiries moment latest) (catalogue_of o)
+  expired-known = expired_by-known moment latest (has_expired moment latest) o
+
+  -- what a sweep removes then, and leaves
+  unprotected-known : map reduced (removals (without_expired moment latest) (changed_all (expiries moment latest) o)) ≡ removals (without_expired moment latest) (changed_all (expiries moment latest) (catalogue_of o))
+  unprotected-known = removals-known (without_expired moment latest) (changed_all (expiries moment latest) o) ∙ ap (removals (without_expired moment latest)) expired-known
+
+  swept-known : catalogue_of (sweeps.swept moment latest o) ≡ sweeps.swept moment latest (catalogue_of o)
+  swept-known = protected-known (without_expired moment latest) (changed_all (expiries moment latest) o) ∙ ap (sweeps.protected (without_expired moment latest)) expired-known
+
+sweep_by-known : (moment : ℤ) (o : Objects) (found : Option VersionedManifest) → map reduced (sweep_changes_by moment o found) ≡ sweep_changes_by moment (catalogue_of o) found
+sweep_by-known moment o None = refl
+sweep_by-known moment o (Some latest) =
+    let left = removals (without_expired moment latest) (changed_all (expiries moment latest) o) in
+    map-append reduced (expiries moment latest) left
+    ∙ (ap (λ cs. cs ++ map reduced left) (expiries_by-known moment latest (has_expired moment latest))
+    ∙ ap (λ cs. expiries moment latest ++ cs) (unprotected-known moment latest o))
+
+-- the changes of a sweep, as they are known
+pub sweep_changes-known : (moment : ℤ) (o : Objects) → map reduced (sweep_changes moment o) ≡ sweep_changes moment (catalogue_of o)
+sweep_changes-known moment o = sweep_by-known moment o (latest_manifest o)
+
+planned-known : {A : Type 0} (plan : Plan A) → map reduced (planned plan) ≡ planned plan
+planned-known (Ok (Some next, answer)) = refl
+planned-known (Ok (None, answer)) = refl
+planned-known (Err refusal) = refl
+
+commit_by-known : (lifetime : Option ℕ) (moment : ℤ) (found : Option VersionedManifest) → map reduced (planned_after (to_write None lifetime moment) found) ≡ planned_after (to_write None lifetime moment) found
+commit_by-known lifetime moment None = refl
+commit_by-known lifetime moment (Some latest) = planned-known (to_write None lifetime moment latest)
+
+-- and the change that commits a checkpoint
+pub commit_changes-known : (lifetime : Option ℕ) (moment : ℤ) (o : Objects) → map reduced (commit_changes lifetime moment o) ≡ commit_changes lifetime moment (catalogue_of o)
+commit_changes-known lifetime moment o = commit_by-known lifetime moment (latest_manifest o)
+
+-- as many changes are made of what is known
+part-known : {A : Type 0} (r : Result A SlateError) (cs : List Change) (ds : List (ChangeOf Span)) (made : ℕ) → map reduced cs ≡ ds → PartMade r (length cs) made → PartMade r (length ds) made
+part-known r cs ds made same part = subst (λ n. PartMade r n made) (sym (length-map cs reduced) ∙ ap length same) part
+
+after-known : (cs : List Change) (ds : List (ChangeOf Span)) (made : ℕ) (o o' : Objects) → map reduced cs ≡ ds → o' ≡ after_part made cs o → catalogue_of o' ≡ after_part made ds (catalogue_of o)
+after-known cs ds made o o' same after = ap catalogue_of after ∙ (catalogue-after made cs o ∙ ap (λ ds. after_part made ds (catalogue_of o)) same)
+
+-- ---- over sound objects none stands under the id after the latest manifest's
+-- what holds of all of a list holds of one of them
+contained : {X : Type 0} (P : X → Type 0) (xs : List X) (x : X) → All P xs → Contains xs x → P x
+contained P xs x all c = subst P c.2 (all c.0 x c.1)
+
+abbrev IsFree : Objects → Change → Type 0
+IsFree o c = is_present c o ≡ false
+
+module _ (o : Objects) (sound : IsSound o) where
+  manifest-free : (latest : VersionedManifest) (m : Manifest) → latest_manifest o ≡ Some latest → IsFree o (PutManifest (latest.id + 1) m)
+  manifest-free latest m is =
+      let top = all-greatest latest.id 0 (map (λ e. e.0) o.manifests) (ids-within o latest sound is) in
+      rw (absent (latest.id + 1) 0 o.manifests (omega (arith, top))) refl
+
+  module _ (lifetime : Option ℕ) (moment : ℤ) where
+    plan-free : (latest : VersionedManifest) (b : Bool) → latest_manifest o ≡ Some latest → All (IsFree o) (planned (plan_by lifetime moment latest b))
+    plan-free latest true is =
+        let next = committing lifetime moment latest in
+        All-cons (IsFree o) (PutManifest next.id next.manifest) [] (manifest-free latest next.manifest is) (All-nil (IsFree o))
+    plan-free latest false is = All-nil (IsFree o)
+
+    commit-free : (found : Option VersionedManifest) → latest_manifest o ≡ found → All (IsFree o) (planned_after (to_write None lifetime moment) found)
+    commit-free None is = All-nil (IsFree o)
+    commit-free (Some latest) is = plan-free latest (nat_lt latest.id last_number) is
+
+    none-stands : Stands (commit_changes lifetime moment o) o → ⊥
+    none-stands s =
+        let free = contained (IsFree o) (commit_changes lifetime moment o) s.0 (commit-free (latest_manifest o) refl) s.1 in
+        let present = s.2 in
+        absurd (cc (free, present))
+
+    cause-known : (e : SlateError) → CheckpointCause (Stands (commit_changes lifetime moment o) o) o e → CheckpointCause ⊥ (catalogue_of o) e
+    cause-known errors.LatestTransactionalObjectVersionMissing c = c
+    cause-known errors.InvalidDBState c = c
+    cause-known (errors.TransactionalObjectTimeout tries) c = absurd (none-stands c.1)
+    cause-known (errors.ObjectStoreError Unavailable) c = tt
+    cause-known errors.NoMemory c = tt
+    cause-known e c = absurd c
+
+    checkpoint_answer-known : (r : Result Checkpoint SlateError) → CheckpointAnswer (Stands (commit_changes lifetime moment o) o) lifetime moment o r → CheckpointAnswer ⊥ lifetime moment (catalogue_of o) r
+    checkpoint_answer-known (Ok checkpoint) a = a
+    checkpoint_answer-known (Err e) a = cause-known e a
+
+  -- nor is a manifest missing that a checkpoint keeps
+  all-kept : (latest : VersionedManifest) (checkpoint : Checkpoint) → latest_manifest o ≡ Some latest → Contains latest.manifest.checkpoints checkpoint → entry_at checkpoint.manifest_id o.manifests ≢ None
+  all-kept latest checkpoint is among none =
+      let pinned = contained (IsPinned o latest) latest.manifest.checkpoints checkpoint (its-objects o latest sound is).pinned among in
+      let kept = pinned.kept in
+      absurd (cc (kept, none))
+
+  module _ (moment : ℤ) where
+    swept-sound : (e : SlateError) → SweepFault moment o e → ⊥
+    swept-sound errors.TransactionalObjectVersionExists f =
+        let free = manifest-free f.0 (f.0).manifest f.1 in
+        let present = f.3 in
+        absurd (cc (free, present))
+    swept-sound (errors.ObjectStoreError NotFound) f = all-kept f.0 f.1 f.2 f.3 f.4
+    swept-sound e f = absurd f
+
+    sweeps_cause-known : (e : SlateError) → SweepsCause (SweepFault moment o) moment o e → SweepsCause (λ e. ⊥) moment (catalogue_of o) e
+    sweeps_cause-known errors.LatestTransactionalObjectVersionMissing c = c
+    sweeps_cause-known errors.InvalidDBState c = c
+    sweeps_cause-known errors.TransactionalObjectVersionExists c = swept-sound errors.TransactionalObjectVersionExists c
+    sweeps_cause-known (errors.ObjectStoreError NotFound) c = swept-sound (errors.ObjectStoreError NotFound) c
+    sweeps_cause-known (errors.ObjectStoreError Unavailable) c = tt
+    sweeps_cause-known errors.NoMemory c = tt
+    sweeps_cause-known e c = absurd c
+
+    sweeps_answer-known : (r : Result ℕ SlateError) (o' : Objects) → SweepsAnswer (SweepFault moment o) moment o r o' → SweepsAnswer (λ e. ⊥) moment (catalogue_of o) r (catalogue_of o')
+    sweeps_answer-known (Ok count) o' a =
+        let left = removals (without_expired moment a.0) (changed_all (expiries moment a.0) o) in (
+          a.0,
+          a.1,
+          ap catalogue_of a.2 ∙ swept-known moment a.0 o,
+          a.3 ∙ (sym (length-map left reduced) ∙ ap length (unprotected-known moment a.0 o)),
+        )
+    sweeps_answer-known (Err e) o' a = sweeps_cause-known e a
+
+-- a checkpoint that is committed over sound objects
+pub checkpoints-reduced : (stored : Line) (made : ℕ) (lifetime : Option ℕ) (moment : ℤ) (r : Result Checkpoint SlateError) (o o' : Objects) (f f' : ℕ) → IsSound o → Checkpoints (by_objects (Some o)) made lifetime moment (holding o f) r (holding o' f') → Checkpoints (by_catalogue stored (catalogue_of o)) made lifetime moment (catalogued o f) r (catalogued o' f')
+checkpoints-reduced stored made lifetime moment r o o' f f' sound s =
+    let d = modelled o o' s.objects in
+    let same = commit_changes-known lifetime moment o in
+    record {
+      faults = s.faults;
+      objects = as_modelled (catalogue_of o) (catalogue_of o') (record {
+        answer = checkpoint_answer-known o sound lifetime moment r d.answer;
+        part = part-known r (commit_changes lifetime moment o) (commit_changes lifetime moment (catalogue_of o)) made same d.part;
+        after = after-known (commit_changes lifetime moment o) (commit_changes lifetime moment (catalogue_of o)) made o o' same d.after;
+      });
+    }
+
+-- and a sweep of them
+pub sweeps-reduced : (stored : Line) (made : ℕ) (moment : ℤ) (r : Result ℕ SlateError) (o o' : Objects) (f f' : ℕ) → IsSound o → Sweeps (by_objects (Some o)) made moment (holding o f) r (holding o' f') → Sweeps (by_catalogue stored (catalogue_of o)) made moment (catalogued o f) r (catalogued o' f')
+sweeps-reduced stored made moment r o o' f f' sound s =
+    let d = modelled o o' s.objects in
+    let same = sweep_changes-known moment o in
+    record {
+      faults = s.faults;
+      objects = as_modelled (catalogue_of o) (catalogue_of o') (record {
+        answer = sweeps_answer-known o sound moment r o' d.answer;
+        part = part-known r (sweep_changes moment o) (sweep_changes moment (catalogue_of o)) made same d.part;
+        after = after-known (sweep_changes moment o) (sweep_changes moment (catalogue_of o)) made o o' same d.after;
+      });
+    }

@@ -37,6 +37,8 @@ stands_start o store live no_object no_write is sound =
         line = sound.line;
         followers = λ n f at. absurd (cc);
         handles = λ n h at. absurd (cc);
+        named = λ m n h x at_m at_n. absurd (cc);
+        past = λ n x at. absurd (cc);
         distinct = λ m n a b at_m at_n epochs. absurd (cc);
       };
     }

@@ -15,7 +15,11 @@ use Rattle.slate_types.specs.declared.store_errors.StoreFault.{StoreFault}
 use Rattle.slate_types.specs.declared.store_errors.StoreFault.TheVariants.{NotFound, Unavailable}
 use Rattle.slate_store.specs.declared.objects.VersionedManifest.{VersionedManifest}
 use Rattle.slate_rows.specs.Iteration.{Iteration}
+use Rattle.slate_store.specs.declared.objects.Checkpoint.{Checkpoint}
 use Rattle.slate_store.specs.declared.objects.TableId.{TableId}
+use Rattle.slate_store.specs.Sweeps.{has_expired}
+use Rattle.slate_model.specs.Catalogue.{Catalogue}
+use Rattle.slate_model.specs.Maintain.{CheckpointAnswer, SweepsAnswer}
 use Rattle.slate_store.specs.Objects.{latest_manifest, last_log, table_at}
 use Rattle.slate_errors.specs.declared.endings.Ended.{Ended}
 use Rattle.slate_errors.specs.declared.errors.SlateError.{SlateError}
@@ -24,9 +28,10 @@ use Rattle.slate_model.specs.Close.{Closes, closing_flush, ended, fault_again, r
 use Rattle.slate_model.specs.declared.answers.PollAnswer.{PollAnswer}
 use Rattle.slate_model.specs.declared.answers.Written.{Written}
 use Rattle.slate_model.specs.Flush.{FlushCause, Flushes, ManifestCause, Stores, has_ids}
-use Rattle.slate_model.specs.Follower.{FollowCause, Follower, Rebuilds, built, can_follow}
+use Rattle.slate_model.specs.Follow.{FollowCause, Rebuilds, built, can_follow}
+use Rattle.slate_model.specs.Follower.{Follower}
 use Rattle.slate_model.specs.Handle.{CloseResult, Handle, accepted}
-use Rattle.slate_model.specs.Known.{CountsFaults}
+use Rattle.slate_model.specs.Known.{CountsFaults, FaultsRise}
 use Rattle.slate_model.specs.Object.{Object, Handle as AHandle, Follower as AFollower}
 use Rattle.slate_model.specs.Open.{OpenAnswer}
 use Rattle.slate_model.specs.Read.{AnswersRead, Gives, ReadsTables}
@@ -40,7 +45,7 @@ use Rattle.slate_script.specs.declared.commands.Command.{Command}
 use Rattle.slate_script.specs.declared.replies.Reply.{Reply}
 use Rattle.slate_script.specs.declared.replies.Reply.TheVariants as replies
 use Rattle.slate_live.specs.declared.states.Write.{Write}
-use Rattle.slate_live.specs.Calls.{Call, Write as WriteCall, Merge as MergeCall, Flush, Refresh, Compact, Get, Scan, Seek, Close, Poll, Status, Nothing, call_of, Target, NewHandle, NewFollower, OfWrite, OfObject, target_of}
+use Rattle.slate_live.specs.Calls.{Call, Write as WriteCall, Merge as MergeCall, Flush, Refresh, Compact, Get, Scan, Seek, Close, Poll, Status, Nothing, call_of, Target, NewHandle, NewFollower, NewCheckpoint, WholeStore, OfWrite, OfObject, target_of}
 use Rattle.slate_live.specs.Commands.{ActsOn, DoesBy, asked_reply, write_reply}
 use Rattle.slate_live.specs.Followers.{FollowerActs}
 use Rattle.slate_live.specs.Handles.{HandleActs, MergesTo, WritesTo, flush_type_by, pending_reply}
@@ -48,7 +53,7 @@ use Rattle.slate_live.specs.Replies.{AnswersStatus, IsRead, closed_reply, ended_
 use Rattle.slate_live.specs.Represents.{IsValid}
 use Rattle.slate_live.specs.Scans.{IsTaken, Takes, scanned, sought}
 use Rattle.slate_live.specs.Settings.{Settings}
-use Rattle.slate_live.specs.Valid.{AtObject, CanAsk, CanAskFollower, CanClose, CanCompact, CanFollow, CanOpen, CanRead, CanRefresh, CanStore, CanTake, CanWrite, IsDurable, IsOkOrNoMemory, IsValidAt, IsValidCommand}
+use Rattle.slate_live.specs.Valid.{AtObject, CanAsk, CanAskFollower, CanCheckpoint, CanClose, CanCompact, CanFollow, CanOpen, CanRead, CanRefresh, CanStore, CanSweep, CanTake, CanWrite, IsDurable, IsOkOrNoMemory, IsValidAt, IsValidCommand}
 use Rattle.slate_live.specs.World.{Next, World, state_of}
 use Rattle.slate_live.proofs.Cases.{some-of}
 use Rattle.slate_live.proofs.Naming.{follower-did, handle-did}
@@ -256,18 +261,46 @@ follow-cause w opening faults (errors.ObjectStoreError Unavailable) cause fault 
 follow-cause w opening faults errors.NoMemory cause fault can calm = refl
 follow-cause w opening faults error cause fault can calm = absurd cause
 
-rebuild-free : (w w' : World) (opening : Bool) (r : Result (Follower × PollAnswer) SlateError) → Rebuilds (λ line. line ≡ w.stored) opening (state_of w).store r (state_of w').store → CanFollow opening w → (HasRisen w.faults w'.faults → ⊥) → IsFree r
+rebuild-free : (w w' : World) (opening : Bool) (r : Result (Follower × PollAnswer) SlateError) → Rebuilds (by_catalogue w.stored w.catalogue) opening (state_of w).store r (state_of w').store → CanFollow opening w → (HasRisen w.faults w'.faults → ⊥) → IsFree r
 rebuild-free w w' opening (Ok b) built can calm = tt
 rebuild-free w w' opening (Err e) built can calm = follow-cause w opening w'.faults e built.cause built.faults can calm
 
+-- a checkpoint and a sweep of a world in which they can be made
+checkpoint-free : (lifetime : Option ℕ) (moment : ℤ) (w : World) (faults : ℕ) (r : Result Checkpoint SlateError) → CheckpointAnswer ⊥ lifetime moment w.catalogue r → CountsFaults w.faults faults r → CanCheckpoint w → (HasRisen w.faults faults → ⊥) → IsFree r
+checkpoint-free lifetime moment w faults (Ok checkpoint) answer counts can calm = tt
+checkpoint-free lifetime moment w faults (Err errors.LatestTransactionalObjectVersionMissing) answer counts can calm = absurd (none-some (latest_manifest w.catalogue) can.0 answer can.1)
+checkpoint-free lifetime moment w faults (Err errors.InvalidDBState) answer counts can calm =
+    let same = same-manifest (latest_manifest w.catalogue) answer.0 can.0 answer.1 can.1 in
+    let id = ap (λ (m : VersionedManifest). m.id) same in
+    let high = answer.2 in
+    let low = can.2 in
+    absurd (omega (arith, id, high, low))
+checkpoint-free lifetime moment w faults (Err (errors.TransactionalObjectTimeout tries)) answer counts can calm = absurd answer.1
+checkpoint-free lifetime moment w faults (Err (errors.ObjectStoreError Unavailable)) answer counts can calm = absurd (calm (counts.unavailable refl))
+checkpoint-free lifetime moment w faults (Err errors.NoMemory) answer counts can calm = refl
+checkpoint-free lifetime moment w faults (Err error) answer counts can calm = absurd answer
+
+sweep-free : (w : World) (after : Catalogue) (faults : ℕ) (moment : ℤ) (r : Result ℕ SlateError) → SweepsAnswer (λ e. ⊥) moment w.catalogue r after → FaultsRise w.faults faults r → CanSweep w moment → (HasRisen w.faults faults → ⊥) → IsFree r
+sweep-free w after faults moment (Ok count) answer counts can calm = tt
+sweep-free w after faults moment (Err errors.LatestTransactionalObjectVersionMissing) answer counts can calm = absurd (none-some (latest_manifest w.catalogue) can.0 answer can.1)
+sweep-free w after faults moment (Err errors.InvalidDBState) answer counts can calm =
+    let same = same-manifest (latest_manifest w.catalogue) answer.0 can.0 answer.1 can.1 in
+    let low = can.2 (subst (λ (m : VersionedManifest). has_expired moment m ≡ true) same answer.2) in
+    let id = ap (λ (m : VersionedManifest). m.id) same in
+    let high = answer.3 in
+    absurd (omega (arith, id, high, low))
+sweep-free w after faults moment (Err (errors.ObjectStoreError Unavailable)) answer counts can calm = absurd (calm (counts.unavailable refl))
+sweep-free w after faults moment (Err errors.NoMemory) answer counts can calm = refl
+sweep-free w after faults moment (Err error) answer counts can calm = absurd answer
+
 -- over an honest store nothing is missing
-follow-reply : (w w' : World) (n : ℕ) (r : Result (Follower × PollAnswer) SlateError) → Rebuilds (λ line. line ≡ w.stored) true (state_of w).store r (state_of w').store → CanFollow true w → (HasRisen w.faults w'.faults → ⊥) → IsOkOrNoMemory (reply_to (λ (b : Follower × PollAnswer). followed_reply n b.1) r)
+follow-reply : (w w' : World) (n : ℕ) (r : Result (Follower × PollAnswer) SlateError) → Rebuilds (by_catalogue w.stored w.catalogue) true (state_of w).store r (state_of w').store → CanFollow true w → (HasRisen w.faults w'.faults → ⊥) → IsOkOrNoMemory (reply_to (λ (b : Follower × PollAnswer). followed_reply n b.1) r)
 follow-reply w w' n (Ok b) r can calm =
     let all = r.sees w.catalogue w.stored refl refl in
     subst (λ a. IsOkOrNoMemory (followed_reply n a)) (sym all.3) tt
 follow-reply w w' n (Err e) r can calm = subst (λ x. IsOkOrNoMemory (refusal x)) (sym (rebuild-free w w' true (Err e) r can calm)) tt
 
-poll-reply : (w w' : World) (f : Follower) (r : Result PollAnswer SlateError) → Rebuilds (λ line. line ≡ w.stored) false (state_of w).store (built f r) (state_of w').store → CanFollow false w → (HasRisen w.faults w'.faults → ⊥) → IsOkOrNoMemory (reply_to polled_reply r)
+poll-reply : (w w' : World) (f : Follower) (r : Result PollAnswer SlateError) → Rebuilds (by_catalogue w.stored w.catalogue) false (state_of w).store (built f r) (state_of w').store → CanFollow false w → (HasRisen w.faults w'.faults → ⊥) → IsOkOrNoMemory (reply_to polled_reply r)
 poll-reply w w' f (Ok answer) r can calm =
     let all = r.sees w.catalogue w.stored refl refl in
     subst (λ a. IsOkOrNoMemory (polled_reply a)) (sym all.3) tt
@@ -317,10 +350,6 @@ module _ (settings : Settings) (w w' : World) (valid : IsValid w) (command : Com
   handle-completes n Status h h' can a = status-completes _ reply a.0
   handle-completes n Nothing h h' can a = absurd can
 
-  -- each of no table is stored
-  none-missing : AreStored w.catalogue []
-  none-missing = All-nil (λ (id : TableId). table_at id w.catalogue ≢ None)
-
   -- a follower that may be asked this
   follower-completes : (n : ℕ) (call : Call) (f f' : Follower) → slice_get w.objects n ≡ Some (AFollower f) → CanAskFollower settings.merge w call f → FollowerActs (by_catalogue w.stored w.catalogue) settings.merge call made f (state_of w).store w.writes reply f' (state_of w').store w'.writes → IsOkOrNoMemory reply
   follower-completes n (WriteCall ops) f f' at can a = absurd can
@@ -329,11 +358,11 @@ module _ (settings : Settings) (w w' : World) (valid : IsValid w) (command : Com
   follower-completes n Refresh f f' at can a = absurd can
   follower-completes n Compact f f' at can a = absurd can
   follower-completes n (Get key remote) f f' at can a =
-      read-completes found_reply found-free w w' f.result [] _ w.stored.batches reply none-missing (λ others has. has) can a.0 calm
+      read-completes found_reply found-free w w' f.result f.view.manifest.tables _ w.stored.batches reply can.0 (λ others has. has.1) can.1 a.0 calm
   follower-completes n (Scan range order remote) f f' at can a =
-      take-completes _ w w' f.result [] scanned w.stored.batches reply none-missing (λ others has. has) can a.0 calm
+      take-completes _ w w' f.result f.view.manifest.tables scanned w.stored.batches reply can.0 (λ others has. has.1) can.1 a.0 calm
   follower-completes n (Seek range take key order remote) f f' at can a =
-      take-completes _ w w' f.result [] (sought range take key) w.stored.batches reply none-missing (λ others has. has) can a.0 calm
+      take-completes _ w w' f.result f.view.manifest.tables (sought range take key) w.stored.batches reply can.0 (λ others has. has.1) can.1 a.0 calm
   follower-completes n (Close t) f f' at can a = closed-follower-reply (recorded_fault f.result) reply can a.0
   follower-completes n Poll f f' at can a =
       subst IsOkOrNoMemory (sym (a.0).replied) (poll-reply w w' f' (a.0).result (((a.0).does).rebuilds can.0) can.1 calm)
@@ -355,6 +384,14 @@ module _ (settings : Settings) (w w' : World) (valid : IsValid w) (command : Com
       let o = modelled w.catalogue w'.catalogue (d.does).opens in
       subst IsOkOrNoMemory (sym d.replied) (free-reply _ d.result (λ x at. tt) (open-free w w'.faults d.result o.answer (d.does).faults can calm))
   completes-at NewFollower d can = subst IsOkOrNoMemory (sym (d.0).replied) (follow-reply w w' (length w.objects) (d.0).result (d.0).does can calm)
+  completes-at (NewCheckpoint lifetime) d can =
+      let c = d.does in
+      let o = modelled w.catalogue w'.catalogue (c.does).objects in
+      subst IsOkOrNoMemory (sym c.replied) (free-reply _ c.result (λ x at. tt) (checkpoint-free lifetime command.moment w w'.faults c.result o.answer (c.does).faults can calm))
+  completes-at WholeStore d can =
+      let c = d.does in
+      let o = modelled w.catalogue w'.catalogue (c.does).objects in
+      subst IsOkOrNoMemory (sym c.replied) (free-reply _ c.result (λ x at. tt) (sweep-free w w'.catalogue w'.faults command.moment c.result o.answer (c.does).faults can calm))
   completes-at (OfWrite n) d can = subst IsOkOrNoMemory (sym d.1) (asked (slice_get w.writes n) can)
   completes-at (OfObject n) d can = object-completes n (call_of command.action) refl can d
 

@@ -8,7 +8,7 @@ use Rattle.slate_types.specs.Line.{Line}
 use Rattle.slate_types.specs.Operator.{Merge}
 use Rattle.slate_store.specs.Objects.{Objects}
 use Rattle.slate_errors.specs.declared.errors.SlateError.TheVariants as errors
-use Rattle.slate_model.specs.Follower.{FollowCause, Rebuilds}
+use Rattle.slate_model.specs.Follow.{FollowCause, Rebuilds}
 use Rattle.slate_model.specs.Knowledge.{Knowledge}
 use Rattle.slate_model.specs.Known.{Known}
 use Rattle.slate_model.specs.Object.{Object}
@@ -36,8 +36,8 @@ caused : (objects : Option Objects) → IfSome objects (λ o. FollowCause true o
 caused None = tt
 caused (Some o) = tt
 
-pub follows-nothing : {is_stored : Line → Type 0} (store : Known (List Batch)) → Rebuilds is_stored true store (Err errors.NoMemory) store
-follows-nothing store = record {
+pub follows-nothing : (k : Knowledge (List Batch)) (store : Known (List Batch)) → Rebuilds k true store (Err errors.NoMemory) store
+follows-nothing k store = record {
   kept = refl;
   faults = record { count = omega arith; unavailable = λ h. absurd (cc); none_missing = λ h. absurd (cc) };
   cause = caused store.objects;

@@ -1,5 +1,5 @@
 -- What a command does to an honest store by what the code keeps of a handle, it does to what the world knows of both.
-use Rattle.std.proofs.Common.{◌≡◌, ℕ, ℤ, List, [], Option, Some, None, Result, Ok, Err, inl, inr, refl, sym, subst, ap, ◌∙◌, ◌≤◌, ◌+◌, ◌++◌, arith, cond, ◌∷◌, Bool, false}
+use Rattle.std.proofs.Common.{◌≡◌, ℕ, ℤ, List, [], Option, Some, None, Result, Ok, Err, inl, inr, refl, sym, subst, ap, ◌∙◌, ◌≤◌, ◌+◌, ◌++◌, arith, cond, ◌∷◌, ◌⊎◌, Bool, false}
 use Rattle.slate_types.specs.declared.batches.Batch.{Batch}
 use Rattle.slate_types.specs.declared.batches.KeyOp.{KeyOp}
 use Rattle.slate_types.specs.declared.batches.KeyValue.{KeyValue}
@@ -19,29 +19,33 @@ use Rattle.slate_store.specs.declared.objects.TableId.{TableId}
 use Rattle.slate_store.specs.declared.objects.VersionedManifest.{VersionedManifest}
 use Rattle.slate_errors.specs.declared.errors.SlateError.{SlateError}
 use Rattle.slate_model.specs.Catalogue.{catalogue_of}
-use Rattle.slate_model.specs.Close.{closed, closing_flush, Closes}
+use Rattle.slate_model.specs.Close.{closed, closed_follower, closing_flush, Closes}
 use Rattle.slate_model.specs.Flush.{flush_result, grown, CanFlush, Flushes, IsFlushed, Stores}
-use Rattle.slate_model.specs.Follower.{Follower, Polls, number}
+use Rattle.slate_model.specs.Follow.{Polls}
+use Rattle.slate_model.specs.Follower.{Follower, kept_follower, number, rebuilt}
 use Rattle.slate_model.specs.Handle.{CloseResult, Handle, accepted, kept_handle, next_table}
 use Rattle.slate_model.specs.Known.{IsContent, Known, Untouched}
 use Rattle.slate_model.specs.Object.{Object, Handle as AHandle, Follower as AFollower}
 use Rattle.slate_model.specs.Read.{Gives, Reads}
 use Rattle.slate_model.specs.Stores.{by_catalogue, by_objects, kept_rows, world_rows}
 use Rattle.slate_model.specs.Tables.{AreJoined, AreStored}
-use Rattle.slate_model.specs.Valid.{IsValidHandle, ReadsItsLine}
+use Rattle.slate_model.specs.Valid.{AreBefore, IsValidHandle, ReadsItsLine}
 use Rattle.slate_model.proofs.Compacting.{compact-moved, refresh-moved, compact-rises, refresh-rises}
-use Rattle.slate_model.proofs.Flushing.{flush-moved, grown-zero}
+use Rattle.slate_model.proofs.Flushing.{flush-moved, grown-zero, latest-stored}
 use Rattle.slate_model.proofs.Free.{flush-unset, joins}
-use Rattle.slate_model.proofs.Keeping.{accepted-kept, log_for-kept}
+use Rattle.slate_model.proofs.Keeping.{accepted-kept, line_above-end, log_for-kept}
 use Rattle.slate_model.proofs.Moving.{Moved, known-stored, none-known, stored-known, unmoved}
-use Rattle.slate_model.proofs.Reduced.{catalogued, closes-reduced, compacts-reduced, flushed-whole, flushes-reduced, holding, kept-whole, modelled, polls-reduced, reads-reduced, refreshes-reduced, some-same, stores-rises, untouched-known, whole}
+use Rattle.slate_model.proofs.Prefixes.{extended-nil}
+use Rattle.slate_model.proofs.Tabled.{joined-line}
+use Rattle.slate_model.proofs.Reduced.{catalogued, closes-reduced, compacts-reduced, flushed-whole, flushes-reduced, holding, kept-whole, modelled, polled-whole, polls-reduced, reads-reduced, refreshes-reduced, some-same, stores-rises, untouched-known, whole}
 use Rattle.slate_model.proofs.Writing.{kept-written, rewritten, writes-whole, written-reads, written-valid}
 use Rattle.slate_script.specs.declared.replies.Reply.{Reply}
 use Rattle.slate_live.specs.declared.states.Write.{Write}
 use Rattle.slate_live.specs.Calls.{Call, Write as WriteCall, Merge as MergeCall, Flush, Refresh, Compact, Get, Scan, Seek, Close, Poll, Status, Nothing}
 use Rattle.slate_live.specs.Followers.{FollowerActs, IsPlainReadAt, IsPlainScanAt, TakesFromFollower}
 use Rattle.slate_live.specs.Handles.{HandleActs, IsPlainRead, IsPlainScan, MergesTo, cut, flush_type_by, WritesTo, TakesFrom, level_of}
-use Rattle.slate_live.specs.Replies.{IsRead, found_reply}
+use Rattle.slate_live.specs.Replies.{AnswersStatus, IsRead, found_reply, polled_reply, reply_to}
+use Rattle.slate_status.specs.Records.{status_by}
 use Rattle.slate_live.specs.Scans.{IsTaken, scanned, sought}
 use Rattle.slate_live.specs.World.{grown_by}
 use Rattle.slate_live.proofs.Cases.{by-option, close-by, compact-by, flush-by, refresh-by, some-of}
@@ -61,7 +65,7 @@ joined-are : (o : Objects) (ids : List TableId) (stored : List Batch) → AreJoi
 joined-are o [] stored none = (λ k d less. absurd (omega (arith, less)), none)
 joined-are o (id ∷ ids) stored all = all
 
-rows-known : (line : Line) (o : Objects) (h : Handle) → ReadsItsLine o h → (rows : List Batch) → kept_rows (Some o) (AHandle (kept_handle h)) rows → world_rows line (catalogue_of o) (AHandle h) rows
+rows-known : (line : Line) (o : Objects) (h : Handle) → ReadsItsLine o (AHandle h) → (rows : List Batch) → kept_rows (Some o) (AHandle (kept_handle h)) rows → world_rows line (catalogue_of o) (AHandle h) rows
 rows-known line o h reads rows r =
     let all = joined-are o h.view.manifest.tables r.0 r.1 in (
       known-stored o h.view.manifest.tables all.0,
@@ -96,7 +100,6 @@ closed-valid stored o h v = record {
   tabled = v.tabled;
   durable = v.durable;
   confirmed = v.confirmed;
-  tables = v.tables;
   unused = v.unused;
   behind = v.behind;
   current = λ found live at low. absurd (cc);
@@ -107,7 +110,7 @@ type-kept None h = refl
 type-kept (Some t) h = refl
 
 module _ (stored : Line) (o o' : Objects) (f f' : ℕ) (made : ℕ) (writes writes' : List Write) (reply : Reply) (sound : IsSound o) (holds : content o ≡ stored)
-    (latest : VersionedManifest) (is : latest_manifest o ≡ Some latest) (h k : Handle) (v : IsValidHandle stored (catalogue_of o) h) (reads : ReadsItsLine o h)
+    (latest : VersionedManifest) (is : latest_manifest o ≡ Some latest) (h k : Handle) (v : IsValidHandle stored (catalogue_of o) h) (reads : ReadsItsLine o (AHandle h)) (before : AreBefore h h.view.manifest.tables)
     (merge : Option Merge) (n : ℕ) (moment : ℤ) (second : Option ℤ) where
   -- what the command leaves of the whole handle: it moved, and what is kept of it is what the code has
   pub record Led (call : Call) : Type 0 where
@@ -130,14 +133,14 @@ module _ (stored : Line) (o o' : Objects) (f f' : ℕ) (made : ℕ) (writes writ
   free = none-known (next_table h) o (v.unused h.counter (omega arith))
 
   -- the objects didn't change
-  still : (new : Handle) → o' ≡ o → new.epoch ≡ h.epoch → IsValidHandle stored (catalogue_of o) new → ReadsItsLine o new → Moved stored stored o o' latest h new
-  still new same epoch mine its = subst (λ x. Moved stored stored o x latest h new) (sym same) (unmoved stored o latest h new sound holds is epoch mine its)
+  still : (new : Handle) → o' ≡ o → new.epoch ≡ h.epoch → h.counter ≤ new.counter → new.view ≡ h.view → IsValidHandle stored (catalogue_of o) new → ReadsItsLine o (AHandle new) → Moved stored stored o o' latest h new
+  still new same epoch counter view mine its = subst (λ x. Moved stored stored o x latest h new) (sym same) (unmoved stored o latest h new sound holds is epoch counter view mine its)
 
   still-same : o' ≡ o → Moved stored stored o o' latest h h
-  still-same same = still h same refl v reads
+  still-same same = still h same refl (omega arith) refl v reads
 
   wrote : (ops : List KeyOp) (r : Result Written SlateError) → o' ≡ o → Moved stored stored o o' latest h (rewritten h low ops r)
-  wrote ops (Ok w) same = still (written h ops w.create_ts) same refl (written-valid stored (catalogue_of o) h ops w.create_ts v) (written-reads stored (catalogue_of o) h ops w.create_ts v o reads)
+  wrote ops (Ok w) same = still (written h ops w.create_ts) same refl (omega arith) refl (written-valid stored (catalogue_of o) h ops w.create_ts v) (written-reads stored (catalogue_of o) h ops w.create_ts v o reads)
   wrote ops (Err e) same = still-same same
 
   write-led : (ops : List KeyOp) → WritesTo n ops moment second (kept_handle h) writes reply k writes' → Untouched made (holding o f) (holding o' f') → (new : Handle) × (k ≡ kept_handle new) × Moved stored stored o o' latest h new × WritesTo n ops moment second h writes reply new writes'
@@ -168,7 +171,7 @@ module _ (stored : Line) (o o' : Objects) (f f' : ℕ) (made : ℕ) (writes writ
   goes-closed stored' none same objects = (
     same ∙ ap kept_handle (sym (ap (whole h) same)),
     subst (λ l. Moved stored l o o' latest h (whole h k)) (sym none)
-        (subst (Moved stored stored o o' latest h) (sym (ap (whole h) same)) (still (closed h) objects refl (closed-valid stored o h v) reads)),
+        (subst (Moved stored stored o o' latest h) (sym (ap (whole h) same)) (still (closed h) objects refl (omega arith) refl (closed-valid stored o h v) reads)),
   )
 
   flushed-goes : (t : FlushType) (r : Result (Unit {0}) SlateError) (result : CloseResult) → (result ≡ None → result ≡ flush_result r) → CanFlush t (kept_handle h) → IsFlushed kept_handle made r result (kept_handle h) k → Stores (by_objects (Some o)) made t (kept_handle h) (holding o f) r k (holding o' f') → Goes (grown made stored h)
@@ -176,7 +179,7 @@ module _ (stored : Line) (o o' : Objects) (f f' : ℕ) (made : ℕ) (writes writ
       let step = modelled o o' s.objects in
       let line = ap (λ (x : Handle). x.line) fl.same in (
         kept-whole h k (stores-rises (Some o) stored (catalogue_of o) h o v.tabled ahead t step) line,
-        flush-moved stored o o' latest t h k r result made sound holds is v reads (can.0, sym (log_for-kept h t) ∙ can.1) step (flushed-whole made r result h k fl) says,
+        flush-moved stored o o' latest t h k r result made sound holds is v reads before (can.0, sym (log_for-kept h t) ∙ can.1) step (flushed-whole made r result h k fl) says,
       )
 
   flush-goes : (t : FlushType) (r : Result (Unit {0}) SlateError) → Flushes (by_objects (Some o)) made t (kept_handle h) (holding o f) r k (holding o' f') → Goes (grown made stored h)
@@ -203,8 +206,8 @@ module _ (stored : Line) (o o' : Objects) (f f' : ℕ) (made : ℕ) (writes writ
       let counter = ap (λ (x : Handle). x.counter) d.same in
       let same : whole h k ≡ record h { counter = k.counter; view = k.view; result = fenced_result r } =
       ap (whole h) d.same ∙ ap (λ c. record h { counter = c; view = k.view; result = fenced_result r }) (sym counter) in (
-        kept-whole h k (refresh-rises stored o o' latest h k r made sound holds is live v reads same d.answer) (ap (λ (x : Handle). x.line) d.same),
-        subst (λ x. Moved stored stored o x latest h (whole h k)) (sym objects) (refresh-moved stored o o' latest h k r made sound holds is live v reads same d.answer counter),
+        kept-whole h k (refresh-rises stored o o' latest h k r made sound holds is live v reads before same d.answer) (ap (λ (x : Handle). x.line) d.same),
+        subst (λ x. Moved stored stored o x latest h (whole h k)) (sym objects) (refresh-moved stored o o' latest h k r made sound holds is live v reads before same d.answer counter),
       ))
 
   compact-goes : (r : Result (Unit {0}) SlateError) → Compacts (by_objects (Some o)) made (kept_handle h) (holding o f) r k (holding o' f') → Goes stored
@@ -214,8 +217,8 @@ module _ (stored : Line) (o o' : Objects) (f f' : ℕ) (made : ℕ) (writes writ
       (λ live d.
       let same = ap (whole h) d.same in
       let step = modelled o o' d.objects in (
-        kept-whole h k (compact-rises stored o o' latest h k r made sound holds is live v reads same step) (ap (λ (x : Handle). x.line) d.same),
-        compact-moved stored o o' latest h k r made sound holds is live v reads same step,
+        kept-whole h k (compact-rises stored o o' latest h k r made sound holds is live v reads before same step) (ap (λ (x : Handle). x.line) d.same),
+        compact-moved stored o o' latest h k r made sound holds is live v reads before same step,
       ))
 
   taken-known : (range : ByteRange) (order : IterationOrder) (remote : Bool) (taken : Iteration → Result (List KeyValue) SlateError) → TakesFrom (by_objects (Some o)) merge range order remote taken (kept_handle h) (holding o f) reply (holding o' f') → TakesFrom (by_catalogue stored (catalogue_of o)) merge range order remote taken h (catalogued o f) reply (catalogued o' f')
@@ -334,16 +337,16 @@ module _ (o : Objects) (f : ℕ) (made : ℕ) (writes writes' : List Write) (rep
   handle-after n moment second Status h k a = as-before o f store' a.2.1
   handle-after n moment second Nothing h k a = as-before o f store' a.2.1
 
-  polled-after : (r : Result PollAnswer SlateError) (g g' : Follower) → Polls (IsContent (Some o)) g (holding o f) r g' store' → AfterOf store'
+  polled-after : (r : Result PollAnswer SlateError) (g g' : Follower) → Polls (by_objects (Some o)) g (holding o f) r g' store' → AfterOf store'
   polled-after r g g' p =
       by-option g.result (λ live. (o, (p.rebuilds live).kept))
       (λ q is. as-before o f store' (some-of (λ q. (r ≡ Err (closed_error q)) × (store' ≡ holding o f)) g.result q is p.closed).1)
 
   pub follower-after : (call : Call) (g g' : Follower) → FollowerActs (by_objects (Some o)) merge call made g (holding o f) writes reply g' store' writes' → AfterOf store'
   follower-after Poll g g' a = polled-after (a.0).result g g' (a.0).does
-  follower-after (Get key remote) g g' a = read-after g.result [] (a.0).result o f store' (a.0).does
-  follower-after (Scan range order remote) g g' a = read-after g.result [] (a.0).scan o f store' (a.0).scans
-  follower-after (Seek range take key order remote) g g' a = read-after g.result [] (a.0).scan o f store' (a.0).scans
+  follower-after (Get key remote) g g' a = read-after g.result g.view.manifest.tables (a.0).result o f store' (a.0).does
+  follower-after (Scan range order remote) g g' a = read-after g.result g.view.manifest.tables (a.0).scan o f store' (a.0).scans
+  follower-after (Seek range take key order remote) g g' a = read-after g.result g.view.manifest.tables (a.0).scan o f store' (a.0).scans
   follower-after (Close t) g g' a = as-before o f store' a.2.1
   follower-after (WriteCall ops) g g' a = as-before o f store' a.2.1
   follower-after (MergeCall op) g g' a = as-before o f store' a.2.1
@@ -354,70 +357,124 @@ module _ (o : Objects) (f : ℕ) (made : ℕ) (writes writes' : List Write) (rep
   follower-after Nothing g g' a = as-before o f store' a.2.1
 
 -- ---- followers
+-- one that goes by the latest manifest and sees what is stored reads it
+pub all-read : (stored : Line) (o : Objects) → IsSound o → content o ≡ stored → IsLine stored → (latest : VersionedManifest) → latest_manifest o ≡ Some latest → ReadsItsLine o (AFollower (rebuilt latest stored))
+all-read stored o sound holds numbered latest is there = joined-line o latest stored [] sound is (sym holds ∙ sym (extended-nil (content o))) numbered
+
+kept-number : (g : Follower) → number (kept_follower g) ≡ number g
+kept-number g = line_above-end g.view.manifest.last_l0_seq g.line
+
 module _ (stored : Line) (o o' : Objects) (f f' : ℕ) (made : ℕ) (writes writes' : List Write) (reply : Reply) (sound : IsSound o) (holds : content o ≡ stored) (numbered : IsLine stored)
-    (merge : Option Merge) (g : Follower) (front : IsPrefix g.line stored) where
-  read-follower : (key : List ℕ) (rows : List Batch) (a : Result (Option KeyValue) ReadFault) → rows ≡ g.line.batches → IsPlainReadAt merge key g rows a → (rows' : List Batch) × (rows' ≡ stored.batches) × IsPlainReadAt merge key g rows' a
-  read-follower key rows a is plain = (stored.batches, refl, plain ∙ (ap (λ bs. read_at merge bs (Some (number g)) key) is ∙ front-read merge g.line stored key front numbered))
+    (merge : Option Merge) (g k : Follower) (front : IsPrefix g.line stored) (reads : ReadsItsLine o (AFollower g)) where
+  -- what the command leaves of the whole follower, of which the code keeps a part, and that it makes no change
+  pub record LedFollower (call : Call) : Type 0 where
+    pub new : Follower
+    pub kept : k ≡ kept_follower new
+    pub same : o' ≡ o
+    pub begins : IsPrefix new.line stored
+    pub view : (new.view ≡ g.view) ⊎ AreStored o new.view.manifest.tables
+    pub reads_line : ReadsItsLine o (AFollower new)
+    pub acts : FollowerActs (by_catalogue stored (catalogue_of o)) merge call made g (catalogued o f) writes reply new (catalogued o' f') writes'
 
-  scan-follower : (range : ByteRange) (order : IterationOrder) (rows : List Batch) (a : Result Iteration ReadFault) → rows ≡ g.line.batches → Gives (IsPlainScanAt merge range order g) rows a → (rows' : List Batch) × (rows' ≡ stored.batches) × Gives (IsPlainScanAt merge range order g) rows' a
-  scan-follower range order rows (Ok it) is plain = (stored.batches, refl, front-scan merge g.line stored range order it front numbered (subst (λ bs. BeginsScan merge bs (Some (number g)) range order it) is plain))
-  scan-follower range order rows (Err fault) is plain = absurd plain
+  rows-line : (rows : List Batch) → kept_rows (Some o) (AFollower (kept_follower g)) rows → AreStored (catalogue_of o) g.view.manifest.tables × (rows ≡ g.line.batches)
+  rows-line rows r =
+      let all = joined-are o g.view.manifest.tables r.0 r.1 in (
+        known-stored o g.view.manifest.tables all.0,
+        r.2 ∙ (ap (λ bs. bs ++ batches_above g.view.manifest.last_l0_seq g.line.batches) all.1 ∙ reads all.0),
+      )
 
-  taken-follower : (range : ByteRange) (order : IterationOrder) (taken : Iteration → Result (List KeyValue) SlateError) → TakesFromFollower (by_objects (Some o)) merge range order taken g (holding o f) reply (holding o' f') → TakesFromFollower (by_catalogue stored (catalogue_of o)) merge range order taken g (catalogued o f) reply (catalogued o' f')
+  read-follower : (key : List ℕ) (rows : List Batch) (a : Result (Option KeyValue) ReadFault) → kept_rows (Some o) (AFollower (kept_follower g)) rows → IsPlainReadAt merge key (kept_follower g) rows a → (rows' : List Batch) × world_rows stored (catalogue_of o) (AFollower g) rows' × IsPlainReadAt merge key g rows' a
+  read-follower key rows a has plain =
+      let line = rows-line rows has in (
+        stored.batches,
+        (line.0, refl),
+        plain ∙ (ap (λ n. read_at merge rows (Some n) key) (kept-number g) ∙ (ap (λ bs. read_at merge bs (Some (number g)) key) line.1 ∙ front-read merge g.line stored key front numbered)),
+      )
+
+  scan-follower : (range : ByteRange) (order : IterationOrder) (rows : List Batch) (a : Result Iteration ReadFault) → kept_rows (Some o) (AFollower (kept_follower g)) rows → Gives (IsPlainScanAt merge range order (kept_follower g)) rows a → (rows' : List Batch) × world_rows stored (catalogue_of o) (AFollower g) rows' × Gives (IsPlainScanAt merge range order g) rows' a
+  scan-follower range order rows (Ok it) has plain =
+      let line = rows-line rows has in
+      let counted : BeginsScan merge rows (Some (number g)) range order it = subst (λ n. BeginsScan merge rows (Some n) range order it) (kept-number g) plain in (
+        stored.batches,
+        (line.0, refl),
+        front-scan merge g.line stored range order it front numbered (subst (λ bs. BeginsScan merge bs (Some (number g)) range order it) line.1 counted),
+      )
+  scan-follower range order rows (Err fault) has plain = absurd plain
+
+  taken-follower : (range : ByteRange) (order : IterationOrder) (taken : Iteration → Result (List KeyValue) SlateError) → TakesFromFollower (by_objects (Some o)) merge range order taken (kept_follower g) (holding o f) reply (holding o' f') → TakesFromFollower (by_catalogue stored (catalogue_of o)) merge range order taken g (catalogued o f) reply (catalogued o' f')
   taken-follower range order taken a = record {
     scan = a.scan;
     result = a.result;
-    scans = reads-reduced {has = λ rows. rows ≡ g.line.batches} {has' = λ rows. rows ≡ stored.batches} {P = Gives (IsPlainScanAt merge range order g)} {P' = Gives (IsPlainScanAt merge range order g)} (scan-follower range order) g.result [] a.scan o o' f f' a.scans;
+    scans = reads-reduced {has = kept_rows (Some o) (AFollower (kept_follower g))} {has' = world_rows stored (catalogue_of o) (AFollower g)} {P = Gives (IsPlainScanAt merge range order (kept_follower g))} {P' = Gives (IsPlainScanAt merge range order g)}
+        (scan-follower range order) g.result g.view.manifest.tables a.scan o o' f f' a.scans;
     takes = a.takes;
     replied = a.replied;
   }
 
-  pub follower-known : (call : Call) (g' : Follower) → FollowerActs (by_objects (Some o)) merge call made g (holding o f) writes reply g' (holding o' f') writes' → FollowerActs (by_catalogue stored (catalogue_of o)) merge call made g (catalogued o f) writes reply g' (catalogued o' f') writes'
-  follower-known Poll g' a = (record { result = (a.0).result; replied = (a.0).replied; does = polls-reduced stored (a.0).result g g' o o' f f' sound holds (a.0).does }, a.1, a.2)
-  follower-known (Get key remote) g' a = (
-    record { result = (a.0).result; replied = (a.0).replied; does = reads-reduced {has = λ rows. rows ≡ g.line.batches} {has' = λ rows. rows ≡ stored.batches} {P = IsPlainReadAt merge key g} {P' = IsPlainReadAt merge key g} (read-follower key) g.result [] (a.0).result o o' f f' (a.0).does },
-    a.1,
+  -- a follower that is as before
+  unled : (call : Call) → o' ≡ o → k ≡ kept_follower g → FollowerActs (by_catalogue stored (catalogue_of o)) merge call made g (catalogued o f) writes reply g (catalogued o' f') writes' → LedFollower call
+  unled call same kept known = record { new = g; kept = kept; same = same; begins = front; view = inl refl; reads_line = reads; acts = known }
+
+  polled-led : (r : Result PollAnswer SlateError) → reply ≡ reply_to polled_reply r → Polls (by_objects (Some o)) (kept_follower g) (holding o f) r k (holding o' f') → made ≡ 0 → writes' ≡ writes → LedFollower Poll
+  polled-led r replied p none same_writes = by r (g.result) refl p (polls-reduced stored r g k o o' f f' sound holds p) replied where
+    Known : (r : Result PollAnswer SlateError) → Follower → Type 0
+    Known r new = Polls (by_catalogue stored (catalogue_of o)) g (catalogued o f) r new (catalogued o' f')
+
+    by : (r : Result PollAnswer SlateError) (closed : CloseResult) → g.result ≡ closed → Polls (by_objects (Some o)) (kept_follower g) (holding o f) r k (holding o' f') → Known r (polled-whole stored g.result g k r) → reply ≡ reply_to polled_reply r → LedFollower Poll
+    by (Ok answer) None live p known replied =
+        let b = p.rebuilds live in
+        let all = b.sees o stored refl (o, refl, sound, sym holds) in
+        let view : k.view ≡ all.0 = ap (λ (x : Follower). x.view) all.2 in
+        let at : latest_manifest o ≡ Some k.view = all.1 ∙ ap Some (sym view) in
+        record {
+          new = rebuilt k.view stored;
+          kept = all.2 ∙ ap (λ v. kept_follower (rebuilt v stored)) (sym view);
+          same = some-same o' o b.kept;
+          begins = prefix-same stored;
+          view = inr (latest-stored o k.view sound at);
+          reads_line = all-read stored o sound holds numbered k.view at;
+          acts = (record { result = Ok answer; replied = replied; does = subst (λ c. Known (Ok answer) (polled-whole stored c g k (Ok answer))) live known }, none, same_writes);
+        }
+    by (Ok answer) (Some q) is p known replied =
+        let c = some-of (λ q. (Ok answer ≡ Err (closed_error q)) × (holding o' f' ≡ holding o f)) g.result q is p.closed in absurd (let e = c.0 in cc)
+    by (Err e) closed is p known replied =
+        unled Poll (unchanged closed is) p.failed (record { result = Err e; replied = replied; does = subst (Known (Err e)) (same-whole g.result) known }, none, same_writes) where
+          same-whole : (closed : CloseResult) → polled-whole stored closed g k (Err e) ≡ g
+          same-whole None = refl
+          same-whole (Some q) = refl
+
+          unchanged : (closed : CloseResult) → g.result ≡ closed → o' ≡ o
+          unchanged None is = some-same o' o (p.rebuilds is).kept
+          unchanged (Some q) is = objects-same o o' f f' (some-of (λ q. (Err e ≡ Err (closed_error q)) × (holding o' f' ≡ holding o f)) g.result q is p.closed).1
+
+  pub follower-led : (call : Call) → FollowerActs (by_objects (Some o)) merge call made (kept_follower g) (holding o f) writes reply k (holding o' f') writes' → LedFollower call
+  follower-led Poll a = polled-led (a.0).result (a.0).replied (a.0).does a.1 a.2
+  follower-led (Get key remote) a = unled (Get key remote) (objects-read g.result g.view.manifest.tables (a.0).result o o' f f' (a.0).does) a.1 (
+    record {
+      result = (a.0).result;
+      replied = (a.0).replied;
+      does = reads-reduced {has = kept_rows (Some o) (AFollower (kept_follower g))} {has' = world_rows stored (catalogue_of o) (AFollower g)} {P = IsPlainReadAt merge key (kept_follower g)} {P' = IsPlainReadAt merge key g}
+          (read-follower key) g.result g.view.manifest.tables (a.0).result o o' f f' (a.0).does;
+    },
+    refl,
     a.2,
     a.3,
   )
-  follower-known (Scan range order remote) g' a = (taken-follower range order scanned a.0, a.1, a.2, a.3)
-  follower-known (Seek range take key order remote) g' a = (taken-follower range order (sought range take key) a.0, a.1, a.2, a.3)
-  follower-known (Close t) g' a = (a.0, a.1, untouched-known made o o' f f' a.2, a.3)
-  follower-known (WriteCall ops) g' a = (a.0, a.1, untouched-known made o o' f f' a.2, a.3)
-  follower-known (MergeCall op) g' a = (a.0, a.1, untouched-known made o o' f f' a.2, a.3)
-  follower-known (Flush t) g' a = (a.0, a.1, untouched-known made o o' f f' a.2, a.3)
-  follower-known Refresh g' a = (a.0, a.1, untouched-known made o o' f f' a.2, a.3)
-  follower-known Compact g' a = (a.0, a.1, untouched-known made o o' f f' a.2, a.3)
-  follower-known Status g' a = (a.0, a.1, untouched-known made o o' f f' a.2, a.3)
-  follower-known Nothing g' a = (a.0, a.1, untouched-known made o o' f f' a.2, a.3)
-
-  -- what a follower sees afterwards begins what is stored, and the objects are as before
-  polled : (r : Result PollAnswer SlateError) (g' : Follower) → g.result ≡ None → Polls (IsContent (Some o)) g (holding o f) r g' (holding o' f') → IsPrefix g'.line stored × (o' ≡ o)
-  polled (Ok answer) g' live p =
-      let b = p.rebuilds live in
-      let all = b.sees o stored refl (o, refl, sound, sym holds) in
-      (subst (λ (x : Follower). IsPrefix x.line stored) (sym all.2) (prefix-same stored), some-same o' o b.kept)
-  polled (Err e) g' live p = (subst (λ (x : Follower). IsPrefix x.line stored) (sym p.failed) front, some-same o' o (p.rebuilds live).kept)
-
-  same-front : (g' : Follower) → g' ≡ g → IsPrefix g'.line stored
-  same-front g' same = subst (λ (x : Follower). IsPrefix x.line stored) (sym same) front
-
-  -- what a command leaves of a follower, and that it makes no change
-  pub follower-led : (call : Call) (g' : Follower) → FollowerActs (by_objects (Some o)) merge call made g (holding o f) writes reply g' (holding o' f') writes' → IsPrefix g'.line stored × (o' ≡ o)
-  follower-led Poll g' a =
-      by-option g.result
-      (λ live. polled (a.0).result g' live (a.0).does)
-      (λ q is.
-      let c = some-of (λ q. ((a.0).result ≡ Err (closed_error q)) × (holding o' f' ≡ holding o f)) g.result q is ((a.0).does).closed in
-      (same-front g' (subst (λ r. IfErr r (λ error. g' ≡ g)) c.0 ((a.0).does).failed), objects-same o o' f f' c.1))
-  follower-led (Get key remote) g' a = (same-front g' a.1, objects-read g.result [] (a.0).result o o' f f' (a.0).does)
-  follower-led (Scan range order remote) g' a = (same-front g' a.1, objects-read g.result [] (a.0).scan o o' f f' (a.0).scans)
-  follower-led (Seek range take key order remote) g' a = (same-front g' a.1, objects-read g.result [] (a.0).scan o o' f f' (a.0).scans)
-  follower-led (Close t) g' a = (subst (λ (x : Follower). IsPrefix x.line stored) (sym a.1) front, objects-same o o' f f' a.2.1)
-  follower-led (WriteCall ops) g' a = (same-front g' a.1, objects-same o o' f f' a.2.1)
-  follower-led (MergeCall op) g' a = (same-front g' a.1, objects-same o o' f f' a.2.1)
-  follower-led (Flush t) g' a = (same-front g' a.1, objects-same o o' f f' a.2.1)
-  follower-led Refresh g' a = (same-front g' a.1, objects-same o o' f f' a.2.1)
-  follower-led Compact g' a = (same-front g' a.1, objects-same o o' f f' a.2.1)
-  follower-led Status g' a = (same-front g' a.1, objects-same o o' f f' a.2.1)
-  follower-led Nothing g' a = (same-front g' a.1, objects-same o o' f f' a.2.1)
+  follower-led (Scan range order remote) a = unled (Scan range order remote) (objects-read g.result g.view.manifest.tables (a.0).scan o o' f f' (a.0).scans) a.1 (taken-follower range order scanned a.0, refl, a.2, a.3)
+  follower-led (Seek range take key order remote) a = unled (Seek range take key order remote) (objects-read g.result g.view.manifest.tables (a.0).scan o o' f f' (a.0).scans) a.1 (taken-follower range order (sought range take key) a.0, refl, a.2, a.3)
+  follower-led (Close t) a = record {
+    new = closed_follower g;
+    kept = a.1;
+    same = objects-same o o' f f' a.2.1;
+    begins = front;
+    view = inl refl;
+    reads_line = reads;
+    acts = (a.0, refl, untouched-known made o o' f f' a.2, a.3);
+  }
+  follower-led Status a = unled Status (objects-same o o' f f' a.2.1) a.1 (subst (λ n. AnswersStatus (status_by n g.view g.result) reply) (kept-number g) a.0, refl, untouched-known made o o' f f' a.2, a.3)
+  follower-led (WriteCall ops) a = unled (WriteCall ops) (objects-same o o' f f' a.2.1) a.1 (a.0, refl, untouched-known made o o' f f' a.2, a.3)
+  follower-led (MergeCall op) a = unled (MergeCall op) (objects-same o o' f f' a.2.1) a.1 (a.0, refl, untouched-known made o o' f f' a.2, a.3)
+  follower-led (Flush t) a = unled (Flush t) (objects-same o o' f f' a.2.1) a.1 (a.0, refl, untouched-known made o o' f f' a.2, a.3)
+  follower-led Refresh a = unled Refresh (objects-same o o' f f' a.2.1) a.1 (a.0, refl, untouched-known made o o' f f' a.2, a.3)
+  follower-led Compact a = unled Compact (objects-same o o' f f' a.2.1) a.1 (a.0, refl, untouched-known made o o' f f' a.2, a.3)
+  follower-led Nothing a = unled Nothing (objects-same o o' f f' a.2.1) a.1 (a.0, refl, untouched-known made o o' f f' a.2, a.3)

@@ -1,6 +1,7 @@
 -- What a command on an object leaves of an honest store and of the handles and followers of a world.
-use Rattle.std.proofs.Common.{◌≡◌, ◌≢◌, ℕ, ℤ, List, [], set, Option, Some, None, Result, Ok, Err, inl, inr, refl, sym, subst, ap, ◌∙◌, ◌≤◌, ◌+◌, arith}
-use Rattle.std.proofs.lemmas.Bool.{cases_eq}
+use Rattle.std.proofs.Common.{◌≡◌, ◌≢◌, ℕ, ℤ, List, [], set, Option, Some, None, Result, Ok, Err, inl, inr, refl, sym, subst, ap, ◌∙◌, ◌≤◌, ◌+◌, ◌⊎◌, get_or, arith}
+use Rattle.std.proofs.lemmas.Bool.{cases_eq, cases_lt}
+use Rattle.std.specs.List.{slice_get}
 use Rattle.slate_types.specs.Line.{IsLine, IsPrefix, Line, extended}
 use Rattle.slate_types.specs.declared.batches.Batch.{Batch}
 use Rattle.slate_store.specs.Content.{IsSound, content}
@@ -10,12 +11,40 @@ use Rattle.slate_store.specs.declared.objects.VersionedManifest.{VersionedManife
 use Rattle.slate_model.specs.Catalogue.{catalogue_of}
 use Rattle.slate_model.specs.Follower.{Follower}
 use Rattle.slate_model.specs.Handle.{Handle, unstored}
-use Rattle.slate_model.specs.Object.{Object, Handle as AHandle, Follower as AFollower}
-use Rattle.slate_model.proofs.Moving.{Follows, Moved, stay-same, still-reads, still-valid, stored-known}
-use Rattle.slate_live.specs.Represents.{Holds, IsFollowerAt, IsHandleAt, IsValid, IsValidFollower, IsValidHandle, ReadsItsLine}
+use Rattle.slate_model.specs.Object.{Object, Handle as AHandle, Follower as AFollower, line_of, view_of}
+use Rattle.slate_model.specs.Tables.{AreStored}
+use Rattle.slate_model.proofs.Moving.{Follows, Moved, none-known, still-reads, still-valid}
+use Rattle.slate_model.proofs.Opening.{absent-table}
+use Rattle.slate_store.proofs.Latest.{its-objects}
+use Rattle.slate_live.specs.Represents.{AreBefore, AreOfPast, Holds, IsFollowerAt, IsHandleAt, IsValid, IsValidFollower, IsValidHandle, ReadsItsLine}
 use Rattle.slate_live.specs.World.{World}
 use Rattle.slate_live.proofs.Changing.{distinct-set, followers-set, followers-set-handle, handles-set-follower, valid-set}
+use Rattle.slate_live.proofs.Places.{get-set}
 use Rattle.slate_live.proofs.Prefixes.{prefix-same, prefix-then}
+
+-- the tables that are stored come before the next one of a valid handle
+pub stored-before : (stored : Line) (o : Objects) (a : Handle) → IsValidHandle stored (catalogue_of o) a → (ids : List TableId) → AreStored o ids → AreBefore a ids
+stored-before stored o a v ids there k d less epoch =
+    elim (cases_lt (get_or ids k d).index a.counter) [
+      | inl low ↦ low
+      | inr high ↦ absurd (there k d less (subst (λ q. table_at q o ≡ None) (same-id (get_or ids k d) a.epoch epoch) (none-known (record { epoch = a.epoch; index = (get_or ids k d).index }) o (v.unused (get_or ids k d).index high))))
+    ] where
+      same-id : (q : TableId) (e : ℕ) → q.epoch ≡ e → record { epoch = e; index = q.index } ≡ q
+      same-id q e is = ap (λ n. record { epoch = n; index = q.index }) (sym is)
+
+-- and their epochs aren't above the latest manifest's
+pub stored-past : (o : Objects) (latest : VersionedManifest) → IsSound o → latest_manifest o ≡ Some latest → (ids : List TableId) → AreStored o ids → AreOfPast (catalogue_of o) ids
+stored-past o latest sound is ids there = (latest, is, λ k d less.
+    elim (cases_lt latest.manifest.writer_epoch (get_or ids k d).epoch) [
+      | inl above ↦ absurd (there k d less (absent-table latest.manifest.writer_epoch (get_or ids k d) o.tables above (its-objects o latest sound is).epochs))
+      | inr low ↦ low
+    ])
+
+pub past-follows : (o o' : Objects) (latest next : VersionedManifest) → latest_manifest o ≡ Some latest → latest_manifest o' ≡ Some next → latest.manifest.writer_epoch ≤ next.manifest.writer_epoch → (ids : List TableId) → AreOfPast (catalogue_of o) ids → AreOfPast (catalogue_of o') ids
+past-follows o o' latest next is is' up ids past =
+    let same : past.0 ≡ latest = (let at = past.1 in cc) in
+    let e = ap (λ (m : VersionedManifest). m.manifest.writer_epoch) same in
+    (next, is', λ k d less. let low = past.2 k d less in omega (arith, low, e, up))
 
 -- what holds of the objects of a world that it represents with objects of a store: a line is stored there, and each handle
 -- and follower is valid over it and reads what it should
@@ -24,12 +53,17 @@ pub record Leads (stored' : Line) (o' : Objects) (objects : List Object) : Type 
   pub content : content o' ≡ stored'
   pub handles : (m : ℕ) (a : Handle) → IsHandleAt objects m a → IsValidHandle stored' (catalogue_of o') a
   pub followers : (m : ℕ) (f : Follower) → IsFollowerAt objects m f → IsValidFollower stored' f
+  pub named : (m n : ℕ) (a : Handle) (x : Object) → IsHandleAt objects m a → slice_get objects n ≡ Some x → AreBefore a (view_of x).manifest.tables
+  pub past : (n : ℕ) (x : Object) → slice_get objects n ≡ Some x → AreOfPast (catalogue_of o') (view_of x).manifest.tables
   pub distinct : (m n : ℕ) (a b : Handle) → IsHandleAt objects m a → IsHandleAt objects n b → a.epoch ≡ b.epoch → m ≡ n
-  pub reads : (m : ℕ) (a : Handle) → IsHandleAt objects m a → ReadsItsLine o' a
+  pub reads : (n : ℕ) (x : Object) → slice_get objects n ≡ Some x → ReadsItsLine o' x
 
-module _ (w : World) (o : Objects) (is_sound : IsSound o) (holds : Holds o w) (valid : IsValid w) (reads : (m : ℕ) (a : Handle) → IsHandleAt w.objects m a → ReadsItsLine o a) where
+module _ (w : World) (o : Objects) (is_sound : IsSound o) (holds : Holds o w) (valid : IsValid w) (reads : (n : ℕ) (x : Object) → slice_get w.objects n ≡ Some x → ReadsItsLine o x) where
   pub valid-over : (m : ℕ) (a : Handle) → IsHandleAt w.objects m a → IsValidHandle w.stored (catalogue_of o) a
   valid-over m a at = subst (λ c. IsValidHandle w.stored c a) (sym holds.catalogue) (valid.handles m a at)
+
+  pub past-over : (n : ℕ) (x : Object) → slice_get w.objects n ≡ Some x → AreOfPast (catalogue_of o) (view_of x).manifest.tables
+  past-over n x at = subst (λ c. AreOfPast c (view_of x).manifest.tables) (sym holds.catalogue) (valid.past n x at)
 
   -- where nothing changed
   pub leads-same : Leads w.stored o w.objects
@@ -38,6 +72,8 @@ module _ (w : World) (o : Objects) (is_sound : IsSound o) (holds : Holds o w) (v
     content = holds.stored;
     handles = valid-over;
     followers = valid.followers;
+    named = valid.named;
+    past = past-over;
     distinct = valid.distinct;
     reads = reads;
   }
@@ -65,7 +101,7 @@ module _ (w : World) (o : Objects) (is_sound : IsSound o) (holds : Holds o w) (v
           let low_epoch = ap (λ (x : VersionedManifest). x.manifest.writer_epoch) same_latest in
           let low = v.behind.2 in
           still-valid w.stored stored' o o' the_latest moved.next is_latest f a
-          (λ index high. moved.others (record { epoch = a.epoch; index = index }) (λ epochs. other-epoch m a other at epochs))
+          (λ index high none. moved.others (record { epoch = a.epoch; index = index }) (λ epochs. other-epoch m a other at epochs) ∙ none)
           (λ found live known above.
           let same : moved.next ≡ found = (let p = f.latest_is in cc) in
           let ep = ap (λ (x : VersionedManifest). x.manifest.writer_epoch) same in
@@ -81,26 +117,97 @@ module _ (w : World) (o : Objects) (is_sound : IsSound o) (holds : Holds o w) (v
                 absurd (other-epoch m a other at (omega (arith, low_epoch, low, low_mine, cur, mine)))
           ]) v
 
+      -- the tables that a view names come before the next one of each handle
+      other-named : (m : ℕ) (a : Handle) → m ≢ n → IsHandleAt w.objects m a → (ids : List TableId) → AreStored o' ids → AreBefore a ids
+      other-named m a other at ids stored = stored-before stored' o' a (other-valid m a other at) ids stored
+
+      before-then : (ids : List TableId) → AreBefore h ids → AreBefore new ids
+      before-then ids before k d less epoch = let low = before k d less (epoch ∙ moved.epoch) in let up = moved.counter in omega (arith, low, up)
+
+      named-by : (i j : ℕ) (a : Handle) (x : Object) → ((i ≡ n) × (AHandle new ≡ AHandle a)) ⊎ ((i ≢ n) × IsHandleAt w.objects i a) → ((j ≡ n) × (AHandle new ≡ x)) ⊎ ((j ≢ n) × (slice_get w.objects j ≡ Some x)) → AreBefore a (view_of x).manifest.tables
+      named-by i j a x (inl mine) (inl here) =
+          let is_new : new ≡ a = (let e = mine.1 in cc) in
+          subst (λ (b : Handle). AreBefore b (view_of x).manifest.tables) is_new
+          (subst (λ (y : Object). AreBefore new (view_of y).manifest.tables) here.1
+          (elim moved.view [
+            | inl same ↦ subst (λ (v : VersionedManifest). AreBefore new v.manifest.tables) (sym same) (before-then h.view.manifest.tables (valid.named n n h (AHandle h) there there))
+            | inr stored ↦ stored-before stored' o' new moved.mine new.view.manifest.tables stored
+          ]))
+      named-by i j a x (inl mine) (inr elsewhere) =
+          let is_new : new ≡ a = (let e = mine.1 in cc) in
+          subst (λ (b : Handle). AreBefore b (view_of x).manifest.tables) is_new (before-then (view_of x).manifest.tables (valid.named n j h x there elsewhere.1))
+      named-by i j a x (inr other) (inl here) =
+          subst (λ (y : Object). AreBefore a (view_of y).manifest.tables) here.1
+          (elim moved.view [
+            | inl same ↦ subst (λ (v : VersionedManifest). AreBefore a v.manifest.tables) (sym same) (valid.named i n a (AHandle h) other.1 there)
+            | inr stored ↦ other-named i a other.0 other.1 new.view.manifest.tables stored
+          ])
+      named-by i j a x (inr other) (inr elsewhere) = valid.named i j a x other.1 elsewhere.1
+
+      past-then : (ids : List TableId) → AreOfPast (catalogue_of o) ids → AreOfPast (catalogue_of o') ids
+      past-then ids past = past-follows o o' the_latest moved.next is_latest f.latest_is f.epochs ids past
+
+      past-by : (j : ℕ) (x : Object) → ((j ≡ n) × (AHandle new ≡ x)) ⊎ ((j ≢ n) × (slice_get w.objects j ≡ Some x)) → AreOfPast (catalogue_of o') (view_of x).manifest.tables
+      past-by j x (inl here) =
+          subst (λ (y : Object). AreOfPast (catalogue_of o') (view_of y).manifest.tables) here.1
+          (elim moved.view [
+            | inl same ↦ subst (λ (v : VersionedManifest). AreOfPast (catalogue_of o') v.manifest.tables) (sym same) (past-then h.view.manifest.tables (past-over n (AHandle h) there))
+            | inr stored ↦ stored-past o' moved.next f.sound f.latest_is new.view.manifest.tables stored
+          ])
+      past-by j x (inr elsewhere) = past-then (view_of x).manifest.tables (past-over j x elsewhere.1)
+
+      reads-by : (j : ℕ) (x : Object) → ((j ≡ n) × (AHandle new ≡ x)) ⊎ ((j ≢ n) × (slice_get w.objects j ≡ Some x)) → ReadsItsLine o' x
+      reads-by j x (inl here) = subst (ReadsItsLine o') here.1 moved.reads
+      reads-by j x (inr elsewhere) =
+          still-reads o o' (view_of x) (line_of x) (λ k d less. moved.lasts _ (valid.named n j h x there elsewhere.1 k d less)) (reads j x elsewhere.1)
+
       pub moved-leads : Leads stored' o' (set w.objects n (AHandle new))
       moved-leads = record {
         sound = f.sound;
         content = f.content;
         handles = valid-set (IsValidHandle stored' (catalogue_of o')) w.objects n h new there moved.mine other-valid;
         followers = followers-set-handle (IsValidFollower stored') w.objects n (AHandle h) new there (λ m g at. prefix-then g.line w.stored stored' (valid.followers m g at) f.grows);
+        named = λ i j a x at_i at_j. named-by i j a x (get-set w.objects n i (AHandle new) (AHandle a) (AHandle h) there at_i) (get-set w.objects n j (AHandle new) x (AHandle h) there at_j);
+        past = λ j x at. past-by j x (get-set w.objects n j (AHandle new) x (AHandle h) there at);
         distinct = distinct-set w.objects n h new there moved.epoch valid.distinct;
-        reads = valid-set (ReadsItsLine o') w.objects n h new there moved.reads
-            (λ m a other at. still-reads w.stored stored' o o' the_latest moved.next is_latest f a (stored-known o a.view.manifest.tables (valid-over m a at).tables) (reads m a at));
+        reads = λ j x at. reads-by j x (get-set w.objects n j (AHandle new) x (AHandle h) there at);
       }
 
-  -- a follower that changed, and nothing else
-  pub follower-leads : (n : ℕ) (g g' : Follower) → IsFollowerAt w.objects n g → IsPrefix g'.line w.stored → Leads w.stored o (set w.objects n (AFollower g'))
-  follower-leads n g g' there front =
-      let before = handles-set-follower w.objects n (AFollower g) g' there in
-      record {
-        sound = is_sound;
-        content = holds.stored;
-        handles = λ m a at. valid-over m a (before m a at);
-        followers = followers-set (IsValidFollower w.stored) w.objects n (AFollower g) g' there front valid.followers;
-        distinct = λ i j a b at_i at_j epochs. valid.distinct i j a b (before i a at_i) (before j b at_j) epochs;
-        reads = λ m a at. reads m a (before m a at);
-      }
+  -- a follower that changed, and nothing else: it goes by its old view, or by one whose tables are stored
+  module _ (n : ℕ) (g g' : Follower) (there : IsFollowerAt w.objects n g) (view : (g'.view ≡ g.view) ⊎ AreStored o g'.view.manifest.tables) where
+    follower-before : (m : ℕ) (a : Handle) → IsHandleAt (set w.objects n (AFollower g')) m a → IsHandleAt w.objects m a
+    follower-before = handles-set-follower w.objects n (AFollower g) g' there
+
+    follower-named : (i j : ℕ) (a : Handle) (x : Object) → IsHandleAt w.objects i a → ((j ≡ n) × (AFollower g' ≡ x)) ⊎ ((j ≢ n) × (slice_get w.objects j ≡ Some x)) → AreBefore a (view_of x).manifest.tables
+    follower-named i j a x at (inl here) =
+        subst (λ (y : Object). AreBefore a (view_of y).manifest.tables) here.1
+        (elim view [
+          | inl same ↦ subst (λ (v : VersionedManifest). AreBefore a v.manifest.tables) (sym same) (valid.named i n a (AFollower g) at there)
+          | inr stored ↦ stored-before w.stored o a (valid-over i a at) g'.view.manifest.tables stored
+        ])
+    follower-named i j a x at (inr elsewhere) = valid.named i j a x at elsewhere.1
+
+    follower-past : (j : ℕ) (x : Object) → ((j ≡ n) × (AFollower g' ≡ x)) ⊎ ((j ≢ n) × (slice_get w.objects j ≡ Some x)) → AreOfPast (catalogue_of o) (view_of x).manifest.tables
+    follower-past j x (inl here) =
+        subst (λ (y : Object). AreOfPast (catalogue_of o) (view_of y).manifest.tables) here.1
+        (elim view [
+          | inl same ↦ subst (λ (v : VersionedManifest). AreOfPast (catalogue_of o) v.manifest.tables) (sym same) (past-over n (AFollower g) there)
+          | inr stored ↦ stored-past o (past-over n (AFollower g) there).0 is_sound (past-over n (AFollower g) there).1 g'.view.manifest.tables stored
+        ])
+    follower-past j x (inr elsewhere) = past-over j x elsewhere.1
+
+    follower-reads : ReadsItsLine o (AFollower g') → (j : ℕ) (x : Object) → ((j ≡ n) × (AFollower g' ≡ x)) ⊎ ((j ≢ n) × (slice_get w.objects j ≡ Some x)) → ReadsItsLine o x
+    follower-reads its j x (inl here) = subst (ReadsItsLine o) here.1 its
+    follower-reads its j x (inr elsewhere) = reads j x elsewhere.1
+
+    pub follower-leads : IsPrefix g'.line w.stored → ReadsItsLine o (AFollower g') → Leads w.stored o (set w.objects n (AFollower g'))
+    follower-leads front its = record {
+      sound = is_sound;
+      content = holds.stored;
+      handles = λ m a at. valid-over m a (follower-before m a at);
+      followers = followers-set (IsValidFollower w.stored) w.objects n (AFollower g) g' there front valid.followers;
+      named = λ i j a x at_i at_j. follower-named i j a x (follower-before i a at_i) (get-set w.objects n j (AFollower g') x (AFollower g) there at_j);
+      past = λ j x at. follower-past j x (get-set w.objects n j (AFollower g') x (AFollower g) there at);
+      distinct = λ i j a b at_i at_j epochs. valid.distinct i j a b (follower-before i a at_i) (follower-before j b at_j) epochs;
+      reads = λ j x at. follower-reads its j x (get-set w.objects n j (AFollower g') x (AFollower g) there at);
+    }

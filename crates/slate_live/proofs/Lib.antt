@@ -11,6 +11,7 @@ pub mod Keeping
 pub mod Knowing
 pub mod Leading
 pub mod Linking
+pub mod Maintaining
 pub mod Naming
 pub mod Opening
 pub mod Places

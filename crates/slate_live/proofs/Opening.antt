@@ -1,5 +1,5 @@
 -- What an opening leaves of a world: the handles that were opened before, and the one that it gives.
-use Rattle.std.proofs.Common.{◌≡◌, ℕ, zero, suc, ◌<◌, ◌≤◌, inl, inr, List, [], ◌∷◌, ◌++◌, Some, Bool, refl, sym, subst, ap, ◌∙◌, arith}
+use Rattle.std.proofs.Common.{◌≡◌, ℕ, zero, suc, ◌+◌, ◌<◌, ◌≤◌, ◌⊎◌, inl, inr, length, List, [], ◌∷◌, ◌++◌, Some, Bool, refl, sym, subst, ap, ◌∙◌, arith}
 use Rattle.std.specs.List.{slice_get}
 use Rattle.slate_types.specs.Line.{IsLine}
 use Rattle.slate_store.specs.Content.{IsSound, content}
@@ -7,18 +7,20 @@ use Rattle.slate_store.specs.Objects.{Objects}
 use Rattle.slate_model.specs.Changes.{after_part}
 use Rattle.slate_model.specs.Follower.{Follower}
 use Rattle.slate_model.specs.Handle.{Handle}
-use Rattle.slate_model.specs.Object.{Object, Handle as AHandle, Follower as AFollower}
-use Rattle.slate_model.specs.Open.{open_changes, opened_handle, opened_manifest}
+use Rattle.slate_model.specs.Object.{Object, Handle as AHandle, Follower as AFollower, line_of, view_of}
+use Rattle.slate_model.specs.Open.{found_log, next_manifest, open_changes, opened_handle, opened_manifest}
 use Rattle.slate_model.specs.Catalogue.{catalogue_of}
-use Rattle.slate_model.proofs.Moving.{still-reads, stored-known}
-use Rattle.slate_model.proofs.Opening.{fenced, older, opened-follows, opened-reads, opened-valid}
+use Rattle.slate_model.specs.Tables.{AreStored}
+use Rattle.slate_model.proofs.Flushing.{latest-stored}
+use Rattle.slate_model.proofs.Moving.{still-reads}
+use Rattle.slate_model.proofs.Opening.{fenced, older, opened-follows, opened-reads, opened-valid, same-table_at}
 use Rattle.slate_model.proofs.Reopened.{opened}
-use Rattle.slate_live.specs.Represents.{Holds, IsFollowerAt, IsHandleAt, IsValid, IsValidFollower, IsValidHandle, ReadsItsLine}
+use Rattle.slate_live.specs.Represents.{AreBefore, AreOfPast, Holds, IsFollowerAt, IsHandleAt, IsValid, IsValidFollower, IsValidHandle, ReadsItsLine}
 use Rattle.slate_live.specs.World.{World}
-use Rattle.slate_live.proofs.Leading.{Leads, leads-same, valid-over}
+use Rattle.slate_live.proofs.Leading.{Leads, leads-same, past-follows, past-over, stored-before, stored-past, valid-over}
 use Rattle.slate_live.proofs.Places.{get-push}
 
-module _ (w : World) (o : Objects) (is_sound : IsSound o) (holds : Holds o w) (valid : IsValid w) (reads : (m : ℕ) (a : Handle) → IsHandleAt w.objects m a → ReadsItsLine o a) where
+module _ (w : World) (o : Objects) (is_sound : IsSound o) (holds : Holds o w) (valid : IsValid w) (reads : (n : ℕ) (x : Object) → slice_get w.objects n ≡ Some x → ReadsItsLine o x) where
   abbrev after : ℕ → Objects
   after made = after_part made (open_changes (λ xs. xs) o) o
 
@@ -36,11 +38,13 @@ module _ (w : World) (o : Objects) (is_sound : IsSound o) (holds : Holds o w) (v
         content = b.content ∙ holds.stored;
         handles = λ m a at. fenced w.stored o (suc made) is_sound holds.stored some few a (over m a at);
         followers = valid.followers;
+        named = valid.named;
+        past = λ n x at.
+            let p = past-over w o is_sound holds valid reads n x at in
+            past-follows o (after (suc made)) p.0 (opened_manifest o) p.1 b.latest (opened-follows w.stored o (suc made) is_sound holds.stored some few p.0 p.1).epochs (view_of x).manifest.tables p;
         distinct = valid.distinct;
-        reads = λ m a at.
-            let v = over m a at in
-            still-reads w.stored w.stored o (after (suc made)) v.behind.0 (opened_manifest o) v.behind.1
-            (opened-follows w.stored o (suc made) is_sound holds.stored some few v.behind.0 v.behind.1) a (stored-known o a.view.manifest.tables v.tables) (reads m a at);
+        reads = λ n x at.
+            still-reads o (after (suc made)) (view_of x) (line_of x) (λ k d less there. same-table_at w.stored o (suc made) is_sound holds.stored some few _) (reads n x at);
       }
 
   module _ (keeps_log : Bool) (limit : ℕ) where
@@ -64,19 +68,58 @@ module _ (w : World) (o : Objects) (is_sound : IsSound o) (holds : Holds o w) (v
             | inr last_one ↦ subst P (same_handle a last_one.1) mine
           ]
 
+      l : Leads w.stored (after made) w.objects
+      l = unopened-leads made few
+
+      mine-valid : IsValidHandle w.stored (catalogue_of (after made)) new
+      mine-valid = opened-valid w.stored o made is_sound holds.stored some few keeps_log limit valid.line
+
+      mine-stored : AreStored (after made) new.view.manifest.tables
+      mine-stored = latest-stored (after made) (opened_manifest o) l.sound (opened o made is_sound some few).latest
+
+      mine-past : AreOfPast (catalogue_of (after made)) new.view.manifest.tables
+      mine-past = stored-past (after made) (opened_manifest o) l.sound (opened o made is_sound some few).latest new.view.manifest.tables mine-stored
+
+      -- no view that was there names a table of its epoch
+      unnamed : (n : ℕ) (x : Object) → slice_get w.objects n ≡ Some x → AreBefore new (view_of x).manifest.tables
+      unnamed n x at k d less epoch =
+          let p = past-over w o is_sound holds valid reads n x at in
+          let low = p.2 k d less in
+          let above : (opened_manifest o).manifest.writer_epoch ≡ p.0.manifest.writer_epoch + 1 = ap (λ y. (next_manifest y (found_log o)).manifest.writer_epoch) p.1 in
+          absurd (omega (arith, low, above, epoch))
+
+      named-by : (m n : ℕ) (a : Handle) (x : Object) → IsHandleAt w.objects m a ⊎ ((m ≡ length w.objects) × (AHandle new ≡ AHandle a)) → (slice_get w.objects n ≡ Some x) ⊎ ((n ≡ length w.objects) × (AHandle new ≡ x)) → AreBefore a (view_of x).manifest.tables
+      named-by m n a x (inl first) (inl second) = valid.named m n a x first second
+      named-by m n a x (inl first) (inr last_one) =
+          subst (λ (y : Object). AreBefore a (view_of y).manifest.tables) last_one.1 (stored-before w.stored (after made) a (l.handles m a first) new.view.manifest.tables mine-stored)
+      named-by m n a x (inr last_first) (inl second) =
+          subst (λ (b : Handle). AreBefore b (view_of x).manifest.tables) (same_handle a last_first.1) (unnamed n x second)
+      named-by m n a x (inr last_first) (inr last_one) =
+          subst (λ (b : Handle). AreBefore b (view_of x).manifest.tables) (same_handle a last_first.1)
+          (subst (λ (y : Object). AreBefore new (view_of y).manifest.tables) last_one.1 (stored-before w.stored (after made) new mine-valid new.view.manifest.tables mine-stored))
+
+      past-by : (n : ℕ) (x : Object) → (slice_get w.objects n ≡ Some x) ⊎ ((n ≡ length w.objects) × (AHandle new ≡ x)) → AreOfPast (catalogue_of (after made)) (view_of x).manifest.tables
+      past-by n x (inl old) = l.past n x old
+      past-by n x (inr last_one) = subst (λ (y : Object). AreOfPast (catalogue_of (after made)) (view_of y).manifest.tables) last_one.1 mine-past
+
+      reads-by : (n : ℕ) (x : Object) → (slice_get w.objects n ≡ Some x) ⊎ ((n ≡ length w.objects) × (AHandle new ≡ x)) → ReadsItsLine (after made) x
+      reads-by n x (inl old) = l.reads n x old
+      reads-by n x (inr last_one) = subst (ReadsItsLine (after made)) last_one.1 (opened-reads w.stored o made is_sound holds.stored some few keeps_log limit valid.line)
+
       -- one that gives a handle
       pub opened-leads : Leads w.stored (after made) (w.objects ++ AHandle new ∷ [])
       opened-leads =
-          let l = unopened-leads made few in
           record {
             sound = l.sound;
             content = l.content;
-            handles = by-place (IsValidHandle w.stored (catalogue_of (after made))) (opened-valid w.stored o made is_sound holds.stored some few keeps_log limit valid.line) l.handles;
+            handles = by-place (IsValidHandle w.stored (catalogue_of (after made))) mine-valid l.handles;
             followers = λ m g at.
                 elim (get-push w.objects (AHandle new) (AFollower g) m at) [
                   | inl old ↦ valid.followers m g old
                   | inr last_one ↦ absurd (let other = last_one.1 in cc)
                 ];
+            named = λ m n a x at_m at_n. named-by m n a x (get-push w.objects (AHandle new) (AHandle a) m at_m) (get-push w.objects (AHandle new) x n at_n);
+            past = λ n x at. past-by n x (get-push w.objects (AHandle new) x n at);
             distinct = λ m n a b at_m at_n epochs.
                 elim (get-push w.objects (AHandle new) (AHandle a) m at_m) [
                   | inl first ↦
@@ -90,5 +133,5 @@ module _ (w : World) (o : Objects) (is_sound : IsSound o) (holds : Holds o w) (v
                         | inr last_one ↦ last_first.0 ∙ sym last_one.0
                       ]
                 ];
-            reads = by-place (ReadsItsLine (after made)) (opened-reads w.stored o made is_sound holds.stored some few keeps_log limit valid.line) l.reads;
+            reads = λ n x at. reads-by n x (get-push w.objects (AHandle new) x n at);
           }

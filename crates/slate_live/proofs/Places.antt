@@ -1,5 +1,6 @@
 -- What stands at the places of a list, after one was set or one more was added.
-use Rattle.std.proofs.Common.{◌≡◌, ◌≢◌, ◌⊎◌, inl, inr, ℕ, zero, suc, ◌<◌, List, [], ◌∷◌, ◌++◌, length, map, set, get_or, Some, refl, sym, ap, ◌∙◌}
+use Rattle.std.proofs.Common.{◌≡◌, ◌≢◌, ◌⊎◌, inl, inr, ℕ, zero, suc, ◌<◌, List, [], ◌∷◌, ◌++◌, length, map, set, get_or, Some, refl, sym, subst, ap, ◌∙◌}
+use Rattle.std.proofs.lemmas.Bool.{cases_eq}
 use Rattle.std.specs.List.{slice_get}
 use Rattle.std.specs.Option.{option_map}
 use Rattle.std.proofs.lemmas.Option.{slice_get-get_or}
@@ -16,6 +17,16 @@ get-set_other (z ∷ xs) zero zero x h = absurd (h refl)
 get-set_other (z ∷ xs) zero (suc m) x h = refl
 get-set_other (z ∷ xs) (suc n) zero x h = refl
 get-set_other (z ∷ xs) (suc n) (suc m) x h = get-set_other xs n m x (λ e. h (ap suc e))
+
+-- what stands at a place after one was set is that, or stood there before
+pub get-set : {X : Type 0} (xs : List X) (n m : ℕ) (x y z : X) → slice_get xs n ≡ Some z → slice_get (set xs n x) m ≡ Some y → ((m ≡ n) × (x ≡ y)) ⊎ ((m ≢ n) × (slice_get xs m ≡ Some y))
+get-set xs n m x y z there is =
+    elim (cases_eq m n) [
+      | inl same ↦
+          let at : slice_get (set xs n x) m ≡ Some x = subst (λ k. slice_get (set xs n x) k ≡ Some x) (sym same) (get-set_same xs n x z there) in
+          inl (same, (let e : x ≡ y = cc in e))
+      | inr other ↦ inr (other, sym (get-set_other xs n m x other) ∙ is)
+    ]
 
 -- to set what stands there changes nothing
 pub set-same : {X : Type 0} (xs : List X) (n : ℕ) (x : X) → slice_get xs n ≡ Some x → set xs n x ≡ xs

@@ -5,32 +5,40 @@ use Rattle.std.specs.List.{slice_get}
 use Rattle.slate_types.specs.declared.batches.Batch.{Batch}
 use Rattle.slate_types.specs.Line.{IsLine, IsPrefix, Line}
 use Rattle.slate_store.specs.Content.{IsSound, content}
-use Rattle.slate_store.specs.Objects.{Objects}
+use Rattle.slate_store.specs.Objects.{Objects, latest_manifest}
+use Rattle.slate_store.specs.declared.objects.VersionedManifest.{VersionedManifest}
 use Rattle.slate_errors.specs.declared.errors.SlateError.{SlateError}
 use Rattle.slate_model.specs.Catalogue.{Catalogue, Span, catalogue_of}
 use Rattle.slate_model.specs.declared.answers.PollAnswer.{PollAnswer}
 use Rattle.slate_model.specs.Flush.{grown}
-use Rattle.slate_model.specs.Follower.{Follower, Rebuilds}
+use Rattle.slate_model.specs.Follow.{Rebuilds}
+use Rattle.slate_model.specs.Follower.{Follower, kept_follower, rebuilt}
 use Rattle.slate_model.specs.Handle.{Handle, kept_handle}
-use Rattle.slate_model.specs.Known.{IsContent, Known}
-use Rattle.slate_model.specs.Object.{Object, Handle as AHandle, Follower as AFollower, kept}
+use Rattle.slate_model.specs.Known.{Known}
+use Rattle.slate_model.specs.Maintain.{Checkpoints, Sweeps}
+use Rattle.slate_model.specs.Tables.{AreStored}
+use Rattle.slate_model.specs.Object.{Object, Handle as AHandle, Follower as AFollower, kept, view_of}
 use Rattle.slate_model.specs.Open.{OpensHandle, opened_manifest, opened_handle}
 use Rattle.slate_model.specs.Stores.{by_catalogue, by_objects}
 use Rattle.slate_model.proofs.Flushed.{part_le}
-use Rattle.slate_model.proofs.Reduced.{catalogued, holding, opened-whole, opens-reduced, rebuilds-reduced}
+use Rattle.slate_model.proofs.Flushing.{latest-stored}
+use Rattle.slate_model.proofs.Maintained.{Maintained, checkpoint-maintains, checkpoints-reduced, sweep-maintains, sweeps-reduced}
+use Rattle.slate_model.proofs.Reduced.{catalogued, holding, opened-whole, opens-reduced, rebuilds-reduced, rebuilt-whole}
 use Rattle.slate_script.specs.declared.commands.Command.{Command}
 use Rattle.slate_script.specs.declared.replies.Reply.{Reply}
 use Rattle.slate_script.specs.declared.replies.Reply.TheVariants as replies
 use Rattle.slate_live.specs.declared.states.Write.{Write}
-use Rattle.slate_live.specs.Calls.{Call, Write as WriteCall, Merge as MergeCall, Flush, Refresh, Compact, Get, Scan, Seek, Close, Poll, Status, Nothing, call_of, named, Target, NewHandle, NewFollower, OfWrite, OfObject, target_of}
-use Rattle.slate_live.specs.Commands.{Acts, ActsOn, Adds, Does, DoesBy, OpensFollowerIn, OpensHandleIn, added, asked_reply, write_reply}
+use Rattle.slate_live.specs.Calls.{Call, Write as WriteCall, Merge as MergeCall, Flush, Refresh, Compact, Get, Scan, Seek, Close, Poll, Status, Nothing, call_of, named, Target, NewHandle, NewFollower, NewCheckpoint, WholeStore, OfWrite, OfObject, target_of}
+use Rattle.slate_live.specs.Commands.{Acts, ActsOn, Adds, Does, DoesBy, DoesToStore, OpensFollowerIn, OpensHandleIn, added, asked_reply, write_reply}
+use Rattle.slate_live.specs.Maintenance.{CommitsTo, SweepsTo}
 use Rattle.slate_live.specs.Replies.{followed_reply, refusal, reply_to}
-use Rattle.slate_live.specs.Represents.{Holds, IsFollowerAt, IsHandleAt, IsValid, IsValidFollower, IsValidHandle, ReadsItsLine, Represents}
+use Rattle.slate_live.specs.Represents.{AreBefore, AreOfPast, Holds, IsFollowerAt, IsHandleAt, IsValid, IsValidFollower, IsValidHandle, ReadsItsLine, Represents}
 use Rattle.slate_live.specs.Settings.{Settings}
 use Rattle.slate_live.specs.State.{Live, State, running}
 use Rattle.slate_live.specs.World.{Next, World, grown_by, state_of, stored_after}
-use Rattle.slate_live.proofs.Knowing.{follower-after, follower-known, follower-led, handle-after, handle-led}
-use Rattle.slate_live.proofs.Leading.{Leads, follower-leads, is_latest, leads-same, moved-leads, the_latest, valid-over}
+use Rattle.slate_live.proofs.Knowing.{follower-after, follower-led, handle-after, handle-led, all-read}
+use Rattle.slate_live.proofs.Leading.{Leads, follower-leads, is_latest, leads-same, moved-leads, past-over, stored-before, stored-past, the_latest, valid-over}
+use Rattle.slate_live.proofs.Maintaining.{maintained-leads}
 use Rattle.slate_live.proofs.Opening.{opened-leads, unopened-leads}
 use Rattle.slate_live.proofs.Places.{get-map, get-push}
 use Rattle.slate_live.proofs.Prefixes.{prefix-same}
@@ -81,7 +89,7 @@ write-kept objects None = refl
 write-kept objects (Some write) =
     ap (λ found. asked_reply found write.number) (get-map kept objects write.handle) ∙ asked-kept (slice_get objects write.handle) write.number
 
-module _ (settings : Settings) (w : World) (o : Objects) (is_sound : IsSound o) (holds : Holds o w) (valid : IsValid w) (reads : (m : ℕ) (a : Handle) → IsHandleAt w.objects m a → ReadsItsLine o a)
+module _ (settings : Settings) (w : World) (o : Objects) (is_sound : IsSound o) (holds : Holds o w) (valid : IsValid w) (reads : (n : ℕ) (x : Object) → slice_get w.objects n ≡ Some x → ReadsItsLine o x)
     (command : Command) (made : ℕ) (reply : Reply) (live_objects : List Object) (writes : List Write) (store : Known (List Batch)) where
   -- the state before, by the store's own objects and what is kept of the world's, and the one after
   abbrev s : State (List Batch)
@@ -152,7 +160,7 @@ module _ (settings : Settings) (w : World) (o : Objects) (is_sound : IsSound o) 
       let v = valid-over w o is_sound holds valid reads n h at in
       let by_held = subst (λ x. Acts (by_objects (Some o)) settings.merge n command made (AHandle (kept_handle h)) (holding o w.faults) w.writes reply (AHandle k) x writes) (store-is o'.0 o'.1) a in
       let latest = the_latest w o is_sound holds valid reads n h at in
-      let l = handle-led w.stored o o'.0 w.faults store.faults made w.writes writes reply is_sound holds.stored latest (is_latest w o is_sound holds valid reads n h at) h k v (reads n h at) settings.merge n command.moment command.second (call_of command.action) by_held in
+      let l = handle-led w.stored o o'.0 w.faults store.faults made w.writes writes reply is_sound holds.stored latest (is_latest w o is_sound holds valid reads n h at) h k v (reads n (AHandle h) at) (valid.named n n h (AHandle h) at at) settings.merge n command.moment command.second (call_of command.action) by_held in
       let grows = named-is (OfObject n) is (Some (AHandle h)) at in
       let objects' = set w.objects n (AHandle l.new) in
       record {
@@ -171,27 +179,26 @@ module _ (settings : Settings) (w : World) (o : Objects) (is_sound : IsSound o) 
       }
 
   -- a follower's command
-  led-follower : (n : ℕ) (g g' : Follower) → target_of command.action ≡ OfObject n → slice_get w.objects n ≡ Some (AFollower g) →
-      Acts (by_objects (Some o)) settings.merge n command made (AFollower g) (holding o w.faults) w.writes reply (AFollower g') store writes → live_objects ≡ set (map kept w.objects) n (AFollower g') → Led
-  led-follower n g g' is at a objects =
-      let o' = follower-after o w.faults made w.writes writes reply settings.merge store (call_of command.action) g g' a in
+  led-follower : (n : ℕ) (g k : Follower) → target_of command.action ≡ OfObject n → slice_get w.objects n ≡ Some (AFollower g) →
+      Acts (by_objects (Some o)) settings.merge n command made (AFollower (kept_follower g)) (holding o w.faults) w.writes reply (AFollower k) store writes → live_objects ≡ set (map kept w.objects) n (AFollower k) → Led
+  led-follower n g k is at a objects =
+      let o' = follower-after o w.faults made w.writes writes reply settings.merge store (call_of command.action) (kept_follower g) k a in
       let front = valid.followers n g at in
-      let by_held = subst (λ x. Acts (by_objects (Some o)) settings.merge n command made (AFollower g) (holding o w.faults) w.writes reply (AFollower g') x writes) (store-is o'.0 o'.1) a in
-      let l = follower-led w.stored o o'.0 w.faults store.faults made w.writes writes reply is_sound holds.stored valid.line settings.merge g front (call_of command.action) g' by_held in
-      let known = follower-known w.stored o o'.0 w.faults store.faults made w.writes writes reply is_sound holds.stored valid.line settings.merge g front (call_of command.action) g' by_held in
+      let by_held = subst (λ x. Acts (by_objects (Some o)) settings.merge n command made (AFollower (kept_follower g)) (holding o w.faults) w.writes reply (AFollower k) x writes) (store-is o'.0 o'.1) a in
+      let l = follower-led w.stored o o'.0 w.faults store.faults made w.writes writes reply is_sound holds.stored valid.line settings.merge g k front (reads n (AFollower g) at) (call_of command.action) by_held in
       let grows = named-is (OfObject n) is (Some (AFollower g)) at ∙ follower-growth (call_of command.action) made w.stored g in
-      let objects' = set w.objects n (AFollower g') in
+      let objects' = set w.objects n (AFollower l.new) in
       record {
         after = o'.0;
         objects = objects';
         modelled = o'.1;
-        kept = objects ∙ sym (map-set kept w.objects n (AFollower g'));
-        leads = subst (λ x. Leads stored' x objects') (sym l.1) (over grows (follower-leads w o is_sound holds valid reads n g g' at l.0));
+        kept = objects ∙ (ap (λ x. set (map kept w.objects) n (AFollower x)) l.kept ∙ sym (map-set kept w.objects n (AFollower l.new)));
+        leads = subst (λ x. Leads stored' x objects') (sym l.same) (over grows (follower-leads w o is_sound holds valid reads n g l.new at l.view l.begins l.reads_line));
         does = does-at (OfObject n) is o'.0 objects'
             (subst (λ found. ActsOn (by_catalogue w.stored w.catalogue) settings.merge n command made found (state_of w) reply (state_of (world o'.0 objects'))) (sym at)
             (record {
-              new = AFollower g';
-              acts = subst (λ c. Acts (by_catalogue w.stored c) settings.merge n command made (AFollower g) (record { objects = Some c; faults = w.faults }) w.writes reply (AFollower g') (catalogued o'.0 store.faults) writes) holds.catalogue known;
+              new = AFollower l.new;
+              acts = subst (λ c. Acts (by_catalogue w.stored c) settings.merge n command made (AFollower g) (record { objects = Some c; faults = w.faults }) w.writes reply (AFollower l.new) (catalogued o'.0 store.faults) writes) holds.catalogue l.acts;
               objects = refl;
             }));
       }
@@ -259,55 +266,76 @@ module _ (settings : Settings) (w : World) (o : Objects) (is_sound : IsSound o) 
         });
       }
 
-  -- the objects with a follower more
-  followed-leads : (g : Follower) → IsPrefix g.line w.stored → Leads w.stored o (w.objects ++ AFollower g ∷ [])
-  followed-leads g front =
-      let before : (m : ℕ) (a : Handle) → IsHandleAt (w.objects ++ AFollower g ∷ []) m a → IsHandleAt w.objects m a = λ (m : ℕ) (a : Handle) (at : IsHandleAt (w.objects ++ AFollower g ∷ []) m a).
-      (elim (get-push w.objects (AFollower g) (AHandle a) m at) [
-        | inl old ↦ old
-        | inr last_one ↦ absurd (let other = last_one.1 in cc)
-      ]) in
-      record {
-        sound = is_sound;
-        content = holds.stored;
-        handles = λ m a at. valid-over w o is_sound holds valid reads m a (before m a at);
-        followers = λ m f at.
-            elim (get-push w.objects (AFollower g) (AFollower f) m at) [
-              | inl old ↦ valid.followers m f old
-              | inr last_one ↦ (let other = last_one.1 in let same : g ≡ f = cc in subst (IsValidFollower w.stored) same front)
-            ];
-        distinct = λ i j a b at_i at_j epochs. valid.distinct i j a b (before i a at_i) (before j b at_j) epochs;
-        reads = λ m a at. reads m a (before m a at);
-      }
+  -- the objects with a follower more, whose view is the latest manifest
+  module _ (g : Follower) (is : latest_manifest o ≡ Some g.view) where
+    tables-stored : AreStored o g.view.manifest.tables
+    tables-stored = latest-stored o g.view is_sound is
+
+    before-push : (m : ℕ) (a : Handle) → IsHandleAt (w.objects ++ AFollower g ∷ []) m a → IsHandleAt w.objects m a
+    before-push m a at =
+        elim (get-push w.objects (AFollower g) (AHandle a) m at) [
+          | inl old ↦ old
+          | inr last_one ↦ absurd (let other = last_one.1 in cc)
+        ]
+
+    pushed : (P : Object → Type 0) → P (AFollower g) → ((m : ℕ) (x : Object) → slice_get w.objects m ≡ Some x → P x) → (m : ℕ) (x : Object) → slice_get (w.objects ++ AFollower g ∷ []) m ≡ Some x → P x
+    pushed P mine before m x at =
+        elim (get-push w.objects (AFollower g) x m at) [
+          | inl old ↦ before m x old
+          | inr last_one ↦ subst P last_one.1 mine
+        ]
+
+    followed-leads : IsPrefix g.line w.stored → ReadsItsLine o (AFollower g) → Leads w.stored o (w.objects ++ AFollower g ∷ [])
+    followed-leads front its = record {
+      sound = is_sound;
+      content = holds.stored;
+      handles = λ m a at. valid-over w o is_sound holds valid reads m a (before-push m a at);
+      followers = λ m f at.
+          elim (get-push w.objects (AFollower g) (AFollower f) m at) [
+            | inl old ↦ valid.followers m f old
+            | inr last_one ↦ (let other = last_one.1 in let same : g ≡ f = cc in subst (IsValidFollower w.stored) same front)
+          ];
+      named = λ i j a x at_i at_j.
+          let at_before = before-push i a at_i in
+          pushed (λ y. AreBefore a (view_of y).manifest.tables) (stored-before w.stored o a (valid-over w o is_sound holds valid reads i a at_before) g.view.manifest.tables tables-stored)
+          (λ m y at. valid.named i m a y at_before at) j x at_j;
+      past = pushed (λ y. AreOfPast (catalogue_of o) (view_of y).manifest.tables) (stored-past o g.view is_sound is g.view.manifest.tables tables-stored) (past-over w o is_sound holds valid reads);
+      distinct = λ i j a b at_i at_j epochs. valid.distinct i j a b (before-push i a at_i) (before-push j b at_j) epochs;
+      reads = pushed (ReadsItsLine o) its reads;
+    }
 
   -- an opening of a follower
-  led-followed : target_of command.action ≡ NewFollower → (r : Result (Follower × PollAnswer) SlateError) → Rebuilds (IsContent (Some o)) true (holding o w.faults) r store → made ≡ 0 →
+  led-followed : target_of command.action ≡ NewFollower → (r : Result (Follower × PollAnswer) SlateError) → Rebuilds (by_objects (Some o)) true (holding o w.faults) r store → made ≡ 0 →
       reply ≡ reply_to (λ (b : Follower × PollAnswer). followed_reply (length (map kept w.objects)) b.1) r → live_objects ≡ map kept w.objects ++ added (λ (b : Follower × PollAnswer). AFollower b.0) r → writes ≡ w.writes → Led
   led-followed is (Ok b) d none replied objects same_writes =
-      let by_held = subst (λ x. Rebuilds (IsContent (Some o)) true (holding o w.faults) (Ok b) x) (store-is o d.kept) d in
+      let by_held = subst (λ x. Rebuilds (by_objects (Some o)) true (holding o w.faults) (Ok b) x) (store-is o d.kept) d in
       let known = rebuilds-reduced w.stored true (Ok b) o o w.faults store.faults is_sound holds.stored by_held in
       let all = d.sees o w.stored refl (o, refl, is_sound, sym holds.stored) in
-      let front = subst (λ (g : Follower). IsPrefix g.line w.stored) (sym all.2) (prefix-same w.stored) in
-      let objects' = w.objects ++ AFollower b.0 ∷ [] in
+      let view : (b.0).view ≡ all.0 = ap (λ (x : Follower). x.view) all.2 in
+      let at : latest_manifest o ≡ Some (b.0).view = all.1 ∙ ap Some (sym view) in
+      let new = rebuilt (b.0).view w.stored in
+      let objects' = w.objects ++ AFollower new ∷ [] in
       record {
         after = o;
         objects = objects';
         modelled = d.kept;
-        kept = objects ∙ sym (map-append kept w.objects (AFollower b.0 ∷ []));
-        leads = over (unnamed NewFollower is refl) (followed-leads b.0 front);
+        kept = objects ∙ (ap (λ x. map kept w.objects ++ AFollower x ∷ []) (all.2 ∙ ap (λ v. kept_follower (rebuilt v w.stored)) (sym view)) ∙ sym (map-append kept w.objects (AFollower new ∷ [])));
+        leads = over (unnamed NewFollower is refl) (followed-leads new at (prefix-same w.stored) (rebuilt-reads-of (b.0).view at));
         does = does-at NewFollower is o objects' (
           record {
-            result = Ok b;
+            result = Ok (new, b.1);
             replied = replied ∙ ap (λ n. followed_reply n b.1) (length-map w.objects kept);
-            does = subst (λ c. Rebuilds (λ line. line ≡ w.stored) true (record { objects = Some c; faults = w.faults }) (Ok b) (catalogued o store.faults)) holds.catalogue known;
+            does = subst (λ c. Rebuilds (by_catalogue w.stored c) true (record { objects = Some c; faults = w.faults }) (Ok (new, b.1)) (catalogued o store.faults)) holds.catalogue known;
             objects = refl;
             writes = same_writes;
           },
           none,
         );
-      }
+      } where
+        rebuilt-reads-of : (latest : VersionedManifest) → latest_manifest o ≡ Some latest → ReadsItsLine o (AFollower (rebuilt latest w.stored))
+        rebuilt-reads-of = all-read w.stored o is_sound holds.stored valid.line
   led-followed is (Err e) d none replied objects same_writes =
-      let by_held = subst (λ x. Rebuilds (IsContent (Some o)) true (holding o w.faults) (Err e) x) (store-is o d.kept) d in
+      let by_held = subst (λ x. Rebuilds (by_objects (Some o)) true (holding o w.faults) (Err e) x) (store-is o d.kept) d in
       let known = rebuilds-reduced w.stored true (Err e) o o w.faults store.faults is_sound holds.stored by_held in
       record {
         after = o;
@@ -319,7 +347,7 @@ module _ (settings : Settings) (w : World) (o : Objects) (is_sound : IsSound o) 
           record {
             result = Err e;
             replied = replied;
-            does = subst (λ c. Rebuilds (λ line. line ≡ w.stored) true (record { objects = Some c; faults = w.faults }) (Err e) (catalogued o store.faults)) holds.catalogue known;
+            does = subst (λ c. Rebuilds (by_catalogue w.stored c) true (record { objects = Some c; faults = w.faults }) (Err e) (catalogued o store.faults)) holds.catalogue known;
             objects = sym (append-nil w.objects);
             writes = same_writes;
           },
@@ -327,9 +355,57 @@ module _ (settings : Settings) (w : World) (o : Objects) (is_sound : IsSound o) 
         );
       }
 
+  -- a command that goes to the store alone
+  led-store : (target : Target) → target_of command.action ≡ target → named w.objects target ≡ None → (o' : Objects) → store.objects ≡ Some o' → Maintained o o' → live_objects ≡ map kept w.objects →
+      DoesBy (by_catalogue w.stored w.catalogue) settings command target made (state_of w) reply (state_of (world o' w.objects)) → Led
+  led-store target is none o' modelled m objects d = record {
+    after = o';
+    objects = w.objects;
+    modelled = modelled;
+    kept = objects;
+    leads = over (unnamed target is none) (maintained-leads w o is_sound holds valid reads o' m);
+    does = does-at target is o' w.objects d;
+  }
+
+  led-checkpoint : (lifetime : Option ℕ) → target_of command.action ≡ NewCheckpoint lifetime → DoesToStore (CommitsTo (by_objects (Some o)) made lifetime command.moment) s reply s' → Led
+  led-checkpoint lifetime is d =
+      let c = d.does in
+      let t = ((c.does).objects).some o refl in
+      let by_held = subst (λ x. Checkpoints (by_objects (Some o)) made lifetime command.moment (holding o w.faults) c.result x) (store-is t.0 t.1) c.does in
+      let known = checkpoints-reduced w.stored made lifetime command.moment c.result o t.0 w.faults store.faults is_sound by_held in
+      led-store (NewCheckpoint lifetime) is refl t.0 t.1 (subst (Maintained o) (sym (t.2).after) (checkpoint-maintains lifetime command.moment made o is_sound)) d.objects
+      (record {
+        does = record {
+          result = c.result;
+          replied = c.replied;
+          does = subst (λ x. Checkpoints (by_catalogue w.stored x) made lifetime command.moment (record { objects = Some x; faults = w.faults }) c.result (catalogued t.0 store.faults)) holds.catalogue known;
+        };
+        objects = refl;
+        writes = d.writes;
+      })
+
+  led-swept : target_of command.action ≡ WholeStore → DoesToStore (SweepsTo (by_objects (Some o)) made command.moment) s reply s' → Led
+  led-swept is d =
+      let c = d.does in
+      let t = ((c.does).objects).some o refl in
+      let by_held = subst (λ x. Sweeps (by_objects (Some o)) made command.moment (holding o w.faults) c.result x) (store-is t.0 t.1) c.does in
+      let known = sweeps-reduced w.stored made command.moment c.result o t.0 w.faults store.faults is_sound by_held in
+      led-store WholeStore is refl t.0 t.1 (subst (Maintained o) (sym (t.2).after) (sweep-maintains command.moment made o is_sound)) d.objects
+      (record {
+        does = record {
+          result = c.result;
+          replied = c.replied;
+          does = subst (λ x. Sweeps (by_catalogue w.stored x) made command.moment (record { objects = Some x; faults = w.faults }) c.result (catalogued t.0 store.faults)) holds.catalogue known;
+        };
+        objects = refl;
+        writes = d.writes;
+      })
+
   led-by : (target : Target) → target_of command.action ≡ target → DoesBy (by_objects (Some o)) settings command target made s reply s' → Led
   led-by (NewHandle keeps_log) is d = led-opened keeps_log is d.result d.does d.replied d.objects d.writes
   led-by NewFollower is d = led-followed is (d.0).result (d.0).does d.1 (d.0).replied (d.0).objects (d.0).writes
+  led-by (NewCheckpoint lifetime) is d = led-checkpoint lifetime is d
+  led-by WholeStore is d = led-swept is d
   led-by (OfWrite n) is d =
       let answer = write_reply w.objects (slice_get w.writes n) in
       led-only answer (unnamed (OfWrite n) is refl) (d.0, d.1 ∙ write-kept w.objects (slice_get w.writes n), d.2) (λ only. does-at (OfWrite n) is o w.objects only)
@@ -358,6 +434,6 @@ leads settings live live' store store' w command made reply r d =
         faults = refl;
         objects = l.kept;
         writes = refl;
-        valid = record { line = subst IsLine lead.content (lead.sound).line; followers = lead.followers; handles = lead.handles; distinct = lead.distinct };
+        valid = record { line = subst IsLine lead.content (lead.sound).line; followers = lead.followers; handles = lead.handles; named = lead.named; past = lead.past; distinct = lead.distinct };
       },
     )

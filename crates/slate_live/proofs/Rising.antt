@@ -17,7 +17,8 @@ use Rattle.slate_model.specs.Close.{closed, closed_follower}
 use Rattle.slate_model.specs.declared.answers.PollAnswer.{PollAnswer}
 use Rattle.slate_model.specs.declared.answers.Written.{Written}
 use Rattle.slate_model.specs.Flush.{DurableAfter, IsFlushed}
-use Rattle.slate_model.specs.Follower.{Follower, Polls, number}
+use Rattle.slate_model.specs.Follow.{Polls}
+use Rattle.slate_model.specs.Follower.{Follower, number}
 use Rattle.slate_model.specs.Handle.{CloseResult, Handle, accepted}
 use Rattle.slate_model.specs.Knowledge.{Knowledge}
 use Rattle.slate_model.specs.Known.{Known}
@@ -27,7 +28,7 @@ use Rattle.slate_model.specs.Write.{Writes, accepted_moment}
 use Rattle.slate_script.specs.declared.commands.Command.{Command}
 use Rattle.slate_script.specs.declared.replies.Reply.{Reply}
 use Rattle.slate_live.specs.declared.states.Write.{Write}
-use Rattle.slate_live.specs.Calls.{Call, Write as WriteCall, Merge as MergeCall, Flush, Refresh, Compact, Get, Scan, Seek, Close, Poll, Status, Nothing, call_of, Target, NewHandle, NewFollower, OfWrite, OfObject, target_of}
+use Rattle.slate_live.specs.Calls.{Call, Write as WriteCall, Merge as MergeCall, Flush, Refresh, Compact, Get, Scan, Seek, Close, Poll, Status, Nothing, call_of, Target, NewHandle, NewFollower, NewCheckpoint, WholeStore, OfWrite, OfObject, target_of}
 use Rattle.slate_live.specs.Commands.{Acts, ActsOn, DoesBy}
 use Rattle.slate_live.specs.Followers.{FollowerActs}
 use Rattle.slate_live.specs.Handles.{HandleActs, MergesTo}
@@ -145,9 +146,9 @@ follower-same : (f f' : Follower) → f' ≡ f → FollowerRises f f'
 follower-same f f' same = subst (FollowerRises f) (sym same) (record { number = omega arith; result = stays f.result })
 
 -- what a poll leaves: the follower as it was, or one that sees what is stored
-polled-rises : {L : Type 0} (stored : Line) (f f' : Follower) (o : ObjectsOf L) (before after : Known L) (r : Result PollAnswer SlateError) → before.objects ≡ Some o → IsPrefix f.line stored → f.result ≡ None → Polls (λ line. line ≡ stored) f before r f' after → FollowerRises f f'
-polled-rises stored f f' o before after (Err e) at front live p = follower-same f f' p.failed
-polled-rises stored f f' o before after (Ok answer) at front live p =
+polled-rises : (stored : Line) (catalogue : Catalogue) (f f' : Follower) (o : ObjectsOf Span) (before after : Known Span) (r : Result PollAnswer SlateError) → before.objects ≡ Some o → IsPrefix f.line stored → f.result ≡ None → Polls (by_catalogue stored catalogue) f before r f' after → FollowerRises f f'
+polled-rises stored catalogue f f' o before after (Err e) at front live p = follower-same f f' p.failed
+polled-rises stored catalogue f f' o before after (Ok answer) at front live p =
     let all = (p.rebuilds live).sees o stored at refl in
     record {
       number = subst (λ (g : Follower). number f ≤ number g) (sym all.2) (prefix-end f.line stored front);
@@ -157,10 +158,10 @@ polled-rises stored f f' o before after (Ok answer) at front live p =
 poll-same : {A : Type 0} (r : Result A SlateError) (e : SlateError) (P : SlateError → Type 0) → r ≡ Err e → IfErr r P → P e
 poll-same {A} r e P is h = subst (λ x. IfErr x P) is h
 
-poll-rises : {L : Type 0} (stored : Line) (f f' : Follower) (o : ObjectsOf L) (before after : Known L) (r : Result PollAnswer SlateError) → before.objects ≡ Some o → IsPrefix f.line stored → Polls (λ line. line ≡ stored) f before r f' after → FollowerRises f f'
-poll-rises stored f f' o before after r at front p =
+poll-rises : (stored : Line) (catalogue : Catalogue) (f f' : Follower) (o : ObjectsOf Span) (before after : Known Span) (r : Result PollAnswer SlateError) → before.objects ≡ Some o → IsPrefix f.line stored → Polls (by_catalogue stored catalogue) f before r f' after → FollowerRises f f'
+poll-rises stored catalogue f f' o before after r at front p =
     by-option f.result
-    (λ live. polled-rises stored f f' o before after r at front live p)
+    (λ live. polled-rises stored catalogue f f' o before after r at front live p)
     (λ q is. let c = some-of (λ q. (r ≡ Err (closed_error q)) × (after ≡ before)) f.result q is p.closed in follower-same f f' (poll-same r _ (λ e. f' ≡ f) c.0 p.failed))
 
 closed-follower-rises : (f : Follower) (r : CloseResult) → f.result ≡ r → FollowerRises f (closed_follower f)
@@ -168,7 +169,7 @@ closed-follower-rises f None is = record { number = omega arith; result = is-non
 closed-follower-rises f (Some q) is = record { number = omega arith; result = subst (λ x. StaysClosed x (Some (unwrap_or x (Ok tt)))) (sym is) refl }
 
 pub follower-rises : (stored : Line) (catalogue : Catalogue) (merge : Option Merge) (call : Call) (made : ℕ) (f : Follower) (o : ObjectsOf Span) (before : Known Span) (writes : List Write) (reply : Reply) (f' : Follower) (after : Known Span) (writes' : List Write) → before.objects ≡ Some o → IsPrefix f.line stored → FollowerActs (by_catalogue stored catalogue) merge call made f before writes reply f' after writes' → FollowerRises f f'
-follower-rises stored catalogue merge Poll made f o before writes reply f' after writes' at front a = poll-rises stored f f' o before after (a.0).result at front (a.0).does
+follower-rises stored catalogue merge Poll made f o before writes reply f' after writes' at front a = poll-rises stored catalogue f f' o before after (a.0).result at front (a.0).does
 follower-rises stored catalogue merge (Close t) made f o before writes reply f' after writes' at front a = subst (FollowerRises f) (sym a.1) (closed-follower-rises f f.result refl)
 follower-rises stored catalogue merge (Get key remote) made f o before writes reply f' after writes' at front a = follower-same f f' a.1
 follower-rises stored catalogue merge (Scan range order remote) made f o before writes reply f' after writes' at front a = follower-same f f' a.1
@@ -219,6 +220,8 @@ module _ (settings : Settings) (w : World) (valid : IsValid w) (command : Comman
   does-rises : (target : Target) → DoesBy k settings command target made (state_of w) reply s' → Rise w.objects s'.objects
   does-rises (NewHandle keeps_log) d = rise-push w.objects s'.objects _ d.objects
   does-rises NewFollower d = rise-push w.objects s'.objects _ (d.0).objects
+  does-rises (NewCheckpoint lifetime) d = rise-same w.objects s'.objects d.objects
+  does-rises WholeStore d = rise-same w.objects s'.objects d.objects
   does-rises (OfWrite n) d = rise-same w.objects s'.objects (ap (λ (s : State Span). s.objects) d.2)
   does-rises (OfObject n) d = on-rises n (slice_get w.objects n) refl d
 

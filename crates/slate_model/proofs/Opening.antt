@@ -27,7 +27,7 @@ use Rattle.slate_model.proofs.Reopened.{opened}
 use Rattle.slate_model.proofs.Tabled.{floor-low, joined-line, tables-within}
 
 -- no table has an epoch above all of these
-absent-table : (n : ℕ) (q : TableId) (es : List (TableId × List Batch)) → n < q.epoch → All (λ table. table.0.epoch ≤ n) es → lookup (is_at (table_cmp q)) es ≡ None
+pub absent-table : (n : ℕ) (q : TableId) (es : List (TableId × List Batch)) → n < q.epoch → All (λ table. table.0.epoch ≤ n) es → lookup (is_at (table_cmp q)) es ≡ None
 absent-table n q [] above low = refl
 absent-table n q (e ∷ es) above low =
     let first = All-head (λ (table : TableId × List Batch). table.0.epoch ≤ n) e es low in

@@ -1,5 +1,5 @@
 -- What holds of each handle of a world that commands lead to, and what its objects read.
-use Rattle.std.specs.Prelude.{◌≡◌, ℕ, ◌-◌, ◌<◌, ◌≤◌, ◌++◌, All, List, take, Some, None, IfSome}
+use Rattle.std.specs.Prelude.{◌≡◌, ℕ, ◌-◌, ◌<◌, ◌≤◌, ◌++◌, All, List, take, Some, None}
 use Rattle.slate_types.specs.Line.{Line, IsLine, IsPrefix, batches_above, extended}
 use Rattle.slate_store.specs.declared.objects.VersionedManifest.{VersionedManifest}
 use Rattle.slate_store.specs.Content.{table_batches}
@@ -35,9 +35,9 @@ pub record IsValidHandle (stored : Line) (catalogue : Catalogue) (handle : Handl
 abbrev pub AreBefore : Handle → List TableId → Type 0
 AreBefore handle ids = All (λ id. id.epoch ≡ handle.epoch → id.index < handle.counter) ids
 
--- and their epochs aren't above the latest manifest's
+-- and their epochs aren't above that of the latest manifest
 abbrev pub AreOfPast : {L : Type 0} → ObjectsOf L → List TableId → Type 0
-AreOfPast objects ids = All (λ id. IfSome (latest_manifest objects) (λ latest. id.epoch ≤ latest.manifest.writer_epoch)) ids
+AreOfPast objects ids = (latest : VersionedManifest) × (latest_manifest objects ≡ Some latest) × All (λ id. id.epoch ≤ latest.manifest.writer_epoch) ids
 
 -- where the tables of this manifest are stored, they are, joined, the batches of a line up to the manifest's last number in
 -- tables

@@ -6,8 +6,8 @@ use Rattle.slate_follow.specs.declared.rebuilds.Rebuilt.TheInside.{Inside as Reb
 use Rattle.slate_follow.specs.declared.states.FollowerState.TheInside.{Inside}
 
 -- the follower that the fields represent
-abbrev pub kept_follower : Inside → Follower
-kept_follower a =
+abbrev pub follower_of : Inside → Follower
+follower_of a =
     record { view = a.status.manifest; line = record { floor = a.floor; batches = a.memory }; result = a.status.result }
 
 -- the batches in memory are numbered from the floor on, its number is that of the last one, and none is in a segment

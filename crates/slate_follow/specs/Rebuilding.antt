@@ -10,7 +10,8 @@ use Rattle.slate_replay.specs.declared.replays.Replayed.{Replayed}
 use Rattle.slate_replay.specs.declared.replays.Replayed.TheVariants as replays
 use Rattle.slate_errors.specs.declared.errors.SlateError.{SlateError}
 use Rattle.slate_errors.specs.declared.errors.SlateError.TheVariants as errors
-use Rattle.slate_model.specs.Follower.{Follower, FollowCause, can_follow}
+use Rattle.slate_model.specs.Follow.{FollowCause, can_follow}
+use Rattle.slate_model.specs.Follower.{Follower}
 use Rattle.slate_model.specs.Open.{replayed_logs}
 use Rattle.slate_model.specs.declared.answers.PollAnswer.{PollAnswer}
 use Rattle.slate_model.specs.declared.answers.PollAnswer.TheVariants.{Whole, Truncated}

@@ -1,4 +1,5 @@
-//! A reader that follows a database: it takes what is stored, and takes it anew at each poll.
+//! A reader that follows a database: it goes by the latest manifest, whose tables it reads and whose log files it has in
+//! memory, and takes both anew at each poll.
 #![tactic(auto)]
 
 mod closes;

@@ -1,7 +1,8 @@
 // Opening a reader that follows a database, and polling it.
 ghost use Rattle.std.specs.Prelude.{◌≡◌, ◌≢◌, ◌≤◌, true, false, None, IfOk, IfSome};
-ghost use Rattle.slate_model.specs.Follower.{Polls, Rebuilds};
-ghost use Rattle.slate_model.specs.Known.{IsContent, known};
+ghost use Rattle.slate_model.specs.Follow.{Polls, Rebuilds};
+ghost use Rattle.slate_model.specs.Known.{known};
+ghost use Rattle.slate_model.specs.Stores.{by_objects};
 ghost use Rattle.slate_follow.specs.Rebuilding.{CallsRebuilding, ReplaysLatest};
 
 use crate::rebuilds::rebuild;
@@ -13,15 +14,16 @@ use std::alloc::Global;
 
 impl FollowerState {
     /// Opens a reader of a database: it reads the latest manifest and all log files above the manifest's replay mark,
-    /// and sees the batches that these have. It puts nothing. Of the modes, `FollowLatest` can be opened today, with
-    /// log files and without an extractor; in this mode `moment` isn't looked at. It calls the store twice, and once for
-    /// each log file that it replays. It takes time linear in the operations of the log files, and for each key a
-    /// logarithm of the keys. SlateDB's `DbReader::open`.
+    /// and sees the batches in the manifest's tables and those that the log files have above the last number in tables.
+    /// It puts nothing, and reads no table: each read of the reader does. Of the modes, `FollowLatest` can be opened
+    /// today, with log files and without an extractor; in this mode `moment` isn't looked at. It calls the store twice,
+    /// and once for each log file that it replays. It takes time linear in the operations of the log files, and for each
+    /// key a logarithm of the keys. SlateDB's `DbReader::open`.
     ///
     /// It answers `Truncated` where a log file or a batch is missing, and the reader has the batches before it; that
     /// never comes over a store that only handles wrote. It answers `LatestTransactionalObjectVersionMissing` where
-    /// there is no manifest, and `InvalidDBState` where the latest one isn't initialised and, until tables are built,
-    /// where it names one. It answers `ObjectStoreError` for a fault of the store, and `NoMemory`.
+    /// there is no manifest, and `InvalidDBState` where the latest one isn't initialised. It answers `ObjectStoreError`
+    /// for a fault of the store, and `NoMemory`.
     pub fn open<S: Store, E: PrefixExtractor>(
         alloc: Global,
         store: &mut S,
@@ -33,7 +35,7 @@ impl FollowerState {
         requires mode { mode ≡ DbReaderMode.FollowLatest }
         requires replays { options.now.skip_wal_replay ≡ false }
         requires extractor { extractor ≡ None }
-        ensures rebuilds { Rebuilds (IsContent (S.objects store.old)) true (known S.objects S.faults store.old) result (known S.objects S.faults store.new) }
+        ensures rebuilds { Rebuilds (by_objects (S.objects store.old)) true (known S.objects S.faults store.old) result (known S.objects S.faults store.new) }
         ensures replays { IfOk result (λ p. IfSome (S.objects store.old) (λ o. ReplaysLatest true o p.0 p.1)) }
         ensures calls { IfSome (S.objects store.old) (λ o. CallsRebuilding o (S.calls store.old) (S.calls store.new)) }
     {
@@ -41,16 +43,16 @@ impl FollowerState {
         Ok((FollowerState::new(alloc, rebuilt), answer))
     }
 
-    /// Takes all that is stored by now: from then on the reader sees the batches of the log files above the latest
-    /// manifest's replay mark, and answers from them until the next poll. `moment` isn't looked at. It rebuilds what it
-    /// sees at each poll, which takes the time and the calls of an opening.
+    /// Takes all that is stored by now: from then on the reader goes by the latest manifest until the next poll, and
+    /// sees the batches in its tables and those that the log files above its replay mark have above the last number in
+    /// tables. It reads no table. `moment` isn't looked at. It rebuilds what it sees at each poll, which takes the time
+    /// and the calls of an opening.
     ///
     /// It answers `Truncated` where a log file or a batch is missing, and the reader has the batches before it then;
     /// that never comes over a store that only handles wrote. A poll that answers an error leaves the reader as it was,
     /// and closes nothing: the next one may go on. On a closed reader it answers `Closed` or the error that closed it,
     /// and doesn't touch the store. Else it answers `LatestTransactionalObjectVersionMissing` where there is no
-    /// manifest, `ObjectStoreError` for a fault of the store, and `NoMemory`; and, until tables are built,
-    /// `InvalidDBState` where the latest manifest names one.
+    /// manifest, `ObjectStoreError` for a fault of the store, and `NoMemory`.
     pub fn poll<S: Store, E: PrefixExtractor>(
         &mut self,
         alloc: Global,
@@ -59,7 +61,7 @@ impl FollowerState {
         moment: i64,
     ) -> Result<PollAnswer, SlateError>
         requires { extractor ≡ None }
-        ensures polls { Polls (IsContent (S.objects store.old)) self.old (known S.objects S.faults store.old) result self.new (known S.objects S.faults store.new) }
+        ensures polls { Polls (by_objects (S.objects store.old)) self.old (known S.objects S.faults store.old) result self.new (known S.objects S.faults store.new) }
         ensures replays { IfOk result (λ a. IfSome (S.objects store.old) (λ o. ReplaysLatest false o self.new a)) }
         ensures calls { IfSome (S.objects store.old) (λ o. CallsRebuilding o (S.calls store.old) (S.calls store.new)) }
         ensures count { S.faults store.old ≤ S.faults store.new }

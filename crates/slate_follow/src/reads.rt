@@ -1,27 +1,32 @@
-// Reading a key from the batches that a reader has in memory.
-ghost use Rattle.std.specs.Prelude.{◌≡◌, [], Some, Option};
+// Reading a key from the tables of a reader's view and from its batches in memory.
+ghost use Rattle.std.specs.Prelude.{◌≡◌, ◌+◌, ◌≤◌, [], None, Some, Option, length};
 ghost use Rattle.std.specs.Option.{option_copied};
 ghost use Rattle.slate_types.specs.Operator.{Merge};
 ghost use Rattle.slate_reads.specs.Read.{IsOperator, read_at};
 ghost use Rattle.slate_model.specs.Follower.{number};
 ghost use Rattle.slate_model.specs.Known.{known};
+ghost use Rattle.slate_model.specs.Object.{Follower};
 ghost use Rattle.slate_model.specs.Read.{Reads};
+ghost use Rattle.slate_model.specs.Stores.{kept_rows};
 
 use crate::FollowerState;
 use slate_errors::SlateError;
 use slate_reads::read_indexed;
+use slate_replay::read_tables;
 use slate_store::Store;
 use slate_types::{KeyValue, MergeOperator};
 use std::alloc::Global;
 
 impl FollowerState {
-    /// What the reader's batches say of a key. None is: there is no value. It is answered from what the last poll took,
-    /// never from the store.
+    /// What the tables of the manifest that the reader goes by and then its batches in memory say of a key: both as the
+    /// last poll took them, so what was stored since isn't seen. None is: there is no value.
     ///
-    /// On a closed reader it answers `Closed` or the error that closed it. It answers `MergeOperatorMissing` where
-    /// operands are to be merged and there is no operator, `MergeOperatorError` where the operator refuses one, and
-    /// `NoMemory`. It touches no store. It takes a look-up, and goes over the key's operations since its last put or
-    /// delete. SlateDB's `get`.
+    /// On a closed reader it answers `Closed` or the error that closed it, and doesn't touch the store. It answers
+    /// `MergeOperatorMissing` where operands are to be merged and there is no operator, `MergeOperatorError` where the
+    /// operator refuses one, and `NoMemory`; and `ObjectStoreError` where the store fails, or a table isn't stored (a
+    /// sweep may have removed it: the next poll mends that). A read changes nothing. It calls the store once for each
+    /// table, and shares what it reads. It takes a look-up in memory and in each table, from the last back to the first
+    /// with a put or a delete, and goes over the key's operations since then. SlateDB's `get`.
     pub fn get<S: Store, M: MergeOperator>(
         &self,
         alloc: Global,
@@ -30,15 +35,20 @@ impl FollowerState {
         operator: Option<&M>,
     ) -> Result<Option<KeyValue>, SlateError>
         ensures read { (merge : Option Merge) → IsOperator M.may_answer (option_copied operator.entry) merge →
-            Reads self.now.result [] (λ rows. rows ≡ self.now.line.batches) (λ rows answer. answer ≡ read_at merge rows (Some (number self.now)) key.now)
+            Reads self.now.result self.now.view.manifest.tables (kept_rows (S.objects store.old) (Follower self.now))
+            (λ rows answer. answer ≡ read_at merge rows (Some (number self.now)) key.now)
             (known S.objects S.faults store.old) result (known S.objects S.faults store.new) }
-        ensures store { store.new ≡ store.old }
+        ensures count { S.faults store.old ≤ S.faults store.new }
+        ensures calls { S.calls store.new ≤ S.calls store.old + length self.now.view.manifest.tables }
+        ensures closed { (self.now.result ≡ None → ⊥) → store.new ≡ store.old }
+        ensures untouched { self.now.view.manifest.tables ≡ [] → store.new ≡ store.old }
     {
         if let Some(result) = self.closed() {
             return Err(SlateError::of_closed(result));
         }
+        let stored = read_tables(alloc, store, self.tables())?;
         let memory = std::slice::from_ref(&self.memory);
         let bound = Some(self.number());
-        Ok(read_indexed(alloc, &[], &[], memory, bound, key, operator)?)
+        Ok(read_indexed(alloc, &[], stored.as_slice(), memory, bound, key, operator)?)
     }
 }

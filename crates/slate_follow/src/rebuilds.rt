@@ -2,8 +2,10 @@
 ghost use Rattle.std.specs.Prelude.{◌≡◌, ◌+◌, ◌-◌, ◌<◌, ◌≤◌, ◌^◌, length, IfOk, IfErr, IfSome};
 ghost use Rattle.slate_types.specs.Line.{AreNumberedFrom};
 ghost use Rattle.slate_store.specs.Objects.{last_log};
-ghost use Rattle.slate_model.specs.Follower.{Rebuilds, can_follow, number};
-ghost use Rattle.slate_model.specs.Known.{CountsFaults, IsContent, known};
+ghost use Rattle.slate_model.specs.Follow.{Rebuilds, can_follow};
+ghost use Rattle.slate_model.specs.Follower.{number};
+ghost use Rattle.slate_model.specs.Known.{CountsFaults, known};
+ghost use Rattle.slate_model.specs.Stores.{by_objects};
 ghost use Rattle.slate_follow.specs.Rebuilding.{CallsRebuilding, FindsView, GiveBatches, IsOfReplay, ReplaysLatest};
 
 use crate::PollAnswer;
@@ -48,7 +50,7 @@ pub(crate) fn rebuild<S: Store>(
     store: &mut S,
     opening: bool,
 ) -> Result<(Rebuilt, PollAnswer), SlateError>
-    ensures rebuilds { Rebuilds (IsContent (S.objects store.old)) opening (known S.objects S.faults store.old) result (known S.objects S.faults store.new) }
+    ensures rebuilds { Rebuilds (by_objects (S.objects store.old)) opening (known S.objects S.faults store.old) result (known S.objects S.faults store.new) }
     ensures replays { IfOk result (λ p. IfSome (S.objects store.old) (λ o. ReplaysLatest opening o p.0 p.1)) }
     ensures calls { IfSome (S.objects store.old) (λ o. CallsRebuilding o (S.calls store.old) (S.calls store.new)) }
 {
@@ -87,8 +89,7 @@ fn find_view<S: Store>(
 fn can_follow(opening: bool, latest: &VersionedManifest) -> bool
     ensures { result ≡ can_follow opening latest.now }
 {
-    let manifest = &latest.manifest;
-    (manifest.initialized || !opening) && manifest.tables.as_slice().is_empty()
+    latest.manifest.initialized || !opening
 }
 
 /// The batches of all log files above the replay mark of a manifest, and whether they were whole.

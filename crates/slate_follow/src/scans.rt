@@ -1,31 +1,36 @@
-// Scanning a range in the batches that a reader has in memory.
-ghost use Rattle.std.specs.Prelude.{◌≡◌, [], Option};
+// Scanning a range in the tables of a reader's view and in its batches in memory.
+ghost use Rattle.std.specs.Prelude.{◌≡◌, ◌+◌, ◌≤◌, [], None, Option, length};
 ghost use Rattle.std.specs.Option.{option_copied};
 ghost use Rattle.slate_types.specs.Operator.{Merge};
 ghost use Rattle.slate_reads.specs.Read.{IsOperator};
 ghost use Rattle.slate_model.specs.Known.{known};
+ghost use Rattle.slate_model.specs.Object.{Follower};
 ghost use Rattle.slate_model.specs.Read.{Gives, Reads};
+ghost use Rattle.slate_model.specs.Stores.{kept_rows};
 ghost use Rattle.slate_follow.specs.Scanned.{BeginsScanOf};
 
 use crate::FollowerState;
 use slate_errors::SlateError;
+use slate_replay::read_tables;
 use slate_rows::{DbIterator, scan_indexed};
 use slate_store::Store;
 use slate_types::{ByteRange, IterationOrder, MergeOperator};
 use std::alloc::Global;
 
 impl FollowerState {
-    /// The rows of the keys of a range that have one, in the order asked for: what the reader's batches say of each.
-    /// Bounds that cross have none. They come from what the last poll took, never from the store; the iterator keeps
-    /// its rows through later polls.
+    /// The rows of the keys of a range that have one, in the order asked for: what the tables of the manifest that the
+    /// reader goes by and then its batches in memory say of each, as the last poll took them. Bounds that cross have
+    /// none. The iterator keeps its rows through later polls, and when a table is removed.
     ///
-    /// On a closed reader it answers `Closed` or the error that closed it; `NoMemory` is its only other error. Where
-    /// operands of a key are to be merged and there is no operator, or it refuses one, the rows end before this key, and
-    /// the iterator answers that fault after them. It touches no store.
+    /// On a closed reader it answers `Closed` or the error that closed it, and doesn't touch the store. Its other errors
+    /// are `NoMemory`, and `ObjectStoreError` where the store fails, or a table isn't stored (a sweep may have removed
+    /// it: the next poll mends that). Where operands of a key are to be merged and there is no operator, or it refuses
+    /// one, the rows end before this key, and the iterator answers that fault after them. A scan changes nothing.
     ///
-    /// It takes time logarithmic in the reader's keys, and then for each key of the range, also one without a row, that of
-    /// a look-up, of going over the key's operations since its last put or delete and above the number, and of a few
-    /// comparisons. It takes memory for each key and row, and copies no key and no value. SlateDB's `scan`.
+    /// It calls the store once for each table, and shares what it reads. It takes time logarithmic in the keys of memory
+    /// and of each table, and then for each key of the range, also one without a row, that of a `get`, and of a few
+    /// comparisons, with a logarithm of the number of tables. It takes memory for each key and row, and copies no key and
+    /// no value. SlateDB's `scan`.
     pub fn scan<S: Store, M: MergeOperator>(
         &self,
         alloc: Global,
@@ -35,15 +40,28 @@ impl FollowerState {
         operator: Option<&M>,
     ) -> Result<DbIterator, SlateError>
         ensures scan { (merge : Option Merge) → IsOperator M.may_answer (option_copied operator.entry) merge →
-            Reads self.now.result [] (λ rows. rows ≡ self.now.line.batches) (Gives (BeginsScanOf self.now merge range.now order))
+            Reads self.now.result self.now.view.manifest.tables (kept_rows (S.objects store.old) (Follower self.now))
+            (Gives (BeginsScanOf self.now merge range.now order))
             (known S.objects S.faults store.old) result (known S.objects S.faults store.new) }
-        ensures store { store.new ≡ store.old }
+        ensures count { S.faults store.old ≤ S.faults store.new }
+        ensures calls { S.calls store.new ≤ S.calls store.old + length self.now.view.manifest.tables }
+        ensures closed { (self.now.result ≡ None → ⊥) → store.new ≡ store.old }
+        ensures untouched { self.now.view.manifest.tables ≡ [] → store.new ≡ store.old }
     {
         if let Some(result) = self.closed() {
             return Err(SlateError::of_closed(result));
         }
+        let stored = read_tables(alloc, store, self.tables())?;
         let memory = std::slice::from_ref(&self.memory);
         let bound = Some(self.number());
-        Ok(scan_indexed(alloc, &[], memory, bound, range, order, operator)?)
+        Ok(scan_indexed(
+            alloc,
+            stored.as_slice(),
+            memory,
+            bound,
+            range,
+            order,
+            operator,
+        )?)
     }
 }

@@ -7,13 +7,15 @@ use crate::rebuilds::Rebuilt;
 use slate_errors::CloseFault;
 use slate_reads::IndexedTable;
 use slate_status::{DbStatus, StatusRecord};
+use slate_store::TableId;
 use slate_types::NoMemory;
 use std::alloc::Global;
 use std::marker::Model;
 
 /// A reader that follows a database, without the store that it follows. SlateDB's `DbReader`, as a plain value.
 ///
-/// A contract sees it as a follower whose line is the batches that it keeps in memory.
+/// A contract sees it as a follower whose line is the batches that it keeps in memory: those that aren't in the tables of
+/// the manifest that it goes by.
 #[derive(Drop)]
 pub struct FollowerState {
     pub(crate) floor: u64,
@@ -26,9 +28,9 @@ impl Model for FollowerState {
 
     ghost Value = { Follower };
 
-    ghost use Rattle.slate_follow.specs.Kept.{kept_follower, IsKept};
+    ghost use Rattle.slate_follow.specs.Kept.{follower_of, IsKept};
 
-    ghost view = { kept_follower };
+    ghost view = { follower_of };
 
     ghost invariant = { IsKept };
 }
@@ -54,6 +56,13 @@ impl FollowerState {
         self.floor = rebuilt.view.manifest.last_l0_seq;
         self.memory = rebuilt.memory;
         self.status.report_view(number, rebuilt.view);
+    }
+
+    /// The ids of the tables of the manifest that it goes by.
+    pub(crate) fn tables(&self) -> &[TableId]
+        ensures { result.now ≡ self.now.view.manifest.tables }
+    {
+        self.status.manifest().manifest.tables.as_slice()
     }
 
     /// The number of the last batch that it sees. It takes constant time.

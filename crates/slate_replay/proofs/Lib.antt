@@ -1,3 +1,4 @@
 pub mod Appending
 pub mod Replaying
 pub mod Recovered
+pub mod Reading

@@ -1,8 +1,11 @@
-//! Replays log files: what they have after a mark is appended to the batches in memory.
+//! Replays log files, and reads tables: what log files have after a mark is appended to the batches in memory, and the
+//! tables that a manifest names are read in order.
 #![tactic(auto)]
 
 mod recoveries;
 mod replays;
+mod tables;
 
 pub use recoveries::recover;
 pub use replays::{Replayed, replay};
+pub use tables::read_tables;

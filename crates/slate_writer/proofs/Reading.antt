@@ -1,4 +1,4 @@
--- The tables of a view, read one after another.
+-- A read of tables and of batches in memory is one of the model.
 use Rattle.std.proofs.Common.{◌≡◌, ◌≢◌, ℕ, ◌+◌, ◌<◌, ◌≤◌, List, [], ◌∷◌, ◌++◌, take, get_or, length, Option, Some, None, Result, Ok, Err, refl, sym, subst, ap, ◌∙◌, arith}
 use Rattle.std.specs.List.{All, flat_map}
 use Rattle.std.specs.Option.{IfSome}
@@ -28,79 +28,13 @@ use Rattle.slate_model.specs.Stores.{kept_rows}
 use Rattle.slate_model.specs.Known.{FaultsRise, Known}
 use Rattle.slate_model.specs.Read.{AnswersRead, Reads, ReadsTables}
 use Rattle.slate_model.specs.Tables.{AreJoined, AreStored}
-use Rattle.slate_writer.specs.Tables.{IsOfTables}
+use Rattle.slate_replay.specs.Tables.{IsOfTables}
 
 abbrev as_err : (A : Type 0) → SlateError → Result A SlateError
 as_err A e = Err e
 
 abbrev as_fault : (A : Type 0) → ReadFault → Result A ReadFault
 as_fault A fault = Err fault
-
--- the batches of tables that were read
-abbrev pub joined : List (List Batch) → List Batch
-joined tables = flat_map (λ table. table) tables
-
--- these tables are those with these ids, which are stored
-pub record AreRead (o : Objects) (ids : List TableId) (tables : List (List Batch)) : Type 0 where
-  pub stored : AreStored o ids
-  pub batches : joined tables ≡ table_batches o ids
-
-pub read-none : (o : Objects) → AreRead o [] []
-read-none o = record { stored = All-nil (λ id. table_at id o ≢ None); batches = refl }
-
-found : (id : TableId) (o : Objects) (table : List Batch) → table_at id o ≡ Some table → table_at id o ≢ None
-found id o table is none = absurd (cc)
-
--- one table more
-pub read-more : (o : Objects) (ids : List TableId) (i : ℕ) (id d : TableId) (tables : List (List Batch)) (table : List Batch) → i < length ids → id ≡ get_or ids i d → table_at id o ≡ Some table → AreRead o (take i ids) tables → AreRead o (take (i + 1) ids) (tables ++ table ∷ [])
-read-more o ids i id d tables table less is at so_far =
-    let one : take (i + 1) ids ≡ take i ids ++ id ∷ [] = take_more ids i d less ∙ ap (λ x. take i ids ++ x ∷ []) (sym is) in
-    record {
-      stored = subst (AreStored o) (sym one) (All-push (λ x. table_at x o ≢ None) (take i ids) id so_far.stored (found id o table at));
-      batches = flat_map-append (λ t. t) tables (table ∷ [])
-          ∙ (ap (λ bs. bs ++ joined (table ∷ [])) so_far.batches
-          ∙ (ap (λ bs. table_batches o (take i ids) ++ bs) (append-nil table) ∙ sym (batches-more o ids i id d table less is at)));
-    }
-
--- all of them
-pub read-all : (o : Objects) (ids : List TableId) (i : ℕ) (tables : List (List Batch)) → length ids ≤ i → AreRead o (take i ids) tables → AreJoined (Some o) ids (joined tables)
-read-all o [] i tables all r = r.batches ∙ ap (table_batches o) (take_all i [] all)
-read-all o (id ∷ ids) i tables all r =
-    let whole = subst (λ xs. AreRead o xs tables) (take_all i (id ∷ ids) all) r in
-    (whole.stored, whole.batches)
-
--- a table that isn't stored
-pub unread : (o : Objects) (ids : List TableId) (i : ℕ) (id d : TableId) (r : StoreError) → i < length ids → id ≡ get_or ids i d → Finds {A = List Batch} (table_at id o) (Err r) → error_of_store r ≡ ObjectStoreError NotFound → AreStored o ids → ⊥
-unread o ids i id d refusals.NotFound less is none e stored = stored i d less (ap (λ x. table_at x o) (sym is) ∙ none)
-unread o ids i id d refusals.Exists less is none e stored = absurd none
-unread o ids i id d refusals.Failed less is none e stored = absurd (cc)
-unread o ids i id d refusals.NoMemory less is none e stored = absurd (cc)
-
-pub unread-by : (t t' : Option Objects) (ids : List TableId) (i : ℕ) (id d : TableId) (r : StoreError) → t' ≡ t → i < length ids → id ≡ get_or ids i d → IfSome t' (λ o. Finds {A = List Batch} (table_at id o) (Err r)) → error_of_store r ≡ ObjectStoreError NotFound → IfSome t (λ o. AreStored o ids → ⊥)
-unread-by None t' ids i id d r same less is found e = tt
-unread-by (Some o) t' ids i id d r same less is found e =
-    unread o ids i id d r less is (subst (λ x. IfSome x (λ o. Finds {A = List Batch} (table_at id o) (Err r))) same found) e
-
-pub of-tables : (r : StoreError) → IsOfRead r → IsOfTables (error_of_store r)
-of-tables refusals.NotFound of = tt
-of-tables refusals.Failed of = tt
-of-tables refusals.NoMemory of = tt
-of-tables refusals.Exists of = absurd of
-
-pub joined-by : (t : Option Objects) (ids : List TableId) (i : ℕ) (tables : List (List Batch)) → length ids ≤ i → IfSome t (λ o. AreRead o (take i ids) tables) → IfSome t (λ o. AreJoined (Some o) ids (joined tables))
-joined-by None ids i tables all r = tt
-joined-by (Some o) ids i tables all r = read-all o ids i tables all r
-
-pub more-by : (t t' : Option Objects) (ids : List TableId) (i : ℕ) (id d : TableId) (tables : List (List Batch)) (table : List Batch) → t' ≡ t → i < length ids → id ≡ get_or ids i d → IfSome t' (λ o. table_at id o ≡ Some table) → IfSome t (λ o. AreRead o (take i ids) tables) → IfSome t (λ o. AreRead o (take (i + 1) ids) (tables ++ table ∷ []))
-more-by None t' ids i id d tables table same less is found r = tt
-more-by (Some o) t' ids i id d tables table same less is found r =
-    read-more o ids i id d tables table less is (subst (λ x. IfSome x (λ o. table_at id o ≡ Some table)) same found) r
-
--- as much of the tables of a view that has some
-pub joined-all : (t : Option Objects) (ids : List TableId) (bs : List Batch) → (ids ≡ [] → ⊥) → IfSome t (λ o. AreJoined (Some o) ids bs) → AreJoined t ids bs
-joined-all t [] bs some j = absurd (some refl)
-joined-all None (id ∷ ids) bs some j = tt
-joined-all (Some o) (id ∷ ids) bs some j = j
 
 err-same : {A : Type 0} (e x : SlateError) → as_err A e ≡ as_err A x → e ≡ x
 err-same e x is = cc

@@ -4,4 +4,3 @@ pub mod Joined
 pub mod Kept
 pub mod Refusal
 pub mod Scanned
-pub mod Tables

@@ -12,13 +12,14 @@ ghost use Rattle.slate_model.specs.Object.{Handle};
 ghost use Rattle.slate_model.specs.Read.{Reads};
 ghost use Rattle.slate_model.specs.Stores.{kept_rows};
 ghost use Rattle.slate_model.specs.Tables.{AreJoined, AreStored};
-ghost use Rattle.slate_writer.specs.Tables.{IsOfTables};
+ghost use Rattle.slate_replay.specs.Tables.{IsOfTables};
 
 use crate::WriterState;
 use slate_errors::SlateError;
 use slate_reads::{Table, prepare_max_seq, read_indexed};
-use slate_store::{Store, TableId};
-use slate_types::{KeyValue, MergeOperator, NoMemory, ReadOptions};
+use slate_replay::read_tables;
+use slate_store::Store;
+use slate_types::{KeyValue, MergeOperator, ReadOptions};
 use std::alloc::Global;
 
 impl WriterState {
@@ -81,30 +82,6 @@ impl WriterState {
         ensures some { self.now.view.manifest.tables ≡ [] → result ≡ Err (SlateError.ObjectStoreError NotFound) → ⊥ }
     {
         let ids = self.view().manifest.tables.as_slice();
-        if ids.is_empty() {
-            return Ok(Vec::new(alloc));
-        }
-        read_all(alloc, store, ids)
+        read_tables(alloc, store, ids)
     }
-}
-
-/// The tables with these ids, in this order.
-fn read_all<S: Store>(
-    alloc: Global,
-    store: &mut S,
-    ids: &[TableId],
-) -> Result<Vec<Table>, SlateError>
-    ensures faults { FaultsRise (S.faults store.old) (S.faults store.new) result }
-    ensures calls { S.calls store.new ≤ S.calls store.old + length ids.now }
-    ensures kept { S.objects store.new ≡ S.objects store.old }
-    ensures joined { IfOk result (λ tables. IfSome (S.objects store.old) (λ o. AreJoined (Some o) ids.now (flat_map (λ table. table) tables.items))) }
-    ensures missing { result ≡ Err (SlateError.ObjectStoreError NotFound) → IfSome (S.objects store.old) (λ o. AreStored o ids.now → ⊥) }
-    ensures refused { IfErr result IsOfTables }
-{
-    let mut tables = Vec::new(alloc);
-    for id in ids {
-        let table = store.read_table(alloc, *id)?;
-        tables.push(table).map_err(NoMemory::from)?;
-    }
-    Ok(tables)
 }

@@ -8,4 +8,4 @@ use Rattle.slate_writer.proofs.states.WriterState.read_tables.Goals as goal
 pub returns-clause-missing : goal.returns-clause-missing
 returns-clause-missing g c is =
     subst (λ (ids : List TableId). IfSome (g.S.Store.objects c.args.store.now) (λ o. AreStored o ids → ⊥))
-    (c.as_slice-ids.ensures ∙ ap (λ (v : VersionedManifest). v.manifest.tables) c.view.ensures) (c.read_all.ensures.missing is)
+    (c.as_slice-ids.ensures ∙ ap (λ (v : VersionedManifest). v.manifest.tables) c.view.ensures) (c.read_tables.ensures.missing is)

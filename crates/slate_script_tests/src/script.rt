@@ -161,12 +161,14 @@ fn printed_replies(rt: HostRuntime) -> Result<(), Fail> {
         Reply::Flushed,
         Reply::Refreshed,
         Reply::Compacted,
+        Reply::Checkpointed { id: 3 },
+        Reply::Swept,
         Reply::Refused(SlateError::EmptyBatch),
         Reply::Unknown,
         Reply::NoMemory,
     ];
     let want =
-        "handle 0\nwrite 1 number 2\nnone\nflushed\nrefreshed\ncompacted\nerror Invalid error: empty write batch not allowed\nerror unknown object\nerror no memory\n";
+        "handle 0\nwrite 1 number 2\nnone\nflushed\nrefreshed\ncompacted\ncheckpoint 3\nswept\nerror Invalid error: empty write batch not allowed\nerror unknown object\nerror no memory\n";
     assert_eq!(rt; printed(rt.alloc(), &replies)?.as_slice(), want.as_bytes());
     Ok(())
 }

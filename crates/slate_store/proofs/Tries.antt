@@ -1,5 +1,6 @@
 -- One try of a call on checkpoints, from what it reads and puts.
 use Rattle.std.proofs.Common.{◌≡◌, inl, inr, ℕ, zero, List, [], length, Option, Some, None, Bool, true, false, Result, Ok, Err, refl, sym, ap, subst, ◌∙◌, arith}
+use Rattle.std.specs.Option.{IfSome}
 use Rattle.slate_types.specs.declared.store_errors.StoreFault.TheVariants as fault
 use Rattle.slate_types.specs.Modelled.{WhereModelled}
 use Rattle.slate_types.proofs.Modelled.{modelled_as, modelled_then}
@@ -9,8 +10,8 @@ use Rattle.slate_store.specs.declared.refusals.StoreRefusal.TheVariants.{Checkpo
 use Rattle.slate_store.specs.Checkpoints.{Plan}
 use Rattle.slate_types.specs.declared.batches.Batch.{Batch}
 use Rattle.slate_store.specs.Changes.{after_part}
-use Rattle.slate_store.specs.Objects.{Objects, PutManifest, changed, latest_manifest}
-use Rattle.slate_store.specs.Refusals.{CheckpointCause, FindsLatest, GivesPlan, IsOfPlan, PartMade, PutsManifest, PutsNext, Tries, checkpoint_changes, planned, planned_after}
+use Rattle.slate_store.specs.Objects.{Objects, PutManifest, changed, is_present, latest_manifest}
+use Rattle.slate_store.specs.Refusals.{CheckpointCause, FindsLatest, GivesPlan, IsDecided, IsOfPlan, IsTaken, PartMade, PutsManifest, PutsNext, Tries, checkpoint_changes, planned, planned_after, tried}
 
 -- what a try answers by whether its manifest was put
 abbrev pub given : {A : Type 0} → A → Result Bool StoreRefusal → Result (Option A) StoreRefusal
@@ -107,3 +108,47 @@ module _ {A : Type 0} (plan : VersionedManifest → Plan A) {a b : Option Object
     with_plan next answer r gives puts =
         modelled_then (Tries plan (given answer r)) found puts
         (λ o o' o2 h put. put_next plan o latest answer h.1 next r o2 gives (subst (λ x. PutsNext next r x o2) h.0 put))
+
+-- ---- where the manifest that a try puts is there already, it decides nothing
+module _ {A : Type 0} (plan : VersionedManifest → Plan A) where
+  -- two plans after the latest manifest are one
+  one-plan : (o : Objects) (latest latest1 : VersionedManifest) (p q : Plan A) → latest_manifest o ≡ Some latest → latest_manifest o ≡ Some latest1 → plan latest ≡ p → plan latest1 ≡ q → p ≡ q
+  one-plan o latest latest1 p q is is1 by by1 = let same : latest ≡ latest1 = cc in sym by ∙ (ap plan same ∙ by1)
+
+  -- and what they put is one
+  one-next : (x y : Option VersionedManifest × A) (p q : Plan A) → p ≡ Ok x → q ≡ Ok y → p ≡ q → x.0 ≡ y.0
+  one-next x y p q is is1 same = let pair : x ≡ y = cc in ap (λ (t : Option VersionedManifest × A). t.0) pair
+
+  refused-undecided : (o : Objects) (e : StoreRefusal) → CheckpointCause plan o e → IsTaken plan o → IsDecided {A = A} (Err e) → ⊥
+  refused-undecided o LatestTransactionalObjectVersionMissing cause taken decided = absurd (let is = taken.2.1 in cc)
+  refused-undecided o (CheckpointMissing id) cause taken decided =
+      let same = one-plan o cause.0 taken.2.0 _ _ cause.1 taken.2.1 cause.2 taken.2.2 in absurd (cc)
+  refused-undecided o InvalidDBState cause taken decided =
+      let same = one-plan o cause.0 taken.2.0 _ _ cause.1 taken.2.1 cause.2 taken.2.2 in absurd (cc)
+  refused-undecided o e cause taken decided = decided
+
+  module _ {a c : Option Objects} where
+    pub err-undecided : (e : StoreRefusal) → WhereModelled (Tries plan (Err e)) a c → IfSome a (λ o. IsTaken plan o → IsDecided {A = A} (Err e) → ⊥)
+    err-undecided e tries = go a refl where
+      go : (x : Option Objects) → a ≡ x → IfSome x (λ o. IsTaken plan o → IsDecided {A = A} (Err e) → ⊥)
+      go None is = tt
+      go (Some o) is = refused-undecided o e (tries.some o is).2.0.1.cause
+
+    -- and where it is put, it wasn't there
+    pub put-undecided : {b : Option Objects} (latest : VersionedManifest) (next : Option VersionedManifest) (answer : A) (r : Result Bool StoreRefusal) → WhereModelled (λ o o'. (o' ≡ o) × FindsLatest o (Ok latest)) a b → plan latest ≡ Ok (next, answer) → WhereModelled (PutsNext next r) b c → (r ≡ Ok true → IfSome next (λ next. IfSome b (λ o. is_present (PutManifest next.id next.manifest) o ≡ false))) → IfSome a (λ o. IsTaken plan o → IsDecided (tried (given answer r)) → ⊥)
+    put-undecided latest next answer (Err e) found gives puts free = err-undecided e (with_plan plan latest found next answer (Err e) gives puts)
+    put-undecided latest next answer (Ok false) found gives puts free = go a where
+      go : (x : Option Objects) → IfSome x (λ o. IsTaken plan o → ⊥ → ⊥)
+      go None = tt
+      go (Some o) = λ taken never. never
+    put-undecided {b} latest next answer (Ok true) found gives puts free = go a refl where
+      go : (x : Option Objects) → a ≡ x → IfSome x (λ o. IsTaken plan o → Unit {0} → ⊥)
+      go None is = tt
+      go (Some o) is = λ taken decided.
+          let read = found.some o is in
+          let same = one-plan o latest taken.2.0 _ _ read.2.1 taken.2.1 gives taken.2.2 in
+          let puts_it : next ≡ Some taken.0 = one-next (next, answer) (Some taken.0, taken.1) _ _ refl refl same in
+          let there = subst (λ x. IfSome x (λ (v : VersionedManifest). IfSome b (λ o. is_present (PutManifest v.id v.manifest) o ≡ false))) puts_it (free refl) in
+          let not_there = subst (λ x. IfSome x (λ o. is_present (PutManifest taken.0.id taken.0.manifest) o ≡ false)) (read.1 ∙ ap Some read.2.0) there in
+          let is_there = taken.3 in
+          absurd (cc)

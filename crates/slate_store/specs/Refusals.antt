@@ -101,6 +101,20 @@ CheckpointCause plan objects (ObjectStoreError fault.Unavailable) = Unit {0}
 CheckpointCause plan objects NoMemory = Unit {0}
 CheckpointCause plan objects refusal = ⊥
 
+-- Ok, and the refusals before a put: a call on checkpoints answers one of these at its first try or not at all
+abbrev pub IsDecided : {A : Type 0} → Result A StoreRefusal → Type 0
+IsDecided (Ok _) = Unit {0}
+IsDecided (Err LatestTransactionalObjectVersionMissing) = Unit {0}
+IsDecided (Err (CheckpointMissing id)) = Unit {0}
+IsDecided (Err InvalidDBState) = Unit {0}
+IsDecided (Err refusal) = ⊥
+
+-- the manifest that a call on checkpoints with this plan puts is there already
+abbrev pub IsTaken : {L A : Type 0} → (VersionedManifest → Plan A) → ObjectsOf L → Type 0
+IsTaken {L} {A} plan objects =
+    (next : VersionedManifest) × (answer : A) × PlanIs plan objects (Ok (Some next, answer))
+    × (is_present (PutManifest next.id next.manifest) objects ≡ true)
+
 -- the latest manifest, or why it wasn't read
 abbrev pub FindsLatest : {L : Type 0} → ObjectsOf L → Result VersionedManifest StoreRefusal → Type 0
 FindsLatest objects (Ok latest) = latest_manifest objects ≡ Some latest

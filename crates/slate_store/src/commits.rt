@@ -1,9 +1,10 @@
 // The calls that commit a manifest with other checkpoints.
-ghost use Rattle.std.specs.Prelude.{◌≡◌, ◌+◌, ◌≤◌, ℕ, false, IfErr, Ok, Err, Some, None};
+ghost use Rattle.std.specs.Prelude.{◌≡◌, ◌+◌, ◌≤◌, ℕ, true, false, IfErr, IfSome, Ok, Err, Some, None};
 ghost use Rattle.slate_types.specs.Counts.{one_more};
 ghost use Rattle.slate_store.specs.Calls.{WhereModelled};
 ghost use Rattle.slate_store.specs.Checkpoints.{to_delete, to_refresh, to_write};
-ghost use Rattle.slate_store.specs.Refusals.{CountsFaults, CountsTries, FindsLatest, FollowsPlan, IsOfTry, KeepsContent, PutsNext, Tries};
+ghost use Rattle.slate_store.specs.Objects.{PutManifest, is_present};
+ghost use Rattle.slate_store.specs.Refusals.{CountsFaults, CountsTries, FindsLatest, FollowsPlan, IsDecided, IsOfTry, IsTaken, KeepsContent, PutsNext, Tries, tried};
 
 use crate::checkpoints::{find, next_with_checkpoint, next_with_end, next_without_checkpoint};
 use crate::{Checkpoint, Store, StoreRefusal, VersionedManifest};
@@ -21,7 +22,8 @@ const TRIES: u32 = 8;
 /// has no end. It answers `LatestTransactionalObjectVersionMissing` where no manifest is stored, `InvalidDBState` where
 /// the latest one's id is the greatest `u64`, and `TransactionalObjectTimeout` where eight times another manifest was put
 /// first; then nothing was put. `ObjectStoreError` comes where a call of the store failed, and then the manifest may have
-/// been put. It calls the store twice for each try, and takes time linear in the manifest.
+/// been put. It calls the store at most twice for each try, makes one try where it answers Ok or one of the first two
+/// refusals, and takes time linear in the manifest.
 pub fn write_checkpoint<S: Store>(
     alloc: Global,
     store: &mut S,
@@ -32,6 +34,7 @@ pub fn write_checkpoint<S: Store>(
     ensures sound { WhereModelled KeepsContent (S.objects store.old) (S.objects store.new) }
     ensures faults { CountsFaults (S.faults store.old) (S.faults store.new) result }
     ensures tries { CountsTries (S.calls store.old) (S.calls store.new) result }
+    ensures decided { IfSome (S.objects store.old) (λ o. IsDecided result → S.calls store.new ≤ S.calls store.old + 2) }
 {
     let creation = Creation {
         replaced: None,
@@ -54,6 +57,7 @@ pub fn replace_checkpoint<S: Store>(
     ensures sound { WhereModelled KeepsContent (S.objects store.old) (S.objects store.new) }
     ensures faults { CountsFaults (S.faults store.old) (S.faults store.new) result }
     ensures tries { CountsTries (S.calls store.old) (S.calls store.new) result }
+    ensures decided { IfSome (S.objects store.old) (λ o. IsDecided result → S.calls store.new ≤ S.calls store.old + 2) }
 {
     let creation = Creation {
         replaced: Some(old),
@@ -66,8 +70,8 @@ pub fn replace_checkpoint<S: Store>(
 /// Lets the lease of a checkpoint end `lifetime` milliseconds after `moment`, at the greatest moment at most, and leaves
 /// all else of it. It answers the checkpoint as it is then. SlateDB's `refresh_checkpoint`.
 ///
-/// It answers `CheckpointMissing` where the latest manifest has no checkpoint with this id, and nothing was put then;
-/// else it answers, and costs, what `write_checkpoint` does.
+/// It answers `CheckpointMissing` where the latest manifest has no checkpoint with this id, after one try, and nothing was
+/// put then; else it answers, and costs, what `write_checkpoint` does.
 pub fn refresh_checkpoint<S: Store>(
     alloc: Global,
     store: &mut S,
@@ -79,6 +83,7 @@ pub fn refresh_checkpoint<S: Store>(
     ensures sound { WhereModelled KeepsContent (S.objects store.old) (S.objects store.new) }
     ensures faults { CountsFaults (S.faults store.old) (S.faults store.new) result }
     ensures tries { CountsTries (S.calls store.old) (S.calls store.new) result }
+    ensures decided { IfSome (S.objects store.old) (λ o. IsDecided result → S.calls store.new ≤ S.calls store.old + 2) }
 {
     let renewal = Renewal {
         id,
@@ -99,6 +104,7 @@ pub fn delete_checkpoint<S: Store>(
     ensures sound { WhereModelled KeepsContent (S.objects store.old) (S.objects store.new) }
     ensures faults { CountsFaults (S.faults store.old) (S.faults store.new) result }
     ensures tries { CountsTries (S.calls store.old) (S.calls store.new) result }
+    ensures decided { IfSome (S.objects store.old) (λ o. IsDecided result → S.calls store.new ≤ S.calls store.old + 2) }
 {
     commit(alloc, store, &Deletion { id })
 }
@@ -225,6 +231,7 @@ fn put_next<S: Store>(
     ensures faults { CountsFaults (S.faults store.old) (S.faults store.new) result }
     ensures calls { S.calls store.new ≤ S.calls store.old + 1 }
     ensures again { result ≡ Ok false → S.calls store.new ≡ one_more (S.calls store.old) }
+    ensures free { result ≡ Ok true → IfSome next (λ next. IfSome (S.objects store.old) (λ o. is_present (PutManifest next.id next.manifest) o ≡ false)) }
     ensures refusals { IfErr result IsOfTry }
 {
     let Some(next) = next else {
@@ -250,6 +257,7 @@ where
     ensures faults { CountsFaults (S.faults store.old) (S.faults store.new) result }
     ensures calls { S.calls store.new ≤ S.calls store.old + 2 }
     ensures again { result ≡ Ok None → S.calls store.new ≡ one_more (one_more (S.calls store.old)) }
+    ensures undecided { IfSome (S.objects store.old) (λ o. IsTaken (C.plan change.now) o → IsDecided (tried result) → ⊥) }
     ensures refusals { IfErr result IsOfTry }
 {
     let latest = latest_of(alloc, store)?;
@@ -272,6 +280,7 @@ where
     ensures follows { WhereModelled (λ o o'. (made : ℕ) × FollowsPlan (C.plan change.now) o result made o') (S.objects store.old) (S.objects store.new) }
     ensures faults { CountsFaults (S.faults store.old) (S.faults store.new) result }
     ensures tries { CountsTries (S.calls store.old) (S.calls store.new) result }
+    ensures decided { IfSome (S.objects store.old) (λ o. IsDecided result → S.calls store.new ≤ S.calls store.old + 2) }
 {
     for earlier in 0..TRIES {
         if let Some(answer) = attempt(alloc, store, change)? {

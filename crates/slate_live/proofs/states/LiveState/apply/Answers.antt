@@ -1,7 +1,7 @@
 use Rattle.std.proofs.Common.{Option, refl, ap}
 use Rattle.slate_types.specs.Operator.{Merge}
 use Rattle.slate_script.specs.declared.options.Options.{Options}
-use Rattle.slate_live.specs.Calls.{NewHandle, NewFollower, OfWrite, OfObject, target_of}
+use Rattle.slate_live.specs.Calls.{NewHandle, NewFollower, NewCheckpoint, WholeStore, OfWrite, OfObject, target_of}
 use Rattle.slate_model.specs.Known.{known}
 use Rattle.slate_model.specs.Stores.{by_objects}
 use Rattle.slate_live.specs.Settings.{Settings}
@@ -45,6 +45,42 @@ returns-in-Follow-clause-link g c merge lawful =
     let store = known g.S.Store.objects g.S.Store.faults c.args.store.now in
     let store' = known g.S.Store.objects g.S.Store.faults c.follow.new.store in
     linked s c.args.command.now c.args.self.now c.follow.new.self store store' 0 c.follow.result (does-at k s c.args.command.now 0 (running c.args.self.now store) c.follow.result (running c.follow.new.self store') NewFollower (ap target_of c.in-Follow.is) (c.follow.ensures.does merge))
+
+pub returns-in-Checkpoint-clause-does : goal.returns-in-Checkpoint-clause-does
+returns-in-Checkpoint-clause-does g c merge lawful =
+    let d = c.checkpoint.ensures.does in
+    let s = with_merge merge c.args.self.now.options in
+    let k = by_objects (g.S.Store.objects c.args.store.now) in
+    let store = known g.S.Store.objects g.S.Store.faults c.args.store.now in
+    let store' = known g.S.Store.objects g.S.Store.faults c.checkpoint.new.store in
+    (d.0, does-at k s c.args.command.now d.0 (running c.args.self.now store) c.checkpoint.result (running c.args.self.now store') (NewCheckpoint c.in-Checkpoint.lifetime) (ap target_of c.in-Checkpoint.is) (record { does = d.1; objects = refl; writes = refl }))
+
+pub returns-in-Checkpoint-clause-link : goal.returns-in-Checkpoint-clause-link
+returns-in-Checkpoint-clause-link g c merge lawful =
+    let d = c.checkpoint.ensures.does in
+    let s = with_merge merge c.args.self.now.options in
+    let k = by_objects (g.S.Store.objects c.args.store.now) in
+    let store = known g.S.Store.objects g.S.Store.faults c.args.store.now in
+    let store' = known g.S.Store.objects g.S.Store.faults c.checkpoint.new.store in
+    linked s c.args.command.now c.args.self.now c.args.self.now store store' d.0 c.checkpoint.result (does-at k s c.args.command.now d.0 (running c.args.self.now store) c.checkpoint.result (running c.args.self.now store') (NewCheckpoint c.in-Checkpoint.lifetime) (ap target_of c.in-Checkpoint.is) (record { does = d.1; objects = refl; writes = refl }))
+
+pub returns-in-Sweep-clause-does : goal.returns-in-Sweep-clause-does
+returns-in-Sweep-clause-does g c merge lawful =
+    let d = c.sweep.ensures.does in
+    let s = with_merge merge c.args.self.now.options in
+    let k = by_objects (g.S.Store.objects c.args.store.now) in
+    let store = known g.S.Store.objects g.S.Store.faults c.args.store.now in
+    let store' = known g.S.Store.objects g.S.Store.faults c.sweep.new.store in
+    (d.0, does-at k s c.args.command.now d.0 (running c.args.self.now store) c.sweep.result (running c.args.self.now store') WholeStore (ap target_of c.in-Sweep.is) (record { does = d.1; objects = refl; writes = refl }))
+
+pub returns-in-Sweep-clause-link : goal.returns-in-Sweep-clause-link
+returns-in-Sweep-clause-link g c merge lawful =
+    let d = c.sweep.ensures.does in
+    let s = with_merge merge c.args.self.now.options in
+    let k = by_objects (g.S.Store.objects c.args.store.now) in
+    let store = known g.S.Store.objects g.S.Store.faults c.args.store.now in
+    let store' = known g.S.Store.objects g.S.Store.faults c.sweep.new.store in
+    linked s c.args.command.now c.args.self.now c.args.self.now store store' d.0 c.sweep.result (does-at k s c.args.command.now d.0 (running c.args.self.now store) c.sweep.result (running c.args.self.now store') WholeStore (ap target_of c.in-Sweep.is) (record { does = d.1; objects = refl; writes = refl }))
 
 pub returns-in-Await-clause-link : goal.returns-in-Await-clause-link
 returns-in-Await-clause-link g c merge lawful =

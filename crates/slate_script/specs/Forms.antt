@@ -51,7 +51,7 @@ close_options_of word = if bytes_eq word (codes "none") then Some (record { flus
   flush_type ← flush_type_of word
   Some (record { flush_type = Some flush_type }))
 
--- one number and no other field
+-- one number and no other field, as in refresh H, compact H, poll F, await W and status O
 abbrev pub one_number : List (List ℕ) → Option ℕ
 one_number (n ∷ []) = number_of n
 one_number fields = None
@@ -85,8 +85,7 @@ abbrev pub follow_form : List (List ℕ) → Option Action
 follow_form (m ∷ []) = if bytes_eq m (codes "latest") then Some (actions.Follow FollowLatest None false) else None
 follow_form fields = None
 
--- the command of a name and the fields behind it, where that follows, polls, or asks for a write or a status:
--- follow, poll F, await W, status O
+-- the command of a name and the fields behind it, where that follows, polls, or asks for a write or a status
 abbrev pub reader_of : List ℕ → List (List ℕ) → Option Action
 reader_of name fields =
     if bytes_eq name (codes "follow") then follow_form fields

@@ -104,11 +104,11 @@ missing-was (Err (refusals.TransactionalObjectTimeout tries)) is = absurd (cc)
 missing-was (Err refusals.NoMemory) is = absurd (cc)
 
 -- a checkpoint that a call of the store committed, or refused
-pub commits : (lifetime : Option ℕ) (moment : ℤ) (a b : Option Objects) (faults faults' calls calls' : ℕ) (r : Result Checkpoint StoreRefusal) (reply : Reply) →
-    WhereModelled (λ o o'. (made : ℕ) × FollowsPlan (to_write None lifetime moment) o r made o') a b → StoreFaults faults faults' r → CountsTries calls calls' r → reply ≡ reply_to (λ (c : Checkpoint). replies.Checkpointed c.manifest_id) (answered r) →
+pub commits : (lifetime : Option ℕ) (moment given : ℤ) → given ≡ moment → (a b : Option Objects) (faults faults' calls calls' : ℕ) (r : Result Checkpoint StoreRefusal) (reply : Reply) →
+    WhereModelled (λ o o'. (made : ℕ) × FollowsPlan (to_write None lifetime given) o r made o') a b → StoreFaults faults faults' r → CountsTries calls calls' r → reply ≡ reply_to (λ (c : Checkpoint). replies.Checkpointed c.manifest_id) (answered r) →
     (made : ℕ) × CommitsTo (by_objects a) made lifetime moment (record { objects = a; faults = faults }) reply (record { objects = b; faults = faults' })
-commits lifetime moment a b faults faults' calls calls' r reply follows counts tries replied =
-    let once = made_once {P = λ made o o'. FollowsPlan (to_write None lifetime moment) o r made o'} a b follows in (
+commits lifetime moment given same a b faults faults' calls calls' r reply follows counts tries replied =
+    let once = made_once {P = λ made o o'. FollowsPlan (to_write None lifetime moment) o r made o'} a b (subst (λ m. WhereModelled (λ o o'. (made : ℕ) × FollowsPlan (to_write None lifetime m) o r made o') a b) same follows) in (
       once.0,
       record {
         result = answered r;
@@ -121,11 +121,11 @@ commits lifetime moment a b faults faults' calls calls' r reply follows counts t
     )
 
 -- a sweep that a call of the store made, or refused
-pub sweeps : (moment : ℤ) (a b : Option Objects) (faults faults' : ℕ) (r : Result ℕ StoreRefusal) (reply : Reply) →
-    WhereModelled (λ o o'. (made : ℕ) × Sweeps moment o r made o') a b → StoreFaults faults faults' r → reply ≡ reply_to (λ _. replies.Swept) (answered r) →
+pub sweeps : (moment given : ℤ) → given ≡ moment → (a b : Option Objects) (faults faults' : ℕ) (r : Result ℕ StoreRefusal) (reply : Reply) →
+    WhereModelled (λ o o'. (made : ℕ) × Sweeps given o r made o') a b → StoreFaults faults faults' r → reply ≡ reply_to (λ _. replies.Swept) (answered r) →
     (made : ℕ) × SweepsTo (by_objects a) made moment (record { objects = a; faults = faults }) reply (record { objects = b; faults = faults' })
-sweeps moment a b faults faults' r reply swept counts replied =
-    let once = made_once {P = λ made o o'. Sweeps moment o r made o'} a b swept in (
+sweeps moment given same a b faults faults' r reply swept counts replied =
+    let once = made_once {P = λ made o o'. Sweeps moment o r made o'} a b (subst (λ m. WhereModelled (λ o o'. (made : ℕ) × Sweeps m o r made o') a b) same swept) in (
       once.0,
       record {
         result = answered r;

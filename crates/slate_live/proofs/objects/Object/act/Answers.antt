@@ -2,3 +2,6 @@ use Rattle.slate_live.proofs.objects.Object.act.Goals as goal
 
 pub returns-in-Follower-clause-does : goal.returns-in-Follower-clause-does
 returns-in-Follower-clause-does g c merge lawful = rw c.in-Follower.is (c.act-in-Follower.ensures.does merge _ lawful)
+
+pub returns-in-Handle-clause-does : goal.returns-in-Handle-clause-does
+returns-in-Handle-clause-does g c merge lawful = rw c.in-Handle.is (c.act.ensures.does merge lawful)

@@ -1,9 +1,10 @@
-use Rattle.std.proofs.Common.{Option, refl, ap}
+use Rattle.std.proofs.Common.{rules, ◌≡◌, Option, refl, subst, ap, w64, to_z, of_z}
 use Rattle.slate_types.specs.Operator.{Merge}
 use Rattle.slate_script.specs.declared.options.Options.{Options}
 use Rattle.slate_live.specs.Calls.{NewHandle, NewFollower, NewCheckpoint, WholeStore, OfWrite, OfObject, target_of}
 use Rattle.slate_model.specs.Known.{known}
 use Rattle.slate_model.specs.Stores.{by_objects}
+use Rattle.slate_live.specs.Maintenance.{CommitsTo, SweepsTo}
 use Rattle.slate_live.specs.Settings.{Settings}
 use Rattle.slate_live.specs.State.{running}
 use Rattle.slate_live.proofs.Linking.{does-at, linked, names-object}
@@ -53,7 +54,9 @@ returns-in-Checkpoint-clause-does g c merge lawful =
     let k = by_objects (g.S.Store.objects c.args.store.now) in
     let store = known g.S.Store.objects g.S.Store.faults c.args.store.now in
     let store' = known g.S.Store.objects g.S.Store.faults c.checkpoint.new.store in
-    (d.0, does-at k s c.args.command.now d.0 (running c.args.self.now store) c.checkpoint.result (running c.args.self.now store') (NewCheckpoint c.in-Checkpoint.lifetime) (ap target_of c.in-Checkpoint.is) (record { does = d.1; objects = refl; writes = refl }))
+    let back : to_z w64 (of_z w64 c.args.command.now.moment) ≡ c.args.command.now.moment = search rules in
+    let did : CommitsTo k d.0 c.in-Checkpoint.lifetime c.args.command.now.moment store c.checkpoint.result store' = subst (λ m. CommitsTo k d.0 c.in-Checkpoint.lifetime m store c.checkpoint.result store') back d.1 in
+    (d.0, does-at k s c.args.command.now d.0 (running c.args.self.now store) c.checkpoint.result (running c.args.self.now store') (NewCheckpoint c.in-Checkpoint.lifetime) (ap target_of c.in-Checkpoint.is) (record { does = did; objects = refl; writes = refl }))
 
 pub returns-in-Checkpoint-clause-link : goal.returns-in-Checkpoint-clause-link
 returns-in-Checkpoint-clause-link g c merge lawful =
@@ -62,7 +65,9 @@ returns-in-Checkpoint-clause-link g c merge lawful =
     let k = by_objects (g.S.Store.objects c.args.store.now) in
     let store = known g.S.Store.objects g.S.Store.faults c.args.store.now in
     let store' = known g.S.Store.objects g.S.Store.faults c.checkpoint.new.store in
-    linked s c.args.command.now c.args.self.now c.args.self.now store store' d.0 c.checkpoint.result (does-at k s c.args.command.now d.0 (running c.args.self.now store) c.checkpoint.result (running c.args.self.now store') (NewCheckpoint c.in-Checkpoint.lifetime) (ap target_of c.in-Checkpoint.is) (record { does = d.1; objects = refl; writes = refl }))
+    let back : to_z w64 (of_z w64 c.args.command.now.moment) ≡ c.args.command.now.moment = search rules in
+    let did : CommitsTo k d.0 c.in-Checkpoint.lifetime c.args.command.now.moment store c.checkpoint.result store' = subst (λ m. CommitsTo k d.0 c.in-Checkpoint.lifetime m store c.checkpoint.result store') back d.1 in
+    linked s c.args.command.now c.args.self.now c.args.self.now store store' d.0 c.checkpoint.result (does-at k s c.args.command.now d.0 (running c.args.self.now store) c.checkpoint.result (running c.args.self.now store') (NewCheckpoint c.in-Checkpoint.lifetime) (ap target_of c.in-Checkpoint.is) (record { does = did; objects = refl; writes = refl }))
 
 pub returns-in-Sweep-clause-does : goal.returns-in-Sweep-clause-does
 returns-in-Sweep-clause-does g c merge lawful =
@@ -71,7 +76,9 @@ returns-in-Sweep-clause-does g c merge lawful =
     let k = by_objects (g.S.Store.objects c.args.store.now) in
     let store = known g.S.Store.objects g.S.Store.faults c.args.store.now in
     let store' = known g.S.Store.objects g.S.Store.faults c.sweep.new.store in
-    (d.0, does-at k s c.args.command.now d.0 (running c.args.self.now store) c.sweep.result (running c.args.self.now store') WholeStore (ap target_of c.in-Sweep.is) (record { does = d.1; objects = refl; writes = refl }))
+    let back : to_z w64 (of_z w64 c.args.command.now.moment) ≡ c.args.command.now.moment = search rules in
+    let did : SweepsTo k d.0 c.args.command.now.moment store c.sweep.result store' = subst (λ m. SweepsTo k d.0 m store c.sweep.result store') back d.1 in
+    (d.0, does-at k s c.args.command.now d.0 (running c.args.self.now store) c.sweep.result (running c.args.self.now store') WholeStore (ap target_of c.in-Sweep.is) (record { does = did; objects = refl; writes = refl }))
 
 pub returns-in-Sweep-clause-link : goal.returns-in-Sweep-clause-link
 returns-in-Sweep-clause-link g c merge lawful =
@@ -80,7 +87,9 @@ returns-in-Sweep-clause-link g c merge lawful =
     let k = by_objects (g.S.Store.objects c.args.store.now) in
     let store = known g.S.Store.objects g.S.Store.faults c.args.store.now in
     let store' = known g.S.Store.objects g.S.Store.faults c.sweep.new.store in
-    linked s c.args.command.now c.args.self.now c.args.self.now store store' d.0 c.sweep.result (does-at k s c.args.command.now d.0 (running c.args.self.now store) c.sweep.result (running c.args.self.now store') WholeStore (ap target_of c.in-Sweep.is) (record { does = d.1; objects = refl; writes = refl }))
+    let back : to_z w64 (of_z w64 c.args.command.now.moment) ≡ c.args.command.now.moment = search rules in
+    let did : SweepsTo k d.0 c.args.command.now.moment store c.sweep.result store' = subst (λ m. SweepsTo k d.0 m store c.sweep.result store') back d.1 in
+    linked s c.args.command.now c.args.self.now c.args.self.now store store' d.0 c.sweep.result (does-at k s c.args.command.now d.0 (running c.args.self.now store) c.sweep.result (running c.args.self.now store') WholeStore (ap target_of c.in-Sweep.is) (record { does = did; objects = refl; writes = refl }))
 
 pub returns-in-Await-clause-link : goal.returns-in-Await-clause-link
 returns-in-Await-clause-link g c merge lawful =

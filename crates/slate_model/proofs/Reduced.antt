@@ -4,7 +4,7 @@ use Rattle.std.specs.Option.{IfSome}
 use Rattle.std.specs.Result.{IfOk, IfErr}
 use Rattle.slate_types.specs.declared.batches.Batch.{Batch}
 use Rattle.slate_types.specs.declared.options.FlushType.{FlushType}
-use Rattle.slate_types.specs.Line.{Line}
+use Rattle.slate_types.specs.Line.{IsPrefix, Line}
 use Rattle.slate_types.specs.declared.store_errors.StoreFault.TheVariants.{Unavailable, NotFound}
 use Rattle.slate_store.specs.Calls.{WhereModelled}
 use Rattle.slate_store.specs.declared.objects.VersionedManifest.{VersionedManifest}
@@ -28,7 +28,8 @@ use Rattle.slate_model.specs.Flush.{CanFlush, DurableAfter, FlushAnswer, FlushCa
 use Rattle.slate_model.specs.Open.{IsFresh, OpenFault, OpensHandle, opened_handle, opened_manifest, Opens}
 use Rattle.slate_store.specs.declared.objects.TableId.{TableId}
 use Rattle.slate_types.specs.declared.read_faults.ReadFault.{ReadFault}
-use Rattle.slate_model.specs.Stores.{JoinFault, Stands, by_catalogue, by_objects}
+use Rattle.slate_model.specs.Seen.{HasSeen}
+use Rattle.slate_model.specs.Stores.{JoinFault, Stands, by_catalogue, by_objects, kept_seen}
 use Rattle.slate_model.specs.Knowledge.{Knowledge}
 use Rattle.slate_model.specs.Refresh.{CompactAnswer, CompactCause, Compacts, JoinsTables, RefreshAnswer, Refreshes}
 use Rattle.slate_model.specs.Read.{AnswersRead, Reads}
@@ -343,40 +344,49 @@ if_err (Err e) f h = f e h
 
 -- the whole follower that was rebuilt under a manifest, of which the code keeps a part
 abbrev pub rebuilt-whole : Line → Result (Follower × PollAnswer) SlateError → Result (Follower × PollAnswer) SlateError
-rebuilt-whole stored (Ok b) = Ok (rebuilt b.0.view stored, b.1)
+rebuilt-whole stored (Ok b) = Ok (rebuilt b.0.view stored b.0.mark, b.1)
 rebuilt-whole stored (Err e) = Err e
 
--- a follower that is rebuilt from sound objects sees what is stored
-pub rebuilds-reduced : (stored : Line) (opening : Bool) (r : Result (Follower × PollAnswer) SlateError) (o o' : Objects) (f f' : ℕ) → IsSound o → content o ≡ stored → Rebuilds (by_objects (Some o)) opening (holding o f) r (holding o' f') → Rebuilds (by_catalogue stored (catalogue_of o)) opening (catalogued o f) (rebuilt-whole stored r) (catalogued o' f')
-rebuilds-reduced stored opening (Ok b) o o' f f' sound is s =
-    let all = s.sees o stored refl (o, refl, sound, sym is) in
-    record {
-      kept = kept-known o o' f f' s.kept;
-      faults = record { count = s.faults.count; unavailable = λ no. absurd (cc); none_missing = λ no. absurd (cc) };
-      cause = tt;
-      answer = (refl, inl all.3);
-      can = λ c at. subst (λ x. (latest_manifest x ≡ Some b.0.view) × (can_follow opening b.0.view ≡ true)) (some-same (catalogue_of o) c at) (s.can o refl);
-      sees = λ c line at stored_is.
-          subst (λ x. SeesAll (λ a. a) x line (rebuilt b.0.view stored) b.1) (some-same (catalogue_of o) c at)
-          (subst (λ l. SeesAll (λ a. a) (catalogue_of o) l (rebuilt b.0.view stored) b.1) (sym stored_is) ((b.0).view, (s.can o refl).0, refl, all.3));
-    }
-rebuilds-reduced stored opening (Err e) o o' f f' sound is s = record {
-  kept = kept-known o o' f f' s.kept;
-  faults = s.faults;
-  cause = follow_cause-known opening o e s.cause;
-  answer = tt;
-  can = tt;
-  sees = tt;
-}
+-- what is seen of objects is seen of their catalogue
+sees-known : (stored : Line) (o : Objects) (b : Follower) (answer : PollAnswer) → SeesAll kept_follower o stored b answer → SeesAll (λ a. a) (catalogue_of o) stored (rebuilt b.view stored b.mark) answer
+sees-known stored o b answer all =
+    let latest = all.0 in
+    let view : b.view ≡ latest = ap (λ (x : Follower). x.view) all.2 in
+    let mark : b.mark ≡ last_log latest.manifest.replay_after_wal_id (catalogue_of o) = ap (λ (x : Follower). x.mark) all.2 ∙ sym (last_log-catalogue latest.manifest.replay_after_wal_id o) in
+    (latest, all.1, ap (λ v. rebuilt v stored b.mark) view ∙ ap (rebuilt latest stored) mark, all.3)
+
+module _ (stored : Line) (opening : Bool) (seen : Objects → Line → Type 0) (seen' : ObjectsOf Span → Line → Type 0) (o o' : Objects) (f f' : ℕ) (sound : IsSound o) (is : content o ≡ stored) (was_seen : seen o stored) where
+  -- a follower that takes what is stored of sound objects sees it
+  pub rebuilds-reduced : (r : Result (Follower × PollAnswer) SlateError) → Rebuilds (by_objects (Some o)) opening seen (holding o f) r (holding o' f') → Rebuilds (by_catalogue stored (catalogue_of o)) opening seen' (catalogued o f) (rebuilt-whole stored r) (catalogued o' f')
+  rebuilds-reduced (Ok b) s =
+      let all = s.sees o stored refl (o, refl, sound, sym is) was_seen in
+      record {
+        kept = kept-known o o' f f' s.kept;
+        faults = record { count = s.faults.count; unavailable = λ no. absurd (cc); none_missing = λ no. absurd (cc) };
+        cause = tt;
+        answer = (refl, inl all.3);
+        can = λ c at. subst (λ x. (latest_manifest x ≡ Some b.0.view) × (can_follow opening b.0.view ≡ true)) (some-same (catalogue_of o) c at) (s.can o refl);
+        sees = λ c line at stored_is seen_before.
+            subst (λ x. SeesAll (λ a. a) x line (rebuilt b.0.view stored b.0.mark) b.1) (some-same (catalogue_of o) c at)
+            (subst (λ l. SeesAll (λ a. a) (catalogue_of o) l (rebuilt b.0.view stored b.0.mark) b.1) (sym stored_is) (sees-known stored o b.0 b.1 all));
+      }
+  rebuilds-reduced (Err e) s = record {
+    kept = kept-known o o' f f' s.kept;
+    faults = s.faults;
+    cause = follow_cause-known opening o e s.cause;
+    answer = tt;
+    can = tt;
+    sees = tt;
+  }
 
 -- the whole follower after a poll, of which the code keeps a part
 abbrev pub polled-whole : Line → CloseResult → Follower → Follower → Result PollAnswer SlateError → Follower
-polled-whole stored None a b (Ok answer) = rebuilt b.view stored
+polled-whole stored None a b (Ok answer) = rebuilt b.view stored b.mark
 polled-whole stored (Some closed) a b (Ok answer) = a
 polled-whole stored closed a b (Err e) = a
 
-pub polls-reduced : (stored : Line) (r : Result PollAnswer SlateError) (a b : Follower) (o o' : Objects) (f f' : ℕ) → IsSound o → content o ≡ stored → Polls (by_objects (Some o)) (kept_follower a) (holding o f) r b (holding o' f') → Polls (by_catalogue stored (catalogue_of o)) a (catalogued o f) r (polled-whole stored a.result a b r) (catalogued o' f')
-polls-reduced stored r a b o o' f f' sound is s = record {
+pub polls-reduced : (stored : Line) (r : Result PollAnswer SlateError) (a b : Follower) (o o' : Objects) (f f' : ℕ) → IsSound o → content o ≡ stored → IsPrefix a.line stored → HasSeen o a → Polls (by_objects (Some o)) (kept_follower a) (holding o f) r b (holding o' f') → Polls (by_catalogue stored (catalogue_of o)) a (catalogued o f) r (polled-whole stored a.result a b r) (catalogued o' f')
+polls-reduced stored r a b o o' f f' sound is front seen s = record {
   closed = if_some {Q = λ q. (r ≡ Err (closed_error q)) × (catalogued o' f' ≡ catalogued o f)} a.result (λ q c. (c.0, same-known o o' f f' c.1)) s.closed;
   failed = failed-by r;
   rebuilds = λ live. rebuilt-by r live (s.rebuilds live);
@@ -388,8 +398,14 @@ polls-reduced stored r a b o o' f f' sound is s = record {
     by None = refl
     by (Some q) = refl
 
-  rebuilt-by : (r : Result PollAnswer SlateError) → a.result ≡ None → Rebuilds (by_objects (Some o)) false (holding o f) (built b r) (holding o' f') → Rebuilds (by_catalogue stored (catalogue_of o)) false (catalogued o f) (built (polled-whole stored a.result a b r) r) (catalogued o' f')
+  was_seen : kept_seen (kept_follower a) o stored
+  was_seen = (a, refl, front, seen)
+
+  Seen : ObjectsOf Span → Line → Type 0
+  Seen objects line = Unit {0}
+
+  rebuilt-by : (r : Result PollAnswer SlateError) → a.result ≡ None → Rebuilds (by_objects (Some o)) false (kept_seen (kept_follower a)) (holding o f) (built b r) (holding o' f') → Rebuilds (by_catalogue stored (catalogue_of o)) false Seen (catalogued o f) (built (polled-whole stored a.result a b r) r) (catalogued o' f')
   rebuilt-by (Ok answer) live d =
-      subst (λ closed. Rebuilds (by_catalogue stored (catalogue_of o)) false (catalogued o f) (built (polled-whole stored closed a b (Ok answer)) (Ok answer)) (catalogued o' f')) (sym live)
-      (rebuilds-reduced stored false (Ok (b, answer)) o o' f f' sound is d)
-  rebuilt-by (Err e) live d = rebuilds-reduced stored false (Err e) o o' f f' sound is d
+      subst (λ closed. Rebuilds (by_catalogue stored (catalogue_of o)) false Seen (catalogued o f) (built (polled-whole stored closed a b (Ok answer)) (Ok answer)) (catalogued o' f')) (sym live)
+      (rebuilds-reduced stored false (kept_seen (kept_follower a)) Seen o o' f f' sound is was_seen (Ok (b, answer)) d)
+  rebuilt-by (Err e) live d = rebuilds-reduced stored false (kept_seen (kept_follower a)) Seen o o' f f' sound is was_seen (Err e) d

@@ -8,15 +8,16 @@ use Rattle.slate_model.specs.Handle.{CloseResult, line_above}
 pub record Follower : Type 0 where
   pub view : VersionedManifest  -- the manifest that it goes by
   pub line : Line  -- the batches that it sees
+  pub mark : ℕ  -- up to this id it has what the log files have
   pub result : CloseResult
 
 -- the number of the last batch that it sees
 abbrev pub number : Follower → ℕ
 number follower = end follower.line
 
--- the follower that goes by a manifest under which this line is stored
-abbrev pub rebuilt : VersionedManifest → Line → Follower
-rebuilt view stored = record { view = view; line = stored; result = None }
+-- the follower that goes by a manifest under which this line is stored, and has what the log files up to a mark have
+abbrev pub rebuilt : VersionedManifest → Line → ℕ → Follower
+rebuilt view stored mark = record { view = view; line = stored; mark = mark; result = None }
 
 -- What the code keeps of a follower: of its line, the batches that aren't in the tables of its view.
 abbrev pub kept_follower : Follower → Follower

@@ -17,6 +17,7 @@ pub record Knowledge (L : Type 0) : Type 1 where
   pub keep : Handle → Handle  -- what is kept of a handle
   pub keep_follower : Follower → Follower  -- and of a follower
   pub is_stored : Line → Type 0  -- which line is stored
+  pub has_seen : Follower → ObjectsOf L → Line → Type 0  -- what a follower has seen of the line that is stored
   pub rows : Object → List Batch → Type 0  -- which batches an object reads
   pub unsound : ObjectsOf L → SlateError → Type 0  -- why an opening answers what only objects bring about that aren't sound
   pub stands : List (ChangeOf L) → ObjectsOf L → Type 0  -- that an object is there already that one of these puts

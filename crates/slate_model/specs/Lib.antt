@@ -13,6 +13,7 @@ pub mod Open
 pub mod Read
 pub mod Refresh
 pub mod Refusal
+pub mod Seen
 pub mod Stores
 pub mod Tables
 pub mod Valid

@@ -2,7 +2,7 @@
 use Rattle.std.specs.Prelude.{◌≡◌, ◌++◌, ℤ, true, List, Contains, Option, Some}
 use Rattle.std.specs.List.{flat_map}
 use Rattle.slate_types.specs.declared.batches.Batch.{Batch}
-use Rattle.slate_types.specs.Line.{Line}
+use Rattle.slate_types.specs.Line.{IsPrefix, Line}
 use Rattle.slate_types.specs.declared.store_errors.StoreFault.TheVariants.{NotFound}
 use Rattle.slate_store.specs.declared.objects.TableId.{TableId}
 use Rattle.slate_store.specs.declared.objects.VersionedManifest.{VersionedManifest}
@@ -19,8 +19,10 @@ use Rattle.slate_model.specs.Follower.{kept_follower}
 use Rattle.slate_model.specs.Handle.{kept_handle}
 use Rattle.slate_model.specs.Knowledge.{Knowledge}
 use Rattle.slate_model.specs.Known.{IsContent}
+use Rattle.slate_model.specs.Follower.{Follower as AFollower}
 use Rattle.slate_model.specs.Object.{Object, Handle, Follower, line_of, view_of}
 use Rattle.slate_model.specs.Open.{OpenFault}
+use Rattle.slate_model.specs.Seen.{HasSeen}
 use Rattle.slate_model.specs.Tables.{AreJoined, AreStored}
 
 -- an object is stored under an id under which one of these changes puts one
@@ -41,6 +43,10 @@ SweepFault moment objects errors.TransactionalObjectVersionExists = SweepCause m
 SweepFault moment objects (errors.ObjectStoreError NotFound) = SweepCause moment objects (refusals.ObjectStoreError NotFound)
 SweepFault moment objects error = ⊥
 
+-- the follower of which the code keeps this begins the line that is stored, and has seen the log files up to its mark
+abbrev pub kept_seen : AFollower → Objects → Line → Type 0
+kept_seen kept objects line = (whole : AFollower) × (kept ≡ kept_follower whole) × IsPrefix whole.line line × HasSeen objects whole
+
 -- the batches that an object reads: those of the tables of its view, and then those in memory
 abbrev pub kept_rows : Option Objects → Object → List Batch → Type 0
 kept_rows objects object rows =
@@ -56,6 +62,7 @@ by_objects objects =
       keep = kept_handle;
       keep_follower = kept_follower;
       is_stored = IsContent objects;
+      has_seen = kept_seen;
       rows = kept_rows objects;
       unsound = OpenFault;
       stands = Stands;
@@ -78,6 +85,7 @@ by_catalogue stored catalogue =
       keep = λ handle. handle;
       keep_follower = λ follower. follower;
       is_stored = λ line. line ≡ stored;
+      has_seen = λ follower objects line. Unit {0};
       rows = world_rows stored catalogue;
       unsound = λ objects error. ⊥;
       stands = λ changes objects. ⊥;

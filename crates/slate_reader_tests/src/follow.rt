@@ -1,9 +1,12 @@
-// Tests of readers whose log files are whole or have gaps, of their scans, and of closed readers.
+// Tests of readers whose log files are whole or have gaps, of their scans, of tables, and of closed readers.
 use crate::replay::{Logs, store_of};
 use slate_errors::SlateError;
 use slate_follow::{DbReaderMode, DbReaderOptions, FollowerState, PollAnswer};
-use slate_store::{Manifest, MemoryStore, Store};
-use slate_types::{Batch, ByteRange, ConcatOperator, FixedPrefix, IterationOrder, Seq, WriteBatch};
+use slate_reads::Table;
+use slate_store::{Manifest, MemoryStore, Store, TableId};
+use slate_types::{
+    Batch, ByteRange, ConcatOperator, FixedPrefix, IterationOrder, Seq, StoreFault, WriteBatch,
+};
 use std::alloc::Global;
 use std::test::Fail;
 
@@ -11,10 +14,9 @@ const NO_EXTRACTOR: Option<&FixedPrefix> = None;
 
 const NO_OPERATOR: Option<&ConcatOperator> = None;
 
-// A database with these log files, without tables.
-fn database(alloc: Global, logs: Logs) -> Result<MemoryStore, Fail> {
-    let mut store = store_of(alloc, logs)?;
-    let manifest = Manifest {
+// The manifest of a database without tables.
+fn first_manifest(alloc: Global) -> Manifest {
+    Manifest {
         writer_epoch: 1,
         initialized: true,
         tables: Seq::of(Vec::new(alloc)),
@@ -25,8 +27,13 @@ fn database(alloc: Global, logs: Logs) -> Result<MemoryStore, Fail> {
         checkpoints: Seq::of(Vec::new(alloc)),
         segments: Seq::of(Vec::new(alloc)),
         extractor_name: None,
-    };
-    store.put_manifest(alloc, 1, &manifest)?;
+    }
+}
+
+// A database with these log files, without tables.
+fn database(alloc: Global, logs: Logs) -> Result<MemoryStore, Fail> {
+    let mut store = store_of(alloc, logs)?;
+    store.put_manifest(alloc, 1, &first_manifest(alloc))?;
     Ok(store)
 }
 
@@ -63,7 +70,20 @@ fn missing_logs(rt: HostRuntime) -> Result<(), Fail> {
     Ok(())
 }
 
-// Puts a log file of one batch, whose number is its id, which puts a value under keys of one letter.
+// A batch that puts a value under keys of one letter.
+fn batch_of(alloc: Global, number: u64, keys: &[u8], value: &[u8]) -> Result<Batch, Fail> {
+    let mut written = WriteBatch::new(alloc);
+    for key in keys {
+        written.put(alloc, &[*key], value)?;
+    }
+    Ok(Batch {
+        number,
+        create_ts: 0,
+        ops: written.ops,
+    })
+}
+
+// Puts a log file of one such batch, whose number is its id.
 fn put_log(
     alloc: Global,
     store: &mut MemoryStore,
@@ -71,15 +91,7 @@ fn put_log(
     keys: &[u8],
     value: &[u8],
 ) -> Result<(), Fail> {
-    let mut written = WriteBatch::new(alloc);
-    for key in keys {
-        written.put(alloc, &[*key], value)?;
-    }
-    let batch = Batch {
-        number,
-        create_ts: 0,
-        ops: written.ops,
-    };
+    let batch = batch_of(alloc, number, keys, value)?;
     store.put_log(alloc, number, &[batch])?;
     Ok(())
 }
@@ -163,6 +175,58 @@ fn scans(rt: HostRuntime) -> Result<(), Fail> {
     ] {
         let found = scanned_twice(rt.alloc(), prefix, order)?;
         assert_eq!(rt; (found.0.as_slice(), found.1.as_slice()), (old, new));
+    }
+    Ok(())
+}
+
+const TABLE: TableId = TableId { epoch: 1, index: 0 };
+
+// A database with a batch in a table, and another in a log file.
+fn tabled_database(alloc: Global) -> Result<MemoryStore, Fail> {
+    let mut store = MemoryStore::new(alloc);
+    let table = Table::of_batches(alloc, &[batch_of(alloc, 1, b"ab", b"x")?])?;
+    store.put_table(alloc, TABLE, &table)?;
+    put_log(alloc, &mut store, 2, b"bc", b"y")?;
+    let mut manifest = first_manifest(alloc);
+    manifest.tables = Seq::of(vec![in alloc; TABLE]?);
+    manifest.last_l0_seq = 1;
+    manifest.replay_after_wal_id = 1;
+    manifest.next_wal_id = 2;
+    store.put_manifest(alloc, 1, &manifest)?;
+    Ok(store)
+}
+
+// The number of the batch from which a reader gets the value of a key.
+fn got(
+    alloc: Global,
+    store: &mut MemoryStore,
+    follower: &FollowerState,
+    key: &[u8],
+) -> Result<Option<u64>, SlateError> {
+    let found = follower.get(alloc, store, key, NO_OPERATOR)?;
+    Ok(found.map(|row| row.seq))
+}
+
+fn is_missing<A: Drop>(answer: Result<A, SlateError>) -> bool {
+    matches!(
+        answer,
+        Err(SlateError::ObjectStoreError(StoreFault::NotFound))
+    )
+}
+
+// A reader gets keys of the table and of the log file, and none once the table is removed.
+#[test]
+fn tables(rt: HostRuntime) -> Result<(), Fail> {
+    let alloc = rt.alloc();
+    let mut store = tabled_database(alloc)?;
+    let (follower, opened) = open(alloc, &mut store)?;
+    assert_eq!(rt; opened, PollAnswer::Whole { at: 2 });
+    for (key, number) in [(b"a", 1), (b"b", 2), (b"c", 2)] {
+        assert_eq!(rt; got(alloc, &mut store, &follower, key)?, Some(number));
+    }
+    store.remove_table(alloc, TABLE)?;
+    for key in [b"a", b"c"] {
+        assert!(rt; is_missing(got(alloc, &mut store, &follower, key)));
     }
     Ok(())
 }

@@ -1,5 +1,5 @@
 -- Changes that put one table, under an id that is free, leave all others.
-use Rattle.std.proofs.Common.{◌≡◌, ◌≢◌, ℕ, zero, suc, ◌+◌, ◌<◌, ◌≤◌, ◌⊎◌, inl, inr, List, [], ◌∷◌, ◌++◌, length, take, cond, Some, None, Option, Bool, true, false, refl, sym, subst, ap, ◌∙◌, arith, flat_map, ltb}
+use Rattle.std.proofs.Common.{◌≡◌, ◌≢◌, ℕ, zero, suc, ◌+◌, ◌⊎◌, inl, inr, List, [], ◌∷◌, ◌++◌, length, take, cond, Some, None, Bool, true, false, refl, sym, ap, ◌∙◌, arith, flat_map, ltb}
 use Rattle.std.proofs.lemmas.Bool.{false_from_ne_true}
 use Rattle.std.proofs.lemmas.List.Elements.{All-cons}
 use Rattle.std.specs.BTreeMap.{insert_entry, is_at}
@@ -12,11 +12,11 @@ use Rattle.slate_types.specs.declared.options.FlushType.TheVariants.{Wal, MemTab
 use Rattle.slate_store.proofs.Entries.{lookup-insert_other, same_table, table_total, tied}
 use Rattle.slate_store.specs.Compaction.{compact_changes_by, tables_at, with_table}
 use Rattle.slate_store.specs.Content.{table_batches}
-use Rattle.slate_store.specs.Objects.{Change, ChangeOf, Objects, PutLog, PutManifest, PutTable, RemoveLog, RemoveManifest, RemoveTable, changed, table_at, table_cmp}
+use Rattle.slate_store.specs.Objects.{Change, Objects, PutLog, PutManifest, PutTable, RemoveLog, RemoveManifest, RemoveTable, changed, table_at, table_cmp}
 use Rattle.slate_store.specs.declared.objects.TableId.{TableId}
 use Rattle.slate_store.specs.declared.objects.VersionedManifest.{VersionedManifest}
 use Rattle.slate_model.specs.Changes.{after_part}
-use Rattle.slate_model.specs.Flush.{flush_changes_by, flush_changes_under, has_untabled, log_changes, table_changes, tables_put}
+use Rattle.slate_model.specs.Flush.{flush_changes_under, has_untabled, log_changes, table_changes, tables_put}
 use Rattle.slate_model.specs.Handle.{Handle, next_table, to_log}
 use Rattle.slate_model.specs.Tables.{AreStored}
 

@@ -1,12 +1,11 @@
 -- A compaction and a refresh by a valid handle leave sound objects and a valid handle.
-use Rattle.std.proofs.Common.{◌≡◌, ℕ, zero, suc, ◌+◌, ◌<◌, ◌≤◌, ◌⊎◌, inl, inr, List, [], ◌∷◌, length, take, cond, flat_map, Some, None, Option, Result, Ok, Err, Bool, true, false, refl, sym, subst, ap, ◌∙◌, arith, ltb}
-use Rattle.std.proofs.lemmas.Bool.{cases_lt, ltb-false}
+use Rattle.std.proofs.Common.{◌≡◌, ℕ, zero, suc, ◌+◌, ◌<◌, ◌≤◌, ◌⊎◌, inl, inr, List, [], ◌∷◌, length, take, cond, flat_map, Some, None, Result, Ok, Err, Bool, true, false, refl, sym, subst, ap, ◌∙◌, arith, ltb}
+use Rattle.std.proofs.lemmas.Bool.{ltb-false}
 use Rattle.slate_types.specs.Line.{Line}
-use Rattle.slate_types.specs.declared.batches.Batch.{Batch}
 use Rattle.slate_store.proofs.Compacted.{compaction-keeps, joined-committed}
 use Rattle.slate_store.specs.Compaction.{compact_changes, compact_changes_by, compacted, tables_at, with_table}
 use Rattle.slate_store.specs.Content.{IsSound, content}
-use Rattle.slate_store.specs.Objects.{Change, Objects, PutManifest, PutTable, latest_manifest, table_at}
+use Rattle.slate_store.specs.Objects.{Change, Objects, PutManifest, PutTable, last_log, latest_manifest, table_at}
 use Rattle.slate_store.specs.declared.objects.TableId.{TableId}
 use Rattle.slate_store.specs.declared.objects.VersionedManifest.{VersionedManifest}
 use Rattle.slate_errors.specs.declared.errors.SlateError.{SlateError}
@@ -19,6 +18,7 @@ use Rattle.slate_model.specs.Stores.{JoinFault, by_objects}
 use Rattle.slate_model.specs.Valid.{AreBefore, IsValidHandle, ReadsLine}
 use Rattle.slate_model.proofs.Adding.{AreAdded, Lasts, compact-puts, one-put, other-table}
 use Rattle.slate_model.proofs.Flushed.{part_le}
+use Rattle.slate_model.proofs.Logging.{KeepLogs, LogsStay, logs-same, part-logs, stay-follow}
 use Rattle.slate_model.proofs.Moving.{Follows, Moved, none-known}
 use Rattle.slate_model.proofs.Prefixes.{prefix-same}
 use Rattle.slate_model.proofs.Reduced.{whole}
@@ -36,6 +36,19 @@ compacted-number id latest = by (ltb (length latest.manifest.tables) 2) where
   by : (few : Bool) → (cond few latest (with_table id latest)).manifest.last_l0_seq ≡ latest.manifest.last_l0_seq
   by true = refl
   by false = refl
+
+compacted-mark : (id : TableId) (latest : VersionedManifest) → (compacted id latest).manifest.replay_after_wal_id ≡ latest.manifest.replay_after_wal_id
+compacted-mark id latest = by (ltb (length latest.manifest.tables) 2) where
+  by : (few : Bool) → (cond few latest (with_table id latest)).manifest.replay_after_wal_id ≡ latest.manifest.replay_after_wal_id
+  by true = refl
+  by false = refl
+
+-- and all log files
+compaction-keeps-logs : (mark last : ℕ) (id : TableId) (o : Objects) (latest : VersionedManifest) → KeepLogs mark last (compact_changes_by (flat_map (λ bs. bs)) id o (Some latest))
+compaction-keeps-logs mark last id o latest = by (ltb (length latest.manifest.tables) 2) where
+  by : (few : Bool) → KeepLogs mark last (cond few [] (PutTable id (flat_map (λ bs. bs) (tables_at o latest.manifest.tables)) ∷ PutManifest (with_table id latest).id (with_table id latest).manifest ∷ []))
+  by true = tt
+  by false = tt
 
 -- the latest manifest after so many changes of so many
 abbrev LatestAfter : VersionedManifest → VersionedManifest → ℕ → ℕ → Objects → Type 0
@@ -122,21 +135,23 @@ module _ (stored : Line) (o o' : Objects) (latest : VersionedManifest) (h k : Ha
               (λ tied. let i = ap (λ (q : TableId). q.index) tied in absurd (omega (arith, c, count, high, i))) ∙ before
         ]
 
-    follows-by : (n' : VersionedManifest) → latest_manifest o' ≡ Some n' → n'.manifest.writer_epoch ≡ latest.manifest.writer_epoch → n'.manifest.last_l0_seq ≡ latest.manifest.last_l0_seq → Follows stored stored o o' latest n'
-    follows-by n' at epoch number = record {
+    follows-by : (n' : VersionedManifest) → latest_manifest o' ≡ Some n' → n'.manifest.writer_epoch ≡ latest.manifest.writer_epoch → n'.manifest.last_l0_seq ≡ latest.manifest.last_l0_seq → n'.manifest.replay_after_wal_id ≡ latest.manifest.replay_after_wal_id → Follows stored stored o o' latest n'
+    follows-by n' at epoch number mark = record {
       sound = keeps.0;
       content = keeps.1 ∙ holds;
       grows = prefix-same stored;
       latest_is = at;
       epochs = omega (arith, epoch);
       tabled = omega (arith, number);
+      logs = stay-follow o o' latest.manifest.replay_after_wal_id n'.manifest.replay_after_wal_id (sym mark)
+          (subst (LogsStay latest.manifest.replay_after_wal_id (last_log latest.manifest.replay_after_wal_id o) o) (sym after) (part-logs latest.manifest.replay_after_wal_id (last_log latest.manifest.replay_after_wal_id o) made cs o (compaction-keeps-logs latest.manifest.replay_after_wal_id (last_log latest.manifest.replay_after_wal_id o) id o latest)));
     }
 
-    moved-by : (n' : VersionedManifest) → latest_manifest o' ≡ Some n' → n'.manifest.writer_epoch ≡ latest.manifest.writer_epoch → n'.manifest.last_l0_seq ≡ latest.manifest.last_l0_seq →
+    moved-by : (n' : VersionedManifest) → latest_manifest o' ≡ Some n' → n'.manifest.writer_epoch ≡ latest.manifest.writer_epoch → n'.manifest.last_l0_seq ≡ latest.manifest.last_l0_seq → n'.manifest.replay_after_wal_id ≡ latest.manifest.replay_after_wal_id →
         ((k.view ≡ h.view) ⊎ ((k.view ≡ n') × (latest.manifest.writer_epoch ≤ h.epoch))) → Moved stored stored o o' latest h (whole h k)
-    moved-by n' at epoch number views =
+    moved-by n' at epoch number mark views =
         subst (Moved stored stored o o' latest h) (sym same)
-        (viewed-moved stored o o' latest n' h k.counter k.view (fenced_result r) is live v reads (follows-by n' at epoch number) epoch number views
+        (viewed-moved stored o o' latest n' h k.counter k.view (fenced_result r) is live v reads (follows-by n' at epoch number mark) epoch number views
         (λ q differ. other-table id q (tables_put (take made cs)) o o' added (λ tied. differ (ap (λ (x : TableId). x.epoch) tied)))
         before lasts-same (let c = counted in omega (arith, c)) unused-after)
 
@@ -160,11 +175,11 @@ module _ (stored : Line) (o o' : Objects) (latest : VersionedManifest) (h k : Ha
 
     pub compact-moved : Moved stored stored o o' latest h (whole h k)
     compact-moved = elim latest-after [
-      | inl before ↦ moved-by latest before.0 refl refl (elim (views-by r j.answer j.part) [
+      | inl before ↦ moved-by latest before.0 refl refl refl (elim (views-by r j.answer j.part) [
         | inl old ↦ inl old
         | inr new ↦ (let all = new.1 in let few = before.1 in absurd (omega (arith, all, few)))
       ])
-      | inr committed ↦ moved-by (compacted id latest) committed.0 (compacted-epoch id latest) (compacted-number id latest) (elim (views-by r j.answer j.part) [
+      | inr committed ↦ moved-by (compacted id latest) committed.0 (compacted-epoch id latest) (compacted-number id latest) (compacted-mark id latest) (elim (views-by r j.answer j.part) [
         | inl old ↦ inl old
         | inr new ↦ inr (new.0, new.2)
       ])
@@ -181,7 +196,7 @@ module _ (stored : Line) (o o' : Objects) (latest : VersionedManifest) (h k : Ha
   refresh-moved a counter =
       subst (Moved stored stored o o latest h) (sym same)
       (viewed-moved stored o o latest latest h k.counter k.view (fenced_result r) is live v reads
-      (record { sound = sound; content = holds; grows = prefix-same stored; latest_is = is; epochs = omega arith; tabled = omega arith }) refl refl (views-by r a)
+      (record { sound = sound; content = holds; grows = prefix-same stored; latest_is = is; epochs = omega arith; tabled = omega arith; logs = stay-follow o o _ _ refl (logs-same _ _ o o refl) }) refl refl (views-by r a)
       (λ q differ. refl) before (λ q low some. refl) (omega (arith, counter)) (λ index high. none-known (record { epoch = h.epoch; index = index }) o (v.unused index (omega (arith, counter, high))))) where
         views-by : (q : Result (Unit {0}) SlateError) → RefreshAnswer (kept_handle h) o q k.view → (k.view ≡ h.view) ⊎ ((k.view ≡ latest) × (latest.manifest.writer_epoch ≤ h.epoch))
         views-by (Ok x) a = inr (found-latest k.view a.0, found-current k.view a)

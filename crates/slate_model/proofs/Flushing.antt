@@ -1,16 +1,14 @@
 -- A flush of a valid handle leaves sound objects and a valid handle, wherever it is broken off.
-use Rattle.std.proofs.Common.{◌≡◌, ℕ, zero, suc, ◌+◌, ◌<◌, ◌≤◌, ◌⊎◌, inl, inr, List, [], ◌∷◌, ◌++◌, length, take, cond, Some, None, Option, Result, Ok, Err, Bool, true, false, refl, sym, subst, ap, ◌∙◌, arith, ltb}
-use Rattle.std.proofs.lemmas.Bool.{cases_lt, le-ltb, ltb-false, ltb-true, leb-true, leb-false, lt-leb}
-use Rattle.std.proofs.lemmas.List.{append-nil}
+use Rattle.std.proofs.Common.{◌≡◌, ℕ, zero, suc, ◌+◌, ◌<◌, ◌≤◌, ◌⊎◌, inl, inr, List, [], ◌∷◌, ◌++◌, length, map, take, cond, Some, None, Result, Ok, Err, Bool, true, false, refl, sym, subst, ap, ◌∙◌, arith}
+use Rattle.std.proofs.lemmas.Bool.{cases_lt, ltb-false, ltb-true, leb-true, leb-false, lt-leb}
 use Rattle.std.specs.Prelude.{nat_le}
 use Rattle.slate_types.proofs.Lines.{above-none}
-use Rattle.slate_types.specs.Line.{IsLine, IsPrefix, Line, batches_above, end, extended}
+use Rattle.slate_types.specs.Line.{IsLine, IsPrefix, Line, batches_above, extended}
 use Rattle.slate_types.specs.declared.batches.Batch.{Batch}
 use Rattle.slate_types.specs.declared.options.FlushType.{FlushType}
 use Rattle.slate_types.specs.declared.options.FlushType.TheVariants.{Wal, MemTable}
-use Rattle.slate_types.specs.declared.store_errors.StoreFault.TheVariants.{Unavailable}
 use Rattle.slate_store.proofs.Latest.{its-objects}
-use Rattle.slate_store.specs.Content.{IsSound, StoresTable, content, table_batches}
+use Rattle.slate_store.specs.Content.{IsSound, content}
 use Rattle.slate_store.specs.Objects.{Change, Objects, last_log, latest_manifest, table_at}
 use Rattle.slate_store.specs.declared.objects.TableId.{TableId}
 use Rattle.slate_store.specs.declared.objects.VersionedManifest.{VersionedManifest}
@@ -18,7 +16,7 @@ use Rattle.slate_errors.specs.declared.errors.SlateError.{SlateError}
 use Rattle.slate_errors.specs.declared.errors.SlateError.TheVariants as errors
 use Rattle.slate_model.specs.Catalogue.{catalogue_of}
 use Rattle.slate_model.specs.Changes.{PartMade, after_part}
-use Rattle.slate_model.specs.Flush.{CanFlush, DurableAfter, FlushAnswer, FlushesOnly, IsFlushed, StoresBatches, flush_changes, flush_changes_by, flush_changes_under, flush_view, grown, grows, has_untabled, log_changes, next_flushed, recorded, tables_put, table_changes, has_log_for, IsCurrent, flush_result}
+use Rattle.slate_model.specs.Flush.{CanFlush, DurableAfter, FlushAnswer, FlushesOnly, IsFlushed, StoresBatches, flush_changes, flush_changes_by, flush_changes_under, flush_view, grown, grows, has_untabled, log_after, log_changes, next_flushed, tables_put, table_changes, has_log_for, IsCurrent, flush_result}
 use Rattle.slate_model.specs.Handle.{CloseResult, Handle, accepted, kept_handle, next_table, to_log, unstored}
 use Rattle.slate_model.specs.Stores.{Stands, by_objects}
 use Rattle.slate_model.specs.Tables.{AreStored}
@@ -26,6 +24,8 @@ use Rattle.slate_model.specs.Valid.{AreBefore, IsValidHandle, ReadsLine, up_to}
 use Rattle.slate_model.proofs.Adding.{AreAdded, Lasts, Stay, flush-puts, one-put, other-table, stay-added}
 use Rattle.slate_model.proofs.Flushed.{Leaves, flush-leaves, part_le}
 use Rattle.slate_model.proofs.Keeping.{changes-kept, view-kept}
+use Rattle.slate_model.proofs.Logging.{KeepLogs, LogsFollow, LogsStay, keep-append, mark-follow, part-logs, stay-follow}
+use Rattle.slate_store.proofs.LastLog.{at_least}
 use Rattle.slate_model.proofs.Moving.{Follows, Moved, known-none, none-known, still-reads}
 use Rattle.slate_model.proofs.Prefixes.{extended-nil, prefix-after, prefix-same, up_to-all}
 use Rattle.slate_model.proofs.Reduced.{whole}
@@ -52,6 +52,30 @@ view-number MemTable h latest last = by (has_untabled h latest.manifest) refl wh
   by : (some : Bool) → has_untabled h latest.manifest ≡ some → latest.manifest.last_l0_seq ≤ (cond some (next_flushed h latest last) latest).manifest.last_l0_seq
   by true is = let less = ltb-true latest.manifest.last_l0_seq (accepted h) is in omega (arith, less)
   by false is = omega arith
+
+-- the replay mark of the manifest that a flush commits is the old one, or not below the last log file
+log_after-high : (bs : List Batch) (last : ℕ) → last ≤ log_after bs last
+log_after-high [] last = omega arith
+log_after-high (b ∷ bs) last = omega arith
+
+view-mark : (t : FlushType) (h : Handle) (latest : VersionedManifest) (last : ℕ) → ((flush_view t h latest last).manifest.replay_after_wal_id ≡ latest.manifest.replay_after_wal_id) ⊎ (last ≤ (flush_view t h latest last).manifest.replay_after_wal_id)
+view-mark Wal h latest last = inl refl
+view-mark MemTable h latest last = by (has_untabled h latest.manifest) where
+  by : (some : Bool) → ((cond some (next_flushed h latest last) latest).manifest.replay_after_wal_id ≡ latest.manifest.replay_after_wal_id) ⊎ (last ≤ (cond some (next_flushed h latest last) latest).manifest.replay_after_wal_id)
+  by true = inr (log_after-high (to_log h) last)
+  by false = inl refl
+
+-- a flush puts a log file after the last one
+log-keeps-logs : (mark : ℕ) (bs : List Batch) (last : ℕ) → KeepLogs mark last (log_changes (λ xs. xs) bs last)
+log-keeps-logs mark [] last = tt
+log-keeps-logs mark (b ∷ bs) last = (omega arith, tt)
+
+flush-keeps-logs : (mark : ℕ) (t : FlushType) (h : Handle) (latest : VersionedManifest) (last : ℕ) → KeepLogs mark last (flush_changes_under (λ xs. xs) t h latest last)
+flush-keeps-logs mark Wal h latest last = log-keeps-logs mark (to_log h) last
+flush-keeps-logs mark MemTable h latest last = by (has_untabled h latest.manifest) where
+  by : (some : Bool) → KeepLogs mark last (cond some (log_changes (λ xs. xs) (to_log h) last ++ table_changes (λ xs. xs) h latest last) [])
+  by true = keep-append mark last (log_changes (λ xs. xs) (to_log h) last) (table_changes (λ xs. xs) h latest last) (log-keeps-logs mark (to_log h) last) tt
+  by false = tt
 
 -- where a flush has fewer changes than store the batches, there are none
 at-least-two : (bs : List Change) (c d : Change) → 1 < length (bs ++ c ∷ d ∷ [])
@@ -322,6 +346,21 @@ module _ (stored : Line) (o o' : Objects) (latest : VersionedManifest) (t : Flus
     | inr new ↦ ap (λ (m : VersionedManifest). m.manifest.writer_epoch) new.0 ∙ view-epoch t h latest last
   ]
 
+  logs-stay : LogsStay latest.manifest.replay_after_wal_id last o o'
+  logs-stay = subst (LogsStay latest.manifest.replay_after_wal_id last o) (sym after) (part-logs latest.manifest.replay_after_wal_id last made cs o (flush-keeps-logs latest.manifest.replay_after_wal_id t h latest last))
+
+  logs-follow : LogsFollow o o' latest.manifest.replay_after_wal_id n'.manifest.replay_after_wal_id
+  logs-follow = elim newest.which [
+    | inl same ↦ stay-follow o o' latest.manifest.replay_after_wal_id n'.manifest.replay_after_wal_id (sym (ap (λ (m : VersionedManifest). m.manifest.replay_after_wal_id) same.0)) logs-stay
+    | inr new ↦
+        let e = ap (λ (m : VersionedManifest). m.manifest.replay_after_wal_id) new.0 in
+        let least = at_least latest.manifest.replay_after_wal_id (map (λ (log : ℕ × List Batch). log.0) o.logs) in
+        elim (view-mark t h latest last) [
+          | inl kept ↦ stay-follow o o' latest.manifest.replay_after_wal_id n'.manifest.replay_after_wal_id (sym (e ∙ kept)) logs-stay
+          | inr high ↦ mark-follow o o' latest.manifest.replay_after_wal_id n'.manifest.replay_after_wal_id (omega (arith, e, high, least)) (omega (arith, e, high))
+        ]
+  ]
+
   follows : Follows stored stored' o o' latest n'
   follows = record {
     sound = newest.sound_after;
@@ -330,6 +369,7 @@ module _ (stored : Line) (o o' : Objects) (latest : VersionedManifest) (t : Flus
     latest_is = newest.is_latest;
     epochs = (let e = next-epoch in omega (arith, e));
     tabled = next-number;
+    logs = logs-follow;
   }
 
   alone : ((stored' ≡ stored) × (n'.manifest.last_l0_seq ≡ latest.manifest.last_l0_seq)) ⊎ Current

@@ -1,5 +1,5 @@
 -- Over sound objects none stands under the ids that a flush and a compaction use, and tables can be joined.
-use Rattle.std.proofs.Common.{◌≡◌, ℕ, ◌+◌, ◌<◌, ◌≤◌, List, [], ◌∷◌, ◌++◌, length, map, cond, Some, None, Option, Bool, true, false, refl, sym, subst, ap, ◌∙◌, arith, ltb, inl, inr}
+use Rattle.std.proofs.Common.{◌≡◌, ℕ, ◌+◌, ◌<◌, ◌≤◌, List, [], ◌∷◌, ◌++◌, map, cond, Some, None, Bool, true, false, refl, sym, subst, arith, inl, inr}
 use Rattle.std.proofs.lemmas.List.Elements.{All-append, All-cons, All-nil}
 use Rattle.std.specs.List.{All, AllByRecursion, Contains}
 use Rattle.slate_types.specs.Line.{AreNumberedFrom}
@@ -10,10 +10,9 @@ use Rattle.slate_types.specs.declared.store_errors.StoreFault.TheVariants.{NotFo
 use Rattle.slate_reads.specs.Index.{AreRising}
 use Rattle.slate_store.proofs.Entries.{absent}
 use Rattle.slate_store.proofs.Latest.{all-greatest, ids-within, its-line, its-objects}
-use Rattle.slate_store.specs.Content.{IsSound, StoresTable, content_by, logged, number_before, table_batches}
+use Rattle.slate_store.specs.Content.{IsSound, StoresTable, logged, number_before, table_batches}
 use Rattle.slate_store.specs.Objects.{Change, Objects, PutLog, PutManifest, PutTable, is_present, last_log, latest_manifest, table_at}
 use Rattle.slate_store.specs.declared.objects.Manifest.{Manifest}
-use Rattle.slate_store.specs.declared.objects.TableId.{TableId}
 use Rattle.slate_store.specs.declared.objects.VersionedManifest.{VersionedManifest}
 use Rattle.slate_errors.specs.declared.errors.SlateError.{SlateError}
 use Rattle.slate_errors.specs.declared.errors.SlateError.TheVariants as errors

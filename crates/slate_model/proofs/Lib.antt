@@ -5,6 +5,7 @@ pub mod Flushed
 pub mod Flushing
 pub mod Free
 pub mod Keeping
+pub mod Logging
 pub mod Maintained
 pub mod Moving
 pub mod Newest

@@ -1,6 +1,9 @@
 -- What a committed checkpoint and a sweep leave of objects, and what a world knows of it.
+use Rattle.std.specs.List.{list_any}
+use Rattle.std.specs.List.{flat_map}
+use Rattle.std.specs.Option.{option_to_list}
 use Rattle.std.proofs.Common.{◌≡◌, ◌≢◌, ◌⊎◌, ℕ, zero, suc, ◌+◌, ◌∙◌, List, [], ◌∷◌, ◌++◌, length, map, cond, not, Bool, true, false, Option, Some, None, Result, Ok, Err, refl, sym, ap, subst, inl, inr, arith}
-use Rattle.std.proofs.lemmas.Bool.{ltb-false}
+use Rattle.std.proofs.lemmas.Bool.{or_parts, ltb-false}
 use Rattle.std.proofs.lemmas.List.Elements.{All-append, All-cons, All-head, All-map, All-nil, All-tail}
 use Rattle.std.proofs.lemmas.List.{length-map, map-append}
 use Rattle.std.proofs.lemmas.Map.Entries.{lookup-filter-keys}
@@ -16,7 +19,7 @@ use Rattle.slate_store.proofs.Removed.{IsSpare, removed-part}
 use Rattle.slate_store.proofs.Swept.{fails, sweep-keeps}
 use Rattle.slate_store.specs.Checkpoints.{Plan, is_expired, new_checkpoint, to_write, with_checkpoints}
 use Rattle.slate_store.specs.Content.{IsPinned, IsSound, content}
-use Rattle.slate_store.specs.Objects.{Change, ChangeOf, Objects, PutLog, PutManifest, PutTable, RemoveLog, RemoveManifest, RemoveTable, changed, changed_all, entry_at, is_present, last, latest_manifest, table_at, table_cmp, versioned}
+use Rattle.slate_store.specs.Objects.{last_log, Change, ChangeOf, Objects, PutLog, PutManifest, PutTable, RemoveLog, RemoveManifest, RemoveTable, changed, changed_all, entry_at, is_present, last, latest_manifest, table_at, table_cmp, versioned}
 use Rattle.slate_store.specs.Refusals as calls
 use Rattle.slate_store.specs.Refusals.{FollowsPlan, planned, planned_after}
 use Rattle.slate_store.specs.Sweeps as sweeps
@@ -37,18 +40,21 @@ use Rattle.slate_model.proofs.Reduced.{as_modelled, catalogued, holding, modelle
 use Rattle.slate_model.specs.Catalogue.{Span, catalogue_of}
 use Rattle.slate_model.specs.Changes.{PartMade, after_part}
 use Rattle.slate_model.specs.Maintain.{CheckpointAnswer, CheckpointCause, Checkpoints, CommitsCheckpoint, Sweeps, SweepsAnswer, SweepsCause, SweepsObjects, commit_changes}
+use Rattle.slate_model.proofs.Logging.{KeepLogs, LogsStay, part-logs}
 use Rattle.slate_model.specs.Refusal.{error_of_refusal}
 use Rattle.slate_model.specs.Stores.{Stands, SweepFault, by_catalogue, by_objects}
 use Rattle.slate_model.specs.Write.{last_number}
 
 -- ---- what they leave of sound objects
--- The objects stay sound, with the same content. The latest manifest has the same epoch and the same end of its tables, and
--- each table is as it was, or gone.
+-- The objects stay sound, with the same content. The latest manifest has the same epoch, end of its tables and replay mark, and
+-- each table is as it was, or gone, and each log file above the mark as it was.
 pub record Maintained (o o' : Objects) : Type 0 where
   pub sound : IsSound o'
   pub content : content o' ≡ content o
   pub latest : (latest : VersionedManifest) → latest_manifest o ≡ Some latest →
       (next : VersionedManifest) × (latest_manifest o' ≡ Some next) × (next.manifest.writer_epoch ≡ latest.manifest.writer_epoch) × (next.manifest.last_l0_seq ≡ latest.manifest.last_l0_seq)
+      × (next.manifest.replay_after_wal_id ≡ latest.manifest.replay_after_wal_id)
+  pub logs : (latest : VersionedManifest) → latest_manifest o ≡ Some latest → LogsStay latest.manifest.replay_after_wal_id (last_log latest.manifest.replay_after_wal_id o) o o'
   pub lasts : (q : TableId) → table_at q o' ≢ None → table_at q o' ≡ table_at q o
   pub unput : (q : TableId) → table_at q o ≡ None → table_at q o' ≡ None
 
@@ -95,13 +101,16 @@ part-leaves (suc made) (c ∷ cs) o plain q =
 abbrev HasNext : VersionedManifest → Objects → Type 0
 HasNext latest o' =
     (next : VersionedManifest) × (latest_manifest o' ≡ Some next) × (next.manifest.writer_epoch ≡ latest.manifest.writer_epoch) × (next.manifest.last_l0_seq ≡ latest.manifest.last_l0_seq)
+    × (next.manifest.replay_after_wal_id ≡ latest.manifest.replay_after_wal_id)
 
 -- what changes leave that put no table
-maintained : (o o' : Objects) → IsSound o' → content o' ≡ content o → ((latest : VersionedManifest) → latest_manifest o ≡ Some latest → HasNext latest o') → LeavesTables o o' → Maintained o o'
-maintained o o' sound same next leaves = record {
+maintained : (o o' : Objects) → IsSound o' → content o' ≡ content o → ((latest : VersionedManifest) → latest_manifest o ≡ Some latest → HasNext latest o') →
+    ((latest : VersionedManifest) → latest_manifest o ≡ Some latest → LogsStay latest.manifest.replay_after_wal_id (last_log latest.manifest.replay_after_wal_id o) o o') → LeavesTables o o' → Maintained o o'
+maintained o o' sound same next logs leaves = record {
   sound = sound;
   content = same;
   latest = next;
+  logs = logs;
   lasts = λ q there. elim (leaves q) [
     | inl gone ↦ absurd (there gone)
     | inr before ↦ before
@@ -131,8 +140,8 @@ module _ (lifetime : Option ℕ) (moment : ℤ) (made : ℕ) (o : Objects) where
   commit-next : (latest : VersionedManifest) → IsSound o → latest_manifest o ≡ Some latest → (b : Bool) → HasNext latest (after_part made (planned (plan_by lifetime moment latest b)) o)
   commit-next latest sound is true =
       let next = committing lifetime moment latest in
-      part-one (HasNext latest) (PutManifest next.id next.manifest) o made (latest, is, refl, refl) (next, put-latest o latest sound is next.manifest, refl, refl)
-  commit-next latest sound is false = subst (HasNext latest) (sym (part-none made o)) (latest, is, refl, refl)
+      part-one (HasNext latest) (PutManifest next.id next.manifest) o made (latest, is, refl, refl, refl) (next, put-latest o latest sound is next.manifest, refl, refl, refl)
+  commit-next latest sound is false = subst (HasNext latest) (sym (part-none made o)) (latest, is, refl, refl, refl)
 
   plan-no_table : (latest : VersionedManifest) (b : Bool) → All PutsNoTable (planned (plan_by lifetime moment latest b))
   plan-no_table latest true =
@@ -144,12 +153,20 @@ module _ (lifetime : Option ℕ) (moment : ℤ) (made : ℕ) (o : Objects) where
   commit-no_table None = All-nil PutsNoTable
   commit-no_table (Some latest) = plan-no_table latest (nat_lt latest.id last_number)
 
+  commit-keeps : (mark last : ℕ) (found : Option VersionedManifest) → KeepLogs mark last (planned_after (to_write None lifetime moment) found)
+  commit-keeps mark last None = tt
+  commit-keeps mark last (Some latest) = by (nat_lt latest.id last_number) where
+    by : (b : Bool) → KeepLogs mark last (planned (plan_by lifetime moment latest b))
+    by true = tt
+    by false = tt
+
   -- a checkpoint that is committed, or not yet
   pub checkpoint-maintains : IsSound o → Maintained o (after_part made (commit_changes lifetime moment o) o)
   checkpoint-maintains sound =
       let stays = write-keeps None lifetime moment made o sound in
       maintained o (after_part made (commit_changes lifetime moment o) o) stays.0 stays.1
       (λ latest is. subst (λ found. HasNext latest (after_part made (planned_after (to_write None lifetime moment) found) o)) (sym is) (commit-next latest sound is (nat_lt latest.id last_number)))
+      (λ latest is. part-logs latest.manifest.replay_after_wal_id (last_log latest.manifest.replay_after_wal_id o) made (commit_changes lifetime moment o) o (commit-keeps _ _ (latest_manifest o)))
       (part-leaves made (commit_changes lifetime moment o) o (commit-no_table (latest_manifest o)))
 
 -- ---- a sweep
@@ -176,6 +193,18 @@ spare-no_table latest o (RemoveTable id) spare = tt
 removals-no_table : (latest : VersionedManifest) (o : Objects) → All PutsNoTable (removals latest o)
 removals-no_table latest o k d less = spare-no_table latest o _ (removals-spare latest o k d less)
 
+-- nor a log file above the replay mark
+spare-keep : (latest : VersionedManifest) (last : ℕ) (o : Objects) (cs : List Change) → All (IsSpare latest o) cs → KeepLogs latest.manifest.replay_after_wal_id last cs
+spare-keep latest last o [] spare = tt
+spare-keep latest last o (c ∷ cs) spare = by c (All-head (IsSpare latest o) c cs spare) (spare-keep latest last o cs (All-tail (IsSpare latest o) c cs spare)) where
+  by : (c : Change) → IsSpare latest o c → KeepLogs latest.manifest.replay_after_wal_id last cs → KeepLogs latest.manifest.replay_after_wal_id last (c ∷ cs)
+  by (PutManifest id manifest) spare rest = rest
+  by (PutLog id log) spare rest = absurd spare
+  by (PutTable id table) spare rest = rest
+  by (RemoveManifest id) spare rest = rest
+  by (RemoveLog id) spare rest = (ltb-false latest.manifest.replay_after_wal_id id (or_parts (nat_lt latest.manifest.replay_after_wal_id id) (list_any (λ (m : Manifest). nat_lt m.replay_after_wal_id id) (flat_map (λ (checkpoint : Checkpoint). option_to_list (entry_at checkpoint.manifest_id o.manifests)) latest.manifest.checkpoints)) spare).0, rest)
+  by (RemoveTable id) spare rest = rest
+
 -- the manifest that is left when the expired checkpoints are taken out
 abbrev unexpired : ℤ → VersionedManifest → VersionedManifest
 unexpired moment latest = with_checkpoints (filter (λ checkpoint. not (is_expired moment checkpoint)) latest.manifest.checkpoints) latest
@@ -191,14 +220,21 @@ module _ (moment : ℤ) (o : Objects) where
   sweep-next : (made : ℕ) (latest : VersionedManifest) → IsSound o → latest_manifest o ≡ Some latest → (t : Bool) → HasNext latest (after_part made (sweep_by latest t) o)
   sweep-next made latest sound is false =
       let end = removed-part made (removals latest o) o latest sound is (removals-spare latest o) in
-      (latest, end.latest ∙ is, refl, refl)
+      (latest, end.latest ∙ is, refl, refl, refl)
   sweep-next made latest sound is true =
       let test : Checkpoint → Bool = λ checkpoint. not (is_expired moment checkpoint) in
       let next = unexpired moment latest in
       let o1 = changed (PutManifest next.id next.manifest) o in
       let put = recheckpointed o latest sound is (filter test latest.manifest.checkpoints) (some-differ o latest sound is test) (some-kept o latest sound is test) in
-      part-more (HasNext latest) (PutManifest next.id next.manifest) (removals next o1) o made (latest, is, refl, refl)
-      (λ part. let end = removed-part part (removals next o1) o1 next put.sound put.latest (removals-spare next o1) in (next, end.latest ∙ put.latest, refl, refl))
+      part-more (HasNext latest) (PutManifest next.id next.manifest) (removals next o1) o made (latest, is, refl, refl, refl)
+      (λ part. let end = removed-part part (removals next o1) o1 next put.sound put.latest (removals-spare next o1) in (next, end.latest ∙ put.latest, refl, refl, refl))
+
+  sweep-keeps-logs : (latest : VersionedManifest) (last : ℕ) (t : Bool) → KeepLogs latest.manifest.replay_after_wal_id last (sweep_by latest t)
+  sweep-keeps-logs latest last false = spare-keep latest last o (removals latest o) (removals-spare latest o)
+  sweep-keeps-logs latest last true =
+      let next = unexpired moment latest in
+      let o1 = changed (PutManifest next.id next.manifest) o in
+      spare-keep next last o1 (removals next o1) (removals-spare next o1)
 
   sweep_by-no_table : (latest : VersionedManifest) (t : Bool) → All PutsNoTable (sweep_by latest t)
   sweep_by-no_table latest false = removals-no_table latest o
@@ -217,6 +253,8 @@ sweep-maintains moment made o sound =
     let stays = sweep-keeps moment made o sound in
     maintained o (after_part made (sweep_changes moment o) o) stays.0 stays.1
     (λ latest is. subst (λ found. HasNext latest (after_part made (sweep_changes_by moment o found) o)) (sym is) (sweep-next moment o made latest sound is (has_expired moment latest)))
+    (λ latest is. part-logs latest.manifest.replay_after_wal_id (last_log latest.manifest.replay_after_wal_id o) made (sweep_changes moment o) o
+    (subst (λ found. KeepLogs latest.manifest.replay_after_wal_id (last_log latest.manifest.replay_after_wal_id o) (sweep_changes_by moment o found)) (sym is) (sweep-keeps-logs moment o latest (last_log latest.manifest.replay_after_wal_id o) (has_expired moment latest))))
     (part-leaves made (sweep_changes moment o) o (sweep-no_table moment o (latest_manifest o)))
 
 -- ---- what calls of a store do

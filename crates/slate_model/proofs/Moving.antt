@@ -1,17 +1,18 @@
 -- What holds of the handles of a world after the objects of its store changed.
-use Rattle.std.proofs.Common.{◌≡◌, ◌≢◌, ℕ, ◌+◌, ◌<◌, ◌≤◌, ◌⊎◌, inl, inr, List, [], ◌∷◌, ◌++◌, length, option_map, Some, None, Option, refl, sym, subst, ap, ◌∙◌, arith}
+use Rattle.std.proofs.Common.{◌≡◌, ℕ, ◌<◌, ◌≤◌, ◌⊎◌, inl, List, ◌++◌, option_map, Some, None, Option, refl, sym, ap, ◌∙◌, arith}
 use Rattle.std.specs.List.{All}
 use Rattle.slate_types.specs.Line.{IsPrefix, Line, batches_above, extended}
 use Rattle.slate_types.specs.declared.batches.Batch.{Batch}
-use Rattle.slate_store.specs.Content.{IsSound, content, table_batches}
+use Rattle.slate_store.specs.Content.{IsSound, content}
 use Rattle.slate_store.specs.Objects.{Objects, latest_manifest, table_at}
 use Rattle.slate_store.specs.declared.objects.TableId.{TableId}
 use Rattle.slate_store.specs.declared.objects.VersionedManifest.{VersionedManifest}
-use Rattle.slate_model.specs.Catalogue.{Span, catalogue_of, span}
+use Rattle.slate_model.specs.Catalogue.{catalogue_of, span}
 use Rattle.slate_model.specs.Handle.{Handle, unstored}
 use Rattle.slate_model.specs.Tables.{AreStored}
 use Rattle.slate_model.specs.Valid.{IsValidHandle, ReadsLine, up_to}
 use Rattle.slate_model.proofs.Adding.{Lasts, lasting}
+use Rattle.slate_model.proofs.Logging.{LogsFollow, logs-same, stay-follow}
 use Rattle.slate_model.proofs.Catalogued.{table-known}
 use Rattle.slate_model.proofs.Prefixes.{prefix-same, prefix-then}
 
@@ -32,8 +33,8 @@ known-stored o ids stored k d less none = stored k d less (none-known _ o none)
 pub stored-known : (o : Objects) (ids : List TableId) → AreStored (catalogue_of o) ids → AreStored o ids
 stored-known o ids stored k d less none = stored k d less (known-none _ o none)
 
--- Sound objects that follow others under which this line was stored, and this manifest was the latest: the line goes on,
--- and neither the epoch nor the last number in tables falls.
+-- Sound objects that follow others under which this line was stored, and this manifest was the latest: the line and the log
+-- files go on, and neither the epoch nor the last number in tables falls.
 pub record Follows (stored stored' : Line) (o o' : Objects) (latest latest' : VersionedManifest) : Type 0 where
   pub sound : IsSound o'
   pub content : content o' ≡ stored'
@@ -41,6 +42,7 @@ pub record Follows (stored stored' : Line) (o o' : Objects) (latest latest' : Ve
   pub latest_is : latest_manifest o' ≡ Some latest'
   pub epochs : latest.manifest.writer_epoch ≤ latest'.manifest.writer_epoch
   pub tabled : latest.manifest.last_l0_seq ≤ latest'.manifest.last_l0_seq
+  pub logs : LogsFollow o o' latest.manifest.replay_after_wal_id latest'.manifest.replay_after_wal_id
 
 module _ (stored stored' : Line) (o o' : Objects) (latest latest' : VersionedManifest) (is : latest_manifest o ≡ Some latest) (f : Follows stored stored' o o' latest latest') where
   -- a handle that didn't change
@@ -92,7 +94,7 @@ pub record Moved (stored stored' : Line) (o o' : Objects) (latest : VersionedMan
 pub unmoved : (stored : Line) (o : Objects) (latest : VersionedManifest) (h new : Handle) → IsSound o → content o ≡ stored → latest_manifest o ≡ Some latest → new.epoch ≡ h.epoch → h.counter ≤ new.counter → new.view ≡ h.view → IsValidHandle stored (catalogue_of o) new → ReadsLine o new.view new.line → Moved stored stored o o latest h new
 unmoved stored o latest h new sound holds is epoch counter view mine reads = record {
   next = latest;
-  follows = record { sound = sound; content = holds; grows = prefix-same stored; latest_is = is; epochs = omega arith; tabled = omega arith };
+  follows = record { sound = sound; content = holds; grows = prefix-same stored; latest_is = is; epochs = omega arith; tabled = omega arith; logs = stay-follow o o _ _ refl (logs-same _ _ o o refl) };
   others = λ q differ. refl;
   lasts = λ q before some. refl;
   counter = counter;

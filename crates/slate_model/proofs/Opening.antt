@@ -1,5 +1,5 @@
 -- What an opening leaves of the handles of a world, and the handle that it gives.
-use Rattle.std.proofs.Common.{◌≡◌, ℕ, zero, suc, ◌+◌, ◌<◌, ◌≤◌, inl, inr, List, [], ◌∷◌, Some, None, Option, Bool, true, false, refl, sym, subst, ap, ◌∙◌, arith}
+use Rattle.std.proofs.Common.{◌≡◌, ℕ, ◌+◌, ◌<◌, ◌≤◌, List, [], ◌∷◌, Some, None, Option, Bool, false, refl, sym, subst, ap, ◌∙◌, arith}
 use Rattle.std.proofs.lemmas.Bool.{false_from_ne_true}
 use Rattle.std.proofs.lemmas.List.Elements.{All-head, All-tail}
 use Rattle.std.specs.BTreeMap.{is_at}
@@ -11,17 +11,17 @@ use Rattle.slate_types.specs.declared.batches.Batch.{Batch}
 use Rattle.slate_store.proofs.Entries.{same_table, tied}
 use Rattle.slate_store.proofs.Latest.{its-objects, nothing_there}
 use Rattle.slate_store.specs.Content.{IsSound, content}
-use Rattle.slate_store.specs.Objects.{Objects, empty, latest_manifest, table_at, table_cmp}
+use Rattle.slate_store.specs.Objects.{Objects, last_log, latest_manifest, table_at, table_cmp}
 use Rattle.slate_store.specs.declared.objects.TableId.{TableId}
 use Rattle.slate_store.specs.declared.objects.VersionedManifest.{VersionedManifest}
 use Rattle.slate_model.specs.Catalogue.{catalogue_of}
 use Rattle.slate_model.specs.Changes.{after_part}
 use Rattle.slate_model.specs.Handle.{Handle, unstored}
-use Rattle.slate_model.specs.Open.{found_log, next_manifest, open_changes, opened_handle, opened_manifest}
-use Rattle.slate_model.specs.Valid.{IsValidHandle, ReadsLine, up_to}
-use Rattle.slate_model.proofs.Adding.{none-put, stay-tables}
-use Rattle.slate_model.proofs.Flushing.{latest-stored}
-use Rattle.slate_model.proofs.Moving.{Follows, known-none, known-stored, none-known, still-valid}
+use Rattle.slate_model.specs.Open.{found_log, mark_of, next_manifest, open_changes, opened_handle, opened_manifest}
+use Rattle.slate_model.specs.Valid.{IsValidHandle, ReadsLine}
+use Rattle.slate_model.proofs.Adding.{none-put}
+use Rattle.slate_model.proofs.Logging.{part-logs, stay-follow}
+use Rattle.slate_model.proofs.Moving.{Follows, known-none, still-valid}
 use Rattle.slate_model.proofs.Prefixes.{extended-nil, prefix-same, up_to-all}
 use Rattle.slate_model.proofs.Reopened.{opened}
 use Rattle.slate_model.proofs.Tabled.{floor-low, joined-line, tables-within}
@@ -56,10 +56,15 @@ module _ (stored : Line) (o : Objects) (made : ℕ) (sound : IsSound o) (holds :
   content-is : content o' ≡ stored
   content-is = (opened o made sound some few).content ∙ holds
 
+  -- the fence comes after the last log file
+  before-fence : (latest : VersionedManifest) → latest_manifest o ≡ Some latest → last_log latest.manifest.replay_after_wal_id o < found_log o + 1
+  before-fence latest is = let e = ap (λ x. last_log (mark_of x) o) is in omega (arith, e)
+
   pub opened-follows : (latest : VersionedManifest) → latest_manifest o ≡ Some latest → Follows stored stored o o' latest v
   opened-follows latest is =
       let b = opened o made sound some few in
       let epoch : v.manifest.writer_epoch ≡ latest.manifest.writer_epoch + 1 = ap (λ x. (next_manifest x (found_log o)).manifest.writer_epoch) is in
+      let mark : v.manifest.replay_after_wal_id ≡ latest.manifest.replay_after_wal_id = ap (λ x. (next_manifest x (found_log o)).manifest.replay_after_wal_id) is in
       let number : v.manifest.last_l0_seq ≡ latest.manifest.last_l0_seq = ap (λ x. (next_manifest x (found_log o)).manifest.last_l0_seq) is in
       record {
         sound = b.sound;
@@ -68,6 +73,7 @@ module _ (stored : Line) (o : Objects) (made : ℕ) (sound : IsSound o) (holds :
         latest_is = b.latest;
         epochs = omega (arith, epoch);
         tabled = omega (arith, number);
+        logs = stay-follow o o' latest.manifest.replay_after_wal_id v.manifest.replay_after_wal_id (sym mark) (part-logs latest.manifest.replay_after_wal_id (last_log latest.manifest.replay_after_wal_id o) made (open_changes (λ xs. xs) o) o (before-fence latest is, tt));
       }
 
   -- a handle that was opened before is fenced

@@ -19,9 +19,9 @@ use Rattle.slate_model.specs.Catalogue.{Span, catalogue_of, span, Catalogue, joi
 use Rattle.slate_model.specs.declared.answers.PollAnswer.{PollAnswer}
 use Rattle.slate_model.specs.Close.{Closes, ended, fault_again, closing_flush}
 use Rattle.slate_model.specs.Follow.{FollowCause, Polls, Rebuilds, SeesAll, built, can_follow}
-use Rattle.slate_model.specs.Follower.{Follower, kept_follower, number, rebuilt}
+use Rattle.slate_model.specs.Follower.{Follower, kept_follower, rebuilt}
 use Rattle.slate_model.specs.Handle.{Handle, CloseResult, accepted, kept_handle, line_above, next_table}
-use Rattle.slate_model.specs.Known.{IsContent, Known, Untouched}
+use Rattle.slate_model.specs.Known.{Known, Untouched}
 use Rattle.slate_model.proofs.Reopened.{no-fault}
 use Rattle.slate_model.proofs.Catalogued.{reduced, catalogue-after, flush_changes-known, last_log-catalogue, tables_part-known, tables_put-known, compact_changes-known, manifest_cause-known, table-known, opens-known, opened_manifest-known}
 use Rattle.slate_model.specs.Flush.{CanFlush, DurableAfter, FlushAnswer, FlushCause, Flushes, FlushesOnly, IsFlushed, StoresBatches, Stores, flush_changes, flush_changes_by, flush_result, flush_view, grows, has_ids, next_flushed, tables_put}

@@ -1,7 +1,7 @@
 -- A valid handle that goes by another manifest, over the same content, stays valid.
-use Rattle.std.proofs.Common.{◌≡◌, ℕ, ◌+◌, ◌<◌, ◌≤◌, ◌⊎◌, inl, inr, List, ◌++◌, Some, None, refl, sym, subst, ap, ◌∙◌, arith}
-use Rattle.slate_types.specs.Line.{Line, batches_above, extended}
-use Rattle.slate_store.specs.Content.{content, table_batches}
+use Rattle.std.proofs.Common.{◌≡◌, ℕ, ◌<◌, ◌≤◌, ◌⊎◌, inl, inr, Some, None, refl, sym, subst, ap, ◌∙◌, arith}
+use Rattle.slate_types.specs.Line.{Line, extended}
+use Rattle.slate_store.specs.Content.{content}
 use Rattle.slate_store.specs.Objects.{Objects, latest_manifest, table_at}
 use Rattle.slate_store.specs.declared.objects.TableId.{TableId}
 use Rattle.slate_store.specs.declared.objects.VersionedManifest.{VersionedManifest}
@@ -11,7 +11,7 @@ use Rattle.slate_model.specs.Tables.{AreStored}
 use Rattle.slate_model.specs.Valid.{AreBefore, IsValidHandle, ReadsLine}
 use Rattle.slate_model.proofs.Adding.{Lasts}
 use Rattle.slate_model.proofs.Flushing.{latest-stored}
-use Rattle.slate_model.proofs.Moving.{Follows, Moved, known-none, known-stored, still-reads, stored-known}
+use Rattle.slate_model.proofs.Moving.{Follows, Moved, known-none, still-reads}
 use Rattle.slate_model.proofs.Tabled.{joined-line}
 
 module _ (stored : Line) (o o' : Objects) (latest n' : VersionedManifest) (h : Handle) (counter : ℕ) (view : VersionedManifest) (result : CloseResult)

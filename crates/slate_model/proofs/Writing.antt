@@ -1,5 +1,5 @@
 -- A write to a valid handle leaves a valid one, and what the code keeps of it.
-use Rattle.std.proofs.Common.{◌≡◌, ℕ, ℤ, ◌+◌, ◌-◌, ◌<◌, ◌≤◌, List, [], ◌∷◌, ◌++◌, length, Some, None, Option, Result, Ok, Err, inl, inr, refl, sym, subst, ap, ◌∙◌, arith, append_assoc, length-append}
+use Rattle.std.proofs.Common.{◌≡◌, ℕ, ℤ, ◌+◌, ◌-◌, ◌<◌, ◌≤◌, List, [], ◌∷◌, ◌++◌, length, Option, Result, Ok, Err, inl, inr, refl, sym, subst, ap, ◌∙◌, arith, append_assoc, length-append}
 use Rattle.std.proofs.lemmas.List.{take-append-le}
 use Rattle.std.specs.Option.{option_or}
 use Rattle.slate_types.proofs.Lines.{above-push, numbered-push}
@@ -9,7 +9,6 @@ use Rattle.slate_types.specs.declared.batches.KeyOp.{KeyOp}
 use Rattle.slate_store.specs.Content.{table_batches}
 use Rattle.slate_store.specs.Objects.{Objects}
 use Rattle.slate_errors.specs.declared.errors.SlateError.{SlateError}
-use Rattle.slate_errors.specs.declared.errors.SlateError.TheVariants.{NoMemory}
 use Rattle.slate_model.specs.declared.answers.Written.{Written}
 use Rattle.slate_model.specs.Catalogue.{Catalogue}
 use Rattle.slate_model.specs.Handle.{Handle, accepted, kept_handle, line_above, unstored}

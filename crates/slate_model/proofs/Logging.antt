@@ -1,0 +1,140 @@
+-- What becomes of log files that a follower has seen.
+use Rattle.std.proofs.Common.{◌≡◌, ℕ, zero, suc, ◌<◌, ◌≤◌, List, [], ◌∷◌, ◌++◌, map, Some, Bool, true, false, cond, not, refl, sym, subst, ap, ◌∙◌, arith}
+use Rattle.std.proofs.lemmas.Cmp.{nat_cmp_total}
+use Rattle.std.specs.BTreeMap.{insert_entry, is_at}
+use Rattle.std.specs.Ordering.{match_ordering, nat_cmp}
+use Rattle.std.specs.declared.cmp.Ordering.{Ordering}
+use Rattle.std.specs.declared.cmp.Ordering.TheVariants.{Less, Equal, Greater}
+use Rattle.slate_types.specs.declared.batches.Batch.{Batch}
+use Rattle.slate_store.proofs.Entries.{apart, lookup-insert_other, lookup-without, same_number, tied}
+use Rattle.slate_store.proofs.LastLog.{at_least}
+use Rattle.slate_store.specs.Objects.{Change, Objects, PutLog, PutManifest, PutTable, RemoveLog, RemoveManifest, RemoveTable, changed, greatest, last_log, latest_manifest, log_at, without}
+use Rattle.slate_store.specs.declared.objects.VersionedManifest.{VersionedManifest}
+use Rattle.slate_model.specs.Changes.{after_part}
+use Rattle.slate_model.specs.Follower.{Follower}
+use Rattle.slate_model.specs.Seen.{HasSeen}
+
+-- the greatest id of a list of entries isn't lower after a put
+put-greatest : {X : Type 0} (mark id : ℕ) (x : X) (es : List (ℕ × X)) → greatest mark (map (λ e. e.0) es) ≤ greatest mark (map (λ e. e.0) (insert_entry nat_cmp es id x))
+put-greatest mark id x [] = omega arith
+put-greatest {X} mark id x (e ∷ es) = by (nat_cmp id e.0) (put-greatest mark id x es) where
+  by : (r : Ordering) → greatest mark (map (λ e. e.0) es) ≤ greatest mark (map (λ e. e.0) (insert_entry nat_cmp es id x)) →
+      greatest mark (map (λ e. e.0) (e ∷ es)) ≤ greatest mark (map (λ e. e.0) (match_ordering r ((id, x) ∷ e ∷ es) ((e.0, x) ∷ es) (e ∷ insert_entry nat_cmp es id x)))
+  by Less later = omega arith
+  by Equal later = omega arith
+  by Greater later = omega (arith, later)
+
+-- nor after a removal up to the mark
+removed-greatest : {X : Type 0} (mark id : ℕ) (es : List (ℕ × X)) → id ≤ mark → greatest mark (map (λ e. e.0) es) ≤ greatest mark (map (λ e. e.0) (without (is_at (nat_cmp id)) es))
+removed-greatest mark id [] low = omega arith
+removed-greatest {X} mark id (e ∷ es) low = by (is_at (nat_cmp id) e.0) refl (removed-greatest mark id es low) where
+  by : (here : Bool) → is_at (nat_cmp id) e.0 ≡ here → greatest mark (map (λ e. e.0) es) ≤ greatest mark (map (λ e. e.0) (without (is_at (nat_cmp id)) es)) →
+      greatest mark (map (λ e. e.0) (e ∷ es)) ≤ greatest mark (map (λ e. e.0) (cond (not here) (e ∷ without (is_at (nat_cmp id)) es) (without (is_at (nat_cmp id)) es)))
+  by true is later =
+      let same = same_number id e.0 (tied (nat_cmp id e.0) is) in
+      let least = at_least mark (map (λ (x : ℕ × X). x.0) (without (is_at (nat_cmp id)) es)) in
+      omega (arith, later, same, least, low)
+  by false is later = omega (arith, later)
+
+-- These changes keep the log files above a mark up to another one: they put log files after that, and remove none above the
+-- mark.
+abbrev pub KeepLogs : (mark last : ℕ) → List Change → Type 0
+KeepLogs mark last [] = Unit {0}
+KeepLogs mark last (PutLog id log ∷ cs) = (last < id) × KeepLogs mark last cs
+KeepLogs mark last (RemoveLog id ∷ cs) = (id ≤ mark) × KeepLogs mark last cs
+KeepLogs mark last (PutManifest id m ∷ cs) = KeepLogs mark last cs
+KeepLogs mark last (PutTable id table ∷ cs) = KeepLogs mark last cs
+KeepLogs mark last (RemoveManifest id ∷ cs) = KeepLogs mark last cs
+KeepLogs mark last (RemoveTable id ∷ cs) = KeepLogs mark last cs
+
+pub keep-append : (mark last : ℕ) (cs ds : List Change) → KeepLogs mark last cs → KeepLogs mark last ds → KeepLogs mark last (cs ++ ds)
+keep-append mark last [] ds a b = b
+keep-append mark last (PutLog id log ∷ cs) ds a b = (a.0, keep-append mark last cs ds a.1 b)
+keep-append mark last (RemoveLog id ∷ cs) ds a b = (a.0, keep-append mark last cs ds a.1 b)
+keep-append mark last (PutManifest id m ∷ cs) ds a b = keep-append mark last cs ds a b
+keep-append mark last (PutTable id table ∷ cs) ds a b = keep-append mark last cs ds a b
+keep-append mark last (RemoveManifest id ∷ cs) ds a b = keep-append mark last cs ds a b
+keep-append mark last (RemoveTable id ∷ cs) ds a b = keep-append mark last cs ds a b
+
+-- The log files of objects that follow others: between a mark and the last one of before each is as it was, and the last one
+-- isn't lower.
+pub record LogsStay (mark last : ℕ) (o o' : Objects) : Type 0 where
+  pub same : (id : ℕ) → mark < id → id ≤ last → log_at id o' ≡ log_at id o
+  pub low : last_log mark o ≤ last_log mark o'
+
+pub logs-same : (mark last : ℕ) (o o' : Objects) → o'.logs ≡ o.logs → LogsStay mark last o o'
+logs-same mark last o o' is = record {
+  same = λ id over under. ap (λ logs. log_at id (record { manifests = o'.manifests; logs = logs; tables = o'.tables })) is;
+  low = (let e = ap (λ (logs : List (ℕ × List Batch)). greatest mark (map (λ e. e.0) logs)) is in omega (arith, e));
+}
+
+logs-then : (mark last : ℕ) (a b c : Objects) → LogsStay mark last a b → LogsStay mark last b c → LogsStay mark last a c
+logs-then mark last a b c x y = record {
+  same = λ id over under. y.same id over under ∙ x.same id over under;
+  low = (let i = x.low in let j = y.low in omega (arith, i, j));
+}
+
+changed-logs : (mark last : ℕ) (c : Change) (o : Objects) → KeepLogs mark last (c ∷ []) → LogsStay mark last o (changed c o)
+changed-logs mark last (PutLog id log) o keep = record {
+  same = λ q over under. lookup-insert_other nat_cmp_total q id log o.logs (apart q id (λ same. let high = keep.0 in absurd (omega (arith, same, high, under))));
+  low = put-greatest mark id log o.logs;
+}
+changed-logs mark last (RemoveLog id) o keep = record {
+  same = λ q over under. lookup-without nat_cmp_total q id o.logs (apart id q (λ same. let low = keep.0 in absurd (omega (arith, same, low, over))));
+  low = removed-greatest mark id o.logs keep.0;
+}
+changed-logs mark last (PutManifest id m) o keep = logs-same mark last o (changed (PutManifest id m) o) refl
+changed-logs mark last (PutTable id table) o keep = logs-same mark last o (changed (PutTable id table) o) refl
+changed-logs mark last (RemoveManifest id) o keep = logs-same mark last o (changed (RemoveManifest id) o) refl
+changed-logs mark last (RemoveTable id) o keep = logs-same mark last o (changed (RemoveTable id) o) refl
+
+keep-first : (mark last : ℕ) (c : Change) (cs : List Change) → KeepLogs mark last (c ∷ cs) → KeepLogs mark last (c ∷ []) × KeepLogs mark last cs
+keep-first mark last (PutLog id log) cs keep = ((keep.0, tt), keep.1)
+keep-first mark last (RemoveLog id) cs keep = ((keep.0, tt), keep.1)
+keep-first mark last (PutManifest id m) cs keep = (tt, keep)
+keep-first mark last (PutTable id table) cs keep = (tt, keep)
+keep-first mark last (RemoveManifest id) cs keep = (tt, keep)
+keep-first mark last (RemoveTable id) cs keep = (tt, keep)
+
+-- after a part of such changes
+pub part-logs : (mark last made : ℕ) (cs : List Change) (o : Objects) → KeepLogs mark last cs → LogsStay mark last o (after_part made cs o)
+part-logs mark last zero cs o keep = logs-same mark last o o refl
+part-logs mark last (suc made) [] o keep = logs-same mark last o o refl
+part-logs mark last (suc made) (c ∷ cs) o keep =
+    let k = keep-first mark last c cs keep in
+    logs-then mark last o (changed c o) (after_part made cs (changed c o)) (changed-logs mark last c o k.0) (part-logs mark last made cs (changed c o) k.1)
+
+-- Objects whose log files go on from others: a replay begins no earlier, the last log file isn't lower, and each that it reads
+-- up to the last one of before is as it was.
+pub record LogsFollow (o o' : Objects) (mark mark' : ℕ) : Type 0 where
+  pub marks : mark ≤ mark'
+  pub last : last_log mark o ≤ last_log mark' o'
+  pub same : (id : ℕ) → mark' < id → id ≤ last_log mark o → log_at id o' ≡ log_at id o
+
+pub stay-follow : (o o' : Objects) (mark mark' : ℕ) → mark ≡ mark' → LogsStay mark (last_log mark o) o o' → LogsFollow o o' mark mark'
+stay-follow o o' mark mark' same stay = subst (LogsFollow o o' mark) same (record { marks = omega arith; last = stay.low; same = stay.same })
+
+-- a mark at or above the last log file
+pub mark-follow : (o o' : Objects) (mark mark' : ℕ) → mark ≤ mark' → last_log mark o ≤ mark' → LogsFollow o o' mark mark'
+mark-follow o o' mark mark' up high = record {
+  marks = up;
+  last = (let least = at_least mark' (map (λ (log : ℕ × List Batch). log.0) o'.logs) in omega (arith, high, least));
+  same = λ id over under. absurd (omega (arith, over, under, high));
+}
+
+-- what a follower has seen of objects it has seen of those that follow
+pub still-seen : (o o' : Objects) (latest next : VersionedManifest) (g : Follower) → latest_manifest o ≡ Some latest → latest_manifest o' ≡ Some next → LogsFollow o o' latest.manifest.replay_after_wal_id next.manifest.replay_after_wal_id → HasSeen o g → HasSeen o' g
+still-seen o o' latest next g is is' f seen = record {
+  mark = λ found at.
+      let same : next ≡ found = (cc) in
+      let e = ap (λ (m : VersionedManifest). last_log m.manifest.replay_after_wal_id o') same in
+      let before = seen.mark latest is in
+      let last = f.last in
+      omega (arith, e, before, last);
+  logs = λ found id batches at over under there.
+      let same : next ≡ found = (cc) in
+      let e = ap (λ (m : VersionedManifest). m.manifest.replay_after_wal_id) same in
+      let before = seen.mark latest is in
+      let marks = f.marks in
+      seen.logs latest id batches is (omega (arith, e, marks, over)) under (sym (f.same id (omega (arith, e, over)) (omega (arith, under, before))) ∙ there);
+}

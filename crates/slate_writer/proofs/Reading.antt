@@ -1,24 +1,15 @@
 -- A read of tables and of batches in memory is one of the model.
-use Rattle.std.proofs.Common.{◌≡◌, ◌≢◌, ℕ, ◌+◌, ◌<◌, ◌≤◌, List, [], ◌∷◌, ◌++◌, take, get_or, length, Option, Some, None, Result, Ok, Err, refl, sym, subst, ap, ◌∙◌, arith}
-use Rattle.std.specs.List.{All, flat_map}
+use Rattle.std.proofs.Common.{◌≡◌, ◌≤◌, List, [], ◌++◌, Option, Some, None, Result, Err, refl, sym, subst, ap, ◌∙◌}
 use Rattle.std.specs.Option.{IfSome}
-use Rattle.std.proofs.lemmas.Grind.{flat_map-append}
-use Rattle.std.proofs.lemmas.List.{append-nil, take_more, take_all}
-use Rattle.std.proofs.lemmas.List.Elements.{All-nil, All-push}
 use Rattle.slate_types.specs.declared.batches.Batch.{Batch}
-use Rattle.slate_types.specs.declared.store_errors.StoreError.{StoreError}
-use Rattle.slate_types.specs.declared.store_errors.StoreError.TheVariants as refusals
 use Rattle.slate_types.specs.declared.store_errors.StoreFault.TheVariants.{NotFound, Unavailable}
-use Rattle.slate_store.specs.Calls.{Finds, IsOfRead}
-use Rattle.slate_store.specs.Content.{table_batches}
 use Rattle.slate_store.specs.declared.objects.TableId.{TableId}
-use Rattle.slate_store.specs.Objects.{Objects, table_at}
-use Rattle.slate_store.proofs.Joining.{batches-more}
+use Rattle.slate_store.specs.Objects.{Objects}
 use Rattle.slate_types.specs.declared.read_faults.ReadFault.{ReadFault}
 use Rattle.slate_types.specs.declared.read_faults.ReadFault.TheVariants as reads
 use Rattle.slate_types.specs.declared.store_errors.StoreFault.{StoreFault}
 use Rattle.slate_errors.specs.declared.closing.CloseFault.{CloseFault}
-use Rattle.slate_errors.specs.Errors.{closed_error, error_of_read, error_of_store}
+use Rattle.slate_errors.specs.Errors.{closed_error, error_of_read}
 use Rattle.slate_errors.specs.declared.errors.SlateError.{SlateError}
 use Rattle.slate_errors.specs.declared.errors.SlateError.TheVariants.{ObjectStoreError, NoMemory}
 use Rattle.slate_reads.specs.Read.{Reads as PlainReads}

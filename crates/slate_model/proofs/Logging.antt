@@ -1,17 +1,27 @@
 -- What becomes of log files that a follower has seen.
-use Rattle.std.proofs.Common.{◌≡◌, ℕ, zero, suc, ◌<◌, ◌≤◌, List, [], ◌∷◌, ◌++◌, map, Some, Bool, true, false, cond, not, refl, sym, subst, ap, ◌∙◌, arith}
+use Rattle.std.proofs.Common.{◌≡◌, ℕ, zero, suc, ◌<◌, ◌≤◌, List, [], ◌∷◌, ◌++◌, map, Some, Bool, true, false, cond, not, refl, sym, subst, ap, ◌∙◌, arith, ◌+◌, All, length, length-append, ltb}
+use Rattle.std.proofs.lemmas.Bool.{ltb-false}
 use Rattle.std.proofs.lemmas.Cmp.{nat_cmp_total}
+use Rattle.std.proofs.lemmas.List.Elements.{All-cons, All-head, All-nil, All-tail}
+use Rattle.std.proofs.lemmas.Option.{slice_get_within}
 use Rattle.std.specs.BTreeMap.{insert_entry, is_at}
 use Rattle.std.specs.Ordering.{match_ordering, nat_cmp}
 use Rattle.std.specs.declared.cmp.Ordering.{Ordering}
 use Rattle.std.specs.declared.cmp.Ordering.TheVariants.{Less, Equal, Greater}
 use Rattle.slate_types.specs.declared.batches.Batch.{Batch}
+use Rattle.slate_types.specs.Line.{Line, batches_above, end}
+use Rattle.slate_store.proofs.Latest.{its-objects}
+use Rattle.slate_store.proofs.Logs.{belong-log}
+use Rattle.slate_store.specs.Content.{IsSound, content, content_by, logged, number_before, table_batches}
+use Rattle.slate_store.specs.Logs.{StandsIn}
+use Rattle.slate_store.specs.declared.objects.Manifest.{Manifest}
+use Rattle.slate_model.proofs.Reopened.{logs-by}
 use Rattle.slate_store.proofs.Entries.{apart, lookup-insert_other, lookup-without, same_number, tied}
 use Rattle.slate_store.proofs.LastLog.{at_least}
 use Rattle.slate_store.specs.Objects.{Change, Objects, PutLog, PutManifest, PutTable, RemoveLog, RemoveManifest, RemoveTable, changed, greatest, last_log, latest_manifest, log_at, without}
 use Rattle.slate_store.specs.declared.objects.VersionedManifest.{VersionedManifest}
 use Rattle.slate_model.specs.Changes.{after_part}
-use Rattle.slate_model.specs.Follower.{Follower}
+use Rattle.slate_model.specs.Follower.{Follower, rebuilt}
 use Rattle.slate_model.specs.Seen.{HasSeen}
 
 -- the greatest id of a list of entries isn't lower after a put
@@ -138,3 +148,43 @@ still-seen o o' latest next g is is' f seen = record {
       let marks = f.marks in
       seen.logs latest id batches is (omega (arith, e, marks, over)) under (sym (f.same id (omega (arith, e, over)) (omega (arith, under, before))) ∙ there);
 }
+
+-- ---- what one that sees all that is stored has seen
+above-within : (n e : ℕ) (bs : List Batch) → n ≤ e → All (λ b. b.number ≤ e) (batches_above n bs) → All (λ b. b.number ≤ e) bs
+above-within n e [] low within = All-nil (λ (b : Batch). b.number ≤ e)
+above-within n e (b ∷ bs) low within = by (ltb n b.number) refl (above-within n e bs low) within where
+  by : (x : Bool) → ltb n b.number ≡ x → (All (λ b. b.number ≤ e) (batches_above n bs) → All (λ b. b.number ≤ e) bs) → All (λ b. b.number ≤ e) (cond x (b ∷ batches_above n bs) (batches_above n bs)) → All (λ b. b.number ≤ e) (b ∷ bs)
+  by true is later within = All-cons (λ (b : Batch). b.number ≤ e) b bs (All-head (λ (b : Batch). b.number ≤ e) b (batches_above n bs) within) (later (All-tail (λ (b : Batch). b.number ≤ e) b (batches_above n bs) within))
+  by false is later within = All-cons (λ (b : Batch). b.number ≤ e) b bs (let few = ltb-false n b.number is in omega (arith, few, low)) (later within)
+
+stands-within : (b : Batch) (line : Line) → StandsIn b line → b.number ≤ end line
+stands-within b line s =
+    let within = slice_get_within line.batches s.0 b s.1 in
+    let number = s.2 in
+    omega (arith, within, number)
+
+module _ (o : Objects) (latest : VersionedManifest) (sound : IsSound o) (is : latest_manifest o ≡ Some latest) where
+  abbrev m : Manifest
+  m = latest.manifest
+
+  -- the content ends where the log files do
+  content-ends : end (content o) ≡ m.last_l0_seq + length (logged o m)
+  content-ends =
+      let joined = table_batches o m.tables in
+      let its = (its-objects o latest sound is).tables.joined in
+      let parts : length (joined ++ logged o m) ≡ length joined + length (logged o m) = length-append joined (logged o m) in
+      ap (λ found. end (content_by o found)) is ∙ (let e : number_before joined m.last_l0_seq + length (joined ++ logged o m) ≡ m.last_l0_seq + length (logged o m) = omega (arith, its, parts) in e)
+
+  pub all-seen : HasSeen o (rebuilt latest (content o) (last_log m.replay_after_wal_id o))
+  all-seen = record {
+    mark = λ found at. let same : latest ≡ found = (cc) in let e = ap (λ (x : VersionedManifest). last_log x.manifest.replay_after_wal_id o) same in omega (arith, e);
+    logs = λ found id bs at over under there. within id bs (let same : latest ≡ found = (cc) in let e = ap (λ (x : VersionedManifest). x.manifest.replay_after_wal_id) same in omega (arith, e, over)) under there;
+  } where
+    within : (id : ℕ) (bs : List Batch) → m.replay_after_wal_id < id → id ≤ last_log m.replay_after_wal_id o → log_at id o ≡ Some bs → All (λ b. b.number ≤ end (content o)) bs
+    within zero bs over under there = absurd (omega (arith, over))
+    within (suc before) bs over under there =
+        let last = last_log m.replay_after_wal_id o in
+        let line : Line = record { floor = m.last_l0_seq; batches = logged o m } in
+        let ends = content-ends in
+        let stand = belong-log m.replay_after_wal_id before last m.last_l0_seq m.last_l0_seq line o bs (omega (arith, over)) (omega (arith, under)) (omega arith) (ap (λ n. log_at n o) (let e : before + 1 ≡ suc before = omega arith in e) ∙ there) (logs-by o latest sound is).belong in
+        above-within m.last_l0_seq (end (content o)) bs (omega (arith, ends)) (λ k d less. let low = stands-within _ line (stand k d less) in omega (arith, low, ends))

@@ -7,7 +7,8 @@ use Rattle.slate_store.specs.declared.objects.TableId.{TableId}
 use Rattle.slate_store.specs.Objects.{Objects, ObjectsOf, latest_manifest, table_at}
 use Rattle.slate_model.specs.Catalogue.{Catalogue}
 use Rattle.slate_model.specs.Handle.{Handle, accepted, unstored}
-use Rattle.slate_model.specs.Object.{Object, line_of, view_of}
+use Rattle.slate_model.specs.Object.{Object, Handle as AHandle, Follower as AFollower, line_of, view_of}
+use Rattle.slate_model.specs.Seen.{HasSeen}
 use Rattle.slate_model.specs.Tables.{AreStored}
 
 -- the front of a line, up to a number
@@ -49,3 +50,12 @@ ReadsLine objects view line =
 -- so an object reads its line
 abbrev pub ReadsItsLine : Objects → Object → Type 0
 ReadsItsLine objects object = ReadsLine objects (view_of object) (line_of object)
+
+-- a follower has seen these objects up to its mark
+abbrev pub HasSeenThem : Objects → Object → Type 0
+HasSeenThem objects (AHandle handle) = Unit {0}
+HasSeenThem objects (AFollower follower) = HasSeen objects follower
+
+-- what the objects of a store are to one of a world
+abbrev pub IsHeld : Objects → Object → Type 0
+IsHeld objects object = ReadsItsLine objects object × HasSeenThem objects object

@@ -28,7 +28,7 @@ use Rattle.slate_model.specs.Close.{Closes, closing_flush, ended, fault_again, r
 use Rattle.slate_model.specs.declared.answers.PollAnswer.{PollAnswer}
 use Rattle.slate_model.specs.declared.answers.Written.{Written}
 use Rattle.slate_model.specs.Flush.{FlushCause, Flushes, ManifestCause, Stores, has_ids}
-use Rattle.slate_model.specs.Follow.{FollowCause, Rebuilds, built, can_follow}
+use Rattle.slate_model.specs.Follow.{unseen, FollowCause, Rebuilds, built, can_follow}
 use Rattle.slate_model.specs.Follower.{Follower}
 use Rattle.slate_model.specs.Handle.{CloseResult, Handle, accepted}
 use Rattle.slate_model.specs.Known.{CountsFaults, FaultsRise}
@@ -261,7 +261,7 @@ follow-cause w opening faults (errors.ObjectStoreError Unavailable) cause fault 
 follow-cause w opening faults errors.NoMemory cause fault can calm = refl
 follow-cause w opening faults error cause fault can calm = absurd cause
 
-rebuild-free : (w w' : World) (opening : Bool) (r : Result (Follower × PollAnswer) SlateError) → Rebuilds (by_catalogue w.stored w.catalogue) opening (state_of w).store r (state_of w').store → CanFollow opening w → (HasRisen w.faults w'.faults → ⊥) → IsFree r
+rebuild-free : (w w' : World) (opening : Bool) (r : Result (Follower × PollAnswer) SlateError) → Rebuilds (by_catalogue w.stored w.catalogue) opening (λ objects line. Unit {0}) (state_of w).store r (state_of w').store → CanFollow opening w → (HasRisen w.faults w'.faults → ⊥) → IsFree r
 rebuild-free w w' opening (Ok b) built can calm = tt
 rebuild-free w w' opening (Err e) built can calm = follow-cause w opening w'.faults e built.cause built.faults can calm
 
@@ -294,15 +294,15 @@ sweep-free w after faults moment (Err errors.NoMemory) answer counts can calm = 
 sweep-free w after faults moment (Err error) answer counts can calm = absurd answer
 
 -- over an honest store nothing is missing
-follow-reply : (w w' : World) (n : ℕ) (r : Result (Follower × PollAnswer) SlateError) → Rebuilds (by_catalogue w.stored w.catalogue) true (state_of w).store r (state_of w').store → CanFollow true w → (HasRisen w.faults w'.faults → ⊥) → IsOkOrNoMemory (reply_to (λ (b : Follower × PollAnswer). followed_reply n b.1) r)
+follow-reply : (w w' : World) (n : ℕ) (r : Result (Follower × PollAnswer) SlateError) → Rebuilds (by_catalogue w.stored w.catalogue) true unseen (state_of w).store r (state_of w').store → CanFollow true w → (HasRisen w.faults w'.faults → ⊥) → IsOkOrNoMemory (reply_to (λ (b : Follower × PollAnswer). followed_reply n b.1) r)
 follow-reply w w' n (Ok b) r can calm =
-    let all = r.sees w.catalogue w.stored refl refl in
+    let all = r.sees w.catalogue w.stored refl refl tt in
     subst (λ a. IsOkOrNoMemory (followed_reply n a)) (sym all.3) tt
 follow-reply w w' n (Err e) r can calm = subst (λ x. IsOkOrNoMemory (refusal x)) (sym (rebuild-free w w' true (Err e) r can calm)) tt
 
-poll-reply : (w w' : World) (f : Follower) (r : Result PollAnswer SlateError) → Rebuilds (by_catalogue w.stored w.catalogue) false (state_of w).store (built f r) (state_of w').store → CanFollow false w → (HasRisen w.faults w'.faults → ⊥) → IsOkOrNoMemory (reply_to polled_reply r)
+poll-reply : (w w' : World) (f : Follower) (r : Result PollAnswer SlateError) → Rebuilds (by_catalogue w.stored w.catalogue) false (λ objects line. Unit {0}) (state_of w).store (built f r) (state_of w').store → CanFollow false w → (HasRisen w.faults w'.faults → ⊥) → IsOkOrNoMemory (reply_to polled_reply r)
 poll-reply w w' f (Ok answer) r can calm =
-    let all = r.sees w.catalogue w.stored refl refl in
+    let all = r.sees w.catalogue w.stored refl refl tt in
     subst (λ a. IsOkOrNoMemory (polled_reply a)) (sym all.3) tt
 poll-reply w w' f (Err e) r can calm = subst (λ x. IsOkOrNoMemory (refusal x)) (sym (rebuild-free w w' false (Err e) r can calm)) tt
 

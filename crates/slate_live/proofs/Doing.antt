@@ -21,7 +21,7 @@ use Rattle.slate_live.specs.Maintenance.{CommitsTo, SweepsTo}
 use Rattle.slate_live.specs.Replies.{reply_to}
 use Rattle.slate_script.specs.declared.replies.Reply.TheVariants as replies
 use Rattle.slate_errors.specs.declared.errors.SlateError.TheVariants as errors
-use Rattle.slate_model.specs.Follow.{FollowCause, Rebuilds}
+use Rattle.slate_model.specs.Follow.{FollowCause, Rebuilds, unseen}
 use Rattle.slate_model.specs.Knowledge.{Knowledge}
 use Rattle.slate_model.specs.Known.{Known}
 use Rattle.slate_model.specs.Object.{Object}
@@ -49,7 +49,7 @@ caused : (objects : Option Objects) → IfSome objects (λ o. FollowCause true o
 caused None = tt
 caused (Some o) = tt
 
-pub follows-nothing : (k : Knowledge (List Batch)) (store : Known (List Batch)) → Rebuilds k true store (Err errors.NoMemory) store
+pub follows-nothing : (k : Knowledge (List Batch)) (store : Known (List Batch)) → Rebuilds k true unseen store (Err errors.NoMemory) store
 follows-nothing k store = record {
   kept = refl;
   faults = record { count = omega arith; unavailable = λ h. absurd (cc); none_missing = λ h. absurd (cc) };

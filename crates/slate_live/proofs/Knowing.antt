@@ -14,7 +14,7 @@ use Rattle.slate_reads.specs.Read.{read_at}
 use Rattle.slate_rows.specs.Iteration.{Iteration}
 use Rattle.slate_rows.specs.Scan.{BeginsScan}
 use Rattle.slate_store.specs.Content.{IsSound, content, table_batches}
-use Rattle.slate_store.specs.Objects.{Objects, latest_manifest, table_at}
+use Rattle.slate_store.specs.Objects.{Objects, last_log, latest_manifest, table_at}
 use Rattle.slate_store.specs.declared.objects.TableId.{TableId}
 use Rattle.slate_store.specs.declared.objects.VersionedManifest.{VersionedManifest}
 use Rattle.slate_errors.specs.declared.errors.SlateError.{SlateError}
@@ -29,7 +29,9 @@ use Rattle.slate_model.specs.Object.{Object, Handle as AHandle, Follower as AFol
 use Rattle.slate_model.specs.Read.{Gives, Reads}
 use Rattle.slate_model.specs.Stores.{by_catalogue, by_objects, kept_rows, world_rows}
 use Rattle.slate_model.specs.Tables.{AreJoined, AreStored}
-use Rattle.slate_model.specs.Valid.{AreBefore, IsValidHandle, ReadsItsLine}
+use Rattle.slate_model.specs.Seen.{HasSeen}
+use Rattle.slate_model.specs.Valid.{AreBefore, IsHeld, IsValidHandle, ReadsItsLine}
+use Rattle.slate_model.proofs.Logging.{all-seen}
 use Rattle.slate_model.proofs.Compacting.{compact-moved, refresh-moved, compact-rises, refresh-rises}
 use Rattle.slate_model.proofs.Flushing.{flush-moved, grown-zero, latest-stored}
 use Rattle.slate_model.proofs.Free.{flush-unset, joins}
@@ -358,14 +360,19 @@ module _ (o : Objects) (f : ℕ) (made : ℕ) (writes writes' : List Write) (rep
 
 -- ---- followers
 -- one that goes by the latest manifest and sees what is stored reads it
-pub all-read : (stored : Line) (o : Objects) → IsSound o → content o ≡ stored → IsLine stored → (latest : VersionedManifest) → latest_manifest o ≡ Some latest → ReadsItsLine o (AFollower (rebuilt latest stored))
-all-read stored o sound holds numbered latest is there = joined-line o latest stored [] sound is (sym holds ∙ sym (extended-nil (content o))) numbered
+pub all-read : (stored : Line) (o : Objects) → IsSound o → content o ≡ stored → IsLine stored → (latest : VersionedManifest) (mark : ℕ) → latest_manifest o ≡ Some latest → ReadsItsLine o (AFollower (rebuilt latest stored mark))
+all-read stored o sound holds numbered latest mark is there = joined-line o latest stored [] sound is (sym holds ∙ sym (extended-nil (content o))) numbered
+
+-- and has seen the log files
+pub whole-seen : (stored : Line) (o : Objects) → IsSound o → content o ≡ stored → (latest : VersionedManifest) (mark : ℕ) → latest_manifest o ≡ Some latest → mark ≡ last_log latest.manifest.replay_after_wal_id o → HasSeen o (rebuilt latest stored mark)
+whole-seen stored o sound holds latest mark is at =
+    subst (λ n. HasSeen o (rebuilt latest stored n)) (sym at) (subst (λ l. HasSeen o (rebuilt latest l (last_log latest.manifest.replay_after_wal_id o))) holds (all-seen o latest sound is))
 
 kept-number : (g : Follower) → number (kept_follower g) ≡ number g
 kept-number g = line_above-end g.view.manifest.last_l0_seq g.line
 
 module _ (stored : Line) (o o' : Objects) (f f' : ℕ) (made : ℕ) (writes writes' : List Write) (reply : Reply) (sound : IsSound o) (holds : content o ≡ stored) (numbered : IsLine stored)
-    (merge : Option Merge) (g k : Follower) (front : IsPrefix g.line stored) (reads : ReadsItsLine o (AFollower g)) where
+    (merge : Option Merge) (g k : Follower) (front : IsPrefix g.line stored) (held : IsHeld o (AFollower g)) where
   -- what the command leaves of the whole follower, of which the code keeps a part, and that it makes no change
   pub record LedFollower (call : Call) : Type 0 where
     pub new : Follower
@@ -373,14 +380,14 @@ module _ (stored : Line) (o o' : Objects) (f f' : ℕ) (made : ℕ) (writes writ
     pub same : o' ≡ o
     pub begins : IsPrefix new.line stored
     pub view : (new.view ≡ g.view) ⊎ AreStored o new.view.manifest.tables
-    pub reads_line : ReadsItsLine o (AFollower new)
+    pub holds_it : IsHeld o (AFollower new)
     pub acts : FollowerActs (by_catalogue stored (catalogue_of o)) merge call made g (catalogued o f) writes reply new (catalogued o' f') writes'
 
   rows-line : (rows : List Batch) → kept_rows (Some o) (AFollower (kept_follower g)) rows → AreStored (catalogue_of o) g.view.manifest.tables × (rows ≡ g.line.batches)
   rows-line rows r =
       let all = joined-are o g.view.manifest.tables r.0 r.1 in (
         known-stored o g.view.manifest.tables all.0,
-        r.2 ∙ (ap (λ bs. bs ++ batches_above g.view.manifest.last_l0_seq g.line.batches) all.1 ∙ reads all.0),
+        r.2 ∙ (ap (λ bs. bs ++ batches_above g.view.manifest.last_l0_seq g.line.batches) all.1 ∙ held.0 all.0),
       )
 
   read-follower : (key : List ℕ) (rows : List Batch) (a : Result (Option KeyValue) ReadFault) → kept_rows (Some o) (AFollower (kept_follower g)) rows → IsPlainReadAt merge key (kept_follower g) rows a → (rows' : List Batch) × world_rows stored (catalogue_of o) (AFollower g) rows' × IsPlainReadAt merge key g rows' a
@@ -413,26 +420,27 @@ module _ (stored : Line) (o o' : Objects) (f f' : ℕ) (made : ℕ) (writes writ
 
   -- a follower that is as before
   unled : (call : Call) → o' ≡ o → k ≡ kept_follower g → FollowerActs (by_catalogue stored (catalogue_of o)) merge call made g (catalogued o f) writes reply g (catalogued o' f') writes' → LedFollower call
-  unled call same kept known = record { new = g; kept = kept; same = same; begins = front; view = inl refl; reads_line = reads; acts = known }
+  unled call same kept known = record { new = g; kept = kept; same = same; begins = front; view = inl refl; holds_it = held; acts = known }
 
   polled-led : (r : Result PollAnswer SlateError) → reply ≡ reply_to polled_reply r → Polls (by_objects (Some o)) (kept_follower g) (holding o f) r k (holding o' f') → made ≡ 0 → writes' ≡ writes → LedFollower Poll
-  polled-led r replied p none same_writes = by r (g.result) refl p (polls-reduced stored r g k o o' f f' sound holds p) replied where
+  polled-led r replied p none same_writes = by r (g.result) refl p (polls-reduced stored r g k o o' f f' sound holds front held.1 p) replied where
     Known : (r : Result PollAnswer SlateError) → Follower → Type 0
     Known r new = Polls (by_catalogue stored (catalogue_of o)) g (catalogued o f) r new (catalogued o' f')
 
     by : (r : Result PollAnswer SlateError) (closed : CloseResult) → g.result ≡ closed → Polls (by_objects (Some o)) (kept_follower g) (holding o f) r k (holding o' f') → Known r (polled-whole stored g.result g k r) → reply ≡ reply_to polled_reply r → LedFollower Poll
     by (Ok answer) None live p known replied =
         let b = p.rebuilds live in
-        let all = b.sees o stored refl (o, refl, sound, sym holds) in
+        let all = b.sees o stored refl (o, refl, sound, sym holds) (g, refl, front, held.1) in
+        let mark : k.mark ≡ last_log all.0.manifest.replay_after_wal_id o = ap (λ (x : Follower). x.mark) all.2 in
         let view : k.view ≡ all.0 = ap (λ (x : Follower). x.view) all.2 in
         let at : latest_manifest o ≡ Some k.view = all.1 ∙ ap Some (sym view) in
         record {
-          new = rebuilt k.view stored;
-          kept = all.2 ∙ ap (λ v. kept_follower (rebuilt v stored)) (sym view);
+          new = rebuilt k.view stored k.mark;
+          kept = all.2 ∙ (ap (λ v. kept_follower (rebuilt v stored (last_log all.0.manifest.replay_after_wal_id o))) (sym view) ∙ ap (λ n. kept_follower (rebuilt k.view stored n)) (sym mark));
           same = some-same o' o b.kept;
           begins = prefix-same stored;
           view = inr (latest-stored o k.view sound at);
-          reads_line = all-read stored o sound holds numbered k.view at;
+          holds_it = (all-read stored o sound holds numbered k.view k.mark at, whole-seen stored o sound holds k.view k.mark at (mark ∙ ap (λ (v : VersionedManifest). last_log v.manifest.replay_after_wal_id o) (sym view)));
           acts = (record { result = Ok answer; replied = replied; does = subst (λ c. Known (Ok answer) (polled-whole stored c g k (Ok answer))) live known }, none, same_writes);
         }
     by (Ok answer) (Some q) is p known replied =
@@ -468,7 +476,7 @@ module _ (stored : Line) (o o' : Objects) (f f' : ℕ) (made : ℕ) (writes writ
     same = objects-same o o' f f' a.2.1;
     begins = front;
     view = inl refl;
-    reads_line = reads;
+    holds_it = (held.0, record { mark = held.1.mark; logs = held.1.logs });
     acts = (a.0, refl, untouched-known made o o' f f' a.2, a.3);
   }
   follower-led Status a = unled Status (objects-same o o' f f' a.2.1) a.1 (subst (λ n. AnswersStatus (status_by n g.view g.result) reply) (kept-number g) a.0, refl, untouched-known made o o' f f' a.2, a.3)

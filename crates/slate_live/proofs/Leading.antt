@@ -1,5 +1,5 @@
 -- What a command on an object leaves of an honest store and of the handles and followers of a world.
-use Rattle.std.proofs.Common.{◌≡◌, ◌≢◌, ℕ, ℤ, List, [], set, Option, Some, None, Result, Ok, Err, inl, inr, refl, sym, subst, ap, ◌∙◌, ◌≤◌, ◌+◌, ◌⊎◌, get_or, arith}
+use Rattle.std.proofs.Common.{◌≡◌, ◌≢◌, ℕ, ℤ, List, [], set, Option, Some, None, Result, Ok, Err, inl, inr, refl, sym, subst, ap, ◌∙◌, ◌≤◌, ◌+◌, ◌⊎◌, get_or, arith, All}
 use Rattle.std.proofs.lemmas.Bool.{cases_eq, cases_lt}
 use Rattle.std.specs.List.{slice_get}
 use Rattle.slate_types.specs.Line.{IsLine, IsPrefix, Line, extended}
@@ -13,10 +13,12 @@ use Rattle.slate_model.specs.Follower.{Follower}
 use Rattle.slate_model.specs.Handle.{Handle, unstored}
 use Rattle.slate_model.specs.Object.{Object, Handle as AHandle, Follower as AFollower, line_of, view_of}
 use Rattle.slate_model.specs.Tables.{AreStored}
+use Rattle.slate_model.proofs.Adding.{Lasts}
+use Rattle.slate_model.proofs.Logging.{LogsFollow, still-seen}
 use Rattle.slate_model.proofs.Moving.{Follows, Moved, none-known, still-reads, still-valid}
 use Rattle.slate_model.proofs.Opening.{absent-table}
 use Rattle.slate_store.proofs.Latest.{its-objects}
-use Rattle.slate_live.specs.Represents.{AreBefore, AreOfPast, Holds, IsFollowerAt, IsHandleAt, IsValid, IsValidFollower, IsValidHandle, ReadsItsLine}
+use Rattle.slate_live.specs.Represents.{AreBefore, AreOfPast, IsHeld, Holds, IsFollowerAt, IsHandleAt, IsValid, IsValidFollower, IsValidHandle, ReadsItsLine}
 use Rattle.slate_live.specs.World.{World}
 use Rattle.slate_live.proofs.Changing.{distinct-set, followers-set, followers-set-handle, handles-set-follower, valid-set}
 use Rattle.slate_live.proofs.Places.{get-set}
@@ -46,6 +48,12 @@ past-follows o o' latest next is is' up ids past =
     let e = ap (λ (m : VersionedManifest). m.manifest.writer_epoch) same in
     (next, is', λ k d less. let low = past.2 k d less in omega (arith, low, e, up))
 
+-- what objects are to one of a world they are after they changed, where the tables of its view last
+pub still-held : (o o' : Objects) (latest next : VersionedManifest) → latest_manifest o ≡ Some latest → latest_manifest o' ≡ Some next → LogsFollow o o' latest.manifest.replay_after_wal_id next.manifest.replay_after_wal_id →
+    (x : Object) → All (Lasts o o') (view_of x).manifest.tables → IsHeld o x → IsHeld o' x
+still-held o o' latest next is is' logs (AHandle a) last held = (still-reads o o' a.view a.line last held.0, tt)
+still-held o o' latest next is is' logs (AFollower g) last held = (still-reads o o' g.view g.line last held.0, still-seen o o' latest next g is is' logs held.1)
+
 -- what holds of the objects of a world that it represents with objects of a store: a line is stored there, and each handle
 -- and follower is valid over it and reads what it should
 pub record Leads (stored' : Line) (o' : Objects) (objects : List Object) : Type 0 where
@@ -56,9 +64,9 @@ pub record Leads (stored' : Line) (o' : Objects) (objects : List Object) : Type 
   pub named : (m n : ℕ) (a : Handle) (x : Object) → IsHandleAt objects m a → slice_get objects n ≡ Some x → AreBefore a (view_of x).manifest.tables
   pub past : (n : ℕ) (x : Object) → slice_get objects n ≡ Some x → AreOfPast (catalogue_of o') (view_of x).manifest.tables
   pub distinct : (m n : ℕ) (a b : Handle) → IsHandleAt objects m a → IsHandleAt objects n b → a.epoch ≡ b.epoch → m ≡ n
-  pub reads : (n : ℕ) (x : Object) → slice_get objects n ≡ Some x → ReadsItsLine o' x
+  pub reads : (n : ℕ) (x : Object) → slice_get objects n ≡ Some x → IsHeld o' x
 
-module _ (w : World) (o : Objects) (is_sound : IsSound o) (holds : Holds o w) (valid : IsValid w) (reads : (n : ℕ) (x : Object) → slice_get w.objects n ≡ Some x → ReadsItsLine o x) where
+module _ (w : World) (o : Objects) (is_sound : IsSound o) (holds : Holds o w) (valid : IsValid w) (reads : (n : ℕ) (x : Object) → slice_get w.objects n ≡ Some x → IsHeld o x) where
   pub valid-over : (m : ℕ) (a : Handle) → IsHandleAt w.objects m a → IsValidHandle w.stored (catalogue_of o) a
   valid-over m a at = subst (λ c. IsValidHandle w.stored c a) (sym holds.catalogue) (valid.handles m a at)
 
@@ -156,10 +164,9 @@ module _ (w : World) (o : Objects) (is_sound : IsSound o) (holds : Holds o w) (v
           ])
       past-by j x (inr elsewhere) = past-then (view_of x).manifest.tables (past-over j x elsewhere.1)
 
-      reads-by : (j : ℕ) (x : Object) → ((j ≡ n) × (AHandle new ≡ x)) ⊎ ((j ≢ n) × (slice_get w.objects j ≡ Some x)) → ReadsItsLine o' x
-      reads-by j x (inl here) = subst (ReadsItsLine o') here.1 moved.reads
-      reads-by j x (inr elsewhere) =
-          still-reads o o' (view_of x) (line_of x) (λ k d less. moved.lasts _ (valid.named n j h x there elsewhere.1 k d less)) (reads j x elsewhere.1)
+      reads-by : (j : ℕ) (x : Object) → ((j ≡ n) × (AHandle new ≡ x)) ⊎ ((j ≢ n) × (slice_get w.objects j ≡ Some x)) → IsHeld o' x
+      reads-by j x (inl here) = subst (IsHeld o') here.1 (moved.reads, tt)
+      reads-by j x (inr elsewhere) = still-held o o' the_latest moved.next is_latest f.latest_is f.logs x (λ k d less. moved.lasts _ (valid.named n j h x there elsewhere.1 k d less)) (reads j x elsewhere.1)
 
       pub moved-leads : Leads stored' o' (set w.objects n (AHandle new))
       moved-leads = record {
@@ -196,11 +203,11 @@ module _ (w : World) (o : Objects) (is_sound : IsSound o) (holds : Holds o w) (v
         ])
     follower-past j x (inr elsewhere) = past-over j x elsewhere.1
 
-    follower-reads : ReadsItsLine o (AFollower g') → (j : ℕ) (x : Object) → ((j ≡ n) × (AFollower g' ≡ x)) ⊎ ((j ≢ n) × (slice_get w.objects j ≡ Some x)) → ReadsItsLine o x
-    follower-reads its j x (inl here) = subst (ReadsItsLine o) here.1 its
+    follower-reads : IsHeld o (AFollower g') → (j : ℕ) (x : Object) → ((j ≡ n) × (AFollower g' ≡ x)) ⊎ ((j ≢ n) × (slice_get w.objects j ≡ Some x)) → IsHeld o x
+    follower-reads its j x (inl here) = subst (IsHeld o) here.1 its
     follower-reads its j x (inr elsewhere) = reads j x elsewhere.1
 
-    pub follower-leads : IsPrefix g'.line w.stored → ReadsItsLine o (AFollower g') → Leads w.stored o (set w.objects n (AFollower g'))
+    pub follower-leads : IsPrefix g'.line w.stored → IsHeld o (AFollower g') → Leads w.stored o (set w.objects n (AFollower g'))
     follower-leads front its = record {
       sound = is_sound;
       content = holds.stored;

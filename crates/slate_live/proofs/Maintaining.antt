@@ -9,13 +9,14 @@ use Rattle.slate_model.specs.Catalogue.{catalogue_of}
 use Rattle.slate_model.specs.Handle.{Handle}
 use Rattle.slate_model.specs.Object.{Object, line_of, view_of}
 use Rattle.slate_model.proofs.Maintained.{Maintained}
-use Rattle.slate_model.proofs.Moving.{Follows, still-reads, still-valid}
+use Rattle.slate_model.proofs.Logging.{stay-follow}
+use Rattle.slate_model.proofs.Moving.{Follows, still-valid}
 use Rattle.slate_model.proofs.Prefixes.{prefix-same}
-use Rattle.slate_live.specs.Represents.{Holds, IsHandleAt, IsValid, IsValidHandle, ReadsItsLine}
+use Rattle.slate_live.specs.Represents.{IsHeld, Holds, IsHandleAt, IsValid, IsValidHandle, ReadsItsLine}
 use Rattle.slate_live.specs.World.{World}
-use Rattle.slate_live.proofs.Leading.{Leads, past-follows, past-over, valid-over}
+use Rattle.slate_live.proofs.Leading.{Leads, past-follows, past-over, still-held, valid-over}
 
-module _ (w : World) (o : Objects) (is_sound : IsSound o) (holds : Holds o w) (valid : IsValid w) (reads : (n : ℕ) (x : Object) → slice_get w.objects n ≡ Some x → ReadsItsLine o x)
+module _ (w : World) (o : Objects) (is_sound : IsSound o) (holds : Holds o w) (valid : IsValid w) (reads : (n : ℕ) (x : Object) → slice_get w.objects n ≡ Some x → IsHeld o x)
     (o' : Objects) (m : Maintained o o') where
   content-is : content o' ≡ w.stored
   content-is = m.content ∙ holds.stored
@@ -32,6 +33,7 @@ module _ (w : World) (o : Objects) (is_sound : IsSound o) (holds : Holds o w) (v
         latest_is = next.1;
         epochs = omega (arith, epoch);
         tabled = omega (arith, number);
+        logs = stay-follow o o' latest.manifest.replay_after_wal_id next.0.manifest.replay_after_wal_id (sym next.4) (m.logs latest is);
       }
 
   valid-after : (n : ℕ) (a : Handle) → IsHandleAt w.objects n a → IsValidHandle w.stored (catalogue_of o') a
@@ -60,5 +62,8 @@ module _ (w : World) (o : Objects) (is_sound : IsSound o) (holds : Holds o w) (v
         let next = m.latest p.0 p.1 in
         past-follows o o' p.0 next.0 p.1 next.1 (follows p.0 p.1).epochs (view_of x).manifest.tables p;
     distinct = valid.distinct;
-    reads = λ n x at. still-reads o o' (view_of x) (line_of x) (λ k d less. m.lasts _) (reads n x at);
+    reads = λ n x at.
+        let p = past-over w o is_sound holds valid reads n x at in
+        let next = m.latest p.0 p.1 in
+        still-held o o' p.0 next.0 p.1 next.1 (follows p.0 p.1).logs x (λ k d less. m.lasts _) (reads n x at);
   }

@@ -15,12 +15,12 @@ use Rattle.slate_model.proofs.Flushing.{latest-stored}
 use Rattle.slate_model.proofs.Moving.{still-reads}
 use Rattle.slate_model.proofs.Opening.{fenced, older, opened-follows, opened-reads, opened-valid, same-table_at}
 use Rattle.slate_model.proofs.Reopened.{opened}
-use Rattle.slate_live.specs.Represents.{AreBefore, AreOfPast, Holds, IsFollowerAt, IsHandleAt, IsValid, IsValidFollower, IsValidHandle, ReadsItsLine}
+use Rattle.slate_live.specs.Represents.{AreBefore, AreOfPast, IsHeld, Holds, IsFollowerAt, IsHandleAt, IsValid, IsValidFollower, IsValidHandle, ReadsItsLine}
 use Rattle.slate_live.specs.World.{World}
-use Rattle.slate_live.proofs.Leading.{Leads, leads-same, past-follows, past-over, stored-before, stored-past, valid-over}
+use Rattle.slate_live.proofs.Leading.{Leads, leads-same, past-follows, past-over, still-held, stored-before, stored-past, valid-over}
 use Rattle.slate_live.proofs.Places.{get-push}
 
-module _ (w : World) (o : Objects) (is_sound : IsSound o) (holds : Holds o w) (valid : IsValid w) (reads : (n : ℕ) (x : Object) → slice_get w.objects n ≡ Some x → ReadsItsLine o x) where
+module _ (w : World) (o : Objects) (is_sound : IsSound o) (holds : Holds o w) (valid : IsValid w) (reads : (n : ℕ) (x : Object) → slice_get w.objects n ≡ Some x → IsHeld o x) where
   abbrev after : ℕ → Objects
   after made = after_part made (open_changes (λ xs. xs) o) o
 
@@ -44,7 +44,8 @@ module _ (w : World) (o : Objects) (is_sound : IsSound o) (holds : Holds o w) (v
             past-follows o (after (suc made)) p.0 (opened_manifest o) p.1 b.latest (opened-follows w.stored o (suc made) is_sound holds.stored some few p.0 p.1).epochs (view_of x).manifest.tables p;
         distinct = valid.distinct;
         reads = λ n x at.
-            still-reads o (after (suc made)) (view_of x) (line_of x) (λ k d less there. same-table_at w.stored o (suc made) is_sound holds.stored some few _) (reads n x at);
+            let p = past-over w o is_sound holds valid reads n x at in
+            still-held o (after (suc made)) p.0 (opened_manifest o) p.1 b.latest (opened-follows w.stored o (suc made) is_sound holds.stored some few p.0 p.1).logs x (λ k d less there. same-table_at w.stored o (suc made) is_sound holds.stored some few _) (reads n x at);
       }
 
   module _ (keeps_log : Bool) (limit : ℕ) where
@@ -102,9 +103,9 @@ module _ (w : World) (o : Objects) (is_sound : IsSound o) (holds : Holds o w) (v
       past-by n x (inl old) = l.past n x old
       past-by n x (inr last_one) = subst (λ (y : Object). AreOfPast (catalogue_of (after made)) (view_of y).manifest.tables) last_one.1 mine-past
 
-      reads-by : (n : ℕ) (x : Object) → (slice_get w.objects n ≡ Some x) ⊎ ((n ≡ length w.objects) × (AHandle new ≡ x)) → ReadsItsLine (after made) x
+      reads-by : (n : ℕ) (x : Object) → (slice_get w.objects n ≡ Some x) ⊎ ((n ≡ length w.objects) × (AHandle new ≡ x)) → IsHeld (after made) x
       reads-by n x (inl old) = l.reads n x old
-      reads-by n x (inr last_one) = subst (ReadsItsLine (after made)) last_one.1 (opened-reads w.stored o made is_sound holds.stored some few keeps_log limit valid.line)
+      reads-by n x (inr last_one) = subst (IsHeld (after made)) last_one.1 (opened-reads w.stored o made is_sound holds.stored some few keeps_log limit valid.line, tt)
 
       -- one that gives a handle
       pub opened-leads : Leads w.stored (after made) (w.objects ++ AHandle new ∷ [])

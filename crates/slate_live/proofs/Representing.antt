@@ -5,13 +5,13 @@ use Rattle.std.specs.List.{slice_get}
 use Rattle.slate_types.specs.declared.batches.Batch.{Batch}
 use Rattle.slate_types.specs.Line.{IsLine, IsPrefix, Line}
 use Rattle.slate_store.specs.Content.{IsSound, content}
-use Rattle.slate_store.specs.Objects.{Objects, latest_manifest}
+use Rattle.slate_store.specs.Objects.{Objects, last_log, latest_manifest}
 use Rattle.slate_store.specs.declared.objects.VersionedManifest.{VersionedManifest}
 use Rattle.slate_errors.specs.declared.errors.SlateError.{SlateError}
 use Rattle.slate_model.specs.Catalogue.{Catalogue, Span, catalogue_of}
 use Rattle.slate_model.specs.declared.answers.PollAnswer.{PollAnswer}
 use Rattle.slate_model.specs.Flush.{grown}
-use Rattle.slate_model.specs.Follow.{Rebuilds}
+use Rattle.slate_model.specs.Follow.{Rebuilds, unseen}
 use Rattle.slate_model.specs.Follower.{Follower, kept_follower, rebuilt}
 use Rattle.slate_model.specs.Handle.{Handle, kept_handle}
 use Rattle.slate_model.specs.Known.{Known}
@@ -32,11 +32,11 @@ use Rattle.slate_live.specs.Calls.{Call, Write as WriteCall, Merge as MergeCall,
 use Rattle.slate_live.specs.Commands.{Acts, ActsOn, Adds, Does, DoesBy, DoesToStore, OpensFollowerIn, OpensHandleIn, added, asked_reply, write_reply}
 use Rattle.slate_live.specs.Maintenance.{CommitsTo, SweepsTo}
 use Rattle.slate_live.specs.Replies.{followed_reply, refusal, reply_to}
-use Rattle.slate_live.specs.Represents.{AreBefore, AreOfPast, Holds, IsFollowerAt, IsHandleAt, IsValid, IsValidFollower, IsValidHandle, ReadsItsLine, Represents}
+use Rattle.slate_live.specs.Represents.{AreBefore, AreOfPast, IsHeld, Holds, IsFollowerAt, IsHandleAt, IsValid, IsValidFollower, IsValidHandle, ReadsItsLine, Represents}
 use Rattle.slate_live.specs.Settings.{Settings}
 use Rattle.slate_live.specs.State.{Live, State, running}
 use Rattle.slate_live.specs.World.{Next, World, grown_by, state_of, stored_after}
-use Rattle.slate_live.proofs.Knowing.{follower-after, follower-led, handle-after, handle-led, all-read}
+use Rattle.slate_live.proofs.Knowing.{follower-after, follower-led, handle-after, handle-led, all-read, whole-seen}
 use Rattle.slate_live.proofs.Leading.{Leads, follower-leads, is_latest, leads-same, moved-leads, past-over, stored-before, stored-past, the_latest, valid-over}
 use Rattle.slate_live.proofs.Maintaining.{maintained-leads}
 use Rattle.slate_live.proofs.Opening.{opened-leads, unopened-leads}
@@ -89,7 +89,7 @@ write-kept objects None = refl
 write-kept objects (Some write) =
     ap (λ found. asked_reply found write.number) (get-map kept objects write.handle) ∙ asked-kept (slice_get objects write.handle) write.number
 
-module _ (settings : Settings) (w : World) (o : Objects) (is_sound : IsSound o) (holds : Holds o w) (valid : IsValid w) (reads : (n : ℕ) (x : Object) → slice_get w.objects n ≡ Some x → ReadsItsLine o x)
+module _ (settings : Settings) (w : World) (o : Objects) (is_sound : IsSound o) (holds : Holds o w) (valid : IsValid w) (reads : (n : ℕ) (x : Object) → slice_get w.objects n ≡ Some x → IsHeld o x)
     (command : Command) (made : ℕ) (reply : Reply) (live_objects : List Object) (writes : List Write) (store : Known (List Batch)) where
   -- the state before, by the store's own objects and what is kept of the world's, and the one after
   abbrev s : State (List Batch)
@@ -160,7 +160,7 @@ module _ (settings : Settings) (w : World) (o : Objects) (is_sound : IsSound o) 
       let v = valid-over w o is_sound holds valid reads n h at in
       let by_held = subst (λ x. Acts (by_objects (Some o)) settings.merge n command made (AHandle (kept_handle h)) (holding o w.faults) w.writes reply (AHandle k) x writes) (store-is o'.0 o'.1) a in
       let latest = the_latest w o is_sound holds valid reads n h at in
-      let l = handle-led w.stored o o'.0 w.faults store.faults made w.writes writes reply is_sound holds.stored latest (is_latest w o is_sound holds valid reads n h at) h k v (reads n (AHandle h) at) (valid.named n n h (AHandle h) at at) settings.merge n command.moment command.second (call_of command.action) by_held in
+      let l = handle-led w.stored o o'.0 w.faults store.faults made w.writes writes reply is_sound holds.stored latest (is_latest w o is_sound holds valid reads n h at) h k v (reads n (AHandle h) at).0 (valid.named n n h (AHandle h) at at) settings.merge n command.moment command.second (call_of command.action) by_held in
       let grows = named-is (OfObject n) is (Some (AHandle h)) at in
       let objects' = set w.objects n (AHandle l.new) in
       record {
@@ -193,7 +193,7 @@ module _ (settings : Settings) (w : World) (o : Objects) (is_sound : IsSound o) 
         objects = objects';
         modelled = o'.1;
         kept = objects ∙ (ap (λ x. set (map kept w.objects) n (AFollower x)) l.kept ∙ sym (map-set kept w.objects n (AFollower l.new)));
-        leads = subst (λ x. Leads stored' x objects') (sym l.same) (over grows (follower-leads w o is_sound holds valid reads n g l.new at l.view l.begins l.reads_line));
+        leads = subst (λ x. Leads stored' x objects') (sym l.same) (over grows (follower-leads w o is_sound holds valid reads n g l.new at l.view l.begins l.holds_it));
         does = does-at (OfObject n) is o'.0 objects'
             (subst (λ found. ActsOn (by_catalogue w.stored w.catalogue) settings.merge n command made found (state_of w) reply (state_of (world o'.0 objects'))) (sym at)
             (record {
@@ -285,7 +285,7 @@ module _ (settings : Settings) (w : World) (o : Objects) (is_sound : IsSound o) 
           | inr last_one ↦ subst P last_one.1 mine
         ]
 
-    followed-leads : IsPrefix g.line w.stored → ReadsItsLine o (AFollower g) → Leads w.stored o (w.objects ++ AFollower g ∷ [])
+    followed-leads : IsPrefix g.line w.stored → IsHeld o (AFollower g) → Leads w.stored o (w.objects ++ AFollower g ∷ [])
     followed-leads front its = record {
       sound = is_sound;
       content = holds.stored;
@@ -301,42 +301,41 @@ module _ (settings : Settings) (w : World) (o : Objects) (is_sound : IsSound o) 
           (λ m y at. valid.named i m a y at_before at) j x at_j;
       past = pushed (λ y. AreOfPast (catalogue_of o) (view_of y).manifest.tables) (stored-past o g.view is_sound is g.view.manifest.tables tables-stored) (past-over w o is_sound holds valid reads);
       distinct = λ i j a b at_i at_j epochs. valid.distinct i j a b (before-push i a at_i) (before-push j b at_j) epochs;
-      reads = pushed (ReadsItsLine o) its reads;
+      reads = pushed (IsHeld o) its reads;
     }
 
   -- an opening of a follower
-  led-followed : target_of command.action ≡ NewFollower → (r : Result (Follower × PollAnswer) SlateError) → Rebuilds (by_objects (Some o)) true (holding o w.faults) r store → made ≡ 0 →
+  led-followed : target_of command.action ≡ NewFollower → (r : Result (Follower × PollAnswer) SlateError) → Rebuilds (by_objects (Some o)) true unseen (holding o w.faults) r store → made ≡ 0 →
       reply ≡ reply_to (λ (b : Follower × PollAnswer). followed_reply (length (map kept w.objects)) b.1) r → live_objects ≡ map kept w.objects ++ added (λ (b : Follower × PollAnswer). AFollower b.0) r → writes ≡ w.writes → Led
   led-followed is (Ok b) d none replied objects same_writes =
-      let by_held = subst (λ x. Rebuilds (by_objects (Some o)) true (holding o w.faults) (Ok b) x) (store-is o d.kept) d in
-      let known = rebuilds-reduced w.stored true (Ok b) o o w.faults store.faults is_sound holds.stored by_held in
-      let all = d.sees o w.stored refl (o, refl, is_sound, sym holds.stored) in
+      let by_held = subst (λ x. Rebuilds (by_objects (Some o)) true unseen (holding o w.faults) (Ok b) x) (store-is o d.kept) d in
+      let known = rebuilds-reduced w.stored true unseen unseen o o w.faults store.faults is_sound holds.stored tt (Ok b) by_held in
+      let all = d.sees o w.stored refl (o, refl, is_sound, sym holds.stored) tt in
+      let mark : (b.0).mark ≡ last_log all.0.manifest.replay_after_wal_id o = ap (λ (x : Follower). x.mark) all.2 in
       let view : (b.0).view ≡ all.0 = ap (λ (x : Follower). x.view) all.2 in
       let at : latest_manifest o ≡ Some (b.0).view = all.1 ∙ ap Some (sym view) in
-      let new = rebuilt (b.0).view w.stored in
+      let new = rebuilt (b.0).view w.stored (b.0).mark in
       let objects' = w.objects ++ AFollower new ∷ [] in
       record {
         after = o;
         objects = objects';
         modelled = d.kept;
-        kept = objects ∙ (ap (λ x. map kept w.objects ++ AFollower x ∷ []) (all.2 ∙ ap (λ v. kept_follower (rebuilt v w.stored)) (sym view)) ∙ sym (map-append kept w.objects (AFollower new ∷ [])));
-        leads = over (unnamed NewFollower is refl) (followed-leads new at (prefix-same w.stored) (rebuilt-reads-of (b.0).view at));
+        kept = objects ∙ (ap (λ x. map kept w.objects ++ AFollower x ∷ []) (all.2 ∙ (ap (λ v. kept_follower (rebuilt v w.stored (last_log all.0.manifest.replay_after_wal_id o))) (sym view) ∙ ap (λ n. kept_follower (rebuilt (b.0).view w.stored n)) (sym mark))) ∙ sym (map-append kept w.objects (AFollower new ∷ [])));
+        leads = over (unnamed NewFollower is refl) (followed-leads new at (prefix-same w.stored) (all-read w.stored o is_sound holds.stored valid.line (b.0).view (b.0).mark at, whole-seen w.stored o is_sound holds.stored (b.0).view (b.0).mark at (mark ∙ ap (λ (v : VersionedManifest). last_log v.manifest.replay_after_wal_id o) (sym view))));
         does = does-at NewFollower is o objects' (
           record {
             result = Ok (new, b.1);
             replied = replied ∙ ap (λ n. followed_reply n b.1) (length-map w.objects kept);
-            does = subst (λ c. Rebuilds (by_catalogue w.stored c) true (record { objects = Some c; faults = w.faults }) (Ok (new, b.1)) (catalogued o store.faults)) holds.catalogue known;
+            does = subst (λ c. Rebuilds (by_catalogue w.stored c) true unseen (record { objects = Some c; faults = w.faults }) (Ok (new, b.1)) (catalogued o store.faults)) holds.catalogue known;
             objects = refl;
             writes = same_writes;
           },
           none,
         );
-      } where
-        rebuilt-reads-of : (latest : VersionedManifest) → latest_manifest o ≡ Some latest → ReadsItsLine o (AFollower (rebuilt latest w.stored))
-        rebuilt-reads-of = all-read w.stored o is_sound holds.stored valid.line
+      }
   led-followed is (Err e) d none replied objects same_writes =
-      let by_held = subst (λ x. Rebuilds (by_objects (Some o)) true (holding o w.faults) (Err e) x) (store-is o d.kept) d in
-      let known = rebuilds-reduced w.stored true (Err e) o o w.faults store.faults is_sound holds.stored by_held in
+      let by_held = subst (λ x. Rebuilds (by_objects (Some o)) true unseen (holding o w.faults) (Err e) x) (store-is o d.kept) d in
+      let known = rebuilds-reduced w.stored true unseen unseen o o w.faults store.faults is_sound holds.stored tt (Err e) by_held in
       record {
         after = o;
         objects = w.objects;
@@ -347,7 +346,7 @@ module _ (settings : Settings) (w : World) (o : Objects) (is_sound : IsSound o) 
           record {
             result = Err e;
             replied = replied;
-            does = subst (λ c. Rebuilds (by_catalogue w.stored c) true (record { objects = Some c; faults = w.faults }) (Err e) (catalogued o store.faults)) holds.catalogue known;
+            does = subst (λ c. Rebuilds (by_catalogue w.stored c) true unseen (record { objects = Some c; faults = w.faults }) (Err e) (catalogued o store.faults)) holds.catalogue known;
             objects = sym (append-nil w.objects);
             writes = same_writes;
           },

@@ -149,7 +149,7 @@ follower-same f f' same = subst (FollowerRises f) (sym same) (record { number = 
 polled-rises : (stored : Line) (catalogue : Catalogue) (f f' : Follower) (o : ObjectsOf Span) (before after : Known Span) (r : Result PollAnswer SlateError) → before.objects ≡ Some o → IsPrefix f.line stored → f.result ≡ None → Polls (by_catalogue stored catalogue) f before r f' after → FollowerRises f f'
 polled-rises stored catalogue f f' o before after (Err e) at front live p = follower-same f f' p.failed
 polled-rises stored catalogue f f' o before after (Ok answer) at front live p =
-    let all = (p.rebuilds live).sees o stored at refl in
+    let all = (p.rebuilds live).sees o stored at refl tt in
     record {
       number = subst (λ (g : Follower). number f ≤ number g) (sym all.2) (prefix-end f.line stored front);
       result = is-none (λ q. f'.result ≡ Some q) f.result live;

@@ -8,7 +8,7 @@ use Rattle.slate_errors.specs.declared.errors.SlateError.{SlateError}
 use Rattle.slate_errors.specs.declared.errors.SlateError.TheVariants as errors
 use Rattle.slate_errors.specs.Errors.{closed_error}
 use Rattle.slate_model.specs.declared.answers.PollAnswer.{PollAnswer}
-use Rattle.slate_model.specs.Follow.{Polls, Rebuilds, built}
+use Rattle.slate_model.specs.Follow.{unseen, Polls, Rebuilds, built}
 use Rattle.slate_model.specs.Follower.{Follower}
 use Rattle.slate_model.specs.Handle.{Handle}
 use Rattle.slate_model.specs.Object.{Object, Handle as AHandle, Follower as AFollower}
@@ -66,15 +66,15 @@ open-sees batch w w' wal made limit (Ok h) opens is stands =
 open-sees batch w w' wal made limit (Err e) opens is stands = sees-refusal batch (actions.Open wal) e w'
 
 -- a follower that is opened or polled answers a number at or above its own
-follow-sees : (batch : Batch) (action : Action) (w w' : World) (n : ℕ) (opening : Bool) (r : Result (Follower × PollAnswer) SlateError) → Rebuilds (by_catalogue w.stored w.catalogue) opening (state_of w).store r (state_of w').store → Sees batch action (replies.Follower n true (end w.stored)) w' → Sees batch action (reply_to (λ (b : Follower × PollAnswer). followed_reply n b.1) r) w'
+follow-sees : (batch : Batch) (action : Action) (w w' : World) (n : ℕ) (opening : Bool) (r : Result (Follower × PollAnswer) SlateError) → Rebuilds (by_catalogue w.stored w.catalogue) opening (λ objects line. Unit {0}) (state_of w).store r (state_of w').store → Sees batch action (replies.Follower n true (end w.stored)) w' → Sees batch action (reply_to (λ (b : Follower × PollAnswer). followed_reply n b.1) r) w'
 follow-sees batch action w w' n opening (Ok b) built sees =
-    let all = built.sees w.catalogue w.stored refl refl in
+    let all = built.sees w.catalogue w.stored refl refl tt in
     subst (λ a. Sees batch action (followed_reply n a) w') (sym all.3) sees
 follow-sees batch action w w' n opening (Err e) built sees = sees-refusal batch action e w'
 
-polled-sees : (batch : Batch) (action : Action) (w w' : World) (f : Follower) (r : Result PollAnswer SlateError) → Rebuilds (by_catalogue w.stored w.catalogue) false (state_of w).store (built f r) (state_of w').store → Sees batch action (replies.Polled true (end w.stored)) w' → Sees batch action (reply_to polled_reply r) w'
+polled-sees : (batch : Batch) (action : Action) (w w' : World) (f : Follower) (r : Result PollAnswer SlateError) → Rebuilds (by_catalogue w.stored w.catalogue) false (λ objects line. Unit {0}) (state_of w).store (built f r) (state_of w').store → Sees batch action (replies.Polled true (end w.stored)) w' → Sees batch action (reply_to polled_reply r) w'
 polled-sees batch action w w' f (Ok answer) built sees =
-    let all = built.sees w.catalogue w.stored refl refl in
+    let all = built.sees w.catalogue w.stored refl refl tt in
     subst (λ a. Sees batch action (polled_reply a) w') (sym all.3) sees
 polled-sees batch action w w' f (Err e) built sees = sees-refusal batch action e w'
 

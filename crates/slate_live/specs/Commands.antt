@@ -3,7 +3,7 @@
 use Rattle.std.specs.Prelude.{◌≡◌, ℕ, Bool, List, [], ◌∷◌, ◌++◌, length, slice_get, slice_set, Option, Some, None, Result, Ok, Err, true}
 use Rattle.slate_types.specs.Operator.{Merge}
 use Rattle.slate_errors.specs.declared.errors.SlateError.{SlateError}
-use Rattle.slate_model.specs.Follow.{Rebuilds}
+use Rattle.slate_model.specs.Follow.{Rebuilds, unseen}
 use Rattle.slate_model.specs.Knowledge.{Knowledge}
 use Rattle.slate_model.specs.Known.{Known}
 use Rattle.slate_model.specs.Object.{Object, Handle, Follower}
@@ -79,7 +79,7 @@ module _ {L : Type 0} (k : Knowledge L) (settings : Settings) where
 
   abbrev pub OpensFollowerIn : ℕ → State L → Reply → State L → Type 0
   OpensFollowerIn made s reply s' =
-      Adds (Rebuilds k true) (λ b. Follower b.0) (λ n b. followed_reply n b.1) s reply s' × (made ≡ 0)
+      Adds (Rebuilds k true unseen) (λ b. Follower b.0) (λ n b. followed_reply n b.1) s reply s' × (made ≡ 0)
 
   -- what a command does, by where it goes; so many of its changes were made
   abbrev pub DoesBy : Command → Target → ℕ → State L → Reply → State L → Type 0

@@ -10,7 +10,7 @@ use Rattle.slate_model.specs.Follower.{Follower}
 use Rattle.slate_model.specs.Handle.{Handle, accepted, unstored}
 use Rattle.slate_model.specs.Known.{Known}
 use Rattle.slate_model.specs.Object.{Object, Handle as AHandle, Follower as AFollower, kept, view_of}
-pub use Rattle.slate_model.specs.Valid.{AreBefore, AreOfPast, IsValidHandle, ReadsItsLine, up_to}
+pub use Rattle.slate_model.specs.Valid.{AreBefore, AreOfPast, IsHeld, IsValidHandle, ReadsItsLine, up_to}
 use Rattle.slate_script.specs.declared.replies.Reply.{Reply}
 use Rattle.slate_live.specs.State.{Live}
 use Rattle.slate_live.specs.World.{World}
@@ -49,7 +49,7 @@ IsReached w = IsValid w × AreRising (map (λ entry. entry.0) w.catalogue.manife
 -- a live state, over an honest store that holds these objects and has failed so often, represents a world: its objects
 -- are the world's, each as the code keeps it
 pub record Represents (live : Live) (store : Known (List Batch)) (w : World) : Type 0 where
-  pub held : (o : Objects) × (store.objects ≡ Some o) × IsSound o × Holds o w × ((n : ℕ) (object : Object) → slice_get w.objects n ≡ Some object → ReadsItsLine o object)
+  pub held : (o : Objects) × (store.objects ≡ Some o) × IsSound o × Holds o w × ((n : ℕ) (object : Object) → slice_get w.objects n ≡ Some object → IsHeld o object)
   pub faults : store.faults ≡ w.faults
   pub objects : live.objects ≡ map kept w.objects
   pub writes : live.writes ≡ w.writes

@@ -1,5 +1,5 @@
 -- How a flush, a close, a refresh and a compaction end, from what was stored or read.
-use Rattle.std.proofs.Common.{◌≡◌, ℕ, ◌+◌, ◌≤◌, List, Bool, true, false, Option, Some, None, Result, Ok, Err, refl, sym, subst, ap, ◌∙◌}
+use Rattle.std.proofs.Common.{◌≡◌, ℕ, ◌+◌, ◌≤◌, List, true, false, Option, Some, None, Result, Ok, Err, refl, sym, subst, ap, ◌∙◌}
 use Rattle.std.specs.Option.{IfSome}
 use Rattle.std.specs.Result.{result_err}
 use Rattle.slate_types.specs.declared.batches.Batch.{Batch}
@@ -12,11 +12,11 @@ use Rattle.slate_errors.specs.declared.endings.Ended.{Ended}
 use Rattle.slate_errors.specs.declared.errors.SlateError.{SlateError}
 use Rattle.slate_errors.specs.declared.errors.SlateError.TheVariants as errors
 use Rattle.slate_errors.specs.Errors.{closed_error}
-use Rattle.slate_model.specs.Close.{Closes, closed, closing_flush, ended, fault_again, fault_of}
-use Rattle.slate_model.specs.Flush.{CanFlush, Flushes, IsFlushed, Stores, flush_result, has_log_for}
-use Rattle.slate_model.specs.Handle.{CloseResult, Handle, kept_handle}
+use Rattle.slate_model.specs.Close.{Closes, closing_flush, ended, fault_again, fault_of}
+use Rattle.slate_model.specs.Flush.{Flushes, IsFlushed, Stores, flush_result, has_log_for}
+use Rattle.slate_model.specs.Handle.{Handle, kept_handle}
 use Rattle.slate_model.specs.Known.{CountsFaults, FaultsRise, Known, Untouched}
-use Rattle.slate_model.specs.Refresh.{Compacts, JoinsLatest, JoinsTables, ReadsLatest, RefreshAnswer, Refreshes, fenced_result}
+use Rattle.slate_model.specs.Refresh.{Compacts, JoinsTables, RefreshAnswer, Refreshes, fenced_result}
 use Rattle.slate_model.specs.Stores.{by_objects}
 use Rattle.slate_writer.specs.Puts.{StoresBy}
 use Rattle.slate_writer.proofs.Modelled.{made_once}

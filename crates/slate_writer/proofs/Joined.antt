@@ -1,10 +1,9 @@
 -- A compaction of a store's own is what a handle's is.
-use Rattle.std.proofs.Common.{◌≡◌, ℕ, zero, suc, ◌+◌, ◌<◌, ◌≤◌, ◌⊎◌, List, [], ◌∷◌, length, take, cond, Bool, true, false, Option, Some, None, Result, Ok, Err, refl, sym, subst, ap, ◌∙◌, inl, inr, arith}
+use Rattle.std.proofs.Common.{◌≡◌, ℕ, zero, suc, ◌+◌, ◌≤◌, ◌⊎◌, List, [], ◌∷◌, length, take, cond, Bool, true, false, Option, Some, None, Result, Ok, Err, refl, sym, subst, ap, ◌∙◌, inl, inr, arith}
 use Rattle.std.specs.List.{flat_map}
 use Rattle.std.specs.Prelude.{nat_lt}
 use Rattle.std.proofs.lemmas.Bool.{le-ltb}
 use Rattle.slate_types.specs.declared.store_errors.StoreFault.TheVariants.{NotFound, Unavailable}
-use Rattle.slate_store.specs.declared.objects.TableId.{TableId}
 use Rattle.slate_store.specs.declared.objects.VersionedManifest.{VersionedManifest}
 use Rattle.slate_store.specs.declared.refusals.StoreRefusal.{StoreRefusal}
 use Rattle.slate_store.specs.declared.refusals.StoreRefusal.TheVariants as refusals
@@ -17,7 +16,6 @@ use Rattle.slate_model.specs.Flush.{tables_put}
 use Rattle.slate_model.specs.Handle.{Handle, next_table}
 use Rattle.slate_model.specs.Refresh.{CompactAnswer, CompactCause, JoinsTables}
 use Rattle.slate_model.specs.Stores.{JoinFault, by_objects}
-use Rattle.slate_errors.specs.declared.errors.SlateError.TheVariants as errors
 use Rattle.slate_writer.specs.Joined.{Joins}
 use Rattle.slate_model.specs.Refusal.{error_of_refusal}
 use Rattle.slate_types.specs.Modelled.{WhereModelled}

@@ -5,5 +5,4 @@ pub mod Memory
 pub mod Merging
 pub mod Modelled
 pub mod Puts
-pub mod Reading
 pub mod Storing

@@ -5,24 +5,22 @@ use Rattle.std.proofs.lemmas.List.{length-append}
 use Rattle.std.proofs.lemmas.List.Elements.{Contains-append_right}
 use Rattle.std.proofs.lemmas.Bool.{lt-leb, le-leb}
 use Rattle.std.specs.Prelude.{nat_le}
-use Rattle.std.specs.Bool.{MatchBool}
 use Rattle.slate_types.specs.declared.batches.Batch.{Batch}
 use Rattle.slate_types.specs.declared.store_errors.StoreError.{StoreError}
 use Rattle.slate_types.specs.declared.store_errors.StoreError.TheVariants as refusals
-use Rattle.slate_types.specs.declared.store_errors.StoreFault.TheVariants.{Unavailable}
 use Rattle.slate_types.proofs.Modelled.{modelled_as, modelled_then}
 use Rattle.slate_store.proofs.Parts.{changed_all-append}
 use Rattle.slate_store.specs.declared.objects.TableId.{TableId}
 use Rattle.slate_store.specs.declared.objects.VersionedManifest.{VersionedManifest}
 use Rattle.slate_store.specs.Calls.{Puts, WhereModelled}
-use Rattle.slate_store.specs.Objects.{Objects, Change, ChangeOf, PutLog, PutManifest, PutTable, RemoveLog, RemoveManifest, RemoveTable, changed, changed_all, is_present, last_log}
+use Rattle.slate_store.specs.Objects.{Objects, Change, PutLog, PutManifest, PutTable, RemoveLog, RemoveManifest, RemoveTable, changed, changed_all, is_present, last_log}
 use Rattle.slate_errors.specs.Errors.{error_of_store}
 use Rattle.slate_errors.specs.declared.errors.SlateError.{SlateError}
 use Rattle.slate_errors.specs.declared.errors.SlateError.TheVariants as errors
-use Rattle.slate_model.specs.Changes.{PartMade, after_part, leaves_prefix}
+use Rattle.slate_model.specs.Changes.{PartMade, after_part}
 use Rattle.slate_model.specs.Flush.{DurableAfter, FlushesOnly, grows, has_log_id, log_changes, tables_put}
 use Rattle.slate_model.specs.Handle.{Handle, accepted, to_log, unstored}
-use Rattle.slate_writer.specs.Puts.{DurableThen, MakesPart, PutsCause, PutsLog, PutsOne, durable_by, log_put, logged_durable, table_puts}
+use Rattle.slate_writer.specs.Puts.{DurableThen, MakesPart, PutsCause, PutsLog, PutsOne, durable_by, log_put, table_puts}
 
 -- Changes after the first ones break off at one that is refused.
 record Breaks (ids : Bool) (xs ys : List Change) (c : Change) (e : SlateError) (o o' : Objects) : Type 0 where

@@ -1,6 +1,6 @@
 -- What a flush leaves of a store and a handle, from its steps.
-use Rattle.std.proofs.Common.{◌≡◌, ℕ, zero, suc, ◌+◌, ◌<◌, ◌≤◌, ◌⊎◌, List, [], ◌∷◌, ◌++◌, length, take, cond, Bool, true, false, Option, Some, None, Result, Ok, Err, refl, sym, subst, ap, ◌∙◌, inl, inr, arith}
-use Rattle.std.specs.Prelude.{nat_le, nat_lt, ◌&&◌, IfErr, IfOk}
+use Rattle.std.proofs.Common.{◌≡◌, ℕ, ◌+◌, ◌<◌, ◌≤◌, ◌⊎◌, List, [], ◌∷◌, ◌++◌, length, cond, Bool, true, false, Option, Some, None, Result, Ok, Err, refl, sym, subst, ap, ◌∙◌, inl, inr, arith}
+use Rattle.std.specs.Prelude.{nat_le, IfErr}
 use Rattle.std.specs.Option.{IfSome}
 use Rattle.std.specs.Bool.{MatchBool}
 use Rattle.std.proofs.lemmas.Bool.{lt-ltb, le-ltb}
@@ -12,18 +12,17 @@ use Rattle.slate_types.specs.declared.store_errors.StoreError.TheVariants as ref
 use Rattle.slate_types.specs.declared.store_errors.StoreFault.TheVariants.{Unavailable}
 use Rattle.slate_types.proofs.Modelled.{modelled_as}
 use Rattle.slate_store.specs.declared.objects.VersionedManifest.{VersionedManifest}
-use Rattle.slate_store.specs.Calls.{IsOfList, Puts, WhereModelled}
-use Rattle.slate_store.specs.Objects.{Objects, Change, PutLog, PutManifest, PutTable, last_log, latest_manifest}
+use Rattle.slate_store.specs.Calls.{IsOfList, WhereModelled}
+use Rattle.slate_store.specs.Objects.{Objects, Change, last_log}
 use Rattle.slate_errors.specs.Errors.{error_of_store}
 use Rattle.slate_errors.specs.declared.errors.SlateError.{SlateError}
 use Rattle.slate_errors.specs.declared.errors.SlateError.TheVariants as errors
-use Rattle.slate_model.specs.Changes.{PartMade, leaves_prefix}
-use Rattle.slate_model.specs.Flush.{DurableAfter, FindsCurrent, FlushCause, FlushesOnly, IsCurrent, IsFlushed, ManifestCause, Stores, StoresBatches, flush_changes, flush_changes_by, flush_changes_under, flush_view, grows, has_ids, has_log_id, has_untabled, log_after, log_changes, next_flushed, table_changes, tables_put}
+use Rattle.slate_model.specs.Changes.{leaves_prefix}
+use Rattle.slate_model.specs.Flush.{DurableAfter, FindsCurrent, FlushCause, FlushesOnly, IsCurrent, ManifestCause, Stores, StoresBatches, flush_changes, flush_changes_by, flush_changes_under, flush_view, grows, has_ids, has_log_id, has_untabled, log_after, log_changes, next_flushed, table_changes}
 use Rattle.slate_model.specs.Handle.{Handle, accepted, kept_handle, next_table, to_log, untabled}
 use Rattle.slate_model.specs.Known.{CountsFaults, Known}
 use Rattle.slate_model.specs.Stores.{Stands, by_objects}
-use Rattle.slate_model.specs.Write.{last_number}
-use Rattle.slate_writer.specs.Puts.{DurableThen, MakesPart, PutsCause, StoresBy, all_changes, has_all_ids, log_put, plain, table_puts}
+use Rattle.slate_writer.specs.Puts.{DurableThen, MakesPart, PutsCause, StoresBy, all_changes, has_all_ids, log_put, table_puts}
 use Rattle.slate_writer.proofs.Modelled.{modelled_from, modelled_kept}
 use Rattle.slate_writer.proofs.Puts.{kept_durable, made_with}
 

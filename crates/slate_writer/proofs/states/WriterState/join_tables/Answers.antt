@@ -1,4 +1,4 @@
-use Rattle.std.proofs.Common.{rules, Ok, Err, ap, refl}
+use Rattle.std.proofs.Common.{rules, Ok, Err, ap}
 use Rattle.slate_writer.proofs.Joined.{all-joins}
 use Rattle.slate_writer.proofs.states.WriterState.join_tables.Goals as goal
 

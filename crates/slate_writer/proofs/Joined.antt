@@ -128,5 +128,5 @@ all-joins h new epoch index index' a b r answer by at counter is view compacts =
     (λ o o' there k. (
       k.0,
       subst (λ answer. Joins h answer new k.0 o o') (sym is)
-      (joins h new o o' r k.0 index' view counter (subst (λ e. Compacts e h.counter index' o r k.0 o') by (subst (λ i. Compacts epoch i index' o r k.0 o') at k.1))),
+          (joins h new o o' r k.0 index' view counter (subst (λ e. Compacts e h.counter index' o r k.0 o') by (subst (λ i. Compacts epoch i index' o r k.0 o') at k.1))),
     ))

@@ -8,7 +8,7 @@ use Rattle.slate_follow.specs.declared.states.FollowerState.TheInside.{Inside}
 -- the follower that the fields represent
 abbrev pub follower_of : Inside → Follower
 follower_of a =
-    record { view = a.status.manifest; line = record { floor = a.floor; batches = a.memory }; result = a.status.result }
+    record { view = a.status.manifest; line = record { floor = a.floor; batches = a.memory }; mark = a.mark; result = a.status.result }
 
 -- the batches in memory are numbered from the floor on, its number is that of the last one, and none is in a segment
 pub record IsKept (a : Inside) : Type 0 where
@@ -19,7 +19,7 @@ pub record IsKept (a : Inside) : Type 0 where
 
 -- the follower that what was built makes
 abbrev pub rebuilt_follower : Rebuilt → Follower
-rebuilt_follower a = rebuilt a.view (record { floor = a.view.manifest.last_l0_seq; batches = a.memory })
+rebuilt_follower a = rebuilt a.view (record { floor = a.view.manifest.last_l0_seq; batches = a.memory }) a.mark
 
 -- its batches are numbered from the last number in tables on
 pub record IsRebuilt (a : Rebuilt) : Type 0 where

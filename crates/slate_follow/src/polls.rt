@@ -1,6 +1,6 @@
 // Opening a reader that follows a database, and polling it.
 ghost use Rattle.std.specs.Prelude.{◌≡◌, ◌≢◌, ◌≤◌, true, false, None, IfOk, IfSome};
-ghost use Rattle.slate_model.specs.Follow.{Polls, Rebuilds};
+ghost use Rattle.slate_model.specs.Follow.{Polls, Rebuilds, unseen};
 ghost use Rattle.slate_model.specs.Known.{known};
 ghost use Rattle.slate_model.specs.Stores.{by_objects};
 ghost use Rattle.slate_follow.specs.Rebuilding.{CallsRebuilding, ReplaysLatest};
@@ -35,7 +35,7 @@ impl FollowerState {
         requires mode { mode ≡ DbReaderMode.FollowLatest }
         requires replays { options.now.skip_wal_replay ≡ false }
         requires extractor { extractor ≡ None }
-        ensures rebuilds { Rebuilds (by_objects (S.objects store.old)) true (known S.objects S.faults store.old) result (known S.objects S.faults store.new) }
+        ensures rebuilds { Rebuilds (by_objects (S.objects store.old)) true unseen (known S.objects S.faults store.old) result (known S.objects S.faults store.new) }
         ensures replays { IfOk result (λ p. IfSome (S.objects store.old) (λ o. ReplaysLatest true o p.0 p.1)) }
         ensures calls { IfSome (S.objects store.old) (λ o. CallsRebuilding o (S.calls store.old) (S.calls store.new)) }
     {

@@ -20,6 +20,7 @@ use std::marker::Model;
 pub struct FollowerState {
     pub(crate) floor: u64,
     pub(crate) memory: IndexedTable,
+    pub(crate) mark: u64,
     pub(crate) status: StatusRecord,
 }
 
@@ -44,6 +45,7 @@ impl FollowerState {
         FollowerState {
             floor: rebuilt.view.manifest.last_l0_seq,
             memory: rebuilt.memory,
+            mark: rebuilt.mark,
             status: StatusRecord::new(alloc, number, rebuilt.view),
         }
     }
@@ -55,6 +57,7 @@ impl FollowerState {
         let number = rebuilt.number();
         self.floor = rebuilt.view.manifest.last_l0_seq;
         self.memory = rebuilt.memory;
+        self.mark = rebuilt.mark;
         self.status.report_view(number, rebuilt.view);
     }
 

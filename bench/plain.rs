@@ -20,11 +20,21 @@ struct Batch {
 
 type Rows = BTreeMap<Rc<[u8]>, Row>;
 
-/// Tables in order, the log files behind them, and the epoch of the last opening.
-struct Store {
-    tables: Vec<Rc<Rows>>,
-    logs: Vec<Rc<Vec<Batch>>>,
+/// What a manifest says: the epoch of the last opening, the tables in order, and the log file that a replay begins with.
+#[derive(Clone, Default)]
+struct Manifest {
     epoch: u64,
+    tables: Vec<u64>,
+    first_log: u64,
+}
+
+/// Manifests, tables and log files by their numbers. The manifest with the greatest one counts; the others, and what it
+/// doesn't name, stay until a sweep.
+#[derive(Default)]
+struct Store {
+    manifests: BTreeMap<u64, Manifest>,
+    tables: BTreeMap<u64, Rc<Rows>>,
+    logs: BTreeMap<u64, Rc<Vec<Batch>>>,
 }
 
 /// Tables in order, and what isn't in them.
@@ -41,7 +51,8 @@ struct Handle {
 struct Follower {
     rows: Rows,
     number: u64,
-    logs: usize,
+    /// The log file that its next poll begins with.
+    next_log: u64,
 }
 
 enum Object {
@@ -50,9 +61,38 @@ enum Object {
 }
 
 impl Store {
+    /// The latest manifest; an empty one where there is none.
+    fn latest(&self) -> Manifest {
+        self.manifests.last_key_value().map(|(_, latest)| latest.clone()).unwrap_or_default()
+    }
+
+    fn commit(&mut self, manifest: Manifest) {
+        self.manifests.insert(after_last(&self.manifests), manifest);
+    }
+
+    /// The number of the next log file.
+    fn next_log(&self, latest: &Manifest) -> u64 {
+        after_last(&self.logs).max(latest.first_log)
+    }
+
+    fn put_log(&mut self, latest: &Manifest, batches: Vec<Batch>) {
+        self.logs.insert(self.next_log(latest), Rc::new(batches));
+    }
+
+    fn put_table(&mut self, rows: Rows) -> u64 {
+        let number = after_last(&self.tables);
+        self.tables.insert(number, Rc::new(rows));
+        number
+    }
+
+    /// The tables that a manifest names, shared.
+    fn tables_of(&self, manifest: &Manifest) -> Vec<Rc<Rows>> {
+        manifest.tables.iter().map(|number| self.tables[number].clone()).collect()
+    }
+
     /// Applies the log files from one on; the number of the last batch.
-    fn replay(&self, from: usize, rows: &mut Rows, mut last: u64, tick: &mut i64) -> u64 {
-        for log in &self.logs[from..] {
+    fn replay(&self, from: u64, rows: &mut Rows, mut last: u64, tick: &mut i64) -> u64 {
+        for (_, log) in self.logs.range(from..) {
             for batch in log.iter() {
                 rows.insert(batch.key.clone(), batch.row.clone());
                 last = batch.row.number;
@@ -63,25 +103,42 @@ impl Store {
     }
 
     fn open(&mut self) -> Handle {
-        self.epoch += 1;
-        self.logs.push(Rc::new(Vec::new()));
+        let mut latest = self.latest();
+        latest.epoch += 1;
+        self.commit(latest.clone());
+        self.put_log(&latest, Vec::new());
         let mut rows = Rows::new();
         let mut tick = i64::MIN;
-        let last = self.replay(0, &mut rows, 0, &mut tick);
-        Handle { tables: self.tables.clone(), rows, unflushed: Vec::new(), last, tick, epoch: self.epoch, durable: last }
+        let last = self.replay(latest.first_log, &mut rows, 0, &mut tick);
+        let tables = self.tables_of(&latest);
+        Handle { tables, rows, unflushed: Vec::new(), last, tick, epoch: latest.epoch, durable: last }
     }
 
     fn follow(&self) -> Follower {
-        let mut follower = Follower { rows: Rows::new(), number: 0, logs: 0 };
+        let mut follower = Follower { rows: Rows::new(), number: 0, next_log: 0 };
         self.poll(&mut follower);
         follower
     }
 
     fn poll(&self, follower: &mut Follower) {
         let mut tick = i64::MIN;
-        follower.number = self.replay(follower.logs, &mut follower.rows, follower.number, &mut tick);
-        follower.logs = self.logs.len();
+        follower.number = self.replay(follower.next_log, &mut follower.rows, follower.number, &mut tick);
+        follower.next_log = after_last(&self.logs);
     }
+
+    /// Removes what the latest manifest doesn't need.
+    fn sweep(&mut self) {
+        let latest = self.latest();
+        self.tables.retain(|number, _| latest.tables.contains(number));
+        self.logs.retain(|number, _| latest.first_log <= *number);
+        let last = after_last(&self.manifests);
+        self.manifests.retain(|number, _| *number + 1 == last);
+    }
+}
+
+/// The number after the last one.
+fn after_last<V>(objects: &BTreeMap<u64, V>) -> u64 {
+    objects.last_key_value().map_or(0, |(number, _)| number + 1)
 }
 
 fn put(handle: &mut Handle, moment: i64, key: &[u8], value: &[u8]) -> Option<u64> {
@@ -97,38 +154,42 @@ fn put(handle: &mut Handle, moment: i64, key: &[u8], value: &[u8]) -> Option<u64
     Some(handle.last)
 }
 
-fn flush(store: &mut Store, handle: &mut Handle) -> bool {
-    if handle.epoch < store.epoch {
-        return false;
+/// Stores what isn't stored as a log file; the latest manifest, where no other handle was opened since.
+fn flush(store: &mut Store, handle: &mut Handle) -> Option<Manifest> {
+    let latest = store.latest();
+    if handle.epoch < latest.epoch {
+        return None;
     }
     if !handle.unflushed.is_empty() {
-        store.logs.push(Rc::new(std::mem::take(&mut handle.unflushed)));
+        store.put_log(&latest, std::mem::take(&mut handle.unflushed));
     }
     handle.durable = handle.last;
-    true
+    Some(latest)
 }
 
 /// Stores what isn't in tables as a table; an opening then begins behind it.
-fn flush_to_table(store: &mut Store, handle: &mut Handle) -> bool {
-    if !flush(store, handle) {
-        return false;
-    }
+fn flush_to_table(store: &mut Store, handle: &mut Handle) -> Option<Manifest> {
+    let mut latest = flush(store, handle)?;
     if !handle.rows.is_empty() {
-        store.tables.push(Rc::new(std::mem::take(&mut handle.rows)));
-        store.logs.clear();
+        let number = store.put_table(std::mem::take(&mut handle.rows));
+        latest.tables.push(number);
+        latest.first_log = store.next_log(&latest);
+        store.commit(latest.clone());
     }
-    handle.tables = store.tables.clone();
-    true
+    handle.tables = store.tables_of(&latest);
+    Some(latest)
 }
 
 /// Joins all tables into one.
 fn compact(store: &mut Store, handle: &mut Handle) {
+    let mut latest = store.latest();
     let mut joined = Rows::new();
-    for table in &store.tables {
+    for table in store.tables_of(&latest) {
         joined.extend(table.iter().map(|(key, row)| (key.clone(), row.clone())));
     }
-    store.tables = vec![Rc::new(joined)];
-    handle.tables = store.tables.clone();
+    latest.tables = vec![store.put_table(joined)];
+    handle.tables = store.tables_of(&latest);
+    store.commit(latest);
 }
 
 /// The row of a key, from memory or from the last table that has one.
@@ -231,6 +292,11 @@ impl Live {
             let _ = writeln!(out, "handle {object}");
             return Some(());
         }
+        if name == b"sweep" {
+            self.store.sweep();
+            out.push_str("swept\n");
+            return Some(());
+        }
         let first = fields.next()?;
         if name == b"follow" {
             let follower = self.store.follow();
@@ -270,7 +336,7 @@ impl Live {
             (b"flush", Object::Handle(handle)) => {
                 let to_table = fields.next() == Some(b"memtable".as_slice());
                 let done = if to_table { flush_to_table(&mut self.store, handle) } else { flush(&mut self.store, handle) };
-                out.push_str(if done { "flushed\n" } else { "error Closed error: detected newer DB client\n" });
+                out.push_str(if done.is_some() { "flushed\n" } else { "error Closed error: detected newer DB client\n" });
             }
             (b"compact", Object::Handle(handle)) => {
                 compact(&mut self.store, handle);
@@ -296,7 +362,7 @@ impl Live {
 fn main() {
     let mut script = Vec::new();
     std::io::stdin().read_to_end(&mut script).expect("a script");
-    let mut live = Live { store: Store { tables: Vec::new(), logs: Vec::new(), epoch: 0 }, objects: Vec::new(), writes: Vec::new() };
+    let mut live = Live { store: Store::default(), objects: Vec::new(), writes: Vec::new() };
     let mut out = String::new();
     for line in script.split(|byte| *byte == b'\n') {
         if !line.is_empty() && live.apply(&mut out, line).is_none() {

@@ -91,6 +91,10 @@ module _ (ms ls : Option (List (ℕ × List ℕ))) (ts : Option (List (TableId �
   table-found id bytes batches table same got decoded = where-held (λ o. table_at id o ≡ Some table) ms ls ts (λ m l t m-is l-is t-is.
       found-object table_cmp table_held id t bytes batches (known (λ blobs. value_at table_cmp id blobs ≡ Some bytes) ts t t-is got) (ap (value_or []) decoded) ∙ ap Some (sym same))
 
+  -- one that is kept is read as what is stored
+  pub table-kept : (id : TableId) (table : List Batch) → IfSome ts (λ blobs. value_at table_cmp id (each table_held blobs) ≡ Some table) → IfSome (all_held ms ls ts) (λ o. table_at id o ≡ Some table)
+  table-kept id table stored = where-held (λ o. table_at id o ≡ Some table) ms ls ts (λ m l t m-is l-is t-is. known (λ blobs. value_at table_cmp id (each table_held blobs) ≡ Some table) ts t t-is stored)
+
   -- the greatest of the ids that were listed
   pub last-found : (after : ℕ) (ids : List ℕ) (number : ℕ) → number ≡ greatest after ids → IfSome ls (λ blobs. ids ≡ keys_of blobs) → IfSome (all_held ms ls ts) (λ o. number ≡ last_log after o)
   last-found after ids number is listed = where-held (λ o. number ≡ last_log after o) ms ls ts (λ m l t m-is l-is t-is.
@@ -109,3 +113,8 @@ module _ (ms ls : Option (List (ℕ × List ℕ))) (ts : Option (List (TableId �
   latest-answer ids id bytes x ms' kept listed rising is got decoded = where-held (λ o. Some (record { id = id; manifest = x }) ≡ latest_manifest o) ms ls ts (λ m l t m-is l-is t-is.
       latest-found m ids id bytes x (known (λ blobs. ids ≡ keys_of blobs) ms m m-is listed) (known (λ blobs. IsStrictlySortedBy nat_cmp ids) ms m m-is rising) is
       (known (λ blobs. value_at nat_cmp id blobs ≡ Some bytes) ms' m (kept ∙ m-is) got) (ap (value_or blank_manifest) decoded))
+
+-- a table that was got and decoded is stored
+pub table-there : (ts ts' : Option (List (TableId × List ℕ))) (id : TableId) (bytes : List ℕ) (batches table : List Batch) → ts' ≡ ts → table ≡ batches → IfSome ts (λ blobs. value_at table_cmp id blobs ≡ Some bytes) → table_in bytes ≡ Ok batches → IfSome ts' (λ blobs. value_at table_cmp id (each table_held blobs) ≡ Some table)
+table-there None ts' id bytes batches table kept same got decoded = rw kept tt
+table-there (Some blobs) ts' id bytes batches table kept same got decoded = rw kept (found-object table_cmp table_held id blobs bytes batches got (ap (value_or []) decoded) ∙ ap Some (sym same))

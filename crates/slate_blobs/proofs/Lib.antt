@@ -3,3 +3,5 @@ mod Each
 mod Folders
 mod Calls
 mod Found
+mod Kept
+mod Stored

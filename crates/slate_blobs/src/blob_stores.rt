@@ -3,6 +3,7 @@ ghost use Rattle.std.specs.Prelude.{◌≡◌};
 
 use crate::Blobs;
 use crate::answers::{answer_with, greatest_of, rising_table};
+use crate::table_folders::TableFolder;
 use slate_objects::{
     decode_log, decode_manifest, decode_table, encode_log, encode_manifest, encode_table,
 };
@@ -10,6 +11,10 @@ use slate_reads::Table;
 use slate_store::{Listing, LogFile, Manifest, Store, TableId, VersionedManifest};
 use slate_types::{Batch, CallCount, StoreError};
 use std::alloc::Global;
+
+/// How many bytes of tables a store keeps decoded, where nothing else is asked: 64 MiB. They are counted as the bytes of
+/// the tables' blobs.
+pub const TABLE_BYTES: u64 = 64 * 1024 * 1024;
 
 /// A store over the blobs of three folders: of manifests, of log files and of tables, each blob as `slate_objects` writes
 /// the object, under its id.
@@ -21,27 +26,44 @@ use std::alloc::Global;
 /// A call is counted once, whatever it costs of blobs. A put is one put of a blob, which encodes the object first, and a
 /// removal one removal; a read is one get. `latest_manifest` is one listing and one get, `last_log` one listing, and
 /// `list` three. Besides, a call takes time linear in the bytes that it reads or writes and in the ids that it lists, and
-/// a table that is read takes that of as many pushes to an `IndexedTable`. Nothing is kept from call to call.
+/// a table that is read takes that of as many pushes to an `IndexedTable`.
+///
+/// Tables that were read or put are kept decoded, the newest of them, as many as a bound of bytes has room for. A read of
+/// one that is kept is no get: it shares the table, in time linear in the tables that are kept, as is what any call on
+/// tables takes for them. A removal forgets the table, also where it fails. Nothing else is kept from call to call.
+///
+/// Over folders that aren't modelled, as those of a directory, a table that is kept may be answered though another
+/// process has removed its blob. That is right: a table is put once under its id and never changed, so what is answered
+/// is what was put, as by a read that came before the removal.
 #[derive(Drop)]
 pub struct BlobStore<N: Blobs<u64>, T: Blobs<TableId>> {
     manifests: N,
     logs: N,
-    tables: T,
+    tables: TableFolder<T>,
     count: CallCount,
 }
 
 impl<N: Blobs<u64>, T: Blobs<TableId>> BlobStore<N, T> {
     ghost use Rattle.slate_blobs.specs.Decoded.{all_held};
 
-    /// The store of the objects in three folders. It takes no memory.
+    /// The store of the objects in three folders, which keeps `TABLE_BYTES` bytes of tables decoded. It takes no memory.
     pub fn new(manifests: N, logs: N, tables: T) -> BlobStore<N, T>
+        ensures objects { ⟦<BlobStore<N, T> as Store>⟧.objects result ≡ all_held (N.held manifests) (N.held logs) (T.held tables) }
+        ensures calls { ⟦<BlobStore<N, T> as Store>⟧.calls result ≡ 0 }
+    {
+        BlobStore::with_table_bytes(manifests, logs, tables, TABLE_BYTES)
+    }
+
+    /// The store of the objects in three folders, which keeps tables decoded whose blobs have at most so many bytes
+    /// together. It takes no memory.
+    pub fn with_table_bytes(manifests: N, logs: N, tables: T, bound: u64) -> BlobStore<N, T>
         ensures objects { ⟦<BlobStore<N, T> as Store>⟧.objects result ≡ all_held (N.held manifests) (N.held logs) (T.held tables) }
         ensures calls { ⟦<BlobStore<N, T> as Store>⟧.calls result ≡ 0 }
     {
         BlobStore {
             manifests,
             logs,
-            tables,
+            tables: TableFolder::new(tables, bound),
             count: CallCount::new(),
         }
     }
@@ -123,12 +145,21 @@ impl<N: Blobs<u64>, T: Blobs<TableId>> Store for BlobStore<N, T> {
         self.logs.remove(alloc, id)
     }
 
+    /// A table that is kept is answered, and its blob isn't read. Where the folder isn't modelled, another process may have
+    /// removed the blob; as tables never change, the answer is still what was put.
     fn read_table(&mut self, alloc: Global, id: TableId) -> Result<Table, StoreError> {
         self.count.next_call();
+        if let Some(table) = self.tables.kept(id) {
+            return Ok(table);
+        }
         let bytes = self.tables.get(alloc, id)?;
+        let size = bytes.len() as u64;
         let batches = answer_with(&mut self.count, decode_table(alloc, bytes))?;
         match rising_table(alloc, batches.as_slice())? {
-            Some(table) => Ok(table),
+            Some(table) => {
+                self.tables.keep(alloc, id, &table, size);
+                Ok(table)
+            }
             None => {
                 self.count.count_fault();
                 Err(StoreError::Failed)
@@ -139,7 +170,7 @@ impl<N: Blobs<u64>, T: Blobs<TableId>> Store for BlobStore<N, T> {
     fn put_table(&mut self, alloc: Global, id: TableId, table: &Table) -> Result<(), StoreError> {
         self.count.next_call();
         let bytes = encode_table(alloc, table.batches())?;
-        self.tables.put_if_absent(alloc, id, bytes.as_slice())
+        self.tables.put(alloc, id, bytes.as_slice(), table)
     }
 
     fn remove_table(&mut self, alloc: Global, id: TableId) -> Result<(), StoreError> {

@@ -4,8 +4,10 @@
 mod answers;
 mod blob_stores;
 mod blobs;
+mod kept_tables;
 mod memory_blobs;
+mod table_folders;
 
-pub use blob_stores::BlobStore;
+pub use blob_stores::{BlobStore, TABLE_BYTES};
 pub use blobs::Blobs;
 pub use memory_blobs::MemoryBlobs;

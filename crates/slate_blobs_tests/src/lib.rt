@@ -4,4 +4,6 @@
 #[cfg(test)]
 mod failing;
 #[cfg(test)]
+mod kept;
+#[cfg(test)]
 mod stores;

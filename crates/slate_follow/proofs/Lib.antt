@@ -1,1 +1,4 @@
+pub mod Above
+pub mod Continued
+pub mod Joining
 pub mod Rebuilt

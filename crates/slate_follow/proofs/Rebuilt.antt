@@ -1,5 +1,5 @@
--- What is found and replayed makes a follower, which sees all that a sound store has.
-use Rattle.std.proofs.Common.{◌≡◌, ℕ, ◌+◌, length, Bool, true, false, List, Option, Some, None, Result, Ok, Err, refl, sym, subst, ap, ◌∙◌}
+-- What is built anew of a sound store sees all that it has.
+use Rattle.std.proofs.Common.{◌≡◌, ℕ, ◌+◌, length, Bool, true, List, [], Option, Some, None, Ok, refl, sym, subst, ap, ◌∙◌}
 use Rattle.std.specs.Option.{IfSome}
 use Rattle.slate_types.specs.declared.batches.Batch.{Batch}
 use Rattle.slate_types.specs.Line.{Line, end}
@@ -7,25 +7,19 @@ use Rattle.slate_store.specs.declared.objects.VersionedManifest.{VersionedManife
 use Rattle.slate_store.specs.Content.{IsSound, content, logged}
 use Rattle.slate_store.specs.Objects.{Objects, last_log, latest_manifest}
 use Rattle.slate_replay.proofs.Recovered.{recovered-all}
+use Rattle.slate_replay.specs.Replay.{Replays}
 use Rattle.slate_replay.specs.declared.replays.Replayed.{Replayed}
 use Rattle.slate_replay.specs.declared.replays.Replayed.TheVariants as replays
-use Rattle.slate_model.specs.Knowledge.{Knowledge}
-use Rattle.slate_errors.specs.declared.errors.SlateError.{SlateError}
-use Rattle.slate_model.specs.Follow.{Rebuilds, SeesAll, can_follow, unseen}
-use Rattle.slate_model.specs.Follower.{Follower, kept_follower, rebuilt}
+use Rattle.slate_model.specs.Follow.{SeesAll, can_follow}
+use Rattle.slate_model.specs.Follower.{Follower, kept_follower, number, rebuilt}
 use Rattle.slate_model.specs.Handle.{Handle, kept_handle, line_above}
-use Rattle.slate_model.specs.Known.{IsContent, Known}
+use Rattle.slate_model.specs.Known.{IsContent}
 use Rattle.slate_model.specs.Open.{mark_of, next_manifest, opened_handle}
 use Rattle.slate_model.proofs.Reduced.{some-same}
 use Rattle.slate_model.proofs.Reopened.{line_from, logs-by, recovered, recovered-is}
 use Rattle.slate_model.specs.declared.answers.PollAnswer.{PollAnswer}
-use Rattle.slate_model.specs.declared.answers.PollAnswer.TheVariants.{Whole, Truncated}
-use Rattle.slate_follow.specs.Rebuilding.{FindsView, GiveBatches, HasLogs, ReplaysLatest}
-
--- how a poll answers its replay
-abbrev pub answer_of : Replayed → ℕ → PollAnswer
-answer_of replays.Whole at = Whole at
-answer_of (replays.Truncated id) at = Truncated at
+use Rattle.slate_model.specs.declared.answers.PollAnswer.TheVariants.{Whole}
+use Rattle.slate_follow.specs.Rebuilding.{Builds, FindsView, HasLogs, ReplaysLatest, answer_of, reached}
 
 -- The content of sound objects is kept, under their latest manifest, as what the log files have above its last number in
 -- tables: as an opening of a handle keeps it.
@@ -38,65 +32,85 @@ module _ (o : Objects) (view : VersionedManifest) (sound : IsSound o) (is : late
       subst (λ x. let v = next_manifest x (last_log (mark_of x) o) in recovered true 0 v (logged o v.manifest) ≡ kept_handle (opened_handle true 0 v (content o))) is
       (recovered-is true 0 o sound)
 
-  kept-line : line_from view.manifest.last_l0_seq (logged o view.manifest) ≡ line_above view.manifest.last_l0_seq (content o)
+  pub kept-line : line_from view.manifest.last_l0_seq (logged o view.manifest) ≡ line_above view.manifest.last_l0_seq (content o)
   kept-line = ap (λ (h : Handle). h.line) opened
 
-  kept-end : view.manifest.last_l0_seq + length (logged o view.manifest) ≡ end (content o)
+  pub kept-end : view.manifest.last_l0_seq + length (logged o view.manifest) ≡ end (content o)
   kept-end = ap (λ (h : Handle). h.durable) opened
 
-module _ (opening : Bool) (view : VersionedManifest) (batches : List Batch) (mark : ℕ) where
-  abbrev pub line : Line
-  line = line_from view.manifest.last_l0_seq batches
-
-  abbrev pub follower : Follower
-  follower = rebuilt view line mark
-
-  has_logs : (found : Replayed) (o : Objects) → GiveBatches o view.manifest batches found → HasLogs o follower (answer_of found (end line))
-  has_logs replays.Whole o given = given
-  has_logs (replays.Truncated id) o given = (id, given)
-
-  sees : (found : Replayed) (o : Objects) → mark ≡ last_log view.manifest.replay_after_wal_id o → IsSound o → FindsView opening o (Ok view) → GiveBatches o view.manifest batches found → SeesAll kept_follower o (content o) follower (answer_of found (end line))
-  sees found o marked sound can given =
+  -- a follower whose line is what the log files have, and that was replayed to the last one, sees it all
+  pub sees-logged : (found : Replayed) (batches : List Batch) (follower : Follower) (answer : PollAnswer) → let last = last_log view.manifest.replay_after_wal_id o in found ≡ replays.Whole → batches ≡ logged o view.manifest →
+      follower ≡ rebuilt view (line_from view.manifest.last_l0_seq batches) (reached found last) → answer ≡ answer_of found (number follower) → SeesAll kept_follower o (content o) follower answer
+  sees-logged found batches follower answer whole all becomes answers =
       let m = view.manifest in
       let last = last_log m.replay_after_wal_id o in
+      let kept = ap (λ bs. rebuilt view (line_from m.last_l0_seq bs) (reached found last)) all ∙ (ap (λ r. rebuilt view (line_from m.last_l0_seq (logged o m)) (reached r last)) whole ∙ ap (λ l. rebuilt view l last) kept-line) in
+      let ends : number follower ≡ end (content o) = ap number becomes ∙ (ap (λ bs. m.last_l0_seq + length bs) all ∙ kept-end) in
+      (view, is, becomes ∙ kept, answers ∙ (ap (λ r. answer_of r (number follower)) whole ∙ ap Whole ends))
+
+module _ (opening : Bool) (o : Objects) (view : VersionedManifest) (last : ℕ) (can : FindsView opening o (Ok (view, last))) (follower : Follower) (answer : PollAnswer) where
+  has_logs : (found : Replayed) (batches : List Batch) (at : ℕ) → Replays view.manifest.replay_after_wal_id last view.manifest.last_l0_seq [] batches o (Ok found) →
+      HasLogs o (rebuilt view (line_from view.manifest.last_l0_seq batches) (reached found last)) (answer_of found at)
+  has_logs replays.Whole batches at logs =
+      let m = view.manifest in
+      (subst (λ n. Replays m.replay_after_wal_id n m.last_l0_seq [] batches o (Ok replays.Whole)) can.2 logs, can.2)
+  has_logs (replays.Truncated id) batches at logs =
+      let m = view.manifest in
+      (id, subst (λ n. Replays m.replay_after_wal_id n m.last_l0_seq [] batches o (Ok (replays.Truncated id))) can.2 logs, refl)
+
+  -- what is built is a replay of the latest manifest's log files
+  pub replays-latest : Builds o view last follower answer → ReplaysLatest opening o follower answer
+  replays-latest built =
+      let one = rebuilt view (line_from view.manifest.last_l0_seq built.batches) (reached built.found last) in
+      subst (λ f. ReplaysLatest opening o f answer) (sym built.becomes)
+      (record {
+        latest = can.0;
+        can = can.1;
+        floor = refl;
+        logs = subst (HasLogs o one) (sym built.answers) (has_logs built.found built.batches (number follower) built.logs);
+      })
+
+  -- and sees the content of sound objects
+  pub builds-sees : IsSound o → Builds o view last follower answer → SeesAll kept_follower o (content o) follower answer
+  builds-sees sound built =
+      let m = view.manifest in
       let its = logs-by o view sound can.0 in
-      let all = recovered-all m.replay_after_wal_id last m.last_l0_seq (logged o m) batches o its.whole its.belong found given in
-      let kept : line ≡ line_above m.last_l0_seq (content o) = ap (line_from m.last_l0_seq) all.0 ∙ kept-line o view sound can.0 in
-      let ends : end line ≡ end (content o) = ap (λ bs. m.last_l0_seq + length bs) all.0 ∙ kept-end o view sound can.0 in
-      (view, can.0, ap (λ l. rebuilt view l mark) kept ∙ ap (rebuilt view (line_above m.last_l0_seq (content o))) marked, ap (λ r. answer_of r (end line)) all.1 ∙ ap Whole ends)
-
-  -- what was found and replayed makes the follower
-  module _ (found : Replayed) {t t1 : Option Objects} (kept : t1 ≡ t) (can : IfSome t (λ o. FindsView opening o (Ok view))) (given : IfSome t1 (λ o. GiveBatches o view.manifest batches found)) (last : IfSome t1 (λ o. mark ≡ last_log view.manifest.replay_after_wal_id o)) (answer : PollAnswer) (is : answer ≡ answer_of found (end line)) where
-    can_at : (o : Objects) → t ≡ Some o → FindsView opening o (Ok view)
-    can_at o at = subst (λ x. IfSome x (λ o. FindsView opening o (Ok view))) at can
-
-    given_at : (o : Objects) → t ≡ Some o → GiveBatches o view.manifest batches found
-    given_at o at = subst (λ x. IfSome x (λ o. GiveBatches o view.manifest batches found)) (kept ∙ at) given
-
-    pub replays_at : (o : Objects) → t ≡ Some o → ReplaysLatest opening o follower answer
-    replays_at o at =
-        let v = can_at o at in
-        subst (ReplaysLatest opening o follower) (sym is) (record { latest = v.0; can = v.1; floor = refl; logs = has_logs found o (given_at o at) })
-
-    pub sees_at : (o : Objects) → t ≡ Some o → IsSound o → SeesAll kept_follower o (content o) follower answer
-    sees_at o at sound = subst (SeesAll kept_follower o (content o) follower) (sym is) (sees found o (subst (λ x. IfSome x (λ o. mark ≡ last_log view.manifest.replay_after_wal_id o)) (kept ∙ at) last) sound (can_at o at) (given_at o at))
-
-  -- and it sees the content of sound objects
-  pub sees_stored : (found : Replayed) {t t1 : Option Objects} → t1 ≡ t → IfSome t (λ o. FindsView opening o (Ok view)) → IfSome t1 (λ o. GiveBatches o view.manifest batches found) → IfSome t1 (λ o. mark ≡ last_log view.manifest.replay_after_wal_id o) → (answer : PollAnswer) → answer ≡ answer_of found (end line) → (o : Objects) (stored : Line) → t ≡ Some o → IsContent t stored → unseen o stored → SeesAll kept_follower o stored follower answer
-  sees_stored found kept can given last answer is o stored at content_is seen =
-      let same : content_is.0 ≡ o = some-same content_is.0 o (sym content_is.1 ∙ at) in
-      subst (λ l. SeesAll kept_follower o l follower answer) (sym (content_is.3 ∙ ap content same)) (sees_at found kept can given last answer is o at (subst IsSound same content_is.2))
+      let logs = subst (λ n. Replays m.replay_after_wal_id n m.last_l0_seq [] built.batches o (Ok built.found)) can.2 built.logs in
+      let all = recovered-all m.replay_after_wal_id (last_log m.replay_after_wal_id o) m.last_l0_seq (logged o m) built.batches o its.whole its.belong built.found logs in
+      let becomes = subst (λ n. follower ≡ rebuilt view (line_from m.last_l0_seq built.batches) (reached built.found n)) can.2 built.becomes in
+      sees-logged o view sound can.0 built.found built.batches follower answer all.1 all.0 becomes built.answers
 
 -- what holds of each that there is holds where there is one
 pub if_some : {X : Type 0} {P : X → Type 0} (t : Option X) → ((x : X) → t ≡ Some x → P x) → IfSome t P
 if_some None f = tt
 if_some (Some x) f = f x refl
 
--- the manifest that was found is the latest, and the database can be followed by it
-pub found_view : (opening : Bool) (view : VersionedManifest) {t : Option Objects} → IfSome t (λ o. FindsView opening o (Ok view)) → (o : Objects) → t ≡ Some o → (latest_manifest o ≡ Some view) × (can_follow opening view ≡ true)
-found_view opening view found o at = subst (λ x. IfSome x (λ o. FindsView opening o (Ok view))) at found
+pub some_at : {X : Type 0} (P : X → Type 0) (t : Option X) (x : X) → t ≡ Some x → IfSome t P → P x
+some_at P t x at h = subst (λ y. IfSome y P) at h
 
--- what sees all of what is stored, whatever was seen before, does so after anything that was
-pub seen-less : {k : Knowledge (List Batch)} {seen : Objects → Line → Type 0} {before after : Known (List Batch)} {r : Result (Follower × PollAnswer) SlateError} → Rebuilds k false unseen before r after → Rebuilds k false seen before r after
-seen-less {r = Ok b} d = record { kept = d.kept; faults = d.faults; cause = d.cause; answer = d.answer; can = d.can; sees = λ o line at stored seen. d.sees o line at stored tt }
-seen-less {r = Err e} d = record { kept = d.kept; faults = d.faults; cause = d.cause; answer = d.answer; can = d.can; sees = tt }
+-- what sees the content of sound objects sees the line that is stored
+pub sees_stored : {t : Option Objects} (follower : Follower) (answer : PollAnswer) (o : Objects) (stored : Line) → t ≡ Some o → IsContent t stored →
+    (IsSound o → stored ≡ content o → SeesAll kept_follower o (content o) follower answer) → SeesAll kept_follower o stored follower answer
+sees_stored follower answer o stored at content_is sees =
+    let same : content_is.0 ≡ o = some-same content_is.0 o (sym content_is.1 ∙ at) in
+    let line : stored ≡ content o = content_is.3 ∙ ap content same in
+    subst (λ l. SeesAll kept_follower o l follower answer) (sym line) (sees (subst IsSound same content_is.2) line)
+
+-- what was found and built
+module _ (opening : Bool) (view : VersionedManifest) (last : ℕ) (follower : Follower) (answer : PollAnswer) {t t1 : Option Objects} (kept : t1 ≡ t)
+    (found : IfSome t (λ o. FindsView opening o (Ok (view, last)))) (built : IfSome t1 (λ o. Builds o view last follower answer)) where
+  found_at : (o : Objects) → t ≡ Some o → FindsView opening o (Ok (view, last))
+  found_at o at = some_at (λ o. FindsView opening o (Ok (view, last))) t o at found
+
+  built_at : (o : Objects) → t ≡ Some o → Builds o view last follower answer
+  built_at o at = some_at (λ o. Builds o view last follower answer) t1 o (kept ∙ at) built
+
+  pub built-latest : (o : Objects) → t ≡ Some o → ReplaysLatest opening o follower answer
+  built-latest o at = replays-latest opening o view last (found_at o at) follower answer (built_at o at)
+
+  pub built-can : (o : Objects) → t ≡ Some o → (latest_manifest o ≡ Some follower.view) × (can_follow opening follower.view ≡ true)
+  built-can o at = let r = built-latest o at in (r.latest, r.can)
+
+  pub built-sees : (o : Objects) (stored : Line) → t ≡ Some o → IsContent t stored → SeesAll kept_follower o stored follower answer
+  built-sees o stored at content_is =
+      sees_stored follower answer o stored at content_is (λ sound _. builds-sees opening o view last (found_at o at) follower answer sound (built_at o at))

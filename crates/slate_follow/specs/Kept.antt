@@ -2,19 +2,26 @@
 use Rattle.std.specs.Prelude.{◌≡◌, ◌+◌, ◌<◌, ◌^◌, [], length}
 use Rattle.slate_types.specs.Line.{AreNumberedFrom}
 use Rattle.slate_model.specs.Follower.{Follower, rebuilt}
+use Rattle.slate_follow.specs.Joined.{joined}
 use Rattle.slate_follow.specs.declared.rebuilds.Rebuilt.TheInside.{Inside as Rebuilt}
 use Rattle.slate_follow.specs.declared.states.FollowerState.TheInside.{Inside}
 
 -- the follower that the fields represent
 abbrev pub follower_of : Inside → Follower
 follower_of a =
-    record { view = a.status.manifest; line = record { floor = a.floor; batches = a.memory }; mark = a.mark; result = a.status.result }
+    record {
+      view = a.status.manifest;
+      line = record { floor = a.status.manifest.manifest.last_l0_seq; batches = joined a.kept.items };
+      mark = a.mark;
+      result = a.status.result;
+    }
 
--- the batches in memory are numbered from the floor on, its number is that of the last one, and none is in a segment
+-- the batches in memory are numbered from the last number in tables on, its number is that of the last one, and none is
+-- in a segment
 pub record IsKept (a : Inside) : Type 0 where
-  pub numbered : AreNumberedFrom a.floor a.memory
-  pub fits : a.floor + length a.memory < 2 ^ 64
-  pub number : a.status.durable ≡ a.floor + length a.memory
+  pub numbered : AreNumberedFrom a.status.manifest.manifest.last_l0_seq (joined a.kept.items)
+  pub fits : a.status.manifest.manifest.last_l0_seq + length (joined a.kept.items) < 2 ^ 64
+  pub number : a.status.durable ≡ a.status.manifest.manifest.last_l0_seq + length (joined a.kept.items)
   pub unsegmented : a.status.segments ≡ []
 
 -- the follower that what was built makes

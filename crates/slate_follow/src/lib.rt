@@ -1,14 +1,16 @@
 //! A reader that follows a database: it goes by the latest manifest, whose tables it reads and whose log files it has in
-//! memory, and takes both anew at each poll.
+//! memory. A poll takes the manifest anew, and of the log files those that it hasn't replayed yet.
 #![tactic(auto)]
 
 mod closes;
+mod continues;
 mod options;
 mod polls;
 mod reads;
 mod rebuilds;
 mod scans;
 mod states;
+mod tables;
 
 pub use options::DbReaderOptions;
 pub use slate_model::PollAnswer;

@@ -1,11 +1,11 @@
 // Opening a reader that follows a database, and polling it.
-ghost use Rattle.std.specs.Prelude.{◌≡◌, ◌≢◌, ◌≤◌, true, false, None, IfOk, IfSome};
+ghost use Rattle.std.specs.Prelude.{◌≡◌, ◌≢◌, ◌≤◌, ◌⊎◌, true, false, None, IfOk, IfSome};
 ghost use Rattle.slate_model.specs.Follow.{Polls, Rebuilds, unseen};
 ghost use Rattle.slate_model.specs.Known.{known};
 ghost use Rattle.slate_model.specs.Stores.{by_objects};
-ghost use Rattle.slate_follow.specs.Rebuilding.{CallsRebuilding, ReplaysLatest};
+ghost use Rattle.slate_follow.specs.Rebuilding.{CallsContinuing, CallsRebuilding, Continues, ReplaysLatest};
 
-use crate::rebuilds::rebuild;
+use crate::rebuilds::{find_view, rebuild};
 use crate::{DbReaderMode, DbReaderOptions, FollowerState, PollAnswer};
 use slate_errors::SlateError;
 use slate_store::Store;
@@ -39,8 +39,9 @@ impl FollowerState {
         ensures replays { IfOk result (λ p. IfSome (S.objects store.old) (λ o. ReplaysLatest true o p.0 p.1)) }
         ensures calls { IfSome (S.objects store.old) (λ o. CallsRebuilding o (S.calls store.old) (S.calls store.new)) }
     {
-        let (rebuilt, answer) = rebuild(alloc, store, true)?;
-        Ok((FollowerState::new(alloc, rebuilt), answer))
+        let (view, last) = find_view(alloc, store, true)?;
+        let (rebuilt, answer) = rebuild(alloc, store, view, last)?;
+        Ok((FollowerState::new(alloc, rebuilt)?, answer))
     }
 
     /// Takes all that is stored by now: from then on the reader goes by the latest manifest until the next poll, and
@@ -62,16 +63,22 @@ impl FollowerState {
     ) -> Result<PollAnswer, SlateError>
         requires { extractor ≡ None }
         ensures polls { Polls (by_objects (S.objects store.old)) self.old (known S.objects S.faults store.old) result self.new (known S.objects S.faults store.new) }
-        ensures replays { IfOk result (λ a. IfSome (S.objects store.old) (λ o. ReplaysLatest false o self.new a)) }
+        ensures replays { IfOk result (λ a. IfSome (S.objects store.old) (λ o. ReplaysLatest false o self.new a ⊎ Continues o self.old self.new a)) }
         ensures calls { IfSome (S.objects store.old) (λ o. CallsRebuilding o (S.calls store.old) (S.calls store.new)) }
+        ensures costs { IfOk result (λ _. self.new.view ≡ self.old.view → IfSome (S.objects store.old) (λ o. CallsContinuing o self.old (S.calls store.old) (S.calls store.new))) }
         ensures count { S.faults store.old ≤ S.faults store.new }
         ensures untouched { self.old.result ≢ None → (self.new ≡ self.old) × (store.new ≡ store.old) }
     {
         if let Some(result) = self.closed() {
             return Err(SlateError::of_closed(result));
         }
-        let (rebuilt, answer) = rebuild(alloc, store, false)?;
-        self.take(rebuilt);
+        let (view, last) = find_view(alloc, store, false)?;
+        if self.reaches(&view) {
+            let answer = self.go_on(alloc, store, view, last)?;
+            return Ok(answer);
+        }
+        let (rebuilt, answer) = rebuild(alloc, store, view, last)?;
+        self.take(alloc, rebuilt)?;
         Ok(answer)
     }
 }

@@ -1,12 +1,11 @@
-// Building a follower from the latest manifest and its log files.
-ghost use Rattle.std.specs.Prelude.{◌≡◌, ◌+◌, ◌-◌, ◌<◌, ◌≤◌, ◌^◌, length, IfOk, IfErr, IfSome};
+// Finding the latest manifest and the last log file, and building a follower anew from all log files above its mark.
+ghost use Rattle.std.specs.Prelude.{◌≡◌, ◌+◌, ◌-◌, ◌<◌, ◌≤◌, ◌^◌, length, None, IfOk, IfErr, IfSome};
 ghost use Rattle.slate_types.specs.Line.{AreNumberedFrom};
 ghost use Rattle.slate_store.specs.Objects.{last_log};
-ghost use Rattle.slate_model.specs.Follow.{Rebuilds, can_follow, unseen};
+ghost use Rattle.slate_model.specs.Follow.{AnswersAt, can_follow};
 ghost use Rattle.slate_model.specs.Follower.{number};
-ghost use Rattle.slate_model.specs.Known.{CountsFaults, known};
-ghost use Rattle.slate_model.specs.Stores.{by_objects};
-ghost use Rattle.slate_follow.specs.Rebuilding.{CallsRebuilding, FindsView, GiveBatches, IsOfReplay, ReplaysLatest};
+ghost use Rattle.slate_model.specs.Known.{CountsFaults};
+ghost use Rattle.slate_follow.specs.Rebuilding.{Builds, FindsView, IsOfReplay, answer_of, reached};
 
 use crate::PollAnswer;
 use slate_errors::SlateError;
@@ -16,12 +15,12 @@ use slate_store::{Store, VersionedManifest};
 use std::alloc::Global;
 use std::marker::Model;
 
-/// What a reader goes by: a manifest, the batches of its log files, and up to which these were read.
+/// What a reader goes by: a manifest, the batches that the log files have above its tables, and up to which log file.
 #[derive(Drop)]
 pub(crate) struct Rebuilt {
     pub(crate) view: VersionedManifest,
-    pub(crate) mark: u64,
     pub(crate) memory: IndexedTable,
+    pub(crate) mark: u64,
 }
 
 impl Model for Rebuilt {
@@ -45,35 +44,14 @@ impl Rebuilt {
     }
 }
 
-/// What a reader goes by of what is stored, and whether the log files were whole.
-pub(crate) fn rebuild<S: Store>(
+/// The latest manifest, where the database can be followed by it, and the last log file above its replay mark.
+pub(crate) fn find_view<S: Store>(
     alloc: Global,
     store: &mut S,
     opening: bool,
-) -> Result<(Rebuilt, PollAnswer), SlateError>
-    ensures rebuilds { Rebuilds (by_objects (S.objects store.old)) opening unseen (known S.objects S.faults store.old) result (known S.objects S.faults store.new) }
-    ensures replays { IfOk result (λ p. IfSome (S.objects store.old) (λ o. ReplaysLatest opening o p.0 p.1)) }
-    ensures calls { IfSome (S.objects store.old) (λ o. CallsRebuilding o (S.calls store.old) (S.calls store.new)) }
-{
-    let view = find_view(alloc, store, opening)?;
-    let (memory, replayed, mark) = replay_logs(alloc, store, &view)?;
-    let rebuilt = Rebuilt { view, mark, memory };
-    let at = rebuilt.number();
-    let answer = match replayed {
-        Replayed::Whole => PollAnswer::Whole { at },
-        Replayed::Truncated(_) => PollAnswer::Truncated { at },
-    };
-    Ok((rebuilt, answer))
-}
-
-/// The latest manifest, where the database can be followed by it.
-fn find_view<S: Store>(
-    alloc: Global,
-    store: &mut S,
-    opening: bool,
-) -> Result<VersionedManifest, SlateError>
+) -> Result<(VersionedManifest, u64), SlateError>
     ensures faults { CountsFaults (S.faults store.old) (S.faults store.new) result }
-    ensures calls { S.calls store.new ≤ S.calls store.old + 1 }
+    ensures calls { S.calls store.new ≤ S.calls store.old + 2 }
     ensures kept { S.objects store.new ≡ S.objects store.old }
     ensures where_modelled { IfSome (S.objects store.old) (λ o. FindsView opening o result) }
 {
@@ -83,7 +61,8 @@ fn find_view<S: Store>(
     if !can_follow(opening, &latest) {
         return Err(SlateError::InvalidDBState);
     }
-    Ok(latest)
+    let last = store.last_log(alloc, latest.manifest.replay_after_wal_id)?;
+    Ok((latest, last))
 }
 
 /// Whether a database can be followed by its latest manifest.
@@ -93,23 +72,44 @@ fn can_follow(opening: bool, latest: &VersionedManifest) -> bool
     latest.manifest.initialized || !opening
 }
 
-/// The batches of all log files above the replay mark of a manifest, whether they were whole, and the last one's id.
-fn replay_logs<S: Store>(
+/// What a reader goes by of a manifest and its log files up to the last one, and whether these were whole.
+pub(crate) fn rebuild<S: Store>(
     alloc: Global,
     store: &mut S,
-    view: &VersionedManifest,
-) -> Result<(IndexedTable, Replayed, u64), SlateError>
+    view: VersionedManifest,
+    last: u64,
+) -> Result<(Rebuilt, PollAnswer), SlateError>
     ensures faults { CountsFaults (S.faults store.old) (S.faults store.new) result }
-    ensures calls { IfSome (S.objects store.old) (λ o. S.calls store.new ≤ S.calls store.old + 1 + (last_log view.now.manifest.replay_after_wal_id o - view.now.manifest.replay_after_wal_id)) }
+    ensures calls { S.calls store.new ≤ S.calls store.old + (last - view.manifest.replay_after_wal_id) }
     ensures kept { S.objects store.new ≡ S.objects store.old }
-    ensures numbered { IfOk result (λ p. AreNumberedFrom view.now.manifest.last_l0_seq p.0) }
-    ensures fits { IfOk result (λ p. view.now.manifest.last_l0_seq + length p.0 < 2 ^ 64) }
-    ensures where_modelled { IfOk result (λ p. IfSome (S.objects store.old) (λ o. GiveBatches o view.now.manifest p.0 p.1)) }
-    ensures last { IfOk result (λ p. IfSome (S.objects store.old) (λ o. p.2 ≡ last_log view.now.manifest.replay_after_wal_id o)) }
+    ensures built { IfOk result (λ p. IfSome (S.objects store.old) (λ o. Builds o view last p.0 p.1)) }
+    ensures answer { IfOk result (λ p. (p.0.result ≡ None) × AnswersAt (number p.0) p.1) }
     ensures refusals { IfErr result IsOfReplay }
 {
-    let manifest = &view.manifest;
-    let last = store.last_log(alloc, manifest.replay_after_wal_id)?;
-    let (memory, replayed) = recover(alloc, store, manifest, last)?;
-    Ok((memory, replayed, last))
+    let (memory, replayed) = recover(alloc, store, &view.manifest, last)?;
+    let mark = reached(replayed, last);
+    let rebuilt = Rebuilt { view, memory, mark };
+    let at = rebuilt.number();
+    Ok((rebuilt, answer_of(replayed, at)))
+}
+
+/// Up to which log file a replay got that was to reach this last one.
+pub(crate) fn reached(replayed: Replayed, last: u64) -> u64
+    ensures { result ≡ reached replayed last }
+{
+    match replayed {
+        Replayed::Whole => last,
+        Replayed::Truncated(id) => id.saturating_sub(1),
+    }
+}
+
+/// How a poll answers that replayed so, and sees the batches up to this number.
+pub(crate) fn answer_of(replayed: Replayed, at: u64) -> PollAnswer
+    ensures value { result ≡ answer_of replayed at }
+    ensures number { AnswersAt at result }
+{
+    match replayed {
+        Replayed::Whole => PollAnswer::Whole { at },
+        Replayed::Truncated(_) => PollAnswer::Truncated { at },
+    }
 }

@@ -52,7 +52,7 @@ impl FollowerState {
             return Err(SlateError::of_closed(result));
         }
         let stored = read_tables(alloc, store, self.tables())?;
-        let memory = std::slice::from_ref(&self.memory);
+        let memory = self.kept.as_slice();
         let bound = Some(self.number());
         Ok(scan_indexed(
             alloc,

@@ -1,9 +1,10 @@
 // What a reader that follows a database keeps.
-ghost use Rattle.std.specs.Prelude.{◌≡◌, None, IfOk};
+ghost use Rattle.std.specs.Prelude.{◌≡◌, None, IfOk, OnOk, OnErr};
 ghost use Rattle.slate_model.specs.Follower.{number};
 ghost use Rattle.slate_status.specs.Records.{status_by};
 
 use crate::rebuilds::Rebuilt;
+use crate::tables::list_of;
 use slate_errors::CloseFault;
 use slate_reads::IndexedTable;
 use slate_status::{DbStatus, StatusRecord};
@@ -18,8 +19,9 @@ use std::marker::Model;
 /// the manifest that it goes by.
 #[derive(Drop)]
 pub struct FollowerState {
-    pub(crate) floor: u64,
-    pub(crate) memory: IndexedTable,
+    /// Its batches, joined: a table for each poll that found some, oldest first.
+    pub(crate) kept: Vec<IndexedTable>,
+    /// The log files up to this id are replayed.
     pub(crate) mark: u64,
     pub(crate) status: StatusRecord,
 }
@@ -38,27 +40,27 @@ impl Model for FollowerState {
 
 impl FollowerState {
     /// A reader that was opened with what was built.
-    pub(crate) fn new(alloc: Global, rebuilt: Rebuilt) -> FollowerState
-        ensures { result ≡ rebuilt }
+    pub(crate) fn new(alloc: Global, rebuilt: Rebuilt) -> Result<FollowerState, NoMemory>
+        ensures { IfOk result (λ new. new ≡ rebuilt) }
     {
         let number = rebuilt.number();
-        FollowerState {
-            floor: rebuilt.view.manifest.last_l0_seq,
-            memory: rebuilt.memory,
+        Ok(FollowerState {
+            kept: list_of(alloc, rebuilt.memory)?,
             mark: rebuilt.mark,
             status: StatusRecord::new(alloc, number, rebuilt.view),
-        }
+        })
     }
 
     /// Takes what was built in place of what it saw. A reader that is open becomes what was built.
-    pub(crate) fn take(&mut self, rebuilt: Rebuilt)
-        ensures { self.old.result ≡ None → self.new ≡ rebuilt }
+    pub(crate) fn take(&mut self, alloc: Global, rebuilt: Rebuilt) -> Result<(), NoMemory>
+        ensures ok { OnOk result (self.old.result ≡ None → self.new ≡ rebuilt) }
+        ensures err { OnErr result (self.new ≡ self.old) }
     {
         let number = rebuilt.number();
-        self.floor = rebuilt.view.manifest.last_l0_seq;
-        self.memory = rebuilt.memory;
+        self.kept = list_of(alloc, rebuilt.memory)?;
         self.mark = rebuilt.mark;
         self.status.report_view(number, rebuilt.view);
+        Ok(())
     }
 
     /// The ids of the tables of the manifest that it goes by.

@@ -1,0 +1,192 @@
+-- What goes on by what is new in a sound store, where a follower had seen the rest, sees all that it has.
+use Rattle.std.proofs.Common.{◌≡◌, ℕ, ◌+◌, ◌-◌, ◌<◌, ◌≤◌, max, length, List, [], ◌++◌, drop, map, false, true, Option, Some, None, Ok, refl, sym, subst, ap, ◌∙◌, arith, length-append}
+use Rattle.std.specs.List.{All, flat_map}
+use Rattle.std.specs.Option.{IfSome}
+use Rattle.slate_types.proofs.Lines.{above-all, above-drop, above-none, numbered-drop}
+use Rattle.slate_types.specs.declared.batches.Batch.{Batch}
+use Rattle.slate_types.specs.Line.{AreNumberedFrom, Line, IsPrefix, batches_above, end}
+use Rattle.slate_store.proofs.Gapless.{between-gapless, gapless-greatest}
+use Rattle.slate_store.proofs.LastLog.{at_least}
+use Rattle.slate_store.proofs.Latest.{its-objects}
+use Rattle.slate_store.proofs.Logs.{between-parts, no_gap-numbered, numbered-stand}
+use Rattle.slate_store.specs.declared.objects.VersionedManifest.{VersionedManifest}
+use Rattle.slate_store.specs.Content.{IsSound, content, logged, logs_above}
+use Rattle.slate_store.specs.Logs.{AreWhole, BelongTo, batches_between}
+use Rattle.slate_store.specs.Objects.{Objects, last_log, latest_manifest, log_at}
+use Rattle.slate_replay.proofs.Recovered.{recovered-all}
+use Rattle.slate_replay.specs.declared.replays.Replayed.{Replayed}
+use Rattle.slate_replay.specs.declared.replays.Replayed.TheVariants as replays
+use Rattle.slate_replay.specs.Replay.{Replays, line_of}
+use Rattle.slate_model.proofs.Free.{numbered-front}
+use Rattle.slate_model.proofs.Reopened.{logs-by, numbered_rest}
+use Rattle.slate_model.specs.Follow.{SeesAll, can_follow}
+use Rattle.slate_model.specs.Follower.{Follower, kept_follower, number}
+use Rattle.slate_model.specs.Handle.{line_above}
+use Rattle.slate_model.specs.Known.{IsContent}
+use Rattle.slate_model.specs.Seen.{HasSeen}
+use Rattle.slate_model.specs.Stores.{kept_seen}
+use Rattle.slate_model.specs.declared.answers.PollAnswer.{PollAnswer}
+use Rattle.slate_follow.specs.Rebuilding.{Continues, FindsView, GoesOn, Reaches}
+use Rattle.slate_follow.proofs.Above.{above-append, above-fewer, above-twice, none-between}
+use Rattle.slate_follow.proofs.Rebuilt.{kept-end, kept-line, sees-logged, sees_stored, some_at}
+
+-- Log files of sound objects, where those up to one of them have no batch above a number, which isn't below the last one
+-- in tables.
+module _ (o : Objects) (view : VersionedManifest) (sound : IsSound o) (is : latest_manifest o ≡ Some view) (from n : ℕ)
+    (above : view.manifest.replay_after_wal_id ≤ from) (within : from ≤ last_log view.manifest.replay_after_wal_id o) (tabled : view.manifest.last_l0_seq ≤ n) (ended : n ≤ end (content o))
+    (low : (id : ℕ) (bs : List Batch) → view.manifest.replay_after_wal_id < id → id ≤ from → log_at id o ≡ Some bs → All (λ b. b.number ≤ n) bs) where
+  abbrev mark : ℕ
+  mark = view.manifest.replay_after_wal_id
+
+  abbrev last : ℕ
+  last = last_log mark o
+
+  abbrev floor : ℕ
+  floor = view.manifest.last_l0_seq
+
+  abbrev later : List Batch
+  later = batches_above n (batches_between from last o)
+
+  read : batches_between mark last o ≡ flat_map (λ log. log.1) (logs_above mark o)
+  read =
+      let gapless = (its-objects o view sound is).gapless in
+      let count = gapless-greatest mark mark o.logs (omega arith) gapless in
+      between-gapless mark o gapless last (omega (arith, count))
+
+  -- what the log files have above the number is in the later ones
+  pub later-logged : batches_above n (logged o view.manifest) ≡ later
+  later-logged =
+      above-twice floor n (flat_map (λ log. log.1) (logs_above mark o)) tabled
+      ∙ (ap (batches_above n) (sym read ∙ between-parts mark from last o above within)
+      ∙ (above-append n (batches_between mark from o) (batches_between from last o)
+      ∙ ap (λ xs. xs ++ later) (none-between n mark from o low)))
+
+  later-numbered : AreNumberedFrom n later
+  later-numbered =
+      let its = logs-by o view sound is in
+      let bs = logged o view.manifest in
+      let k = n - floor in
+      let at : floor + k ≡ n = omega arith in
+      let all = kept-end o view sound is in
+      subst (AreNumberedFrom n) (sym (above-drop floor n k bs its.numbered at) ∙ later-logged)
+      (subst (λ x. AreNumberedFrom x (drop k bs)) at (numbered-drop floor k bs its.numbered (omega (arith, all))))
+
+  later-whole : AreWhole from last n (n + length later) o
+  later-whole =
+      let its = logs-by o view sound is in
+      record {
+        stored = λ id over high none. its.whole.stored id (omega arith) high none;
+        no_gap = no_gap-numbered n n (batches_between from last o) (omega arith) later-numbered;
+      }
+
+  -- a replay of the later ones gives it all
+  pub later-replayed : (found : Replayed) (added : List Batch) → Replays from last n [] added o (Ok found) → (added ≡ later) × (found ≡ replays.Whole)
+  later-replayed found added logs = recovered-all from last n later added o later-whole (numbered-stand n later later-numbered) found logs
+
+-- a follower of which the code keeps this line ends where the line does
+kept-number : (n : ℕ) (line : Line) → end (line_above n line) ≡ end line
+kept-number n line = let fewer = above-fewer n line.batches in omega (arith, fewer)
+
+-- a line that begins sound objects' content, which goes on by these batches
+module _ (o : Objects) (view : VersionedManifest) (sound : IsSound o) (is : latest_manifest o ≡ Some view) (line : Line) (begins : IsPrefix line (content o)) where
+  abbrev rest : List Batch
+  rest = begins.0
+
+  parts : (content o).batches ≡ line.batches ++ rest
+  parts = ap (λ (l : Line). l.batches) begins.1
+
+  numbered : AreNumberedFrom line.floor (line.batches ++ rest)
+  numbered = subst (λ (l : Line). AreNumberedFrom l.floor l.batches) begins.1 sound.line
+
+  pub ends-within : end line ≤ end (content o)
+  ends-within =
+      let all : end (content o) ≡ line.floor + length (line.batches ++ rest) = ap end begins.1 in
+      let lengths = length-append line.batches rest in
+      omega (arith, all, lengths)
+
+  logged-above : logged o view.manifest ≡ batches_above view.manifest.last_l0_seq (content o).batches
+  logged-above = ap (λ (l : Line). l.batches) (kept-line o view sound is)
+
+  -- above its end the log files have what it goes on by
+  pub logged-rest : view.manifest.last_l0_seq ≤ end line → batches_above (end line) (logged o view.manifest) ≡ rest
+  logged-rest low =
+      let n = end line in
+      ap (batches_above n) logged-above
+      ∙ (above-twice view.manifest.last_l0_seq n (content o).batches low
+      ∙ (ap (batches_above n) parts
+      ∙ (above-append n line.batches rest
+      ∙ (ap (λ xs. xs ++ batches_above n rest) (above-none line.floor n line.batches (numbered-front line.floor line.batches rest numbered) (omega arith))
+      ∙ above-all n n rest (numbered_rest line.floor line.batches rest numbered) (omega arith)))))
+
+  -- what is kept of it above a number, and then the rest, has all that the log files have
+  pub kept-rest : (m : ℕ) → m ≤ view.manifest.last_l0_seq → batches_above view.manifest.last_l0_seq (batches_above m line.batches ++ rest) ≡ logged o view.manifest
+  kept-rest m low =
+      let floor = view.manifest.last_l0_seq in
+      above-append floor (batches_above m line.batches) rest
+      ∙ (ap (λ xs. xs ++ batches_above floor rest) (above-twice m floor line.batches low)
+      ∙ (sym (above-append floor line.batches rest) ∙ (ap (batches_above floor) (sym parts) ∙ sym logged-above)))
+
+-- so a follower that goes on, of which this is the whole, sees it all
+whole-sees : (o : Objects) (view : VersionedManifest) (w new : Follower) (answer : PollAnswer) → IsSound o → latest_manifest o ≡ Some view → IsPrefix w.line (content o) → HasSeen o w →
+    Reaches (kept_follower w) view → GoesOn o view (last_log view.manifest.replay_after_wal_id o) (kept_follower w) new answer → SeesAll kept_follower o (content o) new answer
+whole-sees o view w new answer sound is begins has reaches goes =
+    let m = view.manifest in
+    let mark = m.replay_after_wal_id in
+    let last = last_log mark o in
+    let n = end w.line in
+    let from = max w.mark mark in
+    let number_is : number (kept_follower w) ≡ n = kept-number w.view.manifest.last_l0_seq w.line in
+    let behind = reaches.0 in
+    let reached = reaches.1 in
+    let tabled : m.last_l0_seq ≤ n = omega (arith, reached, number_is) in
+    let seen = has.mark view is in
+    let least = at_least mark (map (λ log. log.0) o.logs) in
+    let above : mark ≤ from = omega arith in
+    let within : from ≤ last = omega (arith, seen, least) in
+    let ended = ends-within o view sound is w.line begins in
+    let low : (id : ℕ) (bs : List Batch) → mark < id → id ≤ from → log_at id o ≡ Some bs → All (λ b. b.number ≤ n) bs = λ id bs over under stored. has.logs view id bs is over (omega arith) stored in
+    let logs = subst (λ k. Replays from last k [] goes.added o (Ok goes.found)) number_is goes.logs in
+    let all = later-replayed o view sound is from n above within tabled ended low goes.found goes.added logs in
+    let rest = all.0 ∙ (sym (later-logged o view sound is from n above within tabled ended low) ∙ logged-rest o view sound is w.line begins tabled) in
+    let kept = batches_above w.view.manifest.last_l0_seq w.line.batches in
+    let batches = ap (λ bs. batches_above m.last_l0_seq (kept ++ bs)) rest ∙ kept-rest o view sound is w.line begins w.view.manifest.last_l0_seq behind in
+    sees-logged o view sound is goes.found (batches_above m.last_l0_seq (kept ++ goes.added)) new answer all.1 batches goes.becomes goes.answers
+
+pub goes-sees : (o : Objects) (view : VersionedManifest) (reach : ℕ) (old new : Follower) (answer : PollAnswer) → IsSound o → latest_manifest o ≡ Some view → reach ≡ last_log view.manifest.replay_after_wal_id o →
+    kept_seen old o (content o) → Reaches old view → GoesOn o view reach old new answer → SeesAll kept_follower o (content o) new answer
+goes-sees o view reach old new answer sound is last_is seen reaches goes =
+    whole-sees o view seen.0 new answer sound is seen.2 seen.3 (subst (λ f. Reaches f view) seen.1 reaches)
+    (subst (λ f. GoesOn o view (last_log view.manifest.replay_after_wal_id o) f new answer) seen.1 (subst (λ k. GoesOn o view k old new answer) last_is goes))
+
+-- what went on took what the log files of the latest manifest have
+pub continues : (o : Objects) (view : VersionedManifest) (reach : ℕ) (old new : Follower) (answer : PollAnswer) → FindsView false o (Ok (view, reach)) → Reaches old view → GoesOn o view reach old new answer → Continues o old new answer
+continues o view reach old new answer can reaches goes =
+    let same : new.view ≡ view = ap (λ (f : Follower). f.view) goes.becomes in
+    let goes_on = subst (λ k. GoesOn o view k old new answer) can.2 goes in
+    record {
+      latest = can.0 ∙ ap Some (sym same);
+      can = ap (can_follow false) same ∙ can.1;
+      reaches = subst (Reaches old) (sym same) reaches;
+      goes = subst (λ v. GoesOn o v (last_log v.manifest.replay_after_wal_id o) old new answer) (sym same) goes_on;
+    }
+
+-- what was found, and went on
+module _ (view : VersionedManifest) (reach : ℕ) (old new : Follower) (answer : PollAnswer) {t t1 : Option Objects} (kept : t1 ≡ t) (reaches : Reaches old view)
+    (found : IfSome t (λ o. FindsView false o (Ok (view, reach)))) (gone : IfSome t1 (λ o. GoesOn o view reach old new answer)) where
+  found_at : (o : Objects) → t ≡ Some o → FindsView false o (Ok (view, reach))
+  found_at o at = some_at (λ o. FindsView false o (Ok (view, reach))) t o at found
+
+  gone_at : (o : Objects) → t ≡ Some o → GoesOn o view reach old new answer
+  gone_at o at = some_at (λ o. GoesOn o view reach old new answer) t1 o (kept ∙ at) gone
+
+  pub gone-continues : (o : Objects) → t ≡ Some o → Continues o old new answer
+  gone-continues o at = continues o view reach old new answer (found_at o at) reaches (gone_at o at)
+
+  pub gone-can : (o : Objects) → t ≡ Some o → (latest_manifest o ≡ Some new.view) × (can_follow false new.view ≡ true)
+  gone-can o at = let r = gone-continues o at in (r.latest, r.can)
+
+  pub gone-sees : (o : Objects) (stored : Line) → t ≡ Some o → IsContent t stored → kept_seen old o stored → SeesAll kept_follower o stored new answer
+  gone-sees o stored at content_is seen =
+      let can = found_at o at in
+      sees_stored new answer o stored at content_is
+      (λ sound line. goes-sees o view reach old new answer sound can.0 can.2 (subst (kept_seen old o) line seen) reaches (gone_at o at))

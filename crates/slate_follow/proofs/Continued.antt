@@ -1,5 +1,5 @@
 -- What goes on by what is new in a sound store, where a follower had seen the rest, sees all that it has.
-use Rattle.std.proofs.Common.{◌≡◌, ℕ, ◌+◌, ◌-◌, ◌<◌, ◌≤◌, max, length, List, [], ◌++◌, drop, map, false, true, Option, Some, None, Ok, refl, sym, subst, ap, ◌∙◌, arith, length-append}
+use Rattle.std.proofs.Common.{◌≡◌, ℕ, ◌+◌, ◌-◌, ◌<◌, ◌≤◌, max, length, List, [], ◌++◌, drop, map, false, true, Option, Some, Ok, sym, subst, ap, ◌∙◌, arith, length-append}
 use Rattle.std.specs.List.{All, flat_map}
 use Rattle.std.specs.Option.{IfSome}
 use Rattle.slate_types.proofs.Lines.{above-all, above-drop, above-none, numbered-drop}
@@ -11,12 +11,12 @@ use Rattle.slate_store.proofs.Latest.{its-objects}
 use Rattle.slate_store.proofs.Logs.{between-parts, no_gap-numbered, numbered-stand}
 use Rattle.slate_store.specs.declared.objects.VersionedManifest.{VersionedManifest}
 use Rattle.slate_store.specs.Content.{IsSound, content, logged, logs_above}
-use Rattle.slate_store.specs.Logs.{AreWhole, BelongTo, batches_between}
+use Rattle.slate_store.specs.Logs.{AreWhole, batches_between}
 use Rattle.slate_store.specs.Objects.{Objects, last_log, latest_manifest, log_at}
 use Rattle.slate_replay.proofs.Recovered.{recovered-all}
 use Rattle.slate_replay.specs.declared.replays.Replayed.{Replayed}
 use Rattle.slate_replay.specs.declared.replays.Replayed.TheVariants as replays
-use Rattle.slate_replay.specs.Replay.{Replays, line_of}
+use Rattle.slate_replay.specs.Replay.{Replays}
 use Rattle.slate_model.proofs.Free.{numbered-front}
 use Rattle.slate_model.proofs.Reopened.{logs-by, numbered_rest}
 use Rattle.slate_model.specs.Follow.{SeesAll, can_follow}

@@ -8,7 +8,7 @@ pub struct DbReaderOptions {
     pub checkpoint_lifetime_ms: u64,
     /// Whether the reader is to see the tables alone, and to read no log file. It can't be opened so yet.
     pub skip_wal_replay: bool,
-    /// At how many bytes of replayed batches another table in memory is to be begun. One table has them all yet.
+    /// At how many bytes of replayed batches another table in memory is to be begun. It isn't looked at yet.
     pub max_memtable_bytes: u64,
 }
 

@@ -44,10 +44,16 @@ impl FollowerState {
         Ok((FollowerState::new(alloc, rebuilt)?, answer))
     }
 
-    /// Takes all that is stored by now: from then on the reader goes by the latest manifest until the next poll, and
-    /// sees the batches in its tables and those that the log files above its replay mark have above the last number in
-    /// tables. It reads no table. `moment` isn't looked at. It rebuilds what it sees at each poll, which takes the time
-    /// and the calls of an opening.
+    /// Takes what is new since the last poll: from then on the reader goes by the latest manifest until the next poll,
+    /// and sees the batches in its tables and those that the log files above its replay mark have above the last number in
+    /// tables. It reads no table. `moment` isn't looked at.
+    ///
+    /// It calls the store twice, and once for each log file that it reads: those above both the replay mark and its own
+    /// mark, up to which it has what the log files have. It takes time linear in the operations of these, for each new
+    /// key a logarithm of the keys, and time for each batch that it drops, since it is in the tables of the manifest.
+    /// Where it joins its last tables in memory, so that they stay few, that takes time linear in their operations, too.
+    /// Only where its batches don't reach the manifest's tables, so that log files between may be gone, it reads all log
+    /// files above the replay mark, as an opening does.
     ///
     /// It answers `Truncated` where a log file or a batch is missing, and the reader has the batches before it then;
     /// that never comes over a store that only handles wrote. A poll that answers an error leaves the reader as it was,

@@ -25,8 +25,9 @@ impl FollowerState {
     /// `MergeOperatorMissing` where operands are to be merged and there is no operator, `MergeOperatorError` where the
     /// operator refuses one, and `NoMemory`; and `ObjectStoreError` where the store fails, or a table isn't stored (a
     /// sweep may have removed it: the next poll mends that). A read changes nothing. It calls the store once for each
-    /// table, and shares what it reads. It takes a look-up in memory and in each table, from the last back to the first
-    /// with a put or a delete, and goes over the key's operations since then. SlateDB's `get`.
+    /// stored table, and shares what it reads. It takes a look-up in each of its tables in memory and in each stored one,
+    /// from the last back to the first with a put or a delete, and goes over the key's operations since then. SlateDB's
+    /// `get`.
     pub fn get<S: Store, M: MergeOperator>(
         &self,
         alloc: Global,

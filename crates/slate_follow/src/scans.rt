@@ -27,8 +27,8 @@ impl FollowerState {
     /// it: the next poll mends that). Where operands of a key are to be merged and there is no operator, or it refuses
     /// one, the rows end before this key, and the iterator answers that fault after them. A scan changes nothing.
     ///
-    /// It calls the store once for each table, and shares what it reads. It takes time logarithmic in the keys of memory
-    /// and of each table, and then for each key of the range, also one without a row, that of a `get`, and of a few
+    /// It calls the store once for each table, and shares what it reads. It takes time logarithmic in the keys of each
+    /// table, stored or in memory, and then for each key of the range, also one without a row, that of a `get`, and of a few
     /// comparisons, with a logarithm of the number of tables. It takes memory for each key and row, and copies no key and
     /// no value. SlateDB's `scan`.
     pub fn scan<S: Store, M: MergeOperator>(

@@ -187,13 +187,19 @@ fn tabled_database(alloc: Global) -> Result<MemoryStore, Fail> {
     let table = Table::of_batches(alloc, &[batch_of(alloc, 1, b"ab", b"x")?])?;
     store.put_table(alloc, TABLE, &table)?;
     put_log(alloc, &mut store, 2, b"bc", b"y")?;
+    put_tabled(alloc, &mut store, 1, 1)?;
+    Ok(store)
+}
+
+// Puts a manifest whose table has the batches up to this number, each of the log file of its number.
+fn put_tabled(alloc: Global, store: &mut MemoryStore, id: u64, last: u64) -> Result<(), Fail> {
     let mut manifest = first_manifest(alloc);
     manifest.tables = Seq::of(vec![in alloc; TABLE]?);
-    manifest.last_l0_seq = 1;
-    manifest.replay_after_wal_id = 1;
-    manifest.next_wal_id = 2;
-    store.put_manifest(alloc, 1, &manifest)?;
-    Ok(store)
+    manifest.last_l0_seq = last;
+    manifest.replay_after_wal_id = last;
+    manifest.next_wal_id = last + 1;
+    store.put_manifest(alloc, id, &manifest)?;
+    Ok(())
 }
 
 // The number of the batch from which a reader gets the value of a key.
@@ -228,6 +234,63 @@ fn tables(rt: HostRuntime) -> Result<(), Fail> {
     for key in [b"a", b"c"] {
         assert!(rt; is_missing(got(alloc, &mut store, &follower, key)));
     }
+    Ok(())
+}
+
+// Puts a log file of a batch that puts a key, and polls a reader.
+fn polled(
+    alloc: Global,
+    store: &mut MemoryStore,
+    follower: &mut FollowerState,
+    number: u64,
+    keys: &[u8],
+) -> Result<PollAnswer, Fail> {
+    put_log(alloc, store, number, keys, b"x")?;
+    Ok(follower.poll(alloc, store, NO_EXTRACTOR, 1)?)
+}
+
+// Puts the first two of those batches into a table, and sweeps their log files.
+fn flush_two(alloc: Global, store: &mut MemoryStore) -> Result<(), Fail> {
+    let batches = [
+        batch_of(alloc, 1, b"a", b"x")?,
+        batch_of(alloc, 2, b"b", b"x")?,
+    ];
+    let table = Table::of_batches(alloc, &batches)?;
+    store.put_table(alloc, TABLE, &table)?;
+    put_tabled(alloc, store, 2, 2)?;
+    store.remove_log(alloc, 1)?;
+    store.remove_log(alloc, 2)?;
+    Ok(())
+}
+
+// A reader that is polled after each batch sees them all, also once a table has the first ones.
+#[test]
+fn polls(rt: HostRuntime) -> Result<(), Fail> {
+    let alloc = rt.alloc();
+    let mut store = database(alloc, &[])?;
+    let (mut follower, _) = open(alloc, &mut store)?;
+    for (number, keys) in [(1, b"a"), (2, b"b"), (3, b"c"), (4, b"a")] {
+        let answer = polled(alloc, &mut store, &mut follower, number, keys)?;
+        assert_eq!(rt; answer, PollAnswer::Whole { at: number });
+    }
+    flush_two(alloc, &mut store)?;
+    let answer = polled(alloc, &mut store, &mut follower, 5, b"d")?;
+    assert_eq!(rt; answer, PollAnswer::Whole { at: 5 });
+    let order = IterationOrder::Ascending;
+    let rows = scanned(alloc, &mut store, &follower, b"", order)?;
+    assert_eq!(rt; rows.as_slice(), b"a=x@4 b=x@2 c=x@3 d=x@5 ".as_slice());
+    Ok(())
+}
+
+// A reader that found a log file missing takes it, and those after it, once it is there.
+#[test]
+fn mended_logs(rt: HostRuntime) -> Result<(), Fail> {
+    let alloc = rt.alloc();
+    let mut store = database(alloc, &[(1, &[1]), (3, &[3])])?;
+    let (mut follower, opened) = open(alloc, &mut store)?;
+    assert_eq!(rt; opened, PollAnswer::Truncated { at: 1 });
+    let answer = polled(alloc, &mut store, &mut follower, 2, b"a")?;
+    assert_eq!(rt; answer, PollAnswer::Whole { at: 3 });
     Ok(())
 }
 

@@ -36,11 +36,15 @@ stored-before stored o a v ids there k d less epoch =
 
 -- and their epochs aren't above the latest manifest's
 pub stored-past : (o : Objects) (latest : VersionedManifest) → IsSound o → latest_manifest o ≡ Some latest → (ids : List TableId) → AreStored o ids → AreOfPast (catalogue_of o) ids
-stored-past o latest sound is ids there = (latest, is, λ k d less.
-    elim (cases_lt latest.manifest.writer_epoch (get_or ids k d).epoch) [
-      | inl above ↦ absurd (there k d less (absent-table latest.manifest.writer_epoch (get_or ids k d) o.tables above (its-objects o latest sound is).epochs))
-      | inr low ↦ low
-    ])
+stored-past o latest sound is ids there = (
+  latest,
+  is,
+  λ k d less.
+      elim (cases_lt latest.manifest.writer_epoch (get_or ids k d).epoch) [
+        | inl above ↦ absurd (there k d less (absent-table latest.manifest.writer_epoch (get_or ids k d) o.tables above (its-objects o latest sound is).epochs))
+        | inr low ↦ low
+      ],
+)
 
 pub past-follows : (o o' : Objects) (latest next : VersionedManifest) → latest_manifest o ≡ Some latest → latest_manifest o' ≡ Some next → latest.manifest.writer_epoch ≤ next.manifest.writer_epoch → (ids : List TableId) → AreOfPast (catalogue_of o) ids → AreOfPast (catalogue_of o') ids
 past-follows o o' latest next is is' up ids past =

@@ -1,4 +1,6 @@
 // Tests of readers whose log files are whole or have gaps, of their scans, of tables, and of closed readers.
+ghost use Rattle.std.specs.Prelude.{◌≡◌, IfOk};
+
 use crate::replay::{Logs, store_of};
 use slate_errors::SlateError;
 use slate_follow::{DbReaderMode, DbReaderOptions, FollowerState, PollAnswer};
@@ -71,7 +73,9 @@ fn missing_logs(rt: HostRuntime) -> Result<(), Fail> {
 }
 
 // A batch that puts a value under keys of one letter.
-fn batch_of(alloc: Global, number: u64, keys: &[u8], value: &[u8]) -> Result<Batch, Fail> {
+fn batch_of(alloc: Global, number: u64, keys: &[u8], value: &[u8]) -> Result<Batch, Fail>
+    ensures { IfOk result (λ batch. batch.number ≡ number) }
+{
     let mut written = WriteBatch::new(alloc);
     for key in keys {
         written.put(alloc, &[*key], value)?;
@@ -197,7 +201,7 @@ fn put_tabled(alloc: Global, store: &mut MemoryStore, id: u64, last: u64) -> Res
     manifest.tables = Seq::of(vec![in alloc; TABLE]?);
     manifest.last_l0_seq = last;
     manifest.replay_after_wal_id = last;
-    manifest.next_wal_id = last + 1;
+    manifest.next_wal_id = last.saturating_add(1);
     store.put_manifest(alloc, id, &manifest)?;
     Ok(())
 }

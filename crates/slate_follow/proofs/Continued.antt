@@ -1,5 +1,5 @@
 -- What goes on by what is new in a sound store, where a follower had seen the rest, sees all that it has.
-use Rattle.std.proofs.Common.{◌≡◌, ℕ, ◌+◌, ◌-◌, ◌<◌, ◌≤◌, max, length, List, [], ◌++◌, drop, map, false, true, Option, Some, Ok, sym, subst, ap, ◌∙◌, arith, length-append}
+use Rattle.std.proofs.Common.{◌≡◌, ℕ, ◌+◌, ◌-◌, ◌<◌, ◌≤◌, max, length, List, [], ◌++◌, drop, map, false, Option, Some, Ok, sym, subst, ap, ◌∙◌, arith, length-append}
 use Rattle.std.specs.List.{All, flat_map}
 use Rattle.std.specs.Option.{IfSome}
 use Rattle.slate_types.proofs.Lines.{above-all, above-drop, above-none, numbered-drop}
@@ -18,17 +18,18 @@ use Rattle.slate_replay.specs.declared.replays.Replayed.{Replayed}
 use Rattle.slate_replay.specs.declared.replays.Replayed.TheVariants as replays
 use Rattle.slate_replay.specs.Replay.{Replays}
 use Rattle.slate_model.proofs.Free.{numbered-front}
-use Rattle.slate_model.proofs.Reopened.{logs-by, numbered_rest}
-use Rattle.slate_model.specs.Follow.{SeesAll, can_follow}
-use Rattle.slate_model.specs.Follower.{Follower, kept_follower, number}
+use Rattle.slate_model.proofs.Reopened.{line_from, logs-by, numbered_rest}
+use Rattle.slate_model.specs.Follow.{SeesOwed}
+use Rattle.slate_model.specs.Followed.{IsView, last_read}
+use Rattle.slate_model.specs.Follower.{Follower, is_pinned, kept_follower, number, rebuilt}
 use Rattle.slate_model.specs.Handle.{line_above}
 use Rattle.slate_model.specs.Known.{IsContent}
 use Rattle.slate_model.specs.Seen.{HasSeen}
-use Rattle.slate_model.specs.Stores.{kept_seen}
+use Rattle.slate_model.specs.Stores.{by_objects, kept_seen}
 use Rattle.slate_model.specs.declared.answers.PollAnswer.{PollAnswer}
-use Rattle.slate_follow.specs.Rebuilding.{Continues, FindsView, GoesOn, Reaches}
+use Rattle.slate_follow.specs.Rebuilding.{Continues, FindsView, GoesOn, Reaches, reached}
 use Rattle.slate_follow.proofs.Above.{above-append, above-fewer, above-twice, none-between}
-use Rattle.slate_follow.proofs.Rebuilt.{kept-end, kept-line, sees-logged, sees_stored, some_at}
+use Rattle.slate_follow.proofs.Rebuilt.{kept-end, kept-line, sees-kept, sees_stored, some_at, unpinned-last, unpinned-latest, unpinned-owed}
 
 -- Log files of sound objects, where those up to one of them have no batch above a number, which isn't below the last one
 -- in tables.
@@ -127,9 +128,9 @@ module _ (o : Objects) (view : VersionedManifest) (sound : IsSound o) (is : late
       ∙ (sym (above-append floor line.batches rest) ∙ (ap (batches_above floor) (sym parts) ∙ sym logged-above)))
 
 -- so a follower that goes on, of which this is the whole, sees it all
-whole-sees : (o : Objects) (view : VersionedManifest) (w new : Follower) (answer : PollAnswer) → IsSound o → latest_manifest o ≡ Some view → IsPrefix w.line (content o) → HasSeen o w →
-    Reaches (kept_follower w) view → GoesOn o view (last_log view.manifest.replay_after_wal_id o) (kept_follower w) new answer → SeesAll kept_follower o (content o) new answer
-whole-sees o view w new answer sound is begins has reaches goes =
+whole-sees : (t : Option Objects) (o : Objects) (view : VersionedManifest) (w new : Follower) (answer : PollAnswer) → w.skips ≡ false → is_pinned w.mode ≡ false → IsSound o → latest_manifest o ≡ Some view → IsPrefix w.line (content o) → HasSeen o w →
+    Reaches (kept_follower w) view → GoesOn o view (last_log view.manifest.replay_after_wal_id o) (kept_follower w) new answer → SeesOwed (by_objects t) w.mode w.skips o (content o) new answer
+whole-sees t o view w new answer reads free sound is begins has reaches goes =
     let m = view.manifest in
     let mark = m.replay_after_wal_id in
     let last = last_log mark o in
@@ -137,8 +138,8 @@ whole-sees o view w new answer sound is begins has reaches goes =
     let from = max w.mark mark in
     let number_is : number (kept_follower w) ≡ n = kept-number w.view.manifest.last_l0_seq w.line in
     let behind = reaches.0 in
-    let reached = reaches.1 in
-    let tabled : m.last_l0_seq ≤ n = omega (arith, reached, number_is) in
+    let arrived = reaches.1 in
+    let tabled : m.last_l0_seq ≤ n = omega (arith, arrived, number_is) in
     let seen = has.mark view is in
     let least = at_least mark (map (λ log. log.0) o.logs) in
     let above : mark ≤ from = omega arith in
@@ -149,32 +150,39 @@ whole-sees o view w new answer sound is begins has reaches goes =
     let all = later-replayed o view sound is from n above within tabled ended low goes.found goes.added logs in
     let rest = all.0 ∙ (sym (later-logged o view sound is from n above within tabled ended low) ∙ logged-rest o view sound is w.line begins tabled) in
     let kept = batches_above w.view.manifest.last_l0_seq w.line.batches in
+    let now = batches_above m.last_l0_seq (kept ++ goes.added) in
     let batches = ap (λ bs. batches_above m.last_l0_seq (kept ++ bs)) rest ∙ kept-rest o view sound is w.line begins w.view.manifest.last_l0_seq behind in
-    sees-logged o view sound is goes.found (batches_above m.last_l0_seq (kept ++ goes.added)) new answer all.1 batches goes.becomes goes.answers
+    let line = ap (line_from m.last_l0_seq) batches ∙ kept-line o view sound is in
+    let becomes = subst (λ k. new ≡ rebuilt w.mode w.skips view (line_from m.last_l0_seq now) (reached goes.found k)) (sym (unpinned-last o view w.mode w.skips free reads)) goes.becomes in
+    sees-kept t o w.mode w.skips view (content o) (content o) goes.found now new answer (unpinned-owed o view t w.mode w.skips (content o) free reads) line all.1 becomes goes.answers
 
-pub goes-sees : (o : Objects) (view : VersionedManifest) (reach : ℕ) (old new : Follower) (answer : PollAnswer) → IsSound o → latest_manifest o ≡ Some view → reach ≡ last_log view.manifest.replay_after_wal_id o →
-    kept_seen old o (content o) → Reaches old view → GoesOn o view reach old new answer → SeesAll kept_follower o (content o) new answer
-goes-sees o view reach old new answer sound is last_is seen reaches goes =
-    whole-sees o view seen.0 new answer sound is seen.2 seen.3 (subst (λ f. Reaches f view) seen.1 reaches)
-    (subst (λ f. GoesOn o view (last_log view.manifest.replay_after_wal_id o) f new answer) seen.1 (subst (λ k. GoesOn o view k old new answer) last_is goes))
+pub goes-sees : (t : Option Objects) (o : Objects) (view : VersionedManifest) (reach : ℕ) (old new : Follower) (answer : PollAnswer) → old.skips ≡ false → is_pinned old.mode ≡ false → IsSound o → FindsView old.mode old.skips false o (Ok (view, reach)) →
+    kept_seen old o (content o) → Reaches old view → GoesOn o view reach old new answer → SeesOwed (by_objects t) old.mode old.skips o (content o) new answer
+goes-sees t o view reach old new answer reads free sound can seen reaches goes =
+    let w = seen.0 in
+    let all = subst (λ k. GoesOn o view k old new answer) (can.1 ∙ unpinned-last o view old.mode old.skips free reads) goes in
+    let mode : old.mode ≡ w.mode = ap (λ (f : Follower). f.mode) seen.1 in
+    let skips : old.skips ≡ w.skips = ap (λ (f : Follower). f.skips) seen.1 in
+    subst (λ (f : Follower). SeesOwed (by_objects t) f.mode f.skips o (content o) new answer) (sym seen.1)
+    (whole-sees t o view w new answer (sym skips ∙ reads) (ap is_pinned (sym mode) ∙ free) sound (unpinned-latest o view old.mode false free can.0) seen.2 seen.3 (subst (λ f. Reaches f view) seen.1 reaches)
+    (subst (λ f. GoesOn o view (last_log view.manifest.replay_after_wal_id o) f new answer) seen.1 all))
 
 -- what went on took what the log files of the latest manifest have
-pub continues : (o : Objects) (view : VersionedManifest) (reach : ℕ) (old new : Follower) (answer : PollAnswer) → FindsView false o (Ok (view, reach)) → Reaches old view → GoesOn o view reach old new answer → Continues o old new answer
+pub continues : (o : Objects) (view : VersionedManifest) (reach : ℕ) (old new : Follower) (answer : PollAnswer) → FindsView old.mode old.skips false o (Ok (view, reach)) → Reaches old view → GoesOn o view reach old new answer → Continues o old new answer
 continues o view reach old new answer can reaches goes =
     let same : new.view ≡ view = ap (λ (f : Follower). f.view) goes.becomes in
-    let goes_on = subst (λ k. GoesOn o view k old new answer) can.2 goes in
+    let goes_on = subst (λ k. GoesOn o view k old new answer) can.1 goes in
     record {
-      latest = can.0 ∙ ap Some (sym same);
-      can = ap (can_follow false) same ∙ can.1;
+      view = subst (IsView old.mode false o) (sym same) can.0;
       reaches = subst (Reaches old) (sym same) reaches;
-      goes = subst (λ v. GoesOn o v (last_log v.manifest.replay_after_wal_id o) old new answer) (sym same) goes_on;
+      goes = subst (λ v. GoesOn o v (last_read old.mode old.skips v o) old new answer) (sym same) goes_on;
     }
 
 -- what was found, and went on
-module _ (view : VersionedManifest) (reach : ℕ) (old new : Follower) (answer : PollAnswer) {t t1 : Option Objects} (kept : t1 ≡ t) (reaches : Reaches old view)
-    (found : IfSome t (λ o. FindsView false o (Ok (view, reach)))) (gone : IfSome t1 (λ o. GoesOn o view reach old new answer)) where
-  found_at : (o : Objects) → t ≡ Some o → FindsView false o (Ok (view, reach))
-  found_at o at = some_at (λ o. FindsView false o (Ok (view, reach))) t o at found
+module _ (view : VersionedManifest) (reach : ℕ) (old new : Follower) (answer : PollAnswer) {t t1 : Option Objects} (kept : t1 ≡ t) (reads : old.skips ≡ false) (free : is_pinned old.mode ≡ false) (reaches : Reaches old view)
+    (found : IfSome t (λ o. FindsView old.mode old.skips false o (Ok (view, reach)))) (gone : IfSome t1 (λ o. GoesOn o view reach old new answer)) where
+  found_at : (o : Objects) → t ≡ Some o → FindsView old.mode old.skips false o (Ok (view, reach))
+  found_at o at = some_at (λ o. FindsView old.mode old.skips false o (Ok (view, reach))) t o at found
 
   gone_at : (o : Objects) → t ≡ Some o → GoesOn o view reach old new answer
   gone_at o at = some_at (λ o. GoesOn o view reach old new answer) t1 o (kept ∙ at) gone
@@ -182,11 +190,11 @@ module _ (view : VersionedManifest) (reach : ℕ) (old new : Follower) (answer :
   pub gone-continues : (o : Objects) → t ≡ Some o → Continues o old new answer
   gone-continues o at = continues o view reach old new answer (found_at o at) reaches (gone_at o at)
 
-  pub gone-can : (o : Objects) → t ≡ Some o → (latest_manifest o ≡ Some new.view) × (can_follow false new.view ≡ true)
-  gone-can o at = let r = gone-continues o at in (r.latest, r.can)
+  pub gone-can : (o : Objects) → t ≡ Some o → IsView old.mode false o new.view
+  gone-can o at = (gone-continues o at).view
 
-  pub gone-sees : (o : Objects) (stored : Line) → t ≡ Some o → IsContent t stored → kept_seen old o stored → SeesAll kept_follower o stored new answer
+  pub gone-sees : (o : Objects) (stored : Line) → t ≡ Some o → IsContent t stored → kept_seen old o stored → SeesOwed (by_objects t) old.mode old.skips o stored new answer
   gone-sees o stored at content_is seen =
       let can = found_at o at in
-      sees_stored new answer o stored at content_is
-      (λ sound line. goes-sees o view reach old new answer sound can.0 can.2 (subst (kept_seen old o) line seen) reaches (gone_at o at))
+      sees_stored old.mode old.skips new answer o stored at content_is
+      (λ sound line. goes-sees t o view reach old new answer reads free sound can (subst (kept_seen old o) line seen) reaches (gone_at o at))

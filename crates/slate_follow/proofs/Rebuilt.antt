@@ -1,25 +1,31 @@
--- What is built anew of a sound store sees all that it has.
-use Rattle.std.proofs.Common.{◌≡◌, ℕ, ◌+◌, length, Bool, true, List, [], Option, Some, None, Ok, refl, sym, subst, ap, ◌∙◌}
+-- What is built anew of a sound store sees all that it is owed.
+use Rattle.std.proofs.Common.{◌≡◌, ℕ, ◌+◌, length, Bool, true, false, List, [], Option, Some, None, Ok, refl, sym, subst, ap, ◌∙◌}
 use Rattle.std.specs.Option.{IfSome}
 use Rattle.slate_types.specs.declared.batches.Batch.{Batch}
 use Rattle.slate_types.specs.Line.{Line, end}
 use Rattle.slate_store.specs.declared.objects.VersionedManifest.{VersionedManifest}
+use Rattle.slate_store.specs.declared.reader_modes.DbReaderMode.{DbReaderMode}
+use Rattle.slate_store.specs.declared.reader_modes.DbReaderMode.TheVariants as modes
 use Rattle.slate_store.specs.Content.{IsSound, content, logged}
 use Rattle.slate_store.specs.Objects.{Objects, last_log, latest_manifest}
 use Rattle.slate_replay.proofs.Recovered.{recovered-all}
 use Rattle.slate_replay.specs.Replay.{Replays}
 use Rattle.slate_replay.specs.declared.replays.Replayed.{Replayed}
 use Rattle.slate_replay.specs.declared.replays.Replayed.TheVariants as replays
-use Rattle.slate_model.specs.Follow.{SeesAll, can_follow}
-use Rattle.slate_model.specs.Follower.{Follower, kept_follower, number, rebuilt}
+use Rattle.slate_model.specs.Follow.{IsOwed, SeesOwed}
+use Rattle.slate_model.specs.Followed.{IsView, last_read}
+use Rattle.slate_model.specs.Follower.{Follower, is_pinned, number, rebuilt}
 use Rattle.slate_model.specs.Handle.{Handle, kept_handle, line_above}
 use Rattle.slate_model.specs.Known.{IsContent}
 use Rattle.slate_model.specs.Open.{mark_of, next_manifest, opened_handle}
+use Rattle.slate_model.specs.Stores.{by_objects}
+use Rattle.slate_model.proofs.Keeping.{line_above-end}
+use Rattle.slate_model.proofs.Owing.{Owed, kept-is, owing}
 use Rattle.slate_model.proofs.Reduced.{some-same}
-use Rattle.slate_model.proofs.Reopened.{line_from, logs-by, recovered, recovered-is}
+use Rattle.slate_model.proofs.Reopened.{line_from, recovered, recovered-is}
 use Rattle.slate_model.specs.declared.answers.PollAnswer.{PollAnswer}
 use Rattle.slate_model.specs.declared.answers.PollAnswer.TheVariants.{Whole}
-use Rattle.slate_follow.specs.Rebuilding.{Builds, FindsView, HasLogs, ReplaysLatest, answer_of, reached}
+use Rattle.slate_follow.specs.Rebuilding.{Builds, FindsView, HasLogs, ReplaysView, answer_of, reached}
 
 -- The content of sound objects is kept, under their latest manifest, as what the log files have above its last number in
 -- tables: as an opening of a handle keeps it.
@@ -38,47 +44,87 @@ module _ (o : Objects) (view : VersionedManifest) (sound : IsSound o) (is : late
   pub kept-end : view.manifest.last_l0_seq + length (logged o view.manifest) ≡ end (content o)
   kept-end = ap (λ (h : Handle). h.durable) opened
 
-  -- a follower whose line is what the log files have, and that was replayed to the last one, sees it all
-  pub sees-logged : (found : Replayed) (batches : List Batch) (follower : Follower) (answer : PollAnswer) → let last = last_log view.manifest.replay_after_wal_id o in found ≡ replays.Whole → batches ≡ logged o view.manifest →
-      follower ≡ rebuilt view (line_from view.manifest.last_l0_seq batches) (reached found last) → answer ≡ answer_of found (number follower) → SeesAll kept_follower o (content o) follower answer
-  sees-logged found batches follower answer whole all becomes answers =
-      let m = view.manifest in
-      let last = last_log m.replay_after_wal_id o in
-      let kept = ap (λ bs. rebuilt view (line_from m.last_l0_seq bs) (reached found last)) all ∙ (ap (λ r. rebuilt view (line_from m.last_l0_seq (logged o m)) (reached r last)) whole ∙ ap (λ l. rebuilt view l last) kept-line) in
-      let ends : number follower ≡ end (content o) = ap number becomes ∙ (ap (λ bs. m.last_l0_seq + length bs) all ∙ kept-end) in
-      (view, is, becomes ∙ kept, answers ∙ (ap (λ r. answer_of r (number follower)) whole ∙ ap Whole ends))
+-- what a reader is owed doesn't hang on the store that its code knows
+owed-any : (t : Option Objects) (o : Objects) (mode : DbReaderMode) (skips : Bool) (view : VersionedManifest) (stored owed : Line) →
+    IsOwed (by_objects (Some o)) mode skips o view stored owed → IsOwed (by_objects t) mode skips o view stored owed
+owed-any t o mode true view stored owed is = is
+owed-any t o (modes.Checkpoint id) false view stored owed is = is
+owed-any t o modes.FollowLatest false view stored owed is = is
+owed-any t o modes.ManagedCheckpoint false view stored owed is = is
 
-module _ (opening : Bool) (o : Objects) (view : VersionedManifest) (last : ℕ) (can : FindsView opening o (Ok (view, last))) (follower : Follower) (answer : PollAnswer) where
+-- A reader that doesn't stay at a checkpoint goes by the latest manifest. Where it doesn't skip, it reads all log files, and is
+-- owed all that is stored.
+module _ (o : Objects) (view : VersionedManifest) where
+  pub unpinned-latest : (mode : DbReaderMode) (opening : Bool) → is_pinned mode ≡ false → IsView mode opening o view → latest_manifest o ≡ Some view
+  unpinned-latest (modes.Checkpoint id) opening free v = absurd (cc)
+  unpinned-latest modes.FollowLatest opening free v = v.1 ∙ v.3
+  unpinned-latest modes.ManagedCheckpoint opening free v = v.1 ∙ v.3
+
+  all_read : (mode : DbReaderMode) → is_pinned mode ≡ false → last_read mode false view o ≡ last_log view.manifest.replay_after_wal_id o
+  all_read (modes.Checkpoint id) free = absurd (cc)
+  all_read modes.FollowLatest free = refl
+  all_read modes.ManagedCheckpoint free = refl
+
+  pub unpinned-last : (mode : DbReaderMode) (skips : Bool) → is_pinned mode ≡ false → skips ≡ false → last_read mode skips view o ≡ last_log view.manifest.replay_after_wal_id o
+  unpinned-last mode skips free reads = ap (λ s. last_read mode s view o) reads ∙ all_read mode free
+
+  owed_all : (t : Option Objects) (mode : DbReaderMode) (stored : Line) → is_pinned mode ≡ false → IsOwed (by_objects t) mode false o view stored stored
+  owed_all t (modes.Checkpoint id) stored free = absurd (cc)
+  owed_all t modes.FollowLatest stored free = refl
+  owed_all t modes.ManagedCheckpoint stored free = refl
+
+  pub unpinned-owed : (t : Option Objects) (mode : DbReaderMode) (skips : Bool) (stored : Line) → is_pinned mode ≡ false → skips ≡ false → IsOwed (by_objects t) mode skips o view stored stored
+  unpinned-owed t mode skips stored free reads = subst (λ s. IsOwed (by_objects t) mode s o view stored stored) (sym reads) (owed_all t mode stored free)
+
+-- A follower that has the batches of a line that it is owed, those above the last number in tables, and that was replayed to the
+-- last log file that it reads, sees what it is owed.
+pub sees-kept : (t : Option Objects) (o : Objects) (mode : DbReaderMode) (skips : Bool) (view : VersionedManifest) (stored owed : Line) (found : Replayed) (batches : List Batch) (follower : Follower) (answer : PollAnswer) →
+    IsOwed (by_objects t) mode skips o view stored owed → line_from view.manifest.last_l0_seq batches ≡ line_above view.manifest.last_l0_seq owed → found ≡ replays.Whole →
+    follower ≡ rebuilt mode skips view (line_from view.manifest.last_l0_seq batches) (reached found (last_read mode skips view o)) → answer ≡ answer_of found (number follower) →
+    SeesOwed (by_objects t) mode skips o stored follower answer
+sees-kept t o mode skips view stored owed found batches follower answer is_owed line whole becomes answers =
+    let floor = view.manifest.last_l0_seq in
+    let last = last_read mode skips view o in
+    let same : view ≡ follower.view = sym (ap (λ (f : Follower). f.view) becomes) in
+    let ends : number follower ≡ end owed = ap number becomes ∙ (ap end line ∙ line_above-end floor owed) in
+    let kept = becomes ∙ (ap (λ r. rebuilt mode skips view (line_from floor batches) (reached r last)) whole ∙ ap (λ l. rebuilt mode skips view l last) line) in (
+      owed,
+      subst (λ v. IsOwed (by_objects t) mode skips o v stored owed) same is_owed,
+      kept ∙ ap (λ (v : VersionedManifest). rebuilt mode skips v (line_above v.manifest.last_l0_seq owed) (last_read mode skips v o)) same,
+      answers ∙ (ap (λ r. answer_of r (number follower)) whole ∙ ap Whole ends),
+    )
+
+module _ (mode : DbReaderMode) (skips opening : Bool) (o : Objects) (view : VersionedManifest) (last : ℕ) (can : FindsView mode skips opening o (Ok (view, last))) (follower : Follower) (answer : PollAnswer) where
   has_logs : (found : Replayed) (batches : List Batch) (at : ℕ) → Replays view.manifest.replay_after_wal_id last view.manifest.last_l0_seq [] batches o (Ok found) →
-      HasLogs o (rebuilt view (line_from view.manifest.last_l0_seq batches) (reached found last)) (answer_of found at)
+      HasLogs o (rebuilt mode skips view (line_from view.manifest.last_l0_seq batches) (reached found last)) (answer_of found at)
   has_logs replays.Whole batches at logs =
       let m = view.manifest in
-      (subst (λ n. Replays m.replay_after_wal_id n m.last_l0_seq [] batches o (Ok replays.Whole)) can.2 logs, can.2)
+      (subst (λ n. Replays m.replay_after_wal_id n m.last_l0_seq [] batches o (Ok replays.Whole)) can.1 logs, can.1)
   has_logs (replays.Truncated id) batches at logs =
       let m = view.manifest in
-      (id, subst (λ n. Replays m.replay_after_wal_id n m.last_l0_seq [] batches o (Ok (replays.Truncated id))) can.2 logs, refl)
+      (id, subst (λ n. Replays m.replay_after_wal_id n m.last_l0_seq [] batches o (Ok (replays.Truncated id))) can.1 logs, refl)
 
-  -- what is built is a replay of the latest manifest's log files
-  pub replays-latest : Builds o view last follower answer → ReplaysLatest opening o follower answer
-  replays-latest built =
-      let one = rebuilt view (line_from view.manifest.last_l0_seq built.batches) (reached built.found last) in
-      subst (λ f. ReplaysLatest opening o f answer) (sym built.becomes)
+  -- what is built is a replay of the log files of the manifest that it goes by
+  pub replays-view : Builds o mode skips view last follower answer → ReplaysView opening o follower answer
+  replays-view built =
+      let one = rebuilt mode skips view (line_from view.manifest.last_l0_seq built.batches) (reached built.found last) in
+      subst (λ f. ReplaysView opening o f answer) (sym built.becomes)
       (record {
-        latest = can.0;
-        can = can.1;
+        view = can.0;
         floor = refl;
         logs = subst (HasLogs o one) (sym built.answers) (has_logs built.found built.batches (number follower) built.logs);
       })
 
-  -- and sees the content of sound objects
-  pub builds-sees : IsSound o → Builds o view last follower answer → SeesAll kept_follower o (content o) follower answer
-  builds-sees sound built =
+  -- and sees what it is owed of sound objects
+  pub builds-sees : (t : Option Objects) → IsSound o → Builds o mode skips view last follower answer → SeesOwed (by_objects t) mode skips o (content o) follower answer
+  builds-sees t sound built =
       let m = view.manifest in
-      let its = logs-by o view sound can.0 in
-      let logs = subst (λ n. Replays m.replay_after_wal_id n m.last_l0_seq [] built.batches o (Ok built.found)) can.2 built.logs in
-      let all = recovered-all m.replay_after_wal_id (last_log m.replay_after_wal_id o) m.last_l0_seq (logged o m) built.batches o its.whole its.belong built.found logs in
-      let becomes = subst (λ n. follower ≡ rebuilt view (line_from m.last_l0_seq built.batches) (reached built.found n)) can.2 built.becomes in
-      sees-logged o view sound can.0 built.found built.batches follower answer all.1 all.0 becomes built.answers
+      let its : Owed o (content o) mode skips view = owing o mode skips opening view sound can.0 in
+      let logs = subst (λ n. Replays m.replay_after_wal_id n m.last_l0_seq [] built.batches o (Ok built.found)) can.1 built.logs in
+      let all = recovered-all m.replay_after_wal_id (last_read mode skips view o) m.last_l0_seq its.tables.rest built.batches o its.whole its.belong built.found logs in
+      let becomes = subst (λ n. follower ≡ rebuilt mode skips view (line_from m.last_l0_seq built.batches) (reached built.found n)) can.1 built.becomes in
+      let line = ap (line_from m.last_l0_seq) all.0 ∙ sym (kept-is o m its.owed its.tables its.numbered) in
+      sees-kept t o mode skips view (content o) its.owed built.found built.batches follower answer (owed-any t o mode skips view (content o) its.owed its.is_owed) line all.1 becomes built.answers
 
 -- what holds of each that there is holds where there is one
 pub if_some : {X : Type 0} {P : X → Type 0} (t : Option X) → ((x : X) → t ≡ Some x → P x) → IfSome t P
@@ -88,29 +134,31 @@ if_some (Some x) f = f x refl
 pub some_at : {X : Type 0} (P : X → Type 0) (t : Option X) (x : X) → t ≡ Some x → IfSome t P → P x
 some_at P t x at h = subst (λ y. IfSome y P) at h
 
--- what sees the content of sound objects sees the line that is stored
-pub sees_stored : {t : Option Objects} (follower : Follower) (answer : PollAnswer) (o : Objects) (stored : Line) → t ≡ Some o → IsContent t stored →
-    (IsSound o → stored ≡ content o → SeesAll kept_follower o (content o) follower answer) → SeesAll kept_follower o stored follower answer
-sees_stored follower answer o stored at content_is sees =
+-- what sees what it is owed of sound objects' content sees what it is owed of the line that is stored
+pub sees_stored : {t : Option Objects} (mode : DbReaderMode) (skips : Bool) (follower : Follower) (answer : PollAnswer) (o : Objects) (stored : Line) → t ≡ Some o → IsContent t stored →
+    (IsSound o → stored ≡ content o → SeesOwed (by_objects t) mode skips o (content o) follower answer) → SeesOwed (by_objects t) mode skips o stored follower answer
+sees_stored {t = t} mode skips follower answer o stored at content_is sees =
     let same : content_is.0 ≡ o = some-same content_is.0 o (sym content_is.1 ∙ at) in
     let line : stored ≡ content o = content_is.3 ∙ ap content same in
-    subst (λ l. SeesAll kept_follower o l follower answer) (sym line) (sees (subst IsSound same content_is.2) line)
+    subst (λ l. SeesOwed (by_objects t) mode skips o l follower answer) (sym line) (sees (subst IsSound same content_is.2) line)
 
 -- what was found and built
-module _ (opening : Bool) (view : VersionedManifest) (last : ℕ) (follower : Follower) (answer : PollAnswer) {t t1 : Option Objects} (kept : t1 ≡ t)
-    (found : IfSome t (λ o. FindsView opening o (Ok (view, last)))) (built : IfSome t1 (λ o. Builds o view last follower answer)) where
-  found_at : (o : Objects) → t ≡ Some o → FindsView opening o (Ok (view, last))
-  found_at o at = some_at (λ o. FindsView opening o (Ok (view, last))) t o at found
+module _ (mode : DbReaderMode) (skips opening : Bool) (view : VersionedManifest) (last : ℕ) (follower : Follower) (answer : PollAnswer) {t t1 : Option Objects} (kept : t1 ≡ t)
+    (found : IfSome t (λ o. FindsView mode skips opening o (Ok (view, last)))) (built : IfSome t1 (λ o. Builds o mode skips view last follower answer)) where
+  found_at : (o : Objects) → t ≡ Some o → FindsView mode skips opening o (Ok (view, last))
+  found_at o at = some_at (λ o. FindsView mode skips opening o (Ok (view, last))) t o at found
 
-  built_at : (o : Objects) → t ≡ Some o → Builds o view last follower answer
-  built_at o at = some_at (λ o. Builds o view last follower answer) t1 o (kept ∙ at) built
+  built_at : (o : Objects) → t ≡ Some o → Builds o mode skips view last follower answer
+  built_at o at = some_at (λ o. Builds o mode skips view last follower answer) t1 o (kept ∙ at) built
 
-  pub built-latest : (o : Objects) → t ≡ Some o → ReplaysLatest opening o follower answer
-  built-latest o at = replays-latest opening o view last (found_at o at) follower answer (built_at o at)
+  pub built-view : (o : Objects) → t ≡ Some o → ReplaysView opening o follower answer
+  built-view o at = replays-view mode skips opening o view last (found_at o at) follower answer (built_at o at)
 
-  pub built-can : (o : Objects) → t ≡ Some o → (latest_manifest o ≡ Some follower.view) × (can_follow opening follower.view ≡ true)
-  built-can o at = let r = built-latest o at in (r.latest, r.can)
+  pub built-can : (o : Objects) → t ≡ Some o → IsView mode opening o follower.view
+  built-can o at =
+      let same : view ≡ follower.view = sym (ap (λ (f : Follower). f.view) (built_at o at).becomes) in
+      subst (IsView mode opening o) same (found_at o at).0
 
-  pub built-sees : (o : Objects) (stored : Line) → t ≡ Some o → IsContent t stored → SeesAll kept_follower o stored follower answer
+  pub built-sees : (o : Objects) (stored : Line) → t ≡ Some o → IsContent t stored → SeesOwed (by_objects t) mode skips o stored follower answer
   built-sees o stored at content_is =
-      sees_stored follower answer o stored at content_is (λ sound _. builds-sees opening o view last (found_at o at) follower answer sound (built_at o at))
+      sees_stored mode skips follower answer o stored at content_is (λ sound _. builds-sees mode skips opening o view last (found_at o at) follower answer t sound (built_at o at))

@@ -10,6 +10,8 @@ use Rattle.slate_follow.specs.declared.states.FollowerState.TheInside.{Inside}
 abbrev pub follower_of : Inside → Follower
 follower_of a =
     record {
+      mode = a.following.mode;
+      skips = a.following.skips;
       view = a.status.manifest;
       line = record { floor = a.status.manifest.manifest.last_l0_seq; batches = joined a.kept.items };
       mark = a.mark;
@@ -26,7 +28,7 @@ pub record IsKept (a : Inside) : Type 0 where
 
 -- the follower that what was built makes
 abbrev pub rebuilt_follower : Rebuilt → Follower
-rebuilt_follower a = rebuilt a.view (record { floor = a.view.manifest.last_l0_seq; batches = a.memory }) a.mark
+rebuilt_follower a = rebuilt a.following.mode a.following.skips a.view (record { floor = a.view.manifest.last_l0_seq; batches = a.memory }) a.mark
 
 -- its batches are numbered from the last number in tables on
 pub record IsRebuilt (a : Rebuilt) : Type 0 where

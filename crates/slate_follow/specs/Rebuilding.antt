@@ -1,19 +1,23 @@
 -- What a follower finds of the latest manifest and its log files.
-use Rattle.std.specs.Prelude.{◌≡◌, ℕ, ◌+◌, ◌-◌, ◌≤◌, max, Bool, List, [], ◌++◌, true, false, Some, Result, Ok, Err}
+use Rattle.std.specs.Prelude.{◌≡◌, ℕ, ◌+◌, ◌-◌, ◌≤◌, max, Bool, List, [], ◌++◌, true, false, None, Some, Result, Ok, Err, IfOk}
 use Rattle.slate_types.specs.declared.batches.Batch.{Batch}
 use Rattle.slate_types.specs.Line.{batches_above}
-use Rattle.slate_store.specs.declared.objects.Manifest.{Manifest}
 use Rattle.slate_store.specs.declared.objects.VersionedManifest.{VersionedManifest}
-use Rattle.slate_types.specs.declared.store_errors.StoreFault.TheVariants.{Unavailable}
-use Rattle.slate_store.specs.Objects.{Objects, latest_manifest, last_log}
+use Rattle.slate_types.specs.declared.store_errors.StoreFault.TheVariants.{NotFound, Unavailable}
+use Rattle.slate_store.specs.declared.reader_modes.DbReaderMode.{DbReaderMode}
+use Rattle.slate_store.specs.declared.reader_modes.DbReaderMode.TheVariants.{Checkpoint}
+use Rattle.slate_store.specs.Checkpoints.{found}
+use Rattle.slate_store.specs.Objects.{Objects, last_log}
 use Rattle.slate_replay.specs.Replay.{Replays, line_of}
 use Rattle.slate_replay.specs.declared.replays.Replayed.{Replayed}
 use Rattle.slate_replay.specs.declared.replays.Replayed.TheVariants as replays
 use Rattle.slate_errors.specs.declared.errors.SlateError.{SlateError}
 use Rattle.slate_errors.specs.declared.errors.SlateError.TheVariants as errors
-use Rattle.slate_model.specs.Follow.{FollowCause, can_follow}
+use Rattle.slate_model.specs.Follow.{FollowCause}
+use Rattle.slate_model.specs.Followed.{IsView, finds, followed_logs, last_read, view_under}
 use Rattle.slate_model.specs.Follower.{Follower, number, rebuilt}
 use Rattle.slate_model.specs.Open.{replayed_logs}
+use Rattle.slate_model.specs.Stores.{Unpinned}
 use Rattle.slate_model.specs.declared.answers.PollAnswer.{PollAnswer}
 use Rattle.slate_model.specs.declared.answers.PollAnswer.TheVariants.{Whole, Truncated}
 
@@ -27,24 +31,25 @@ abbrev pub reached : Replayed → (last : ℕ) → ℕ
 reached replays.Whole last = last
 reached (replays.Truncated id) last = id - 1
 
--- the log files above the replay mark of a manifest gave these batches, so
-abbrev pub GiveBatches : Objects → Manifest → List Batch → Replayed → Type 0
-GiveBatches objects m batches found =
-    Replays m.replay_after_wal_id (last_log m.replay_after_wal_id objects) m.last_l0_seq [] batches objects (Ok found)
+-- the last log file that a follower reads
+abbrev pub last_of : Objects → Follower → ℕ
+last_of objects follower = last_read follower.mode follower.skips follower.view objects
+
+-- a follower's batches are those that the log files of its manifest gave, so
+abbrev pub GiveBatches : Objects → Follower → Replayed → Type 0
+GiveBatches objects follower found = let m = follower.view.manifest in
+    Replays m.replay_after_wal_id (last_of objects follower) m.last_l0_seq [] follower.line.batches objects (Ok found)
 
 -- the follower's batches are those of the log files of its manifest, up to its mark, and the answer says whether these were
 -- whole
 abbrev pub HasLogs : Objects → Follower → PollAnswer → Type 0
-HasLogs objects follower (Whole at) = let m = follower.view.manifest in
-    GiveBatches objects m follower.line.batches replays.Whole × (follower.mark ≡ last_log m.replay_after_wal_id objects)
-HasLogs objects follower (Truncated at) =
-    (id : ℕ) × GiveBatches objects follower.view.manifest follower.line.batches (replays.Truncated id) × (follower.mark ≡ id - 1)
+HasLogs objects follower (Whole at) = GiveBatches objects follower replays.Whole × (follower.mark ≡ last_of objects follower)
+HasLogs objects follower (Truncated at) = (id : ℕ) × GiveBatches objects follower (replays.Truncated id) × (follower.mark ≡ id - 1)
 
--- What a follower replayed of objects, sound or not: it can go by their latest manifest, and the log files of that are
--- whole, or truncated at one of them.
-pub record ReplaysLatest (opening : Bool) (objects : Objects) (follower : Follower) (answer : PollAnswer) : Type 0 where
-  pub latest : latest_manifest objects ≡ Some follower.view
-  pub can : can_follow opening follower.view ≡ true
+-- What a follower replayed of objects, sound or not: it can go by its manifest, and the log files of that are whole, or
+-- truncated at one of them.
+pub record ReplaysView (opening : Bool) (objects : Objects) (follower : Follower) (answer : PollAnswer) : Type 0 where
+  pub view : IsView follower.mode opening objects follower.view
   pub floor : follower.line.floor ≡ follower.view.manifest.last_l0_seq
   pub logs : HasLogs objects follower answer
 
@@ -56,7 +61,7 @@ Reaches follower view =
 -- the follower that goes on by a manifest, with these batches after its own, and without those that are in tables
 abbrev pub followed : Follower → VersionedManifest → List Batch → (mark : ℕ) → Follower
 followed old view added mark = let tabled = view.manifest.last_l0_seq in
-    rebuilt view (line_of tabled (batches_above tabled (old.line.batches ++ added))) mark
+    rebuilt old.mode old.skips view (line_of tabled (batches_above tabled (old.line.batches ++ added))) mark
 
 -- A follower goes on by a manifest: to its batches it adds those that the log files up to the last one give which it
 -- hasn't replayed yet.
@@ -67,27 +72,38 @@ pub record GoesOn (objects : Objects) (view : VersionedManifest) (last : ℕ) (o
   pub becomes : follower ≡ followed old view added (reached found last)
   pub answers : answer ≡ answer_of found (number follower)
 
--- What a follower took of objects, sound or not, that goes on from what it had: it can go by their latest manifest, whose
--- tables its batches reach.
+-- What a follower took of objects, sound or not, that goes on from what it had: it can go by its manifest, whose tables its
+-- batches reach.
 pub record Continues (objects : Objects) (old follower : Follower) (answer : PollAnswer) : Type 0 where
-  pub latest : latest_manifest objects ≡ Some follower.view
-  pub can : can_follow false follower.view ≡ true
+  pub view : IsView old.mode false objects follower.view
   pub reaches : Reaches old follower.view
-  pub goes : GoesOn objects follower.view (last_log follower.view.manifest.replay_after_wal_id objects) old follower answer
+  pub goes : GoesOn objects follower.view (last_read old.mode old.skips follower.view objects) old follower answer
 
--- the log files of a manifest up to the last one make this follower
-pub record Builds (objects : Objects) (view : VersionedManifest) (last : ℕ) (follower : Follower) (answer : PollAnswer) : Type 0 where
+-- the log files of a manifest up to the last one make this follower, in the mode that was asked for
+pub record Builds (objects : Objects) (mode : DbReaderMode) (skips : Bool) (view : VersionedManifest) (last : ℕ) (follower : Follower) (answer : PollAnswer) : Type 0 where
   pub batches : List Batch
   pub found : Replayed
   pub logs : Replays view.manifest.replay_after_wal_id last view.manifest.last_l0_seq [] batches objects (Ok found)
-  pub becomes : follower ≡ rebuilt view (line_of view.manifest.last_l0_seq batches) (reached found last)
+  pub becomes : follower ≡ rebuilt mode skips view (line_of view.manifest.last_l0_seq batches) (reached found last)
   pub answers : answer ≡ answer_of found (number follower)
 
--- the latest manifest, by which the database can be followed, and the last log file; or why it can't
-abbrev pub FindsView : Bool → Objects → Result (VersionedManifest × ℕ) SlateError → Type 0
-FindsView opening objects (Ok found) = (latest_manifest objects ≡ Some found.0) × (can_follow opening found.0 ≡ true)
-    × (found.1 ≡ last_log found.0.manifest.replay_after_wal_id objects)
-FindsView opening objects (Err error) = FollowCause opening objects error
+-- the manifest that a follower goes by, and the last log file that it reads; or why there is none
+abbrev pub FindsView : DbReaderMode → Bool → (opening : Bool) → Objects → Result (VersionedManifest × ℕ) SlateError → Type 0
+FindsView mode skips opening objects (Ok found) = IsView mode opening objects found.0 × (found.1 ≡ last_read mode skips found.0 objects)
+FindsView mode skips opening objects (Err error) = FollowCause mode opening (Unpinned mode objects) objects error
+
+-- the manifest that a follower goes by where this one is the latest, or why there is none
+abbrev pub GoesBy : DbReaderMode → Objects → (latest : VersionedManifest) → Result VersionedManifest SlateError → Type 0
+GoesBy mode objects latest (Ok view) = view_under mode objects latest ≡ Some view
+GoesBy mode objects latest (Err (errors.CheckpointMissing id)) = (mode ≡ Checkpoint id) × (found id latest ≡ None)
+GoesBy mode objects latest (Err (errors.ObjectStoreError NotFound)) = (view_under mode objects latest ≡ None) × (finds mode latest ≡ true)
+GoesBy mode objects latest (Err (errors.ObjectStoreError Unavailable)) = Unit {0}
+GoesBy mode objects latest (Err errors.NoMemory) = Unit {0}
+GoesBy mode objects latest (Err error) = ⊥
+
+-- the last log file that a follower reads, where none failed
+abbrev pub FindsLast : DbReaderMode → Bool → VersionedManifest → Objects → Result ℕ SlateError → Type 0
+FindsLast mode skips view objects result = IfOk result (λ last. last ≡ last_read mode skips view objects)
 
 -- the errors of a replay
 abbrev pub IsOfReplay : SlateError → Type 0
@@ -95,8 +111,12 @@ IsOfReplay (errors.ObjectStoreError Unavailable) = Unit {0}
 IsOfReplay errors.NoMemory = Unit {0}
 IsOfReplay error = ⊥
 
--- How often an opening or a poll calls a store at most: it asks for the latest manifest and the last log file, and reads
--- the log files that it replays.
+-- How often an opening calls a store at most: it asks for the latest manifest, and for the last log file or the manifest that
+-- its checkpoint keeps, and reads the log files that it replays.
+abbrev pub CallsOpening : DbReaderMode → Bool → Objects → (calls calls' : ℕ) → Type 0
+CallsOpening mode skips objects calls calls' = calls' ≤ calls + 2 + followed_logs mode skips objects
+
+-- and how often a poll
 abbrev pub CallsRebuilding : Objects → (calls calls' : ℕ) → Type 0
 CallsRebuilding objects calls calls' = calls' ≤ calls + 2 + replayed_logs objects
 

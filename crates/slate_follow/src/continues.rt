@@ -41,6 +41,7 @@ impl FollowerState {
         ensures calls { S.calls store.new ≤ S.calls store.old + (last - max self.old.mark view.manifest.replay_after_wal_id) }
         ensures kept { S.objects store.new ≡ S.objects store.old }
         ensures gone { IfOk result (λ answer. IfSome (S.objects store.old) (λ o. GoesOn o view last self.old self.new answer)) }
+        ensures asked { IfOk result (λ _. (self.new.mode ≡ self.old.mode) × (self.new.skips ≡ self.old.skips)) }
         ensures answer { IfOk result (λ answer. (self.new.result ≡ None) × AnswersAt (number self.new) answer) }
         ensures failed { OnErr result (self.new ≡ self.old) }
         ensures refusals { IfErr result IsOfReplay }

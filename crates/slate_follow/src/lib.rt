@@ -1,5 +1,6 @@
 //! A reader that follows a database: it goes by the latest manifest, whose tables it reads and whose log files it has in
-//! memory. A poll takes the manifest anew, and of the log files those that it hasn't replayed yet.
+//! memory. A poll takes the manifest anew, and of the log files those that it hasn't replayed yet. A reader of a checkpoint
+//! goes by the manifest that it keeps, and stays at that.
 #![tactic(auto)]
 
 mod closes;

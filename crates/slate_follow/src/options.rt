@@ -6,7 +6,7 @@ pub struct DbReaderOptions {
     /// For how long a checkpoint of the reader is to be kept unless it is renewed, in milliseconds. Readers have none
     /// yet.
     pub checkpoint_lifetime_ms: u64,
-    /// Whether the reader is to see the tables alone, and to read no log file. It can't be opened so yet.
+    /// Whether the reader sees the tables alone, and reads no log file.
     pub skip_wal_replay: bool,
     /// At how many bytes of replayed batches another table in memory is to be begun. It isn't looked at yet.
     pub max_memtable_bytes: u64,

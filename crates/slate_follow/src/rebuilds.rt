@@ -1,23 +1,28 @@
-// Finding the latest manifest and the last log file, and building a follower anew from all log files above its mark.
-ghost use Rattle.std.specs.Prelude.{◌≡◌, ◌+◌, ◌-◌, ◌<◌, ◌≤◌, ◌^◌, length, None, IfOk, IfErr, IfSome};
+// Finding the manifest that a reader goes by and the last log file, and building it anew from the log files above its mark.
+ghost use Rattle.std.specs.Prelude.{◌≡◌, ◌+◌, ◌-◌, ◌<◌, ◌≤◌, ◌^◌, length, true, cond, Err, None, IfOk, IfErr, IfSome};
 ghost use Rattle.slate_types.specs.Line.{AreNumberedFrom};
-ghost use Rattle.slate_store.specs.Objects.{last_log};
-ghost use Rattle.slate_model.specs.Follow.{AnswersAt, can_follow};
-ghost use Rattle.slate_model.specs.Follower.{number};
-ghost use Rattle.slate_model.specs.Known.{CountsFaults};
-ghost use Rattle.slate_follow.specs.Rebuilding.{Builds, FindsView, IsOfReplay, answer_of, reached};
+ghost use Rattle.slate_types.specs.declared.store_errors.StoreFault.TheVariants.{NotFound};
+ghost use Rattle.slate_store.specs.Checkpoints.{found, has_id};
+ghost use Rattle.slate_model.specs.Follow.{AnswersAt};
+ghost use Rattle.slate_model.specs.Followed.{can_follow};
+ghost use Rattle.slate_model.specs.Follower.{is_pinned, number};
+ghost use Rattle.slate_model.specs.Known.{CountsFaults, FaultsRise};
+ghost use Rattle.slate_follow.specs.Rebuilding.{Builds, FindsLast, FindsView, GoesBy, IsOfReplay, answer_of, reached};
 
 use crate::PollAnswer;
+use crate::states::Following;
 use slate_errors::SlateError;
 use slate_reads::IndexedTable;
 use slate_replay::{Replayed, recover};
-use slate_store::{Store, VersionedManifest};
+use slate_store::{Checkpoint, DbReaderMode, Store, VersionedManifest};
 use std::alloc::Global;
 use std::marker::Model;
+use uuid::Uuid;
 
 /// What a reader goes by: a manifest, the batches that the log files have above its tables, and up to which log file.
 #[derive(Drop)]
 pub(crate) struct Rebuilt {
+    pub(crate) following: Following,
     pub(crate) view: VersionedManifest,
     pub(crate) memory: IndexedTable,
     pub(crate) mark: u64,
@@ -44,16 +49,18 @@ impl Rebuilt {
     }
 }
 
-/// The latest manifest, where the database can be followed by it, and the last log file above its replay mark.
+/// The manifest that a reader goes by, where the database can be followed, and the last log file that it reads.
 pub(crate) fn find_view<S: Store>(
     alloc: Global,
     store: &mut S,
+    following: Following,
     opening: bool,
 ) -> Result<(VersionedManifest, u64), SlateError>
-    ensures faults { CountsFaults (S.faults store.old) (S.faults store.new) result }
+    ensures faults { FaultsRise (S.faults store.old) (S.faults store.new) result }
+    ensures missing { result ≡ Err (SlateError.ObjectStoreError NotFound) → is_pinned following.mode ≡ true }
     ensures calls { S.calls store.new ≤ S.calls store.old + 2 }
     ensures kept { S.objects store.new ≡ S.objects store.old }
-    ensures where_modelled { IfSome (S.objects store.old) (λ o. FindsView opening o result) }
+    ensures where_modelled { IfSome (S.objects store.old) (λ o. FindsView following.mode following.skips opening o result) }
 {
     let Some(latest) = store.latest_manifest(alloc)? else {
         return Err(SlateError::LatestTransactionalObjectVersionMissing);
@@ -61,8 +68,77 @@ pub(crate) fn find_view<S: Store>(
     if !can_follow(opening, &latest) {
         return Err(SlateError::InvalidDBState);
     }
-    let last = store.last_log(alloc, latest.manifest.replay_after_wal_id)?;
-    Ok((latest, last))
+    let view = view_under(alloc, store, following.mode, latest)?;
+    let last = last_read(alloc, store, following, &view)?;
+    Ok((view, last))
+}
+
+/// The manifest that a reader goes by where this one is the latest: the one that its checkpoint keeps, or the latest.
+fn view_under<S: Store>(
+    alloc: Global,
+    store: &mut S,
+    mode: DbReaderMode,
+    latest: VersionedManifest,
+) -> Result<VersionedManifest, SlateError>
+    ensures faults { FaultsRise (S.faults store.old) (S.faults store.new) result }
+    ensures missing { result ≡ Err (SlateError.ObjectStoreError NotFound) → is_pinned mode ≡ true }
+    ensures calls { S.calls store.new ≤ S.calls store.old + cond (is_pinned mode) 1 0 }
+    ensures kept { S.objects store.new ≡ S.objects store.old }
+    ensures where_modelled { IfSome (S.objects store.old) (λ o. GoesBy mode o latest result) }
+{
+    let DbReaderMode::Checkpoint(id) = mode else {
+        return Ok(latest);
+    };
+    let Some(checkpoint) = find_checkpoint(&latest, id) else {
+        return Err(SlateError::CheckpointMissing(id));
+    };
+    let manifest = store.read_manifest(alloc, checkpoint.manifest_id)?;
+    Ok(VersionedManifest {
+        id: checkpoint.manifest_id,
+        manifest,
+    })
+}
+
+/// The last log file that a reader reads that goes by a manifest.
+fn last_read<S: Store>(
+    alloc: Global,
+    store: &mut S,
+    following: Following,
+    view: &VersionedManifest,
+) -> Result<u64, SlateError>
+    ensures faults { CountsFaults (S.faults store.old) (S.faults store.new) result }
+    ensures calls { S.calls store.new ≤ S.calls store.old + cond (is_pinned following.mode) 0 1 }
+    ensures kept { S.objects store.new ≡ S.objects store.old }
+    ensures where_modelled { IfSome (S.objects store.old) (λ o. FindsLast following.mode following.skips view.now o result) }
+    ensures refusals { IfErr result IsOfReplay }
+{
+    if following.skips {
+        return Ok(view.manifest.replay_after_wal_id);
+    }
+    if let DbReaderMode::Checkpoint(_) = following.mode {
+        return Ok(view.manifest.next_wal_id.saturating_sub(1));
+    }
+    Ok(store.last_log(alloc, view.manifest.replay_after_wal_id)?)
+}
+
+/// The checkpoint of a manifest that has this id.
+fn find_checkpoint(latest: &VersionedManifest, id: Uuid) -> Option<Checkpoint>
+    ensures { result ≡ found id latest.now }
+{
+    latest
+        .manifest
+        .checkpoints
+        .as_slice()
+        .iter()
+        .copied()
+        .find(|checkpoint| has_id(checkpoint, id))
+}
+
+// Whether it is the checkpoint with this id.
+fn has_id(checkpoint: &Checkpoint, id: Uuid) -> bool
+    ensures { result ≡ has_id id checkpoint.now }
+{
+    checkpoint.id == id
 }
 
 /// Whether a database can be followed by its latest manifest.
@@ -72,23 +148,29 @@ fn can_follow(opening: bool, latest: &VersionedManifest) -> bool
     latest.manifest.initialized || !opening
 }
 
-/// What a reader goes by of a manifest and its log files up to the last one, and whether these were whole.
+/// What a reader has of a manifest that it goes by and its log files up to the last one, and whether these were whole.
 pub(crate) fn rebuild<S: Store>(
     alloc: Global,
     store: &mut S,
+    following: Following,
     view: VersionedManifest,
     last: u64,
 ) -> Result<(Rebuilt, PollAnswer), SlateError>
     ensures faults { CountsFaults (S.faults store.old) (S.faults store.new) result }
     ensures calls { S.calls store.new ≤ S.calls store.old + (last - view.manifest.replay_after_wal_id) }
     ensures kept { S.objects store.new ≡ S.objects store.old }
-    ensures built { IfOk result (λ p. IfSome (S.objects store.old) (λ o. Builds o view last p.0 p.1)) }
+    ensures built { IfOk result (λ p. IfSome (S.objects store.old) (λ o. Builds o following.mode following.skips view last p.0 p.1)) }
+    ensures asked { IfOk result (λ p. (p.0.mode ≡ following.mode) × (p.0.skips ≡ following.skips)) }
     ensures answer { IfOk result (λ p. (p.0.result ≡ None) × AnswersAt (number p.0) p.1) }
     ensures refusals { IfErr result IsOfReplay }
 {
     let (memory, replayed) = recover(alloc, store, &view.manifest, last)?;
-    let mark = reached(replayed, last);
-    let rebuilt = Rebuilt { view, memory, mark };
+    let rebuilt = Rebuilt {
+        following,
+        view,
+        memory,
+        mark: reached(replayed, last),
+    };
     let at = rebuilt.number();
     Ok((rebuilt, answer_of(replayed, at)))
 }

@@ -1,6 +1,6 @@
 // What a reader that follows a database keeps.
 ghost use Rattle.std.specs.Prelude.{◌≡◌, None, IfOk, OnOk, OnErr};
-ghost use Rattle.slate_model.specs.Follower.{number};
+ghost use Rattle.slate_model.specs.Follower.{is_pinned, number};
 ghost use Rattle.slate_status.specs.Records.{status_by};
 
 use crate::rebuilds::Rebuilt;
@@ -8,10 +8,17 @@ use crate::tables::list_of;
 use slate_errors::CloseFault;
 use slate_reads::IndexedTable;
 use slate_status::{DbStatus, StatusRecord};
-use slate_store::TableId;
+use slate_store::{DbReaderMode, TableId};
 use slate_types::NoMemory;
 use std::alloc::Global;
 use std::marker::Model;
+
+/// Which state of a database a reader follows, and whether it sees the tables alone and reads no log file.
+#[derive(Clone, Copy, Debug, PartialEq, Eq)]
+pub(crate) struct Following {
+    pub(crate) mode: DbReaderMode,
+    pub(crate) skips: bool,
+}
 
 /// A reader that follows a database, without the store that it follows. SlateDB's `DbReader`, as a plain value.
 ///
@@ -19,6 +26,7 @@ use std::marker::Model;
 /// the manifest that it goes by.
 #[derive(Drop)]
 pub struct FollowerState {
+    pub(crate) following: Following,
     /// Its batches, joined: a table for each poll that found some, oldest first.
     pub(crate) kept: Vec<IndexedTable>,
     /// The log files up to this id are replayed.
@@ -45,6 +53,7 @@ impl FollowerState {
     {
         let number = rebuilt.number();
         Ok(FollowerState {
+            following: rebuilt.following,
             kept: list_of(alloc, rebuilt.memory)?,
             mark: rebuilt.mark,
             status: StatusRecord::new(alloc, number, rebuilt.view),
@@ -58,6 +67,7 @@ impl FollowerState {
     {
         let number = rebuilt.number();
         self.kept = list_of(alloc, rebuilt.memory)?;
+        self.following = rebuilt.following;
         self.mark = rebuilt.mark;
         self.status.report_view(number, rebuilt.view);
         Ok(())
@@ -68,6 +78,13 @@ impl FollowerState {
         ensures { result.now ≡ self.now.view.manifest.tables }
     {
         self.status.manifest().manifest.tables.as_slice()
+    }
+
+    /// Whether it stays at a checkpoint.
+    pub(crate) fn is_pinned(&self) -> bool
+        ensures { result ≡ is_pinned self.now.mode }
+    {
+        matches!(self.following.mode, DbReaderMode::Checkpoint(_))
     }
 
     /// The number of the last batch that it sees. It takes constant time.
@@ -85,7 +102,7 @@ impl FollowerState {
     }
 
     /// A copy of what it reports of itself: the number of the last batch that it sees, the manifest that it goes by
-    /// (the latest, when it was opened or last polled), and why it closed, where it did. It is answered of a closed
+    /// (the latest, when it was opened or last polled, or that of its checkpoint), and why it closed, where it did. It is answered of a closed
     /// reader, too, and changes nothing. None of its batches is in a segment yet. It takes time and memory linear in
     /// the manifest. SlateDB's `DbReader::status`.
     pub fn status(&self, alloc: Global) -> Result<DbStatus, NoMemory>

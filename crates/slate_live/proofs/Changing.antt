@@ -1,17 +1,11 @@
 -- What holds of the objects of a world after one of them changed.
-use Rattle.std.proofs.Common.{◌≡◌, ◌≢◌, inl, inr, ℕ, ℤ, ◌-◌, List, [], ◌∷◌, ◌++◌, set, Option, Some, refl, sym, subst, ap, ◌∙◌, arith, append_assoc, length-append}
+use Rattle.std.proofs.Common.{◌≡◌, ◌≢◌, inl, inr, ℕ, List, set, Some, refl, sym, subst, ap, ◌∙◌}
 use Rattle.std.specs.List.{slice_get}
 use Rattle.std.proofs.lemmas.Bool.{cases_eq}
-use Rattle.std.proofs.lemmas.List.{take-append-le}
-use Rattle.slate_types.specs.declared.batches.KeyOp.{KeyOp}
-use Rattle.slate_types.specs.Line.{IsPrefix, Line, extended}
-use Rattle.slate_types.proofs.Lines.{numbered-push, above-push}
-use Rattle.slate_store.specs.declared.objects.VersionedManifest.{VersionedManifest}
 use Rattle.slate_model.specs.Follower.{Follower}
-use Rattle.slate_model.specs.Handle.{Handle, unstored}
-use Rattle.slate_model.specs.Write.{written, next_batch}
+use Rattle.slate_model.specs.Handle.{Handle}
 use Rattle.slate_model.specs.Object.{Object, Handle as AHandle, Follower as AFollower}
-use Rattle.slate_live.specs.Represents.{IsFollowerAt, IsHandleAt, IsValidHandle}
+use Rattle.slate_live.specs.Represents.{IsFollowerAt, IsHandleAt}
 use Rattle.slate_live.proofs.Places.{get-set_other, get-set_same}
 
 -- one handle stands at a place

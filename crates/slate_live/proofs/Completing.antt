@@ -2,7 +2,6 @@
 use Rattle.std.proofs.Common.{◌≡◌, ◌≢◌, ◌⊎◌, inl, inr, ℕ, ℤ, ◌<◌, ◌≤◌, Bool, true, false, if◌then◌else◌, List, [], ◌∷◌, length, Option, Some, None, Result, Ok, Err, refl, sym, subst, ap, ◌∙◌, arith}
 use Rattle.std.specs.List.{slice_get}
 use Rattle.std.proofs.lemmas.Bool.{le-leb, lt-ltb}
-use Rattle.std.proofs.lemmas.List.Elements.{All-nil}
 use Rattle.slate_types.specs.Counts.{HasRisen}
 use Rattle.slate_types.specs.declared.batches.Batch.{Batch}
 use Rattle.slate_types.specs.declared.batches.KeyOp.{KeyOp}
@@ -20,7 +19,7 @@ use Rattle.slate_store.specs.declared.objects.TableId.{TableId}
 use Rattle.slate_store.specs.Sweeps.{has_expired}
 use Rattle.slate_model.specs.Catalogue.{Catalogue}
 use Rattle.slate_model.specs.Maintain.{CheckpointAnswer, SweepsAnswer}
-use Rattle.slate_store.specs.Objects.{latest_manifest, last_log, table_at}
+use Rattle.slate_store.specs.Objects.{latest_manifest, last_log}
 use Rattle.slate_errors.specs.declared.endings.Ended.{Ended}
 use Rattle.slate_errors.specs.declared.errors.SlateError.{SlateError}
 use Rattle.slate_errors.specs.declared.errors.SlateError.TheVariants as errors
@@ -28,8 +27,12 @@ use Rattle.slate_model.specs.Close.{Closes, closing_flush, ended, fault_again, r
 use Rattle.slate_model.specs.declared.answers.PollAnswer.{PollAnswer}
 use Rattle.slate_model.specs.declared.answers.Written.{Written}
 use Rattle.slate_model.specs.Flush.{FlushCause, Flushes, ManifestCause, Stores, has_ids}
-use Rattle.slate_model.specs.Follow.{unseen, FollowCause, Rebuilds, built, can_follow}
-use Rattle.slate_model.specs.Follower.{Follower}
+use Rattle.slate_model.specs.Follow.{unseen, FollowCause, Polls, Rebuilds, built}
+use Rattle.slate_model.specs.Followed.{can_follow, kept_by, view_under}
+use Rattle.slate_model.specs.Follower.{Follower, is_pinned}
+use Rattle.slate_store.specs.Checkpoints.{found}
+use Rattle.slate_store.specs.declared.reader_modes.DbReaderMode.{DbReaderMode}
+use Rattle.slate_store.specs.declared.reader_modes.DbReaderMode.TheVariants as modes
 use Rattle.slate_model.specs.Handle.{CloseResult, Handle, accepted}
 use Rattle.slate_model.specs.Known.{CountsFaults, FaultsRise}
 use Rattle.slate_model.specs.Object.{Object, Handle as AHandle, Follower as AFollower}
@@ -250,20 +253,32 @@ take-completes is_scan w w' closed tables taken rows reply stored alone can t ca
     (free-reply replies.Rows t.result (λ x at. tt)
     (taken-free is_scan taken rows t.scan t.result alone can.1 (unfaulted w w' tables t.scan stored reads calm) reads.plain t.takes))
 
-follow-cause : (w : World) (opening : Bool) (faults : ℕ) (error : SlateError) → FollowCause opening w.catalogue error → CountsFaults {A = Follower × PollAnswer} w.faults faults (Err error) → CanFollow opening w → (HasRisen w.faults faults → ⊥) → error ≡ errors.NoMemory
-follow-cause w opening faults errors.LatestTransactionalObjectVersionMissing cause fault can calm = absurd (none-some (latest_manifest w.catalogue) can.0 cause can.1)
-follow-cause w opening faults errors.InvalidDBState cause fault can calm =
-    let same : cause.0 ≡ can.0 = same-manifest (latest_manifest w.catalogue) cause.0 can.0 cause.1 can.1 in
-    let no : can_follow opening can.0 ≡ false = subst (λ m. can_follow opening m ≡ false) same cause.2 in
-    let yes = can.2 in
-    absurd (cc)
-follow-cause w opening faults (errors.ObjectStoreError Unavailable) cause fault can calm = absurd (calm (fault.unavailable refl))
-follow-cause w opening faults errors.NoMemory cause fault can calm = refl
-follow-cause w opening faults error cause fault can calm = absurd cause
+-- a reader that can go by a manifest finds its checkpoint
+found-not : (mode : DbReaderMode) (c : Catalogue) (latest view : VersionedManifest) (id : List ℕ) → mode ≡ modes.Checkpoint id → found id latest ≡ None → view_under mode c latest ≡ Some view → ⊥
+found-not mode c latest view id is none at =
+    let there : kept_by c (found id latest) ≡ Some view = subst (λ m. view_under m c latest ≡ Some view) is at in
+    let gone : kept_by c (found id latest) ≡ None = ap (kept_by c) none in
+    cc
 
-rebuild-free : (w w' : World) (opening : Bool) (r : Result (Follower × PollAnswer) SlateError) → Rebuilds (by_catalogue w.stored w.catalogue) opening (λ objects line. Unit {0}) (state_of w).store r (state_of w').store → CanFollow opening w → (HasRisen w.faults w'.faults → ⊥) → IsFree r
-rebuild-free w w' opening (Ok b) built can calm = tt
-rebuild-free w w' opening (Err e) built can calm = follow-cause w opening w'.faults e built.cause built.faults can calm
+follow-cause : (w : World) (mode : DbReaderMode) (opening : Bool) (faults : ℕ) (error : SlateError) → FollowCause mode opening ⊥ w.catalogue error → FaultsRise {A = Follower × PollAnswer} w.faults faults (Err error) → CanFollow mode opening w → (HasRisen w.faults faults → ⊥) → error ≡ errors.NoMemory
+follow-cause w mode opening faults errors.LatestTransactionalObjectVersionMissing cause fault can calm = absurd (none-some (latest_manifest w.catalogue) can.1.0 cause can.1.1)
+follow-cause w mode opening faults errors.InvalidDBState cause fault can calm =
+    let v = can.1 in
+    let same : cause.0 ≡ v.0 = same-manifest (latest_manifest w.catalogue) cause.0 v.0 cause.1 v.1 in
+    let no : can_follow opening v.0 ≡ false = subst (λ m. can_follow opening m ≡ false) same cause.2 in
+    let yes = v.2 in
+    absurd (cc)
+follow-cause w mode opening faults (errors.CheckpointMissing id) cause fault can calm =
+    let v = can.1 in
+    let same : cause.0 ≡ v.0 = same-manifest (latest_manifest w.catalogue) cause.0 v.0 cause.1 v.1 in
+    absurd (found-not mode w.catalogue v.0 can.0 id cause.2 (subst (λ m. found id m ≡ None) same cause.3) v.3)
+follow-cause w mode opening faults (errors.ObjectStoreError Unavailable) cause fault can calm = absurd (calm (fault.unavailable refl))
+follow-cause w mode opening faults errors.NoMemory cause fault can calm = refl
+follow-cause w mode opening faults error cause fault can calm = absurd cause
+
+rebuild-free : (w w' : World) (mode : DbReaderMode) (skips opening : Bool) (r : Result (Follower × PollAnswer) SlateError) → Rebuilds (by_catalogue w.stored w.catalogue) mode skips opening (λ objects line. Unit {0}) (state_of w).store r (state_of w').store → CanFollow mode opening w → (HasRisen w.faults w'.faults → ⊥) → IsFree r
+rebuild-free w w' mode skips opening (Ok b) built can calm = tt
+rebuild-free w w' mode skips opening (Err e) built can calm = follow-cause w mode opening w'.faults e built.cause built.faults can calm
 
 -- a checkpoint and a sweep of a world in which they can be made
 checkpoint-free : (lifetime : Option ℕ) (moment : ℤ) (w : World) (faults : ℕ) (r : Result Checkpoint SlateError) → CheckpointAnswer ⊥ lifetime moment w.catalogue r → CountsFaults w.faults faults r → CanCheckpoint w → (HasRisen w.faults faults → ⊥) → IsFree r
@@ -294,17 +309,22 @@ sweep-free w after faults moment (Err errors.NoMemory) answer counts can calm = 
 sweep-free w after faults moment (Err error) answer counts can calm = absurd answer
 
 -- over an honest store nothing is missing
-follow-reply : (w w' : World) (n : ℕ) (r : Result (Follower × PollAnswer) SlateError) → Rebuilds (by_catalogue w.stored w.catalogue) true unseen (state_of w).store r (state_of w').store → CanFollow true w → (HasRisen w.faults w'.faults → ⊥) → IsOkOrNoMemory (reply_to (λ (b : Follower × PollAnswer). followed_reply n b.1) r)
-follow-reply w w' n (Ok b) r can calm =
+follow-reply : (w w' : World) (mode : DbReaderMode) (skips : Bool) (n : ℕ) (r : Result (Follower × PollAnswer) SlateError) → Rebuilds (by_catalogue w.stored w.catalogue) mode skips true unseen (state_of w).store r (state_of w').store → CanFollow mode true w → (HasRisen w.faults w'.faults → ⊥) → IsOkOrNoMemory (reply_to (λ (b : Follower × PollAnswer). followed_reply n b.1) r)
+follow-reply w w' mode skips n (Ok b) r can calm =
     let all = r.sees w.catalogue w.stored refl refl tt in
     subst (λ a. IsOkOrNoMemory (followed_reply n a)) (sym all.3) tt
-follow-reply w w' n (Err e) r can calm = subst (λ x. IsOkOrNoMemory (refusal x)) (sym (rebuild-free w w' true (Err e) r can calm)) tt
+follow-reply w w' mode skips n (Err e) r can calm = subst (λ x. IsOkOrNoMemory (refusal x)) (sym (rebuild-free w w' mode skips true (Err e) r can calm)) tt
 
-poll-reply : (w w' : World) (f : Follower) (r : Result PollAnswer SlateError) → Rebuilds (by_catalogue w.stored w.catalogue) false (λ objects line. Unit {0}) (state_of w).store (built f r) (state_of w').store → CanFollow false w → (HasRisen w.faults w'.faults → ⊥) → IsOkOrNoMemory (reply_to polled_reply r)
-poll-reply w w' f (Ok answer) r can calm =
+poll-reply : (w w' : World) (mode : DbReaderMode) (skips : Bool) (f : Follower) (r : Result PollAnswer SlateError) → Rebuilds (by_catalogue w.stored w.catalogue) mode skips false (λ objects line. Unit {0}) (state_of w).store (built f r) (state_of w').store → CanFollow mode false w → (HasRisen w.faults w'.faults → ⊥) → IsOkOrNoMemory (reply_to polled_reply r)
+poll-reply w w' mode skips f (Ok answer) r can calm =
     let all = r.sees w.catalogue w.stored refl refl tt in
     subst (λ a. IsOkOrNoMemory (polled_reply a)) (sym all.3) tt
-poll-reply w w' f (Err e) r can calm = subst (λ x. IsOkOrNoMemory (refusal x)) (sym (rebuild-free w w' false (Err e) r can calm)) tt
+poll-reply w w' mode skips f (Err e) r can calm = subst (λ x. IsOkOrNoMemory (refusal x)) (sym (rebuild-free w w' mode skips false (Err e) r can calm)) tt
+
+-- a poll of one that is open
+polled-completes : (w w' : World) (f f' : Follower) (r : Result PollAnswer SlateError) → Polls (by_catalogue w.stored w.catalogue) f (state_of w).store r f' (state_of w').store → f.result ≡ None → (is_pinned f.mode ≡ false → CanFollow f.mode false w) → (HasRisen w.faults w'.faults → ⊥) → (pinned : Bool) → is_pinned f.mode ≡ pinned → IsOkOrNoMemory (reply_to polled_reply r)
+polled-completes w w' f f' r p live can calm true stays = subst (λ x. IsOkOrNoMemory (reply_to polled_reply x)) (sym (p.pinned live stays).0) tt
+polled-completes w w' f f' r p live can calm false free = poll-reply w w' f.mode f.skips f' r (p.rebuilds live free) (can free) calm
 
 closed-follower-reply : (fault : Option SlateError) (reply : Reply) → fault ≡ None → reply ≡ follower_ended_reply (ended fault) → IsOkOrNoMemory reply
 closed-follower-reply None reply none is = subst IsOkOrNoMemory (sym is) tt
@@ -365,7 +385,7 @@ module _ (settings : Settings) (w w' : World) (valid : IsValid w) (command : Com
       take-completes _ w w' f.result f.view.manifest.tables (sought range take key) w.stored.batches reply can.0 (λ others has. has.1) can.1 a.0 calm
   follower-completes n (Close t) f f' at can a = closed-follower-reply (recorded_fault f.result) reply can a.0
   follower-completes n Poll f f' at can a =
-      subst IsOkOrNoMemory (sym (a.0).replied) (poll-reply w w' f' (a.0).result (((a.0).does).rebuilds can.0) can.1 calm)
+      subst IsOkOrNoMemory (sym (a.0).replied) (polled-completes w w' f f' (a.0).result (a.0).does can.0 can.1 calm (is_pinned f.mode) refl)
   follower-completes n Status f f' at can a = status-completes _ reply a.0
   follower-completes n Nothing f f' at can a = absurd can
 
@@ -383,7 +403,7 @@ module _ (settings : Settings) (w w' : World) (valid : IsValid w) (command : Com
   completes-at (NewHandle keeps_log) d can =
       let o = modelled w.catalogue w'.catalogue (d.does).opens in
       subst IsOkOrNoMemory (sym d.replied) (free-reply _ d.result (λ x at. tt) (open-free w w'.faults d.result o.answer (d.does).faults can calm))
-  completes-at NewFollower d can = subst IsOkOrNoMemory (sym (d.0).replied) (follow-reply w w' (length w.objects) (d.0).result (d.0).does can calm)
+  completes-at (NewFollower mode skips) d can = subst IsOkOrNoMemory (sym (d.0).replied) (follow-reply w w' mode skips (length w.objects) (d.0).result (d.0).does can calm)
   completes-at (NewCheckpoint lifetime) d can =
       let c = d.does in
       let o = modelled w.catalogue w'.catalogue (c.does).objects in

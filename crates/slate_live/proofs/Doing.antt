@@ -20,6 +20,7 @@ use Rattle.slate_model.proofs.Maintained.{answered, commits-by, sweeps-by}
 use Rattle.slate_live.specs.Maintenance.{CommitsTo, SweepsTo}
 use Rattle.slate_live.specs.Replies.{reply_to}
 use Rattle.slate_script.specs.declared.replies.Reply.TheVariants as replies
+use Rattle.slate_store.specs.declared.reader_modes.DbReaderMode.{DbReaderMode}
 use Rattle.slate_errors.specs.declared.errors.SlateError.TheVariants as errors
 use Rattle.slate_model.specs.Follow.{FollowCause, Rebuilds, unseen}
 use Rattle.slate_model.specs.Knowledge.{Knowledge}
@@ -45,15 +46,16 @@ opens-nothing k keeps_log limit store = record {
   handle = tt;
 }
 
-caused : (objects : Option Objects) → IfSome objects (λ o. FollowCause true o errors.NoMemory)
-caused None = tt
-caused (Some o) = tt
+caused : (k : Knowledge (List Batch)) (mode : DbReaderMode) (objects : Option Objects) → IfSome objects (λ o. FollowCause mode true (k.unpinned mode o) o errors.NoMemory)
+caused k mode None = tt
+caused k mode (Some o) = tt
 
-pub follows-nothing : (k : Knowledge (List Batch)) (store : Known (List Batch)) → Rebuilds k true unseen store (Err errors.NoMemory) store
-follows-nothing k store = record {
+pub follows-nothing : (k : Knowledge (List Batch)) (mode : DbReaderMode) (skips : Bool) (store : Known (List Batch)) → Rebuilds k mode skips true unseen store (Err errors.NoMemory) store
+follows-nothing k mode skips store = record {
   kept = refl;
-  faults = record { count = omega arith; unavailable = λ h. absurd (cc); none_missing = λ h. absurd (cc) };
-  cause = caused store.objects;
+  faults = record { count = omega arith; unavailable = λ h. absurd (cc) };
+  missing = λ h. absurd (cc);
+  cause = caused k mode store.objects;
   answer = tt;
   can = tt;
   sees = tt;

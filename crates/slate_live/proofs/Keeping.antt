@@ -231,7 +231,7 @@ module _ (settings : Settings) (w w' : World) (command : Command) (made : ℕ) (
   keeps-target : (target : Target) → DoesBy (by_catalogue w.stored w.catalogue) settings command target made (state_of w) reply (state_of w') → Keeps w.objects w.writes reply w'.objects w'.writes
   keeps-target (NewHandle keeps_log) d =
       keeps-by w.objects w'.objects rise w.writes w'.writes reply d.writes (numbers-by w'.writes d.replied (numbers-to w'.writes _ d.result (λ x. tt)))
-  keeps-target NewFollower d =
+  keeps-target (NewFollower mode skips) d =
       keeps-by w.objects w'.objects rise w.writes w'.writes reply (d.0).writes (numbers-by w'.writes (d.0).replied (numbers-to w'.writes _ (d.0).result (λ (b : Follower × PollAnswer). numbers-followed w'.writes (length w.objects) b.1)))
   keeps-target (NewCheckpoint lifetime) d =
       keeps-by w.objects w'.objects rise w.writes w'.writes reply d.writes (numbers-by w'.writes (d.does).replied (numbers-to w'.writes _ (d.does).result (λ x. tt)))

@@ -1,5 +1,5 @@
 -- What a command does to an honest store by what the code keeps of a handle, it does to what the world knows of both.
-use Rattle.std.proofs.Common.{◌≡◌, ℕ, ℤ, List, [], Option, Some, None, Result, Ok, Err, inl, inr, refl, sym, subst, ap, ◌∙◌, ◌≤◌, ◌+◌, ◌++◌, arith, cond, ◌∷◌, ◌⊎◌, Bool, false}
+use Rattle.std.proofs.Common.{◌≡◌, ℕ, ℤ, List, [], Option, Some, None, Result, Ok, Err, inl, inr, refl, sym, subst, ap, ◌∙◌, ◌≤◌, ◌++◌, arith, ◌∷◌, ◌⊎◌, Bool, true, false}
 use Rattle.slate_types.specs.declared.batches.Batch.{Batch}
 use Rattle.slate_types.specs.declared.batches.KeyOp.{KeyOp}
 use Rattle.slate_types.specs.declared.batches.KeyValue.{KeyValue}
@@ -14,7 +14,7 @@ use Rattle.slate_reads.specs.Read.{read_at}
 use Rattle.slate_rows.specs.Iteration.{Iteration}
 use Rattle.slate_rows.specs.Scan.{BeginsScan}
 use Rattle.slate_store.specs.Content.{IsSound, content, table_batches}
-use Rattle.slate_store.specs.Objects.{Objects, last_log, latest_manifest, table_at}
+use Rattle.slate_store.specs.Objects.{Objects, latest_manifest, table_at}
 use Rattle.slate_store.specs.declared.objects.TableId.{TableId}
 use Rattle.slate_store.specs.declared.objects.VersionedManifest.{VersionedManifest}
 use Rattle.slate_errors.specs.declared.errors.SlateError.{SlateError}
@@ -22,33 +22,29 @@ use Rattle.slate_model.specs.Catalogue.{catalogue_of}
 use Rattle.slate_model.specs.Close.{closed, closed_follower, closing_flush, Closes}
 use Rattle.slate_model.specs.Flush.{flush_result, grown, CanFlush, Flushes, IsFlushed, Stores}
 use Rattle.slate_model.specs.Follow.{Polls}
-use Rattle.slate_model.specs.Follower.{Follower, kept_follower, number, rebuilt}
+use Rattle.slate_model.specs.Follower.{Follower, is_pinned, kept_follower, number, rebuilt}
 use Rattle.slate_model.specs.Handle.{CloseResult, Handle, accepted, kept_handle, next_table}
-use Rattle.slate_model.specs.Known.{IsContent, Known, Untouched}
-use Rattle.slate_model.specs.Object.{Object, Handle as AHandle, Follower as AFollower}
+use Rattle.slate_model.specs.Known.{Known, Untouched}
+use Rattle.slate_model.specs.Object.{Handle as AHandle, Follower as AFollower}
 use Rattle.slate_model.specs.Read.{Gives, Reads}
 use Rattle.slate_model.specs.Stores.{by_catalogue, by_objects, kept_rows, world_rows}
 use Rattle.slate_model.specs.Tables.{AreJoined, AreStored}
-use Rattle.slate_model.specs.Seen.{HasSeen}
 use Rattle.slate_model.specs.Valid.{AreBefore, IsHeld, IsValidHandle, ReadsItsLine}
-use Rattle.slate_model.proofs.Logging.{all-seen}
 use Rattle.slate_model.proofs.Compacting.{compact-moved, refresh-moved, compact-rises, refresh-rises}
-use Rattle.slate_model.proofs.Flushing.{flush-moved, grown-zero, latest-stored}
+use Rattle.slate_model.proofs.Flushing.{flush-moved, grown-zero}
 use Rattle.slate_model.proofs.Free.{flush-unset, joins}
 use Rattle.slate_model.proofs.Keeping.{accepted-kept, line_above-end, log_for-kept}
-use Rattle.slate_model.proofs.Moving.{Moved, known-stored, none-known, stored-known, unmoved}
-use Rattle.slate_model.proofs.Prefixes.{extended-nil}
-use Rattle.slate_model.proofs.Tabled.{joined-line}
+use Rattle.slate_model.proofs.Moving.{Moved, known-stored, none-known, unmoved}
 use Rattle.slate_model.proofs.Reduced.{catalogued, closes-reduced, compacts-reduced, flushed-whole, flushes-reduced, holding, kept-whole, modelled, polled-whole, polls-reduced, reads-reduced, refreshes-reduced, some-same, stores-rises, untouched-known, whole}
-use Rattle.slate_model.proofs.Writing.{kept-written, rewritten, writes-whole, written-reads, written-valid}
+use Rattle.slate_model.proofs.Writing.{rewritten, writes-whole, written-reads, written-valid}
 use Rattle.slate_script.specs.declared.replies.Reply.{Reply}
 use Rattle.slate_live.specs.declared.states.Write.{Write}
 use Rattle.slate_live.specs.Calls.{Call, Write as WriteCall, Merge as MergeCall, Flush, Refresh, Compact, Get, Scan, Seek, Close, Poll, Status, Nothing}
 use Rattle.slate_live.specs.Followers.{FollowerActs, IsPlainReadAt, IsPlainScanAt, TakesFromFollower}
 use Rattle.slate_live.specs.Handles.{HandleActs, IsPlainRead, IsPlainScan, MergesTo, cut, flush_type_by, WritesTo, TakesFrom, level_of}
-use Rattle.slate_live.specs.Replies.{AnswersStatus, IsRead, found_reply, polled_reply, reply_to}
+use Rattle.slate_live.specs.Replies.{AnswersStatus, polled_reply, reply_to}
 use Rattle.slate_status.specs.Records.{status_by}
-use Rattle.slate_live.specs.Scans.{IsTaken, scanned, sought}
+use Rattle.slate_live.specs.Scans.{scanned, sought}
 use Rattle.slate_live.specs.World.{grown_by}
 use Rattle.slate_live.proofs.Cases.{by-option, close-by, compact-by, flush-by, refresh-by, some-of}
 use Rattle.slate_live.proofs.Reading.{front-read, front-scan}
@@ -58,8 +54,10 @@ use Rattle.slate_errors.specs.declared.endings.Ended.{Ended}
 use Rattle.slate_model.specs.Refresh.{Compacts, Refreshes, fenced_result}
 use Rattle.slate_model.specs.declared.answers.PollAnswer.{PollAnswer}
 use Rattle.slate_model.specs.Write.{written}
-use Rattle.slate_live.proofs.Prefixes.{prefix-same}
-use Rattle.std.specs.Result.{IfErr}
+use Rattle.slate_live.proofs.Following.{new-held, new-stored, new-valid, seen-kept, seen-mark}
+use Rattle.slate_live.specs.Represents.{IsValidFollower}
+use Rattle.slate_model.proofs.Owing.{owed_line}
+use Rattle.slate_errors.specs.declared.closing.CloseFault.{CloseFault}
 
 -- ---- reads
 -- the batches that the code reads for a handle are the line's
@@ -341,8 +339,11 @@ module _ (o : Objects) (f : ℕ) (made : ℕ) (writes writes' : List Write) (rep
 
   polled-after : (r : Result PollAnswer SlateError) (g g' : Follower) → Polls (by_objects (Some o)) g (holding o f) r g' store' → AfterOf store'
   polled-after r g g' p =
-      by-option g.result (λ live. (o, (p.rebuilds live).kept))
-      (λ q is. as-before o f store' (some-of (λ q. (r ≡ Err (closed_error q)) × (store' ≡ holding o f)) g.result q is p.closed).1)
+      by-option g.result (λ live. by live (is_pinned g.mode) refl)
+      (λ q is. as-before o f store' (some-of (λ q. (r ≡ Err (closed_error q)) × (store' ≡ holding o f)) g.result q is p.closed).1) where
+        by : g.result ≡ None → (pinned : Bool) → is_pinned g.mode ≡ pinned → AfterOf store'
+        by live true stays = as-before o f store' (p.pinned live stays).2
+        by live false free = (o, (p.rebuilds live free).kept)
 
   pub follower-after : (call : Call) (g g' : Follower) → FollowerActs (by_objects (Some o)) merge call made g (holding o f) writes reply g' store' writes' → AfterOf store'
   follower-after Poll g g' a = polled-after (a.0).result g g' (a.0).does
@@ -359,26 +360,20 @@ module _ (o : Objects) (f : ℕ) (made : ℕ) (writes writes' : List Write) (rep
   follower-after Nothing g g' a = as-before o f store' a.2.1
 
 -- ---- followers
--- one that goes by the latest manifest and sees what is stored reads it
-pub all-read : (stored : Line) (o : Objects) → IsSound o → content o ≡ stored → IsLine stored → (latest : VersionedManifest) (mark : ℕ) → latest_manifest o ≡ Some latest → ReadsItsLine o (AFollower (rebuilt latest stored mark))
-all-read stored o sound holds numbered latest mark is there = joined-line o latest stored [] sound is (sym holds ∙ sym (extended-nil (content o))) numbered
-
--- and has seen the log files
-pub whole-seen : (stored : Line) (o : Objects) → IsSound o → content o ≡ stored → (latest : VersionedManifest) (mark : ℕ) → latest_manifest o ≡ Some latest → mark ≡ last_log latest.manifest.replay_after_wal_id o → HasSeen o (rebuilt latest stored mark)
-whole-seen stored o sound holds latest mark is at =
-    subst (λ n. HasSeen o (rebuilt latest stored n)) (sym at) (subst (λ l. HasSeen o (rebuilt latest l (last_log latest.manifest.replay_after_wal_id o))) holds (all-seen o latest sound is))
-
 kept-number : (g : Follower) → number (kept_follower g) ≡ number g
 kept-number g = line_above-end g.view.manifest.last_l0_seq g.line
 
 module _ (stored : Line) (o o' : Objects) (f f' : ℕ) (made : ℕ) (writes writes' : List Write) (reply : Reply) (sound : IsSound o) (holds : content o ≡ stored) (numbered : IsLine stored)
-    (merge : Option Merge) (g k : Follower) (front : IsPrefix g.line stored) (held : IsHeld o (AFollower g)) where
+    (merge : Option Merge) (g k : Follower) (mine : IsValidFollower stored (catalogue_of o) g) (held : IsHeld o (AFollower g)) where
+  front : IsPrefix g.line stored
+  front = mine.0
+
   -- what the command leaves of the whole follower, of which the code keeps a part, and that it makes no change
   pub record LedFollower (call : Call) : Type 0 where
     pub new : Follower
     pub kept : k ≡ kept_follower new
     pub same : o' ≡ o
-    pub begins : IsPrefix new.line stored
+    pub valid : IsValidFollower stored (catalogue_of o) new
     pub view : (new.view ≡ g.view) ⊎ AreStored o new.view.manifest.tables
     pub holds_it : IsHeld o (AFollower new)
     pub acts : FollowerActs (by_catalogue stored (catalogue_of o)) merge call made g (catalogued o f) writes reply new (catalogued o' f') writes'
@@ -420,40 +415,54 @@ module _ (stored : Line) (o o' : Objects) (f f' : ℕ) (made : ℕ) (writes writ
 
   -- a follower that is as before
   unled : (call : Call) → o' ≡ o → k ≡ kept_follower g → FollowerActs (by_catalogue stored (catalogue_of o)) merge call made g (catalogued o f) writes reply g (catalogued o' f') writes' → LedFollower call
-  unled call same kept known = record { new = g; kept = kept; same = same; begins = front; view = inl refl; holds_it = held; acts = known }
+  unled call same kept known = record { new = g; kept = kept; same = same; valid = mine; view = inl refl; holds_it = held; acts = known }
+
+  abbrev PollsAs : (r : Result PollAnswer SlateError) → Follower → Type 0
+  PollsAs r new = Polls (by_catalogue stored (catalogue_of o)) g (catalogued o f) r new (catalogued o' f')
+
+  -- a poll that changed nothing of it
+  unpolled : (r : Result PollAnswer SlateError) → reply ≡ reply_to polled_reply r → made ≡ 0 → writes' ≡ writes → o' ≡ o → k ≡ kept_follower g → PollsAs r g → LedFollower Poll
+  unpolled r replied none same_writes same kept known = unled Poll same kept (record { result = r; replied = replied; does = known }, none, same_writes)
+
+  -- one that is open and doesn't stay at a checkpoint
+  free-led : (r : Result PollAnswer SlateError) → reply ≡ reply_to polled_reply r → made ≡ 0 → writes' ≡ writes → g.result ≡ None → is_pinned g.mode ≡ false → Polls (by_objects (Some o)) (kept_follower g) (holding o f) r k (holding o' f') → PollsAs r (polled-whole o stored None false g k r) → LedFollower Poll
+  free-led (Ok answer) replied none same_writes live free p known =
+      let b = p.rebuilds live free in
+      let v = b.can o refl in
+      let all = b.sees o stored refl (o, refl, sound, sym holds) (g, refl, front, held.1 free) in
+      let mark = seen-mark (Some o) stored g.mode g.skips o k answer all in
+      record {
+        new = rebuilt g.mode g.skips k.view (owed_line g.mode g.skips o k.view stored) k.mark;
+        kept = seen-kept (Some o) stored g.mode g.skips o k answer all;
+        same = some-same o' o b.kept;
+        valid = new-valid stored g.mode g.skips false o k.view sound holds v k.mark mark;
+        view = inr (new-stored stored g.mode g.skips false o k.view sound holds v k.mark mark);
+        holds_it = new-held stored g.mode g.skips false o k.view sound holds v k.mark mark;
+        acts = (record { result = Ok answer; replied = replied; does = known }, none, same_writes);
+      }
+  free-led (Err e) replied none same_writes live free p known = unpolled (Err e) replied none same_writes (some-same o' o (p.rebuilds live free).kept) p.failed known
+
+  open-led : (r : Result PollAnswer SlateError) → reply ≡ reply_to polled_reply r → made ≡ 0 → writes' ≡ writes → g.result ≡ None → (pinned : Bool) → is_pinned g.mode ≡ pinned → Polls (by_objects (Some o)) (kept_follower g) (holding o f) r k (holding o' f') → PollsAs r (polled-whole o stored None pinned g k r) → LedFollower Poll
+  open-led (Ok answer) replied none same_writes live true stays p known =
+      let q = p.pinned live stays in unpolled (Ok answer) replied none same_writes (objects-same o o' f f' q.2) q.1 known
+  open-led (Err e) replied none same_writes live true stays p known =
+      let q = p.pinned live stays in unpolled (Err e) replied none same_writes (objects-same o o' f f' q.2) q.1 known
+  open-led r replied none same_writes live false free p known = free-led r replied none same_writes live free p known
+
+  closed-led : (r : Result PollAnswer SlateError) (q : Result (Unit {0}) CloseFault) → reply ≡ reply_to polled_reply r → made ≡ 0 → writes' ≡ writes → g.result ≡ Some q → Polls (by_objects (Some o)) (kept_follower g) (holding o f) r k (holding o' f') → PollsAs r (polled-whole o stored (Some q) (is_pinned g.mode) g k r) → LedFollower Poll
+  closed-led (Ok answer) q replied none same_writes is p known =
+      let c = some-of (λ q. (Ok answer ≡ Err (closed_error q)) × (holding o' f' ≡ holding o f)) g.result q is p.closed in absurd (let e = c.0 in cc)
+  closed-led (Err e) q replied none same_writes is p known =
+      unpolled (Err e) replied none same_writes (objects-same o o' f f' (some-of (λ q. (Err e ≡ Err (closed_error q)) × (holding o' f' ≡ holding o f)) g.result q is p.closed).1) p.failed known
 
   polled-led : (r : Result PollAnswer SlateError) → reply ≡ reply_to polled_reply r → Polls (by_objects (Some o)) (kept_follower g) (holding o f) r k (holding o' f') → made ≡ 0 → writes' ≡ writes → LedFollower Poll
-  polled-led r replied p none same_writes = by r (g.result) refl p (polls-reduced stored r g k o o' f f' sound holds front held.1 p) replied where
-    Known : (r : Result PollAnswer SlateError) → Follower → Type 0
-    Known r new = Polls (by_catalogue stored (catalogue_of o)) g (catalogued o f) r new (catalogued o' f')
+  polled-led r replied p none same_writes = by (g.result) refl where
+    known : PollsAs r (polled-whole o stored g.result (is_pinned g.mode) g k r)
+    known = polls-reduced stored r g k o o' f f' sound holds front held.1 p
 
-    by : (r : Result PollAnswer SlateError) (closed : CloseResult) → g.result ≡ closed → Polls (by_objects (Some o)) (kept_follower g) (holding o f) r k (holding o' f') → Known r (polled-whole stored g.result g k r) → reply ≡ reply_to polled_reply r → LedFollower Poll
-    by (Ok answer) None live p known replied =
-        let b = p.rebuilds live in
-        let all = b.sees o stored refl (o, refl, sound, sym holds) (g, refl, front, held.1) in
-        let mark : k.mark ≡ last_log all.0.manifest.replay_after_wal_id o = ap (λ (x : Follower). x.mark) all.2 in
-        let view : k.view ≡ all.0 = ap (λ (x : Follower). x.view) all.2 in
-        let at : latest_manifest o ≡ Some k.view = all.1 ∙ ap Some (sym view) in
-        record {
-          new = rebuilt k.view stored k.mark;
-          kept = all.2 ∙ (ap (λ v. kept_follower (rebuilt v stored (last_log all.0.manifest.replay_after_wal_id o))) (sym view) ∙ ap (λ n. kept_follower (rebuilt k.view stored n)) (sym mark));
-          same = some-same o' o b.kept;
-          begins = prefix-same stored;
-          view = inr (latest-stored o k.view sound at);
-          holds_it = (all-read stored o sound holds numbered k.view k.mark at, whole-seen stored o sound holds k.view k.mark at (mark ∙ ap (λ (v : VersionedManifest). last_log v.manifest.replay_after_wal_id o) (sym view)));
-          acts = (record { result = Ok answer; replied = replied; does = subst (λ c. Known (Ok answer) (polled-whole stored c g k (Ok answer))) live known }, none, same_writes);
-        }
-    by (Ok answer) (Some q) is p known replied =
-        let c = some-of (λ q. (Ok answer ≡ Err (closed_error q)) × (holding o' f' ≡ holding o f)) g.result q is p.closed in absurd (let e = c.0 in cc)
-    by (Err e) closed is p known replied =
-        unled Poll (unchanged closed is) p.failed (record { result = Err e; replied = replied; does = subst (Known (Err e)) (same-whole g.result) known }, none, same_writes) where
-          same-whole : (closed : CloseResult) → polled-whole stored closed g k (Err e) ≡ g
-          same-whole None = refl
-          same-whole (Some q) = refl
-
-          unchanged : (closed : CloseResult) → g.result ≡ closed → o' ≡ o
-          unchanged None is = some-same o' o (p.rebuilds is).kept
-          unchanged (Some q) is = objects-same o o' f f' (some-of (λ q. (Err e ≡ Err (closed_error q)) × (holding o' f' ≡ holding o f)) g.result q is p.closed).1
+    by : (closed : CloseResult) → g.result ≡ closed → LedFollower Poll
+    by None live = open-led r replied none same_writes live (is_pinned g.mode) refl p (subst (λ c. PollsAs r (polled-whole o stored c (is_pinned g.mode) g k r)) live known)
+    by (Some q) is = closed-led r q replied none same_writes is p (subst (λ c. PollsAs r (polled-whole o stored c (is_pinned g.mode) g k r)) is known)
 
   pub follower-led : (call : Call) → FollowerActs (by_objects (Some o)) merge call made (kept_follower g) (holding o f) writes reply k (holding o' f') writes' → LedFollower call
   follower-led Poll a = polled-led (a.0).result (a.0).replied (a.0).does a.1 a.2
@@ -474,9 +483,9 @@ module _ (stored : Line) (o o' : Objects) (f f' : ℕ) (made : ℕ) (writes writ
     new = closed_follower g;
     kept = a.1;
     same = objects-same o o' f f' a.2.1;
-    begins = front;
+    valid = mine;
     view = inl refl;
-    holds_it = (held.0, record { mark = held.1.mark; logs = held.1.logs });
+    holds_it = (held.0, λ free. let seen = held.1 free in record { mark = seen.mark; logs = seen.logs });
     acts = (a.0, refl, untouched-known made o o' f f' a.2, a.3);
   }
   follower-led Status a = unled Status (objects-same o o' f f' a.2.1) a.1 (subst (λ n. AnswersStatus (status_by n g.view g.result) reply) (kept-number g) a.0, refl, untouched-known made o o' f f' a.2, a.3)

@@ -1,9 +1,8 @@
 -- What a command on an object leaves of an honest store and of the handles and followers of a world.
-use Rattle.std.proofs.Common.{◌≡◌, ◌≢◌, ℕ, ℤ, List, [], set, Option, Some, None, Result, Ok, Err, inl, inr, refl, sym, subst, ap, ◌∙◌, ◌≤◌, ◌+◌, ◌⊎◌, get_or, arith, All}
-use Rattle.std.proofs.lemmas.Bool.{cases_eq, cases_lt}
+use Rattle.std.proofs.Common.{◌≡◌, ◌≢◌, ℕ, List, set, Some, None, inl, inr, sym, subst, ap, ◌∙◌, ◌≤◌, ◌⊎◌, get_or, arith, All}
+use Rattle.std.proofs.lemmas.Bool.{cases_lt}
 use Rattle.std.specs.List.{slice_get}
-use Rattle.slate_types.specs.Line.{IsLine, IsPrefix, Line, extended}
-use Rattle.slate_types.specs.declared.batches.Batch.{Batch}
+use Rattle.slate_types.specs.Line.{Line, extended}
 use Rattle.slate_store.specs.Content.{IsSound, content}
 use Rattle.slate_store.specs.Objects.{Objects, latest_manifest, table_at}
 use Rattle.slate_store.specs.declared.objects.TableId.{TableId}
@@ -11,18 +10,18 @@ use Rattle.slate_store.specs.declared.objects.VersionedManifest.{VersionedManife
 use Rattle.slate_model.specs.Catalogue.{catalogue_of}
 use Rattle.slate_model.specs.Follower.{Follower}
 use Rattle.slate_model.specs.Handle.{Handle, unstored}
-use Rattle.slate_model.specs.Object.{Object, Handle as AHandle, Follower as AFollower, line_of, view_of}
+use Rattle.slate_model.specs.Object.{Object, Handle as AHandle, Follower as AFollower, view_of}
 use Rattle.slate_model.specs.Tables.{AreStored}
 use Rattle.slate_model.proofs.Adding.{Lasts}
 use Rattle.slate_model.proofs.Logging.{LogsFollow, still-seen}
 use Rattle.slate_model.proofs.Moving.{Follows, Moved, none-known, still-reads, still-valid}
 use Rattle.slate_model.proofs.Opening.{absent-table}
 use Rattle.slate_store.proofs.Latest.{its-objects}
-use Rattle.slate_live.specs.Represents.{AreBefore, AreOfPast, IsHeld, Holds, IsFollowerAt, IsHandleAt, IsValid, IsValidFollower, IsValidHandle, ReadsItsLine}
+use Rattle.slate_live.specs.Represents.{AreBefore, AreOfPast, IsHeld, Holds, IsFollowerAt, IsHandleAt, IsValid, IsValidFollower, IsValidHandle}
 use Rattle.slate_live.specs.World.{World}
 use Rattle.slate_live.proofs.Changing.{distinct-set, followers-set, followers-set-handle, handles-set-follower, valid-set}
 use Rattle.slate_live.proofs.Places.{get-set}
-use Rattle.slate_live.proofs.Prefixes.{prefix-same, prefix-then}
+use Rattle.slate_live.proofs.Following.{follower-follows}
 
 -- the tables that are stored come before the next one of a valid handle
 pub stored-before : (stored : Line) (o : Objects) (a : Handle) → IsValidHandle stored (catalogue_of o) a → (ids : List TableId) → AreStored o ids → AreBefore a ids
@@ -56,7 +55,7 @@ past-follows o o' latest next is is' up ids past =
 pub still-held : (o o' : Objects) (latest next : VersionedManifest) → latest_manifest o ≡ Some latest → latest_manifest o' ≡ Some next → LogsFollow o o' latest.manifest.replay_after_wal_id next.manifest.replay_after_wal_id →
     (x : Object) → All (Lasts o o') (view_of x).manifest.tables → IsHeld o x → IsHeld o' x
 still-held o o' latest next is is' logs (AHandle a) last held = (still-reads o o' a.view a.line last held.0, tt)
-still-held o o' latest next is is' logs (AFollower g) last held = (still-reads o o' g.view g.line last held.0, still-seen o o' latest next g is is' logs held.1)
+still-held o o' latest next is is' logs (AFollower g) last held = (still-reads o o' g.view g.line last held.0, λ free. still-seen o o' latest next g is is' logs (held.1 free))
 
 -- what holds of the objects of a world that it represents with objects of a store: a line is stored there, and each handle
 -- and follower is valid over it and reads what it should
@@ -64,7 +63,7 @@ pub record Leads (stored' : Line) (o' : Objects) (objects : List Object) : Type 
   pub sound : IsSound o'
   pub content : content o' ≡ stored'
   pub handles : (m : ℕ) (a : Handle) → IsHandleAt objects m a → IsValidHandle stored' (catalogue_of o') a
-  pub followers : (m : ℕ) (f : Follower) → IsFollowerAt objects m f → IsValidFollower stored' f
+  pub followers : (m : ℕ) (f : Follower) → IsFollowerAt objects m f → IsValidFollower stored' (catalogue_of o') f
   pub named : (m n : ℕ) (a : Handle) (x : Object) → IsHandleAt objects m a → slice_get objects n ≡ Some x → AreBefore a (view_of x).manifest.tables
   pub past : (n : ℕ) (x : Object) → slice_get objects n ≡ Some x → AreOfPast (catalogue_of o') (view_of x).manifest.tables
   pub distinct : (m n : ℕ) (a b : Handle) → IsHandleAt objects m a → IsHandleAt objects n b → a.epoch ≡ b.epoch → m ≡ n
@@ -77,13 +76,16 @@ module _ (w : World) (o : Objects) (is_sound : IsSound o) (holds : Holds o w) (v
   pub past-over : (n : ℕ) (x : Object) → slice_get w.objects n ≡ Some x → AreOfPast (catalogue_of o) (view_of x).manifest.tables
   past-over n x at = subst (λ c. AreOfPast c (view_of x).manifest.tables) (sym holds.catalogue) (valid.past n x at)
 
+  pub followers-over : (m : ℕ) (f : Follower) → IsFollowerAt w.objects m f → IsValidFollower w.stored (catalogue_of o) f
+  followers-over m f at = subst (λ c. IsValidFollower w.stored c f) (sym holds.catalogue) (valid.followers m f at)
+
   -- where nothing changed
   pub leads-same : Leads w.stored o w.objects
   leads-same = record {
     sound = is_sound;
     content = holds.stored;
     handles = valid-over;
-    followers = valid.followers;
+    followers = followers-over;
     named = valid.named;
     past = past-over;
     distinct = valid.distinct;
@@ -177,7 +179,7 @@ module _ (w : World) (o : Objects) (is_sound : IsSound o) (holds : Holds o w) (v
         sound = f.sound;
         content = f.content;
         handles = valid-set (IsValidHandle stored' (catalogue_of o')) w.objects n h new there moved.mine other-valid;
-        followers = followers-set-handle (IsValidFollower stored') w.objects n (AHandle h) new there (λ m g at. prefix-then g.line w.stored stored' (valid.followers m g at) f.grows);
+        followers = followers-set-handle (IsValidFollower stored' (catalogue_of o')) w.objects n (AHandle h) new there (λ m g at. follower-follows w.stored stored' o o' the_latest moved.next is_latest f g (followers-over m g at));
         named = λ i j a x at_i at_j. named-by i j a x (get-set w.objects n i (AHandle new) (AHandle a) (AHandle h) there at_i) (get-set w.objects n j (AHandle new) x (AHandle h) there at_j);
         past = λ j x at. past-by j x (get-set w.objects n j (AHandle new) x (AHandle h) there at);
         distinct = distinct-set w.objects n h new there moved.epoch valid.distinct;
@@ -211,12 +213,12 @@ module _ (w : World) (o : Objects) (is_sound : IsSound o) (holds : Holds o w) (v
     follower-reads its j x (inl here) = subst (IsHeld o) here.1 its
     follower-reads its j x (inr elsewhere) = reads j x elsewhere.1
 
-    pub follower-leads : IsPrefix g'.line w.stored → IsHeld o (AFollower g') → Leads w.stored o (set w.objects n (AFollower g'))
-    follower-leads front its = record {
+    pub follower-leads : IsValidFollower w.stored (catalogue_of o) g' → IsHeld o (AFollower g') → Leads w.stored o (set w.objects n (AFollower g'))
+    follower-leads mine its = record {
       sound = is_sound;
       content = holds.stored;
       handles = λ m a at. valid-over m a (follower-before m a at);
-      followers = followers-set (IsValidFollower w.stored) w.objects n (AFollower g) g' there front valid.followers;
+      followers = followers-set (IsValidFollower w.stored (catalogue_of o)) w.objects n (AFollower g) g' there mine followers-over;
       named = λ i j a x at_i at_j. follower-named i j a x (follower-before i a at_i) (get-set w.objects n j (AFollower g') x (AFollower g) there at_j);
       past = λ j x at. follower-past j x (get-set w.objects n j (AFollower g') x (AFollower g) there at);
       distinct = λ i j a b at_i at_j epochs. valid.distinct i j a b (follower-before i a at_i) (follower-before j b at_j) epochs;

@@ -7,6 +7,7 @@ pub mod Confirming
 pub mod Counting
 pub mod Doing
 pub mod Endings
+pub mod Following
 pub mod Keeping
 pub mod Knowing
 pub mod Leading

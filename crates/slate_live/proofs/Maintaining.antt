@@ -1,20 +1,20 @@
 -- What a checkpoint and a sweep leave of a world: the store goes on, and no object changes.
-use Rattle.std.proofs.Common.{◌≡◌, ℕ, ◌≤◌, List, Some, None, refl, sym, subst, ap, ◌∙◌, arith}
+use Rattle.std.proofs.Common.{◌≡◌, ℕ, Some, sym, ap, ◌∙◌, arith}
 use Rattle.std.specs.List.{slice_get}
-use Rattle.slate_types.specs.Line.{Line}
 use Rattle.slate_store.specs.Objects.{Objects, latest_manifest}
 use Rattle.slate_store.specs.Content.{IsSound, content}
 use Rattle.slate_store.specs.declared.objects.VersionedManifest.{VersionedManifest}
 use Rattle.slate_model.specs.Catalogue.{catalogue_of}
 use Rattle.slate_model.specs.Handle.{Handle}
-use Rattle.slate_model.specs.Object.{Object, line_of, view_of}
+use Rattle.slate_model.specs.Object.{Follower as AFollower, Object, view_of}
 use Rattle.slate_model.proofs.Maintained.{Maintained}
 use Rattle.slate_model.proofs.Logging.{stay-follow}
 use Rattle.slate_model.proofs.Moving.{Follows, still-valid}
 use Rattle.slate_model.proofs.Prefixes.{prefix-same}
-use Rattle.slate_live.specs.Represents.{IsHeld, Holds, IsHandleAt, IsValid, IsValidHandle, ReadsItsLine}
+use Rattle.slate_live.specs.Represents.{IsHeld, Holds, IsHandleAt, IsValid, IsValidHandle}
 use Rattle.slate_live.specs.World.{World}
-use Rattle.slate_live.proofs.Leading.{Leads, past-follows, past-over, still-held, valid-over}
+use Rattle.slate_live.proofs.Following.{follower-follows}
+use Rattle.slate_live.proofs.Leading.{Leads, followers-over, past-follows, past-over, still-held, valid-over}
 
 module _ (w : World) (o : Objects) (is_sound : IsSound o) (holds : Holds o w) (valid : IsValid w) (reads : (n : ℕ) (x : Object) → slice_get w.objects n ≡ Some x → IsHeld o x)
     (o' : Objects) (m : Maintained o o') where
@@ -55,7 +55,9 @@ module _ (w : World) (o : Objects) (is_sound : IsSound o) (holds : Holds o w) (v
     sound = m.sound;
     content = content-is;
     handles = valid-after;
-    followers = valid.followers;
+    followers = λ n g at.
+        let p = past-over w o is_sound holds valid reads n (AFollower g) at in
+        follower-follows w.stored w.stored o o' p.0 (m.latest p.0 p.1).0 p.1 (follows p.0 p.1) g (followers-over w o is_sound holds valid reads n g at);
     named = valid.named;
     past = λ n x at.
         let p = past-over w o is_sound holds valid reads n x at in

@@ -1,23 +1,21 @@
 -- What an opening leaves of a world: the handles that were opened before, and the one that it gives.
-use Rattle.std.proofs.Common.{◌≡◌, ℕ, zero, suc, ◌+◌, ◌<◌, ◌≤◌, ◌⊎◌, inl, inr, length, List, [], ◌∷◌, ◌++◌, Some, Bool, refl, sym, subst, ap, ◌∙◌, arith}
+use Rattle.std.proofs.Common.{◌≡◌, ℕ, zero, suc, ◌+◌, ◌<◌, ◌≤◌, ◌⊎◌, inl, inr, length, [], ◌∷◌, ◌++◌, Some, Bool, sym, subst, ap, ◌∙◌, arith}
 use Rattle.std.specs.List.{slice_get}
-use Rattle.slate_types.specs.Line.{IsLine}
-use Rattle.slate_store.specs.Content.{IsSound, content}
+use Rattle.slate_store.specs.Content.{IsSound}
 use Rattle.slate_store.specs.Objects.{Objects}
 use Rattle.slate_model.specs.Changes.{after_part}
-use Rattle.slate_model.specs.Follower.{Follower}
 use Rattle.slate_model.specs.Handle.{Handle}
-use Rattle.slate_model.specs.Object.{Object, Handle as AHandle, Follower as AFollower, line_of, view_of}
+use Rattle.slate_model.specs.Object.{Object, Handle as AHandle, Follower as AFollower, view_of}
 use Rattle.slate_model.specs.Open.{found_log, next_manifest, open_changes, opened_handle, opened_manifest}
 use Rattle.slate_model.specs.Catalogue.{catalogue_of}
 use Rattle.slate_model.specs.Tables.{AreStored}
 use Rattle.slate_model.proofs.Flushing.{latest-stored}
-use Rattle.slate_model.proofs.Moving.{still-reads}
 use Rattle.slate_model.proofs.Opening.{fenced, older, opened-follows, opened-reads, opened-valid, same-table_at}
 use Rattle.slate_model.proofs.Reopened.{opened}
-use Rattle.slate_live.specs.Represents.{AreBefore, AreOfPast, IsHeld, Holds, IsFollowerAt, IsHandleAt, IsValid, IsValidFollower, IsValidHandle, ReadsItsLine}
+use Rattle.slate_live.specs.Represents.{AreBefore, AreOfPast, IsHeld, Holds, IsHandleAt, IsValid, IsValidHandle}
 use Rattle.slate_live.specs.World.{World}
-use Rattle.slate_live.proofs.Leading.{Leads, leads-same, past-follows, past-over, still-held, stored-before, stored-past, valid-over}
+use Rattle.slate_live.proofs.Following.{follower-follows}
+use Rattle.slate_live.proofs.Leading.{Leads, followers-over, leads-same, past-follows, past-over, still-held, stored-before, stored-past, valid-over}
 use Rattle.slate_live.proofs.Places.{get-push}
 
 module _ (w : World) (o : Objects) (is_sound : IsSound o) (holds : Holds o w) (valid : IsValid w) (reads : (n : ℕ) (x : Object) → slice_get w.objects n ≡ Some x → IsHeld o x) where
@@ -37,7 +35,9 @@ module _ (w : World) (o : Objects) (is_sound : IsSound o) (holds : Holds o w) (v
         sound = b.sound;
         content = b.content ∙ holds.stored;
         handles = λ m a at. fenced w.stored o (suc made) is_sound holds.stored some few a (over m a at);
-        followers = valid.followers;
+        followers = λ n g at.
+            let p = past-over w o is_sound holds valid reads n (AFollower g) at in
+            follower-follows w.stored w.stored o (after (suc made)) p.0 (opened_manifest o) p.1 (opened-follows w.stored o (suc made) is_sound holds.stored some few p.0 p.1) g (followers-over w o is_sound holds valid reads n g at);
         named = valid.named;
         past = λ n x at.
             let p = past-over w o is_sound holds valid reads n x at in
@@ -116,7 +116,7 @@ module _ (w : World) (o : Objects) (is_sound : IsSound o) (holds : Holds o w) (v
             handles = by-place (IsValidHandle w.stored (catalogue_of (after made))) mine-valid l.handles;
             followers = λ m g at.
                 elim (get-push w.objects (AHandle new) (AFollower g) m at) [
-                  | inl old ↦ valid.followers m g old
+                  | inl old ↦ l.followers m g old
                   | inr last_one ↦ absurd (let other = last_one.1 in cc)
                 ];
             named = λ m n a x at_m at_n. named-by m n a x (get-push w.objects (AHandle new) (AHandle a) m at_m) (get-push w.objects (AHandle new) x n at_n);

@@ -1,16 +1,15 @@
 -- A command over an honest store leads to a world that the live state and the store represent.
-use Rattle.std.proofs.Common.{◌≡◌, ℕ, ◌≤◌, Bool, true, false, length, List, [], ◌∷◌, ◌++◌, set, map, option_map, Option, Some, None, Result, Ok, Err, refl, sym, subst, ap, ◌∙◌, arith, zero, suc, inl, inr, ◌<◌}
+use Rattle.std.proofs.Common.{◌≡◌, ℕ, ◌≤◌, Bool, true, length, List, [], ◌∷◌, ◌++◌, set, map, option_map, Option, Some, None, Result, Ok, Err, refl, sym, subst, ap, ◌∙◌, arith, zero, suc, inl, inr, ◌<◌}
 use Rattle.std.proofs.lemmas.List.{append-nil, length-map, map-append}
 use Rattle.std.specs.List.{slice_get}
 use Rattle.slate_types.specs.declared.batches.Batch.{Batch}
-use Rattle.slate_types.specs.Line.{IsLine, IsPrefix, Line}
-use Rattle.slate_store.specs.Content.{IsSound, content}
-use Rattle.slate_store.specs.Objects.{Objects, last_log, latest_manifest}
+use Rattle.slate_types.specs.Line.{IsLine, Line}
+use Rattle.slate_store.specs.Content.{IsSound}
+use Rattle.slate_store.specs.Objects.{Objects, latest_manifest}
 use Rattle.slate_store.specs.declared.objects.VersionedManifest.{VersionedManifest}
 use Rattle.slate_errors.specs.declared.errors.SlateError.{SlateError}
-use Rattle.slate_model.specs.Catalogue.{Catalogue, Span, catalogue_of}
+use Rattle.slate_model.specs.Catalogue.{catalogue_of}
 use Rattle.slate_model.specs.declared.answers.PollAnswer.{PollAnswer}
-use Rattle.slate_model.specs.Flush.{grown}
 use Rattle.slate_model.specs.Follow.{Rebuilds, unseen}
 use Rattle.slate_model.specs.Follower.{Follower, kept_follower, rebuilt}
 use Rattle.slate_model.specs.Handle.{Handle, kept_handle}
@@ -21,27 +20,28 @@ use Rattle.slate_model.specs.Object.{Object, Handle as AHandle, Follower as AFol
 use Rattle.slate_model.specs.Open.{OpensHandle, opened_manifest, opened_handle}
 use Rattle.slate_model.specs.Stores.{by_catalogue, by_objects}
 use Rattle.slate_model.proofs.Flushed.{part_le}
-use Rattle.slate_model.proofs.Flushing.{latest-stored}
 use Rattle.slate_model.proofs.Maintained.{Maintained, checkpoint-maintains, checkpoints-reduced, sweep-maintains, sweeps-reduced}
-use Rattle.slate_model.proofs.Reduced.{catalogued, holding, opened-whole, opens-reduced, rebuilds-reduced, rebuilt-whole}
+use Rattle.slate_model.proofs.Reduced.{catalogued, holding, opens-reduced, rebuilds-reduced}
 use Rattle.slate_script.specs.declared.commands.Command.{Command}
 use Rattle.slate_script.specs.declared.replies.Reply.{Reply}
 use Rattle.slate_script.specs.declared.replies.Reply.TheVariants as replies
 use Rattle.slate_live.specs.declared.states.Write.{Write}
 use Rattle.slate_live.specs.Calls.{Call, Write as WriteCall, Merge as MergeCall, Flush, Refresh, Compact, Get, Scan, Seek, Close, Poll, Status, Nothing, call_of, named, Target, NewHandle, NewFollower, NewCheckpoint, WholeStore, OfWrite, OfObject, target_of}
-use Rattle.slate_live.specs.Commands.{Acts, ActsOn, Adds, Does, DoesBy, DoesToStore, OpensFollowerIn, OpensHandleIn, added, asked_reply, write_reply}
+use Rattle.slate_live.specs.Commands.{Acts, ActsOn, Does, DoesBy, DoesToStore, added, asked_reply, write_reply}
 use Rattle.slate_live.specs.Maintenance.{CommitsTo, SweepsTo}
-use Rattle.slate_live.specs.Replies.{followed_reply, refusal, reply_to}
-use Rattle.slate_live.specs.Represents.{AreBefore, AreOfPast, IsHeld, Holds, IsFollowerAt, IsHandleAt, IsValid, IsValidFollower, IsValidHandle, ReadsItsLine, Represents}
+use Rattle.slate_live.specs.Replies.{followed_reply, reply_to}
+use Rattle.slate_live.specs.Represents.{AreBefore, AreOfPast, IsHeld, Holds, IsHandleAt, IsValid, IsValidFollower, Represents}
 use Rattle.slate_live.specs.Settings.{Settings}
 use Rattle.slate_live.specs.State.{Live, State, running}
 use Rattle.slate_live.specs.World.{Next, World, grown_by, state_of, stored_after}
-use Rattle.slate_live.proofs.Knowing.{follower-after, follower-led, handle-after, handle-led, all-read, whole-seen}
-use Rattle.slate_live.proofs.Leading.{Leads, follower-leads, is_latest, leads-same, moved-leads, past-over, stored-before, stored-past, the_latest, valid-over}
+use Rattle.slate_live.proofs.Following.{new-held, new-stored, new-valid, seen-kept, seen-mark}
+use Rattle.slate_live.proofs.Knowing.{follower-after, follower-led, handle-after, handle-led}
+use Rattle.slate_model.proofs.Owing.{owed_line}
+use Rattle.slate_store.specs.declared.reader_modes.DbReaderMode.{DbReaderMode}
+use Rattle.slate_live.proofs.Leading.{followers-over, Leads, follower-leads, is_latest, leads-same, moved-leads, past-over, stored-before, stored-past, the_latest, valid-over}
 use Rattle.slate_live.proofs.Maintaining.{maintained-leads}
 use Rattle.slate_live.proofs.Opening.{opened-leads, unopened-leads}
 use Rattle.slate_live.proofs.Places.{get-map, get-push}
-use Rattle.slate_live.proofs.Prefixes.{prefix-same}
 
 -- what is kept of objects of which one was set
 map-set : {X Y : Type 0} (f : X → Y) (xs : List X) (n : ℕ) (x : X) → map f (set xs n x) ≡ set (map f xs) n (f x)
@@ -183,9 +183,9 @@ module _ (settings : Settings) (w : World) (o : Objects) (is_sound : IsSound o) 
       Acts (by_objects (Some o)) settings.merge n command made (AFollower (kept_follower g)) (holding o w.faults) w.writes reply (AFollower k) store writes → live_objects ≡ set (map kept w.objects) n (AFollower k) → Led
   led-follower n g k is at a objects =
       let o' = follower-after o w.faults made w.writes writes reply settings.merge store (call_of command.action) (kept_follower g) k a in
-      let front = valid.followers n g at in
+      let mine = followers-over w o is_sound holds valid reads n g at in
       let by_held = subst (λ x. Acts (by_objects (Some o)) settings.merge n command made (AFollower (kept_follower g)) (holding o w.faults) w.writes reply (AFollower k) x writes) (store-is o'.0 o'.1) a in
-      let l = follower-led w.stored o o'.0 w.faults store.faults made w.writes writes reply is_sound holds.stored valid.line settings.merge g k front (reads n (AFollower g) at) (call_of command.action) by_held in
+      let l = follower-led w.stored o o'.0 w.faults store.faults made w.writes writes reply is_sound holds.stored valid.line settings.merge g k mine (reads n (AFollower g) at) (call_of command.action) by_held in
       let grows = named-is (OfObject n) is (Some (AFollower g)) at ∙ follower-growth (call_of command.action) made w.stored g in
       let objects' = set w.objects n (AFollower l.new) in
       record {
@@ -193,7 +193,7 @@ module _ (settings : Settings) (w : World) (o : Objects) (is_sound : IsSound o) 
         objects = objects';
         modelled = o'.1;
         kept = objects ∙ (ap (λ x. set (map kept w.objects) n (AFollower x)) l.kept ∙ sym (map-set kept w.objects n (AFollower l.new)));
-        leads = subst (λ x. Leads stored' x objects') (sym l.same) (over grows (follower-leads w o is_sound holds valid reads n g l.new at l.view l.begins l.holds_it));
+        leads = subst (λ x. Leads stored' x objects') (sym l.same) (over grows (follower-leads w o is_sound holds valid reads n g l.new at l.view l.valid l.holds_it));
         does = does-at (OfObject n) is o'.0 objects'
             (subst (λ found. ActsOn (by_catalogue w.stored w.catalogue) settings.merge n command made found (state_of w) reply (state_of (world o'.0 objects'))) (sym at)
             (record {
@@ -266,11 +266,8 @@ module _ (settings : Settings) (w : World) (o : Objects) (is_sound : IsSound o) 
         });
       }
 
-  -- the objects with a follower more, whose view is the latest manifest
-  module _ (g : Follower) (is : latest_manifest o ≡ Some g.view) where
-    tables-stored : AreStored o g.view.manifest.tables
-    tables-stored = latest-stored o g.view is_sound is
-
+  -- the objects with a follower more, which goes by a manifest whose tables are stored
+  module _ (g : Follower) (latest : VersionedManifest) (is : latest_manifest o ≡ Some latest) (tables-stored : AreStored o g.view.manifest.tables) where
     before-push : (m : ℕ) (a : Handle) → IsHandleAt (w.objects ++ AFollower g ∷ []) m a → IsHandleAt w.objects m a
     before-push m a at =
         elim (get-push w.objects (AFollower g) (AHandle a) m at) [
@@ -285,68 +282,68 @@ module _ (settings : Settings) (w : World) (o : Objects) (is_sound : IsSound o) 
           | inr last_one ↦ subst P last_one.1 mine
         ]
 
-    followed-leads : IsPrefix g.line w.stored → IsHeld o (AFollower g) → Leads w.stored o (w.objects ++ AFollower g ∷ [])
-    followed-leads front its = record {
+    followed-leads : IsValidFollower w.stored (catalogue_of o) g → IsHeld o (AFollower g) → Leads w.stored o (w.objects ++ AFollower g ∷ [])
+    followed-leads mine its = record {
       sound = is_sound;
       content = holds.stored;
       handles = λ m a at. valid-over w o is_sound holds valid reads m a (before-push m a at);
       followers = λ m f at.
           elim (get-push w.objects (AFollower g) (AFollower f) m at) [
-            | inl old ↦ valid.followers m f old
-            | inr last_one ↦ (let other = last_one.1 in let same : g ≡ f = cc in subst (IsValidFollower w.stored) same front)
+            | inl old ↦ followers-over w o is_sound holds valid reads m f old
+            | inr last_one ↦ (let other = last_one.1 in let same : g ≡ f = cc in subst (IsValidFollower w.stored (catalogue_of o)) same mine)
           ];
       named = λ i j a x at_i at_j.
           let at_before = before-push i a at_i in
           pushed (λ y. AreBefore a (view_of y).manifest.tables) (stored-before w.stored o a (valid-over w o is_sound holds valid reads i a at_before) g.view.manifest.tables tables-stored)
           (λ m y at. valid.named i m a y at_before at) j x at_j;
-      past = pushed (λ y. AreOfPast (catalogue_of o) (view_of y).manifest.tables) (stored-past o g.view is_sound is g.view.manifest.tables tables-stored) (past-over w o is_sound holds valid reads);
+      past = pushed (λ y. AreOfPast (catalogue_of o) (view_of y).manifest.tables) (stored-past o latest is_sound is g.view.manifest.tables tables-stored) (past-over w o is_sound holds valid reads);
       distinct = λ i j a b at_i at_j epochs. valid.distinct i j a b (before-push i a at_i) (before-push j b at_j) epochs;
       reads = pushed (IsHeld o) its reads;
     }
 
   -- an opening of a follower
-  led-followed : target_of command.action ≡ NewFollower → (r : Result (Follower × PollAnswer) SlateError) → Rebuilds (by_objects (Some o)) true unseen (holding o w.faults) r store → made ≡ 0 →
+  led-followed : (mode : DbReaderMode) (skips : Bool) → target_of command.action ≡ NewFollower mode skips → (r : Result (Follower × PollAnswer) SlateError) → Rebuilds (by_objects (Some o)) mode skips true unseen (holding o w.faults) r store → made ≡ 0 →
       reply ≡ reply_to (λ (b : Follower × PollAnswer). followed_reply (length (map kept w.objects)) b.1) r → live_objects ≡ map kept w.objects ++ added (λ (b : Follower × PollAnswer). AFollower b.0) r → writes ≡ w.writes → Led
-  led-followed is (Ok b) d none replied objects same_writes =
-      let by_held = subst (λ x. Rebuilds (by_objects (Some o)) true unseen (holding o w.faults) (Ok b) x) (store-is o d.kept) d in
-      let known = rebuilds-reduced w.stored true unseen unseen o o w.faults store.faults is_sound holds.stored tt (Ok b) by_held in
+  led-followed mode skips is (Ok b) d none replied objects same_writes =
+      let by_held = subst (λ x. Rebuilds (by_objects (Some o)) mode skips true unseen (holding o w.faults) (Ok b) x) (store-is o d.kept) d in
+      let known = rebuilds-reduced w.stored mode skips true unseen unseen o o w.faults store.faults is_sound holds.stored tt (Ok b) by_held in
       let all = d.sees o w.stored refl (o, refl, is_sound, sym holds.stored) tt in
-      let mark : (b.0).mark ≡ last_log all.0.manifest.replay_after_wal_id o = ap (λ (x : Follower). x.mark) all.2 in
-      let view : (b.0).view ≡ all.0 = ap (λ (x : Follower). x.view) all.2 in
-      let at : latest_manifest o ≡ Some (b.0).view = all.1 ∙ ap Some (sym view) in
-      let new = rebuilt (b.0).view w.stored (b.0).mark in
+      let v = d.can o refl in
+      let mark = seen-mark (Some o) w.stored mode skips o b.0 b.1 all in
+      let new = rebuilt mode skips (b.0).view (owed_line mode skips o (b.0).view w.stored) (b.0).mark in
+      let there = new-stored w.stored mode skips true o (b.0).view is_sound holds.stored v (b.0).mark mark in
       let objects' = w.objects ++ AFollower new ∷ [] in
       record {
         after = o;
         objects = objects';
         modelled = d.kept;
-        kept = objects ∙ (ap (λ x. map kept w.objects ++ AFollower x ∷ []) (all.2 ∙ (ap (λ v. kept_follower (rebuilt v w.stored (last_log all.0.manifest.replay_after_wal_id o))) (sym view) ∙ ap (λ n. kept_follower (rebuilt (b.0).view w.stored n)) (sym mark))) ∙ sym (map-append kept w.objects (AFollower new ∷ [])));
-        leads = over (unnamed NewFollower is refl) (followed-leads new at (prefix-same w.stored) (all-read w.stored o is_sound holds.stored valid.line (b.0).view (b.0).mark at, whole-seen w.stored o is_sound holds.stored (b.0).view (b.0).mark at (mark ∙ ap (λ (v : VersionedManifest). last_log v.manifest.replay_after_wal_id o) (sym view))));
-        does = does-at NewFollower is o objects' (
+        kept = objects ∙ (ap (λ x. map kept w.objects ++ AFollower x ∷ []) (seen-kept (Some o) w.stored mode skips o b.0 b.1 all) ∙ sym (map-append kept w.objects (AFollower new ∷ [])));
+        leads = over (unnamed (NewFollower mode skips) is refl) (followed-leads new v.0 v.1 there (new-valid w.stored mode skips true o (b.0).view is_sound holds.stored v (b.0).mark mark) (new-held w.stored mode skips true o (b.0).view is_sound holds.stored v (b.0).mark mark));
+        does = does-at (NewFollower mode skips) is o objects' (
           record {
             result = Ok (new, b.1);
             replied = replied ∙ ap (λ n. followed_reply n b.1) (length-map w.objects kept);
-            does = subst (λ c. Rebuilds (by_catalogue w.stored c) true unseen (record { objects = Some c; faults = w.faults }) (Ok (new, b.1)) (catalogued o store.faults)) holds.catalogue known;
+            does = subst (λ c. Rebuilds (by_catalogue w.stored c) mode skips true unseen (record { objects = Some c; faults = w.faults }) (Ok (new, b.1)) (catalogued o store.faults)) holds.catalogue known;
             objects = refl;
             writes = same_writes;
           },
           none,
         );
       }
-  led-followed is (Err e) d none replied objects same_writes =
-      let by_held = subst (λ x. Rebuilds (by_objects (Some o)) true unseen (holding o w.faults) (Err e) x) (store-is o d.kept) d in
-      let known = rebuilds-reduced w.stored true unseen unseen o o w.faults store.faults is_sound holds.stored tt (Err e) by_held in
+  led-followed mode skips is (Err e) d none replied objects same_writes =
+      let by_held = subst (λ x. Rebuilds (by_objects (Some o)) mode skips true unseen (holding o w.faults) (Err e) x) (store-is o d.kept) d in
+      let known = rebuilds-reduced w.stored mode skips true unseen unseen o o w.faults store.faults is_sound holds.stored tt (Err e) by_held in
       record {
         after = o;
         objects = w.objects;
         modelled = d.kept;
         kept = objects ∙ append-nil (map kept w.objects);
-        leads = over (unnamed NewFollower is refl) (leads-same w o is_sound holds valid reads);
-        does = does-at NewFollower is o w.objects (
+        leads = over (unnamed (NewFollower mode skips) is refl) (leads-same w o is_sound holds valid reads);
+        does = does-at (NewFollower mode skips) is o w.objects (
           record {
             result = Err e;
             replied = replied;
-            does = subst (λ c. Rebuilds (by_catalogue w.stored c) true unseen (record { objects = Some c; faults = w.faults }) (Err e) (catalogued o store.faults)) holds.catalogue known;
+            does = subst (λ c. Rebuilds (by_catalogue w.stored c) mode skips true unseen (record { objects = Some c; faults = w.faults }) (Err e) (catalogued o store.faults)) holds.catalogue known;
             objects = sym (append-nil w.objects);
             writes = same_writes;
           },
@@ -402,7 +399,7 @@ module _ (settings : Settings) (w : World) (o : Objects) (is_sound : IsSound o) 
 
   led-by : (target : Target) → target_of command.action ≡ target → DoesBy (by_objects (Some o)) settings command target made s reply s' → Led
   led-by (NewHandle keeps_log) is d = led-opened keeps_log is d.result d.does d.replied d.objects d.writes
-  led-by NewFollower is d = led-followed is (d.0).result (d.0).does d.1 (d.0).replied (d.0).objects (d.0).writes
+  led-by (NewFollower mode skips) is d = led-followed mode skips is (d.0).result (d.0).does d.1 (d.0).replied (d.0).objects (d.0).writes
   led-by (NewCheckpoint lifetime) is d = led-checkpoint lifetime is d
   led-by WholeStore is d = led-swept is d
   led-by (OfWrite n) is d =

@@ -6,9 +6,8 @@ use Rattle.std.specs.Result.{IfErr}
 use Rattle.std.specs.Prelude.{int_lt, pos, negsuc}
 use Rattle.std.proofs.lemmas.Bool.{cases_eq, le-ltb}
 use Rattle.slate_types.specs.declared.batches.KeyOp.{KeyOp}
-use Rattle.slate_types.specs.Line.{IsPrefix, Line}
+use Rattle.slate_types.specs.Line.{Line}
 use Rattle.slate_types.specs.Operator.{Merge}
-use Rattle.slate_store.specs.Objects.{ObjectsOf}
 use Rattle.slate_errors.specs.declared.errors.SlateError.{SlateError}
 use Rattle.slate_errors.specs.declared.errors.SlateError.TheVariants as errors
 use Rattle.slate_errors.specs.Errors.{closed_error}
@@ -18,7 +17,7 @@ use Rattle.slate_model.specs.declared.answers.PollAnswer.{PollAnswer}
 use Rattle.slate_model.specs.declared.answers.Written.{Written}
 use Rattle.slate_model.specs.Flush.{DurableAfter, IsFlushed}
 use Rattle.slate_model.specs.Follow.{Polls}
-use Rattle.slate_model.specs.Follower.{Follower, number}
+use Rattle.slate_model.specs.Follower.{Follower, is_pinned, number}
 use Rattle.slate_model.specs.Handle.{CloseResult, Handle, accepted}
 use Rattle.slate_model.specs.Knowledge.{Knowledge}
 use Rattle.slate_model.specs.Known.{Known}
@@ -32,15 +31,16 @@ use Rattle.slate_live.specs.Calls.{Call, Write as WriteCall, Merge as MergeCall,
 use Rattle.slate_live.specs.Commands.{Acts, ActsOn, DoesBy}
 use Rattle.slate_live.specs.Followers.{FollowerActs}
 use Rattle.slate_live.specs.Handles.{HandleActs, MergesTo}
-use Rattle.slate_live.specs.Represents.{IsValid}
+use Rattle.slate_live.specs.Represents.{IsValidFollower, IsValid}
 use Rattle.slate_live.specs.Rising.{FollowerRises, HandleRises, Rise, Rises, StaysClosed}
 use Rattle.slate_live.specs.Settings.{Settings}
 use Rattle.slate_live.specs.State.{State}
 use Rattle.slate_live.specs.World.{World, Next, state_of}
+use Rattle.slate_live.proofs.Following.{owed-above}
 use Rattle.slate_live.proofs.Cases.{by-option, is-none, some-of}
 use Rattle.slate_live.proofs.Choices.{close-cases, compact-cases, flush-cases, refresh-cases}
 use Rattle.slate_live.proofs.Places.{get-before, get-set_other, get-set_same}
-use Rattle.slate_live.proofs.Prefixes.{prefix-end, prefix-same}
+use Rattle.slate_live.proofs.Prefixes.{prefix-same}
 
 not-below : (t : ℤ) → int_lt t t ≡ false
 not-below (pos n) = le-ltb n n (omega arith)
@@ -143,44 +143,48 @@ handle-rises stored catalogue merge n moment second Status made h before writes 
 handle-rises stored catalogue merge n moment second Nothing made h before writes reply h' after writes' low a = rises-same h h' a.1
 
 follower-same : (f f' : Follower) → f' ≡ f → FollowerRises f f'
-follower-same f f' same = subst (FollowerRises f) (sym same) (record { number = omega arith; result = stays f.result })
+follower-same f f' same = subst (FollowerRises f) (sym same) (record { mode = refl; skips = refl; number = omega arith; result = stays f.result })
 
--- what a poll leaves: the follower as it was, or one that sees what is stored
-polled-rises : (stored : Line) (catalogue : Catalogue) (f f' : Follower) (o : ObjectsOf Span) (before after : Known Span) (r : Result PollAnswer SlateError) → before.objects ≡ Some o → IsPrefix f.line stored → f.result ≡ None → Polls (by_catalogue stored catalogue) f before r f' after → FollowerRises f f'
-polled-rises stored catalogue f f' o before after (Err e) at front live p = follower-same f f' p.failed
-polled-rises stored catalogue f f' o before after (Ok answer) at front live p =
-    let all = (p.rebuilds live).sees o stored at refl tt in
+-- what a poll leaves: the follower as it was, or one that sees what it is owed
+polled-rises : (stored : Line) (catalogue : Catalogue) (f f' : Follower) (before after : Known Span) (r : Result PollAnswer SlateError) → before.objects ≡ Some catalogue → IsValidFollower stored catalogue f → f.result ≡ None → (pinned : Bool) → is_pinned f.mode ≡ pinned → Polls (by_catalogue stored catalogue) f before r f' after → FollowerRises f f'
+polled-rises stored catalogue f f' before after r at mine live true stays_at p = follower-same f f' (p.pinned live stays_at).1
+polled-rises stored catalogue f f' before after (Err e) at mine live false free p = follower-same f f' p.failed
+polled-rises stored catalogue f f' before after (Ok answer) at mine live false free p =
+    let b = p.rebuilds live free in
+    let all = b.sees catalogue stored at refl tt in
     record {
-      number = subst (λ (g : Follower). number f ≤ number g) (sym all.2) (prefix-end f.line stored front);
+      mode = b.answer.0;
+      skips = b.answer.1;
+      number = subst (λ (g : Follower). number f ≤ number g) (sym all.2) (owed-above stored catalogue f f'.view all.0 mine free (b.can catalogue at) all.1);
       result = is-none (λ q. f'.result ≡ Some q) f.result live;
     }
 
 poll-same : {A : Type 0} (r : Result A SlateError) (e : SlateError) (P : SlateError → Type 0) → r ≡ Err e → IfErr r P → P e
 poll-same {A} r e P is h = subst (λ x. IfErr x P) is h
 
-poll-rises : (stored : Line) (catalogue : Catalogue) (f f' : Follower) (o : ObjectsOf Span) (before after : Known Span) (r : Result PollAnswer SlateError) → before.objects ≡ Some o → IsPrefix f.line stored → Polls (by_catalogue stored catalogue) f before r f' after → FollowerRises f f'
-poll-rises stored catalogue f f' o before after r at front p =
+poll-rises : (stored : Line) (catalogue : Catalogue) (f f' : Follower) (before after : Known Span) (r : Result PollAnswer SlateError) → before.objects ≡ Some catalogue → IsValidFollower stored catalogue f → Polls (by_catalogue stored catalogue) f before r f' after → FollowerRises f f'
+poll-rises stored catalogue f f' before after r at mine p =
     by-option f.result
-    (λ live. polled-rises stored catalogue f f' o before after r at front live p)
+    (λ live. polled-rises stored catalogue f f' before after r at mine live (is_pinned f.mode) refl p)
     (λ q is. let c = some-of (λ q. (r ≡ Err (closed_error q)) × (after ≡ before)) f.result q is p.closed in follower-same f f' (poll-same r _ (λ e. f' ≡ f) c.0 p.failed))
 
 closed-follower-rises : (f : Follower) (r : CloseResult) → f.result ≡ r → FollowerRises f (closed_follower f)
-closed-follower-rises f None is = record { number = omega arith; result = is-none (λ q. (closed_follower f).result ≡ Some q) f.result is }
-closed-follower-rises f (Some q) is = record { number = omega arith; result = subst (λ x. StaysClosed x (Some (unwrap_or x (Ok tt)))) (sym is) refl }
+closed-follower-rises f None is = record { mode = refl; skips = refl; number = omega arith; result = is-none (λ q. (closed_follower f).result ≡ Some q) f.result is }
+closed-follower-rises f (Some q) is = record { mode = refl; skips = refl; number = omega arith; result = subst (λ x. StaysClosed x (Some (unwrap_or x (Ok tt)))) (sym is) refl }
 
-pub follower-rises : (stored : Line) (catalogue : Catalogue) (merge : Option Merge) (call : Call) (made : ℕ) (f : Follower) (o : ObjectsOf Span) (before : Known Span) (writes : List Write) (reply : Reply) (f' : Follower) (after : Known Span) (writes' : List Write) → before.objects ≡ Some o → IsPrefix f.line stored → FollowerActs (by_catalogue stored catalogue) merge call made f before writes reply f' after writes' → FollowerRises f f'
-follower-rises stored catalogue merge Poll made f o before writes reply f' after writes' at front a = poll-rises stored catalogue f f' o before after (a.0).result at front (a.0).does
-follower-rises stored catalogue merge (Close t) made f o before writes reply f' after writes' at front a = subst (FollowerRises f) (sym a.1) (closed-follower-rises f f.result refl)
-follower-rises stored catalogue merge (Get key remote) made f o before writes reply f' after writes' at front a = follower-same f f' a.1
-follower-rises stored catalogue merge (Scan range order remote) made f o before writes reply f' after writes' at front a = follower-same f f' a.1
-follower-rises stored catalogue merge (Seek range take key order remote) made f o before writes reply f' after writes' at front a = follower-same f f' a.1
-follower-rises stored catalogue merge (WriteCall ops) made f o before writes reply f' after writes' at front a = follower-same f f' a.1
-follower-rises stored catalogue merge (MergeCall op) made f o before writes reply f' after writes' at front a = follower-same f f' a.1
-follower-rises stored catalogue merge (Flush t) made f o before writes reply f' after writes' at front a = follower-same f f' a.1
-follower-rises stored catalogue merge Refresh made f o before writes reply f' after writes' at front a = follower-same f f' a.1
-follower-rises stored catalogue merge Compact made f o before writes reply f' after writes' at front a = follower-same f f' a.1
-follower-rises stored catalogue merge Status made f o before writes reply f' after writes' at front a = follower-same f f' a.1
-follower-rises stored catalogue merge Nothing made f o before writes reply f' after writes' at front a = follower-same f f' a.1
+pub follower-rises : (stored : Line) (catalogue : Catalogue) (merge : Option Merge) (call : Call) (made : ℕ) (f : Follower) (before : Known Span) (writes : List Write) (reply : Reply) (f' : Follower) (after : Known Span) (writes' : List Write) → before.objects ≡ Some catalogue → IsValidFollower stored catalogue f → FollowerActs (by_catalogue stored catalogue) merge call made f before writes reply f' after writes' → FollowerRises f f'
+follower-rises stored catalogue merge Poll made f before writes reply f' after writes' at front a = poll-rises stored catalogue f f' before after (a.0).result at front (a.0).does
+follower-rises stored catalogue merge (Close t) made f before writes reply f' after writes' at front a = subst (FollowerRises f) (sym a.1) (closed-follower-rises f f.result refl)
+follower-rises stored catalogue merge (Get key remote) made f before writes reply f' after writes' at front a = follower-same f f' a.1
+follower-rises stored catalogue merge (Scan range order remote) made f before writes reply f' after writes' at front a = follower-same f f' a.1
+follower-rises stored catalogue merge (Seek range take key order remote) made f before writes reply f' after writes' at front a = follower-same f f' a.1
+follower-rises stored catalogue merge (WriteCall ops) made f before writes reply f' after writes' at front a = follower-same f f' a.1
+follower-rises stored catalogue merge (MergeCall op) made f before writes reply f' after writes' at front a = follower-same f f' a.1
+follower-rises stored catalogue merge (Flush t) made f before writes reply f' after writes' at front a = follower-same f f' a.1
+follower-rises stored catalogue merge Refresh made f before writes reply f' after writes' at front a = follower-same f f' a.1
+follower-rises stored catalogue merge Compact made f before writes reply f' after writes' at front a = follower-same f f' a.1
+follower-rises stored catalogue merge Status made f before writes reply f' after writes' at front a = follower-same f f' a.1
+follower-rises stored catalogue merge Nothing made f before writes reply f' after writes' at front a = follower-same f f' a.1
 
 rises-refl : (x : Object) → Rises x x
 rises-refl (AHandle h) = rises-same h h refl
@@ -209,7 +213,7 @@ module _ (settings : Settings) (w : World) (valid : IsValid w) (command : Comman
 
   acts-rise : (n : ℕ) (old new : Object) → slice_get w.objects n ≡ Some old → Acts k settings.merge n command made old (state_of w).store w.writes reply new s'.store s'.writes → Rises old new
   acts-rise n (AHandle h) (AHandle h') at a = handle-rises w.stored w.catalogue settings.merge n command.moment command.second (call_of command.action) made h _ w.writes reply h' _ _ (valid.handles n h at).durable a
-  acts-rise n (AFollower f) (AFollower f') at a = follower-rises w.stored w.catalogue settings.merge (call_of command.action) made f w.catalogue _ w.writes reply f' _ _ refl (valid.followers n f at) a
+  acts-rise n (AFollower f) (AFollower f') at a = follower-rises w.stored w.catalogue settings.merge (call_of command.action) made f _ w.writes reply f' _ _ refl (valid.followers n f at) a
   acts-rise n (AHandle h) (AFollower f') at a = absurd a
   acts-rise n (AFollower f) (AHandle h') at a = absurd a
 
@@ -219,7 +223,7 @@ module _ (settings : Settings) (w : World) (valid : IsValid w) (command : Comman
 
   does-rises : (target : Target) → DoesBy k settings command target made (state_of w) reply s' → Rise w.objects s'.objects
   does-rises (NewHandle keeps_log) d = rise-push w.objects s'.objects _ d.objects
-  does-rises NewFollower d = rise-push w.objects s'.objects _ (d.0).objects
+  does-rises (NewFollower mode skips) d = rise-push w.objects s'.objects _ (d.0).objects
   does-rises (NewCheckpoint lifetime) d = rise-same w.objects s'.objects d.objects
   does-rises WholeStore d = rise-same w.objects s'.objects d.objects
   does-rises (OfWrite n) d = rise-same w.objects s'.objects (ap (λ (s : State Span). s.objects) d.2)

@@ -1,5 +1,5 @@
 -- What is stored is seen by each opening and each poll.
-use Rattle.std.proofs.Common.{◌≡◌, ℕ, ◌≤◌, Bool, true, false, ◌++◌, length, Option, Some, None, Result, Ok, Err, refl, sym, subst, arith, ap}
+use Rattle.std.proofs.Common.{◌≡◌, ℕ, ◌≤◌, Bool, true, false, not, ◌&&◌, set, ◌++◌, ◌∙◌, length, Option, Some, None, Result, Ok, Err, refl, sym, subst, arith, ap}
 use Rattle.std.specs.List.{slice_get}
 use Rattle.std.proofs.lemmas.Option.{slice_get_within}
 use Rattle.slate_types.specs.declared.batches.Batch.{Batch}
@@ -9,7 +9,8 @@ use Rattle.slate_errors.specs.declared.errors.SlateError.TheVariants as errors
 use Rattle.slate_errors.specs.Errors.{closed_error}
 use Rattle.slate_model.specs.declared.answers.PollAnswer.{PollAnswer}
 use Rattle.slate_model.specs.Follow.{unseen, Polls, Rebuilds, built}
-use Rattle.slate_model.specs.Follower.{Follower}
+use Rattle.slate_model.specs.Follower.{Follower, is_pinned, number}
+use Rattle.slate_store.specs.declared.reader_modes.DbReaderMode.{DbReaderMode}
 use Rattle.slate_model.specs.Handle.{Handle}
 use Rattle.slate_model.specs.Object.{Object, Handle as AHandle, Follower as AFollower}
 use Rattle.slate_model.specs.Open.{OpensHandle}
@@ -21,13 +22,15 @@ use Rattle.slate_script.specs.declared.replies.Reply.{Reply}
 use Rattle.slate_script.specs.declared.replies.Reply.TheVariants as replies
 use Rattle.slate_live.specs.Calls.{Poll, call_of, target_of}
 use Rattle.slate_live.specs.Commands.{ActsOn, DoesBy, added}
-use Rattle.slate_live.specs.Confirmed.{Sees, StandsIn}
+use Rattle.slate_live.specs.Confirmed.{Sees, StandsIn, follows_all}
+use Rattle.slate_live.specs.Represents.{IsFollowerAt}
+use Rattle.slate_live.proofs.Following.{owed-all}
 use Rattle.slate_live.specs.Replies.{followed_reply, polled_reply, refusal, reply_to}
 use Rattle.slate_live.specs.Settings.{Settings}
 use Rattle.slate_live.specs.World.{Next, World, state_of}
 use Rattle.slate_live.proofs.Cases.{by-option, some-of}
 use Rattle.slate_live.proofs.Naming.{follower-did, handle-did}
-use Rattle.slate_live.proofs.Places.{get-seam}
+use Rattle.slate_live.proofs.Places.{get-seam, get-set_same}
 
 -- the number of what stands in a line is at most that of its end
 pub stands-end : (batch : Batch) (line : Line) → StandsIn batch line → batch.number ≤ end line
@@ -65,26 +68,61 @@ open-sees batch w w' wal made limit (Ok h) opens is stands =
     )
 open-sees batch w w' wal made limit (Err e) opens is stands = sees-refusal batch (actions.Open wal) e w'
 
--- a follower that is opened or polled answers a number at or above its own
-follow-sees : (batch : Batch) (action : Action) (w w' : World) (n : ℕ) (opening : Bool) (r : Result (Follower × PollAnswer) SlateError) → Rebuilds (by_catalogue w.stored w.catalogue) opening (λ objects line. Unit {0}) (state_of w).store r (state_of w').store → Sees batch action (replies.Follower n true (end w.stored)) w' → Sees batch action (reply_to (λ (b : Follower × PollAnswer). followed_reply n b.1) r) w'
-follow-sees batch action w w' n opening (Ok b) built sees =
+-- a follower that is opened, or polled while it doesn't stay at a checkpoint, answers the end of what it is owed; where it
+-- follows all that is stored, that is a number at or above its own
+follow-sees : (batch : Batch) (w w' : World) (n : ℕ) (mode : DbReaderMode) (managed : Option (ℕ × ℕ)) (skips : Bool) (r : Result (Follower × PollAnswer) SlateError) → Rebuilds (by_catalogue w.stored w.catalogue) mode skips true unseen (state_of w).store r (state_of w').store → StandsIn batch w.stored →
+    Sees batch (actions.Follow mode managed skips) (reply_to (λ (b : Follower × PollAnswer). followed_reply n b.1) r) w'
+follow-sees batch w w' n mode managed skips (Ok b) built stands =
     let all = built.sees w.catalogue w.stored refl refl tt in
-    subst (λ a. Sees batch action (followed_reply n a) w') (sym all.3) sees
-follow-sees batch action w w' n opening (Err e) built sees = sees-refusal batch action e w'
+    let low = stands-end batch w.stored stands in
+    subst (λ a. Sees batch (actions.Follow mode managed skips) (followed_reply n a) w') (sym all.3)
+    (λ whole. let same = owed-all w.catalogue w.catalogue mode skips (b.0).view w.stored all.0 whole all.1 in subst (λ l. batch.number ≤ end l) (sym same) low)
+follow-sees batch w w' n mode managed skips (Err e) built stands = sees-refusal batch (actions.Follow mode managed skips) e w'
 
-polled-sees : (batch : Batch) (action : Action) (w w' : World) (f : Follower) (r : Result PollAnswer SlateError) → Rebuilds (by_catalogue w.stored w.catalogue) false (λ objects line. Unit {0}) (state_of w).store (built f r) (state_of w').store → Sees batch action (replies.Polled true (end w.stored)) w' → Sees batch action (reply_to polled_reply r) w'
-polled-sees batch action w w' f (Ok answer) built sees =
-    let all = built.sees w.catalogue w.stored refl refl tt in
-    subst (λ a. Sees batch action (polled_reply a) w') (sym all.3) sees
-polled-sees batch action w w' f (Err e) built sees = sees-refusal batch action e w'
+-- the follower that a poll left stands where it was
+polled-at : (w w' : World) (n : ℕ) (f f' : Follower) → IsFollowerAt w.objects n f → w'.objects ≡ set w.objects n (AFollower f') → (g : Follower) → IsFollowerAt w'.objects n g → f' ≡ g
+polled-at w w' n f f' at is g there =
+    let here : slice_get (set w.objects n (AFollower f')) n ≡ Some (AFollower f') = get-set_same w.objects n (AFollower f') (AFollower f) at in
+    let now : slice_get (set w.objects n (AFollower f')) n ≡ Some (AFollower g) = subst (λ os. slice_get os n ≡ Some (AFollower g)) is there in
+    cc
 
-poll-sees : (n : ℕ) (batch : Batch) (w w' : World) (f f' : Follower) (r : Result PollAnswer SlateError) → StandsIn batch w.stored → Polls (by_catalogue w.stored w.catalogue) f (state_of w).store r f' (state_of w').store → Sees batch (actions.Poll n) (reply_to polled_reply r) w'
-poll-sees n batch w w' f f' r stands p =
-    by-option f.result
-    (λ live. polled-sees batch (actions.Poll n) w w' f' r (p.rebuilds live) (stands-end batch w.stored stands))
-    (λ q is.
-    let c = some-of (λ q. (r ≡ Err (closed_error q)) × _) f.result q is p.closed in
-    subst (λ x. Sees batch (actions.Poll n) (reply_to polled_reply x) w') (sym c.0) (sees-refusal batch (actions.Poll n) (closed_error q) w'))
+module _ (n : ℕ) (batch : Batch) (w w' : World) (f f' : Follower) (at : IsFollowerAt w.objects n f) (is : w'.objects ≡ set w.objects n (AFollower f')) (stands : StandsIn batch w.stored) where
+  polled-sees : (r : Result PollAnswer SlateError) → is_pinned f.mode ≡ false → Rebuilds (by_catalogue w.stored w.catalogue) f.mode f.skips false (λ objects line. Unit {0}) (state_of w).store (built f' r) (state_of w').store → Sees batch (actions.Poll n) (reply_to polled_reply r) w'
+  polled-sees (Ok answer) free b =
+      let all = b.sees w.catalogue w.stored refl refl tt in
+      let low = stands-end batch w.stored stands in
+      subst (λ a. Sees batch (actions.Poll n) (polled_reply a) w') (sym all.3)
+      (λ g there whole.
+      let same = polled-at w w' n f f' at is g there in
+      let mode : g.mode ≡ f.mode = ap (λ (x : Follower). x.mode) (sym same) ∙ b.answer.0 in
+      let skips : g.skips ≡ f.skips = ap (λ (x : Follower). x.skips) (sym same) ∙ b.answer.1 in
+      let follows : follows_all f.mode f.skips ≡ true = sym (ap (λ m. follows_all m g.skips) mode ∙ ap (follows_all f.mode) skips) ∙ whole in
+      let line = owed-all w.catalogue w.catalogue f.mode f.skips f'.view w.stored all.0 follows all.1 in
+      subst (λ l. batch.number ≤ end l) (sym line) low)
+  polled-sees (Err e) free b = sees-refusal batch (actions.Poll n) e w'
+
+  -- one that stays at a checkpoint doesn't follow all that is stored
+  stayed-sees : (number : ℕ) → f' ≡ f → is_pinned f.mode ≡ true → Sees batch (actions.Poll n) (replies.Polled true number) w'
+  stayed-sees number unchanged stays g there whole =
+      let same = polled-at w w' n f f' at is g there in
+      let mode : is_pinned g.mode ≡ true = ap (λ (x : Follower). is_pinned x.mode) (sym same ∙ unchanged) ∙ stays in
+      absurd (not-all (is_pinned g.mode) g.skips mode whole) where
+        not-all : (p skips : Bool) → p ≡ true → (not p && not skips) ≡ true → ⊥
+        not-all true skips is whole = cc
+        not-all false skips is whole = cc
+
+  poll-sees : (r : Result PollAnswer SlateError) → Polls (by_catalogue w.stored w.catalogue) f (state_of w).store r f' (state_of w').store → Sees batch (actions.Poll n) (reply_to polled_reply r) w'
+  poll-sees r p =
+      by-option f.result
+      (λ live. by live (is_pinned f.mode) refl)
+      (λ q closed_is.
+      let c = some-of (λ q. (r ≡ Err (closed_error q)) × _) f.result q closed_is p.closed in
+      subst (λ x. Sees batch (actions.Poll n) (reply_to polled_reply x) w') (sym c.0) (sees-refusal batch (actions.Poll n) (closed_error q) w')) where
+        by : f.result ≡ None → (pinned : Bool) → is_pinned f.mode ≡ pinned → Sees batch (actions.Poll n) (reply_to polled_reply r) w'
+        by live true stays =
+            let q = p.pinned live stays in
+            subst (λ x. Sees batch (actions.Poll n) (reply_to polled_reply x) w') (sym q.0) (stayed-sees (number f) q.1 stays)
+        by live false free = polled-sees r free (p.rebuilds live free)
 
 sees-on : (settings : Settings) (batch : Batch) (w w' : World) (command : Command) (made n : ℕ) (reply : Reply) (found : Option Object) → call_of command.action ≡ Poll → StandsIn batch w.stored → slice_get w.objects n ≡ found → ActsOn (by_catalogue w.stored w.catalogue) settings.merge n command made found (state_of w) reply (state_of w') → Sees batch (actions.Poll n) reply w'
 sees-on settings batch w w' command made n reply None is stands at d = sees-by batch (actions.Poll n) w' d.1 tt
@@ -93,14 +131,14 @@ sees-on settings batch w w' command made n reply (Some (AHandle h)) is stands at
     sees-by batch (actions.Poll n) w' (a.acts).0 tt
 sees-on settings batch w w' command made n reply (Some (AFollower f)) is stands at d =
     let a = follower-did (by_catalogue w.stored w.catalogue) settings.merge n command Poll made (state_of w) reply (state_of w') (Some (AFollower f)) f is refl d in
-    sees-by batch (actions.Poll n) w' (a.acts).0.replied (poll-sees n batch w w' f a.new (a.acts).0.result stands (a.acts).0.does)
+    sees-by batch (actions.Poll n) w' (a.acts).0.replied (poll-sees n batch w w' f a.new at a.objects stands (a.acts).0.result (a.acts).0.does)
 
 sees-action : (settings : Settings) (batch : Batch) (w w' : World) (command : Command) (made : ℕ) (action : Action) (reply : Reply) → command.action ≡ action → StandsIn batch w.stored → DoesBy (by_catalogue w.stored w.catalogue) settings command (target_of action) made (state_of w) reply (state_of w') → Sees batch action reply w'
 sees-action settings batch w w' command made (actions.Open wal) reply is stands d =
     sees-by batch (actions.Open wal) w' d.replied (open-sees batch w w' wal made settings.options.max_unflushed_bytes d.result d.does d.objects stands)
 sees-action settings batch w w' command made (actions.Follow mode managed skip) reply is stands d =
     sees-by batch (actions.Follow mode managed skip) w' (d.0).replied
-    (follow-sees batch (actions.Follow mode managed skip) w w' (length w.objects) true (d.0).result (d.0).does (stands-end batch w.stored stands))
+    (follow-sees batch w w' (length w.objects) mode managed skip (d.0).result (d.0).does stands)
 sees-action settings batch w w' command made (actions.Poll n) reply is stands d = sees-on settings batch w w' command made n reply (slice_get w.objects n) (ap call_of is) stands refl d
 sees-action settings batch w w' command made (actions.Put n key value expire) reply is stands d = tt
 sees-action settings batch w w' command made (actions.Merge n key value expire) reply is stands d = tt

@@ -9,18 +9,20 @@ use Rattle.slate_types.specs.declared.ranges.ByteRange.{ByteRange}
 use Rattle.slate_types.specs.declared.scan_options.IterationOrder.{IterationOrder}
 use Rattle.slate_store.specs.Compaction.{compact_calls}
 use Rattle.slate_store.specs.Objects.{Objects}
+use Rattle.slate_store.specs.declared.reader_modes.DbReaderMode.{DbReaderMode}
 use Rattle.slate_store.specs.Sweeps.{sweep_calls}
+use Rattle.slate_model.specs.Followed.{followed_logs}
 use Rattle.slate_model.specs.Object.{Object, view_of}
 use Rattle.slate_model.specs.Open.{replayed_logs}
 use Rattle.slate_script.specs.declared.commands.Action.{Action}
 use Rattle.slate_script.specs.declared.commands.Action.TheVariants as actions
 use Rattle.slate_script.specs.declared.commands.Command.{Command}
 
--- where a command goes: it opens a handle, which keeps a log or not, or a follower, commits a checkpoint of the store, with
+-- where a command goes: it opens a handle, which keeps a log or not, or a follower in a mode, which skips log files or not, commits a checkpoint of the store, with
 -- a lifetime or without an end, sweeps the store, asks for the write with a number, or names the object with one
 pub data Target : Type 0 where
   NewHandle : (keeps_log : Bool) → Target
-  NewFollower : Target
+  NewFollower : (mode : DbReaderMode) → (skips : Bool) → Target
   NewCheckpoint : (lifetime : Option ℕ) → Target
   WholeStore : Target
   OfWrite : (n : ℕ) → Target
@@ -28,7 +30,7 @@ pub data Target : Type 0 where
 
 abbrev pub target_of : Action → Target
 target_of (actions.Open wal) = NewHandle wal
-target_of (actions.Follow mode managed skip) = NewFollower
+target_of (actions.Follow mode managed skip) = NewFollower mode skip
 target_of (actions.Checkpoint lifetime) = NewCheckpoint lifetime
 target_of actions.Sweep = WholeStore
 target_of (actions.Await n) = OfWrite n
@@ -120,7 +122,7 @@ most_asked objects tables call = 0
 -- and how often a command at a moment does; an opening calls it once more where its replay ends early
 abbrev pub most_made : Objects → (tables : ℕ) → ℤ → Target → Call → ℕ
 most_made objects tables moment (NewHandle keeps_log) call = replayed_logs objects + 5
-most_made objects tables moment NewFollower call = replayed_logs objects + 2
+most_made objects tables moment (NewFollower mode skips) call = followed_logs mode skips objects + 2
 most_made objects tables moment (NewCheckpoint lifetime) call = 16
 most_made objects tables moment WholeStore call = sweep_calls moment objects
 most_made objects tables moment (OfWrite n) call = 0

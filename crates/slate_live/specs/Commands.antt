@@ -2,6 +2,7 @@
 -- it asks for a write.
 use Rattle.std.specs.Prelude.{◌≡◌, ℕ, Bool, List, [], ◌∷◌, ◌++◌, length, slice_get, slice_set, Option, Some, None, Result, Ok, Err, true}
 use Rattle.slate_types.specs.Operator.{Merge}
+use Rattle.slate_store.specs.declared.reader_modes.DbReaderMode.{DbReaderMode}
 use Rattle.slate_errors.specs.declared.errors.SlateError.{SlateError}
 use Rattle.slate_model.specs.Follow.{Rebuilds, unseen}
 use Rattle.slate_model.specs.Knowledge.{Knowledge}
@@ -77,14 +78,14 @@ module _ {L : Type 0} (k : Knowledge L) (settings : Settings) where
   OpensHandleIn keeps_log made s reply s' =
       Adds (OpensHandle k made keeps_log settings.options.max_unflushed_bytes) Handle (λ n _. replies.Handle n) s reply s'
 
-  abbrev pub OpensFollowerIn : ℕ → State L → Reply → State L → Type 0
-  OpensFollowerIn made s reply s' =
-      Adds (Rebuilds k true unseen) (λ b. Follower b.0) (λ n b. followed_reply n b.1) s reply s' × (made ≡ 0)
+  abbrev pub OpensFollowerIn : DbReaderMode → (skips : Bool) → ℕ → State L → Reply → State L → Type 0
+  OpensFollowerIn mode skips made s reply s' =
+      Adds (Rebuilds k mode skips true unseen) (λ b. Follower b.0) (λ n b. followed_reply n b.1) s reply s' × (made ≡ 0)
 
   -- what a command does, by where it goes; so many of its changes were made
   abbrev pub DoesBy : Command → Target → ℕ → State L → Reply → State L → Type 0
   DoesBy command (NewHandle keeps_log) made s reply s' = OpensHandleIn keeps_log made s reply s'
-  DoesBy command NewFollower made s reply s' = OpensFollowerIn made s reply s'
+  DoesBy command (NewFollower mode skips) made s reply s' = OpensFollowerIn mode skips made s reply s'
   DoesBy command (NewCheckpoint lifetime) made s reply s' = DoesToStore (CommitsTo k made lifetime command.moment) s reply s'
   DoesBy command WholeStore made s reply s' = DoesToStore (SweepsTo k made command.moment) s reply s'
   DoesBy command (OfWrite n) made s reply s' = OnlyAnswers (write_reply s.objects (slice_get s.writes n)) made s reply s'

@@ -1,13 +1,13 @@
 -- When a live state and a store represent a world.
-use Rattle.std.specs.Prelude.{◌≡◌, ℕ, ◌-◌, ◌≤◌, ◌++◌, List, map, slice_get, take, Some, None}
+use Rattle.std.specs.Prelude.{◌≡◌, ℕ, ◌≤◌, List, map, slice_get, true, false, Some}
 use Rattle.slate_types.specs.declared.batches.Batch.{Batch}
-use Rattle.slate_types.specs.Line.{Line, IsLine, IsPrefix, batches_above, extended}
+use Rattle.slate_types.specs.Line.{Line, IsLine, IsPrefix}
 use Rattle.slate_store.specs.declared.objects.VersionedManifest.{VersionedManifest}
-use Rattle.slate_store.specs.Objects.{Objects, latest_manifest, table_at}
+use Rattle.slate_store.specs.Objects.{Objects, latest_manifest}
 use Rattle.slate_store.specs.Content.{AreRising, IsSound, content}
 use Rattle.slate_model.specs.Catalogue.{Catalogue, catalogue_of}
-use Rattle.slate_model.specs.Follower.{Follower}
-use Rattle.slate_model.specs.Handle.{Handle, accepted, unstored}
+use Rattle.slate_model.specs.Follower.{Follower, is_pinned, number}
+use Rattle.slate_model.specs.Handle.{Handle}
 use Rattle.slate_model.specs.Known.{Known}
 use Rattle.slate_model.specs.Object.{Object, Handle as AHandle, Follower as AFollower, kept, view_of}
 pub use Rattle.slate_model.specs.Valid.{AreBefore, AreOfPast, IsHeld, IsValidHandle, ReadsItsLine, up_to}
@@ -23,9 +23,14 @@ pub record Holds (objects : Objects) (w : World) : Type 0 where
 abbrev pub IsHandleAt : List Object → ℕ → Handle → Type 0
 IsHandleAt live n handle = slice_get live n ≡ Some (AHandle handle)
 
--- a follower of a world in which this line is stored: what it sees begins that
-abbrev pub IsValidFollower : Line → Follower → Type 0
-IsValidFollower stored follower = IsPrefix follower.line stored
+-- a follower of the latest manifest that reads no log file sees no more than what is in the tables of that
+abbrev pub IsTabled : Catalogue → Follower → Type 0
+IsTabled catalogue follower =
+    follower.skips ≡ true → is_pinned follower.mode ≡ false → (latest : VersionedManifest) → latest_manifest catalogue ≡ Some latest → number follower ≤ latest.manifest.last_l0_seq
+
+-- a follower of a world with this catalogue, in which this line is stored: what it sees begins that
+abbrev pub IsValidFollower : Line → Catalogue → Follower → Type 0
+IsValidFollower stored catalogue follower = IsPrefix follower.line stored × IsTabled catalogue follower
 
 abbrev pub IsFollowerAt : List Object → ℕ → Follower → Type 0
 IsFollowerAt live n follower = slice_get live n ≡ Some (AFollower follower)
@@ -35,7 +40,7 @@ IsFollowerAt live n follower = slice_get live n ≡ Some (AFollower follower)
 -- and their epochs aren't above the latest manifest's. So no table is put under an id that a view names.
 pub record IsValid (w : World) : Type 0 where
   pub line : IsLine w.stored
-  pub followers : (n : ℕ) (follower : Follower) → IsFollowerAt w.objects n follower → IsValidFollower w.stored follower
+  pub followers : (n : ℕ) (follower : Follower) → IsFollowerAt w.objects n follower → IsValidFollower w.stored w.catalogue follower
   pub handles : (n : ℕ) (handle : Handle) → IsHandleAt w.objects n handle → IsValidHandle w.stored w.catalogue handle
   pub named : (m n : ℕ) (handle : Handle) (object : Object) → IsHandleAt w.objects m handle → slice_get w.objects n ≡ Some object →
       AreBefore handle (view_of object).manifest.tables

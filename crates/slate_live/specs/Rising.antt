@@ -17,8 +17,10 @@ pub record HandleRises (old new : AHandle) : Type 0 where
   pub epoch : new.epoch ≡ old.epoch
   pub result : StaysClosed old.result new.result
 
--- a follower's number doesn't fall
+-- a follower's number doesn't fall, and it stays in its mode
 pub record FollowerRises (old new : AFollower) : Type 0 where
+  pub mode : new.mode ≡ old.mode
+  pub skips : new.skips ≡ old.skips
   pub number : number old ≤ number new
   pub result : StaysClosed old.result new.result
 

@@ -16,8 +16,9 @@ use Rattle.slate_errors.specs.declared.errors.SlateError.{SlateError}
 use Rattle.slate_errors.specs.declared.errors.SlateError.TheVariants as errors
 use Rattle.slate_model.specs.Flush.{has_ids, has_log_for}
 use Rattle.slate_model.specs.Handle.{CloseResult, Handle, accepted}
-use Rattle.slate_model.specs.Follow.{can_follow}
-use Rattle.slate_model.specs.Follower.{Follower}
+use Rattle.slate_model.specs.Followed.{IsView}
+use Rattle.slate_model.specs.Follower.{Follower, is_pinned}
+use Rattle.slate_store.specs.declared.reader_modes.DbReaderMode.{DbReaderMode}
 use Rattle.slate_model.specs.Close.{recorded_fault}
 use Rattle.slate_live.specs.declared.states.Write.{Write}
 use Rattle.slate_model.specs.Open.{can_open}
@@ -95,9 +96,9 @@ CanClose (Some (Err fault)) flush_type w handle = Unit {0}
 CanClose None None w handle = Unit {0}
 CanClose None (Some flush_type) w handle = CanStore w flush_type handle
 
--- an opening of a follower, or a poll: there is a manifest, and it is initialised, where one is opened
-abbrev pub CanFollow : Bool → World → Type 0
-CanFollow opening w = (latest : VersionedManifest) × (latest_manifest w.catalogue ≡ Some latest) × (can_follow opening latest ≡ true)
+-- an opening of a follower, or a poll: there is a manifest that it can go by
+abbrev pub CanFollow : DbReaderMode → (opening : Bool) → World → Type 0
+CanFollow mode opening w = (view : VersionedManifest) × IsView mode opening w.catalogue view
 
 -- a checkpoint: there is a manifest, and the id of another is left
 abbrev pub CanCheckpoint : World → Type 0
@@ -152,7 +153,7 @@ CanAskFollower merge w (Scan range order remote) follower =
 CanAskFollower merge w (Seek range take key order remote) follower =
     ByStored w follower (CanTake follower.result (IsPlainScanAt merge range order follower) (sought range take key))
 CanAskFollower merge w (Close flush_type) follower = recorded_fault follower.result ≡ None
-CanAskFollower merge w Poll follower = (follower.result ≡ None) × CanFollow false w
+CanAskFollower merge w Poll follower = (follower.result ≡ None) × (is_pinned follower.mode ≡ false → CanFollow follower.mode false w)
 CanAskFollower merge w Status follower = Unit {0}
 CanAskFollower merge w call follower = ⊥
 
@@ -163,7 +164,7 @@ IsDurable w (Some write) = AtObject (slice_get w.objects write.handle) (λ handl
 
 abbrev pub IsValidAt : Option MergeFunction → World → ℤ → Option ℤ → Call → Target → Type 0
 IsValidAt merge w moment second call (NewHandle keeps_log) = CanOpen w
-IsValidAt merge w moment second call NewFollower = CanFollow true w
+IsValidAt merge w moment second call (NewFollower mode skips) = CanFollow mode true w
 IsValidAt merge w moment second call (NewCheckpoint lifetime) = CanCheckpoint w
 IsValidAt merge w moment second call WholeStore = CanSweep w moment
 IsValidAt merge w moment second call (OfWrite n) = IsDurable w (slice_get w.writes n)

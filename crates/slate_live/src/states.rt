@@ -3,10 +3,11 @@ ghost use Rattle.std.specs.Prelude.{◌≡◌, ◌≤◌, ◌+◌, ℕ, [], true
 ghost use Rattle.std.specs.Option.{option_copied};
 ghost use Rattle.slate_types.specs.Operator.{Merge};
 ghost use Rattle.slate_reads.specs.Read.{IsOperator};
+ghost use Rattle.slate_model.specs.Followed.{followed_logs};
 ghost use Rattle.slate_model.specs.Known.{known};
 ghost use Rattle.slate_model.specs.Open.{replayed_logs};
 ghost use Rattle.slate_model.specs.Stores.{by_objects};
-ghost use Rattle.slate_script.specs.Built.{IsBuilt, follows_latest};
+ghost use Rattle.slate_script.specs.Built.{IsBuilt, is_unmanaged};
 ghost use Rattle.slate_live.specs.Calls.{call_of, most_asked, most_calls, tables_of};
 ghost use Rattle.slate_live.specs.Commands.{ActsOn, Does, OpensFollowerIn, OpensHandleIn, write_reply};
 ghost use Rattle.slate_live.specs.Replies.{followed_reply};
@@ -163,7 +164,7 @@ impl LiveState {
         }
     }
 
-    /// Opens a reader of the latest manifest and its log files.
+    /// Opens a reader, of the latest manifest or of a checkpoint, which skips the log files or not.
     fn follow<S: Store, E: PrefixExtractor>(
         &mut self,
         alloc: Global,
@@ -174,11 +175,11 @@ impl LiveState {
         extractor: Option<&E>,
     ) -> Reply
         requires extractor { extractor ≡ None }
-        requires built { follows_latest mode skip ≡ true }
+        requires built { is_unmanaged mode ≡ true }
         ensures options { self.new.options ≡ self.old.options }
         ensures faults { S.faults store.old ≤ S.faults store.new }
-        ensures calls { IfSome (S.objects store.old) (λ o. S.calls store.new ≤ S.calls store.old + (replayed_logs o + 2)) }
-        ensures does { (merge : Option Merge) → OpensFollowerIn (by_objects (S.objects store.old)) (record { merge = merge; options = self.old.options }) 0
+        ensures calls { IfSome (S.objects store.old) (λ o. S.calls store.new ≤ S.calls store.old + (followed_logs mode skip o + 2)) }
+        ensures does { (merge : Option Merge) → OpensFollowerIn (by_objects (S.objects store.old)) (record { merge = merge; options = self.old.options }) mode skip 0
             (running self.old (known S.objects S.faults store.old)) result (running self.new (known S.objects S.faults store.new)) }
     {
         if self.objects.reserve(1).is_err() {

@@ -10,6 +10,7 @@ pub mod Maintained
 pub mod Moving
 pub mod Newest
 pub mod Opening
+pub mod Owing
 pub mod Prefixes
 pub mod Reopened
 pub mod Reduced

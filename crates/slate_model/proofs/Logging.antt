@@ -20,6 +20,7 @@ use Rattle.slate_store.proofs.Entries.{apart, lookup-insert_other, lookup-withou
 use Rattle.slate_store.proofs.LastLog.{at_least}
 use Rattle.slate_store.specs.Objects.{Change, Objects, PutLog, PutManifest, PutTable, RemoveLog, RemoveManifest, RemoveTable, changed, greatest, last_log, latest_manifest, log_at, without}
 use Rattle.slate_store.specs.declared.objects.VersionedManifest.{VersionedManifest}
+use Rattle.slate_store.specs.declared.reader_modes.DbReaderMode.{DbReaderMode}
 use Rattle.slate_model.specs.Changes.{after_part}
 use Rattle.slate_model.specs.Follower.{Follower, rebuilt}
 use Rattle.slate_model.specs.Seen.{HasSeen}
@@ -175,8 +176,8 @@ module _ (o : Objects) (latest : VersionedManifest) (sound : IsSound o) (is : la
       let parts : length (joined ++ logged o m) ≡ length joined + length (logged o m) = length-append joined (logged o m) in
       ap (λ found. end (content_by o found)) is ∙ (let e : number_before joined m.last_l0_seq + length (joined ++ logged o m) ≡ m.last_l0_seq + length (logged o m) = omega (arith, its, parts) in e)
 
-  pub all-seen : HasSeen o (rebuilt latest (content o) (last_log m.replay_after_wal_id o))
-  all-seen = record {
+  pub all-seen : (mode : DbReaderMode) (skips : Bool) → HasSeen o (rebuilt mode skips latest (content o) (last_log m.replay_after_wal_id o))
+  all-seen mode skips = record {
     mark = λ found at. let same : latest ≡ found = (cc) in let e = ap (λ (x : VersionedManifest). last_log x.manifest.replay_after_wal_id o) same in omega (arith, e);
     logs = λ found id bs at over under there. within id bs (let same : latest ≡ found = (cc) in let e = ap (λ (x : VersionedManifest). x.manifest.replay_after_wal_id) same in omega (arith, e, over)) under there;
   } where
@@ -188,3 +189,17 @@ module _ (o : Objects) (latest : VersionedManifest) (sound : IsSound o) (is : la
         let ends = content-ends in
         let stand = belong-log m.replay_after_wal_id before last m.last_l0_seq m.last_l0_seq line o bs (omega (arith, over)) (omega (arith, under)) (omega arith) (ap (λ n. log_at n o) (let e : before + 1 ≡ suc before = omega arith in e) ∙ there) (logs-by o latest sound is).belong in
         above-within m.last_l0_seq (end (content o)) bs (omega (arith, ends)) (λ k d less. let low = stands-within _ line (stand k d less) in omega (arith, low, ends))
+
+-- what one that has read no log file above the replay mark has seen
+pub none-seen : (o : Objects) (view : VersionedManifest) (mode : DbReaderMode) (skips : Bool) (line : Line) → latest_manifest o ≡ Some view → HasSeen o (rebuilt mode skips view line view.manifest.replay_after_wal_id)
+none-seen o view mode skips line is = record {
+  mark = λ found at.
+      let same : view ≡ found = (cc) in
+      let e = ap (λ (x : VersionedManifest). x.manifest.replay_after_wal_id) same in
+      let least = at_least found.manifest.replay_after_wal_id (map (λ (log : ℕ × List Batch). log.0) o.logs) in
+      omega (arith, e, least);
+  logs = λ found id bs at over under there.
+      let same : view ≡ found = (cc) in
+      let e = ap (λ (x : VersionedManifest). x.manifest.replay_after_wal_id) same in
+      absurd (omega (arith, e, over, under));
+}

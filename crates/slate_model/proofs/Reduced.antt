@@ -4,7 +4,7 @@ use Rattle.std.specs.Option.{IfSome}
 use Rattle.std.specs.Result.{IfOk, IfErr}
 use Rattle.slate_types.specs.declared.batches.Batch.{Batch}
 use Rattle.slate_types.specs.declared.options.FlushType.{FlushType}
-use Rattle.slate_types.specs.Line.{IsPrefix, Line}
+use Rattle.slate_types.specs.Line.{IsPrefix, Line, end}
 use Rattle.slate_types.specs.declared.store_errors.StoreFault.TheVariants.{Unavailable, NotFound}
 use Rattle.slate_store.specs.Calls.{WhereModelled}
 use Rattle.slate_store.specs.declared.objects.VersionedManifest.{VersionedManifest}
@@ -18,8 +18,15 @@ use Rattle.slate_errors.specs.Errors.{closed_error}
 use Rattle.slate_model.specs.Catalogue.{Span, catalogue_of, span, Catalogue, joined_span}
 use Rattle.slate_model.specs.declared.answers.PollAnswer.{PollAnswer}
 use Rattle.slate_model.specs.Close.{Closes, ended, fault_again, closing_flush}
-use Rattle.slate_model.specs.Follow.{FollowCause, Polls, Rebuilds, SeesAll, built, can_follow}
-use Rattle.slate_model.specs.Follower.{Follower, kept_follower, rebuilt}
+use Rattle.slate_model.specs.Follow.{FollowCause, IsOwed, Polls, Rebuilds, SeesOwed, built}
+use Rattle.slate_model.specs.Followed.{IsView, kept_by, last_read, view_under}
+use Rattle.slate_model.specs.Follower.{Follower, is_pinned, kept_follower, rebuilt}
+use Rattle.slate_store.specs.Checkpoints.{found}
+use Rattle.slate_store.specs.declared.objects.Checkpoint.{Checkpoint}
+use Rattle.slate_store.specs.declared.reader_modes.DbReaderMode.{DbReaderMode}
+use Rattle.slate_store.specs.declared.reader_modes.DbReaderMode.TheVariants as modes
+use Rattle.slate_model.proofs.Owing.{Owed, not-unpinned, owed-is, owed_line, owing, tabled}
+use Rattle.slate_model.specs.declared.answers.PollAnswer.TheVariants.{Whole}
 use Rattle.slate_model.specs.Handle.{Handle, CloseResult, accepted, kept_handle, line_above, next_table}
 use Rattle.slate_model.specs.Known.{Known, Untouched}
 use Rattle.slate_model.proofs.Reopened.{no-fault}
@@ -29,12 +36,12 @@ use Rattle.slate_model.specs.Open.{IsFresh, OpenFault, OpensHandle, opened_handl
 use Rattle.slate_store.specs.declared.objects.TableId.{TableId}
 use Rattle.slate_types.specs.declared.read_faults.ReadFault.{ReadFault}
 use Rattle.slate_model.specs.Seen.{HasSeen}
-use Rattle.slate_model.specs.Stores.{JoinFault, Stands, by_catalogue, by_objects, kept_seen}
+use Rattle.slate_model.specs.Stores.{JoinFault, Stands, Unpinned, by_catalogue, by_objects, kept_seen}
 use Rattle.slate_model.specs.Knowledge.{Knowledge}
 use Rattle.slate_model.specs.Refresh.{CompactAnswer, CompactCause, Compacts, JoinsTables, RefreshAnswer, Refreshes}
 use Rattle.slate_model.specs.Read.{AnswersRead, Reads}
 use Rattle.slate_model.specs.Tables.{AreStored}
-use Rattle.slate_model.proofs.Keeping.{accepted-kept, changes-kept, ids-kept, line_above-twice, view-kept, log_for-kept}
+use Rattle.slate_model.proofs.Keeping.{accepted-kept, changes-kept, ids-kept, line_above-end, line_above-twice, view-kept, log_for-kept}
 use Rattle.slate_model.specs.Changes.{PartMade, after_part}
 use Rattle.slate_types.specs.declared.options.FlushType.TheVariants.{Wal, MemTable}
 use Rattle.std.proofs.lemmas.List.{length-map}
@@ -331,81 +338,142 @@ opens-reduced stored made keeps_log limit (Err e) o o' f f' sound is s = record 
   handle = tt;
 }
 
-follow_cause-known : (opening : Bool) (o : Objects) (e : SlateError) → FollowCause opening o e → FollowCause opening (catalogue_of o) e
-follow_cause-known opening o errors.LatestTransactionalObjectVersionMissing h = h
-follow_cause-known opening o errors.InvalidDBState h = h
-follow_cause-known opening o (errors.ObjectStoreError Unavailable) h = tt
-follow_cause-known opening o errors.NoMemory h = tt
-follow_cause-known opening o e h = absurd h
+follow_cause-known : (mode : DbReaderMode) (opening : Bool) (o : Objects) (e : SlateError) → IsSound o → FollowCause mode opening (Unpinned mode o) o e → FollowCause mode opening ⊥ (catalogue_of o) e
+follow_cause-known mode opening o errors.LatestTransactionalObjectVersionMissing sound h = h
+follow_cause-known mode opening o errors.InvalidDBState sound h = h
+follow_cause-known mode opening o (errors.CheckpointMissing id) sound h = h
+follow_cause-known mode opening o (errors.ObjectStoreError Unavailable) sound h = tt
+follow_cause-known mode opening o (errors.ObjectStoreError NotFound) sound h = not-unpinned o mode sound h
+follow_cause-known mode opening o errors.NoMemory sound h = tt
+follow_cause-known mode opening o e sound h = absurd h
 
 if_err : {A : Type 0} {P Q : SlateError → Type 0} (r : Result A SlateError) → ((e : SlateError) → P e → Q e) → IfErr r P → IfErr r Q
 if_err (Ok x) f h = tt
 if_err (Err e) f h = f e h
 
 -- the whole follower that was rebuilt under a manifest, of which the code keeps a part
-abbrev pub rebuilt-whole : Line → Result (Follower × PollAnswer) SlateError → Result (Follower × PollAnswer) SlateError
-rebuilt-whole stored (Ok b) = Ok (rebuilt b.0.view stored b.0.mark, b.1)
-rebuilt-whole stored (Err e) = Err e
+abbrev pub rebuilt-whole : DbReaderMode → Bool → Objects → Line → Result (Follower × PollAnswer) SlateError → Result (Follower × PollAnswer) SlateError
+rebuilt-whole mode skips o stored (Ok b) = Ok (rebuilt mode skips b.0.view (owed_line mode skips o b.0.view stored) b.0.mark, b.1)
+rebuilt-whole mode skips o stored (Err e) = Err e
+
+-- a catalogue has the manifests
+kept_by-known : (o : Objects) (c : Option Checkpoint) → kept_by (catalogue_of o) c ≡ kept_by o c
+kept_by-known o None = refl
+kept_by-known o (Some c) = refl
+
+view_under-known : (mode : DbReaderMode) (o : Objects) (latest : VersionedManifest) → view_under mode (catalogue_of o) latest ≡ view_under mode o latest
+view_under-known (modes.Checkpoint id) o latest = kept_by-known o (found id latest)
+view_under-known modes.FollowLatest o latest = refl
+view_under-known modes.ManagedCheckpoint o latest = refl
+
+pub view-known : (mode : DbReaderMode) (opening : Bool) (o : Objects) (view : VersionedManifest) → IsView mode opening o view → IsView mode opening (catalogue_of o) view
+view-known mode opening o view v = (v.0, v.1, v.2, view_under-known mode o v.0 ∙ v.3)
+
+pub last_read-known : (mode : DbReaderMode) (skips : Bool) (view : VersionedManifest) (o : Objects) → last_read mode skips view (catalogue_of o) ≡ last_read mode skips view o
+last_read-known mode true view o = refl
+last_read-known (modes.Checkpoint id) false view o = refl
+last_read-known modes.FollowLatest false view o = last_log-catalogue view.manifest.replay_after_wal_id o
+last_read-known modes.ManagedCheckpoint false view o = last_log-catalogue view.manifest.replay_after_wal_id o
+
+owed-known : (c : Catalogue) (o : Objects) (mode : DbReaderMode) (skips : Bool) (view : VersionedManifest) (stored : Line) → IsPrefix (owed_line mode skips o view stored) stored → view.manifest.last_l0_seq ≤ end (owed_line mode skips o view stored) →
+    IsOwed (by_catalogue stored c) mode skips (catalogue_of o) view stored (owed_line mode skips o view stored)
+owed-known c o mode true view stored begins has_tables = refl
+owed-known c o (modes.Checkpoint id) false view stored begins has_tables = (begins, has_tables)
+owed-known c o modes.FollowLatest false view stored begins has_tables = refl
+owed-known c o modes.ManagedCheckpoint false view stored begins has_tables = refl
+
+-- what a reader is owed of sound objects that goes by a manifest begins what is stored
+module _ (stored : Line) (mode : DbReaderMode) (skips opening : Bool) (o : Objects) (view : VersionedManifest) (sound : IsSound o) (is : content o ≡ stored) (v : IsView mode opening o view) where
+  pub its : Owed o stored mode skips view
+  its = subst (λ l. Owed o l mode skips view) is (owing o mode skips opening view sound v)
+
+  pub its-line : its.owed ≡ owed_line mode skips o view stored
+  its-line = owed-is (Some o) o mode skips view stored its.owed its.is_owed
+
+  pub owed-begins : IsPrefix (owed_line mode skips o view stored) stored
+  owed-begins = subst (λ l. IsPrefix l stored) its-line its.begins
+
+  pub owed-tabled : view.manifest.last_l0_seq ≤ end (owed_line mode skips o view stored)
+  owed-tabled = subst (λ l. view.manifest.last_l0_seq ≤ end l) its-line (tabled o view.manifest its.owed its.tables its.numbered)
 
 -- what is seen of objects is seen of their catalogue
-sees-known : (stored : Line) (o : Objects) (b : Follower) (answer : PollAnswer) → SeesAll kept_follower o stored b answer → SeesAll (λ a. a) (catalogue_of o) stored (rebuilt b.view stored b.mark) answer
-sees-known stored o b answer all =
-    let latest = all.0 in
-    let view : b.view ≡ latest = ap (λ (x : Follower). x.view) all.2 in
-    let mark : b.mark ≡ last_log latest.manifest.replay_after_wal_id (catalogue_of o) = ap (λ (x : Follower). x.mark) all.2 ∙ sym (last_log-catalogue latest.manifest.replay_after_wal_id o) in
-    (latest, all.1, ap (λ v. rebuilt v stored b.mark) view ∙ ap (rebuilt latest stored) mark, all.3)
+sees-known : (stored : Line) (mode : DbReaderMode) (skips opening : Bool) (o : Objects) (b : Follower) (answer : PollAnswer) → IsSound o → content o ≡ stored → IsView mode opening o b.view → SeesOwed (by_objects (Some o)) mode skips o stored b answer →
+    SeesOwed (by_catalogue stored (catalogue_of o)) mode skips (catalogue_of o) stored (rebuilt mode skips b.view (owed_line mode skips o b.view stored) b.mark) answer
+sees-known stored mode skips opening o b answer sound is v all =
+    let owed = owed_line mode skips o b.view stored in
+    let line = owed-is (Some o) o mode skips b.view stored all.0 all.1 in
+    let mark : b.mark ≡ last_read mode skips b.view (catalogue_of o) = ap (λ (x : Follower). x.mark) all.2 ∙ sym (last_read-known mode skips b.view o) in (
+      owed,
+      owed-known (catalogue_of o) o mode skips b.view stored (owed-begins stored mode skips opening o b.view sound is v) (owed-tabled stored mode skips opening o b.view sound is v),
+      ap (rebuilt mode skips b.view owed) mark,
+      all.3 ∙ ap (λ l. Whole (end l)) line,
+    )
 
-module _ (stored : Line) (opening : Bool) (seen : Objects → Line → Type 0) (seen' : ObjectsOf Span → Line → Type 0) (o o' : Objects) (f f' : ℕ) (sound : IsSound o) (is : content o ≡ stored) (was_seen : seen o stored) where
-  -- a follower that takes what is stored of sound objects sees it
-  pub rebuilds-reduced : (r : Result (Follower × PollAnswer) SlateError) → Rebuilds (by_objects (Some o)) opening seen (holding o f) r (holding o' f') → Rebuilds (by_catalogue stored (catalogue_of o)) opening seen' (catalogued o f) (rebuilt-whole stored r) (catalogued o' f')
+module _ (stored : Line) (mode : DbReaderMode) (skips opening : Bool) (seen : Objects → Line → Type 0) (seen' : ObjectsOf Span → Line → Type 0) (o o' : Objects) (f f' : ℕ) (sound : IsSound o) (is : content o ≡ stored) (was_seen : seen o stored) where
+  -- a follower that takes what is stored of sound objects sees what it is owed
+  pub rebuilds-reduced : (r : Result (Follower × PollAnswer) SlateError) → Rebuilds (by_objects (Some o)) mode skips opening seen (holding o f) r (holding o' f') → Rebuilds (by_catalogue stored (catalogue_of o)) mode skips opening seen' (catalogued o f) (rebuilt-whole mode skips o stored r) (catalogued o' f')
   rebuilds-reduced (Ok b) s =
       let all = s.sees o stored refl (o, refl, sound, sym is) was_seen in
+      let v = s.can o refl in
+      let k = by_catalogue stored (catalogue_of o) in
+      let whole = rebuilt mode skips b.0.view (owed_line mode skips o b.0.view stored) b.0.mark in
+      let known = sees-known stored mode skips opening o b.0 b.1 sound is v all in
       record {
         kept = kept-known o o' f f' s.kept;
-        faults = record { count = s.faults.count; unavailable = λ no. absurd (cc); none_missing = λ no. absurd (cc) };
+        faults = record { count = s.faults.count; unavailable = λ no. absurd (cc) };
+        missing = λ no. absurd (cc);
         cause = tt;
-        answer = (refl, inl all.3);
-        can = λ c at. subst (λ x. (latest_manifest x ≡ Some b.0.view) × (can_follow opening b.0.view ≡ true)) (some-same (catalogue_of o) c at) (s.can o refl);
+        answer = (refl, refl, refl, inl (all.3 ∙ ap (λ l. Whole (end l)) (owed-is (Some o) o mode skips b.0.view stored all.0 all.1)));
+        can = λ c at. subst (λ x. IsView mode opening x b.0.view) (some-same (catalogue_of o) c at) (view-known mode opening o b.0.view v);
         sees = λ c line at stored_is seen_before.
-            subst (λ x. SeesAll (λ a. a) x line (rebuilt b.0.view stored b.0.mark) b.1) (some-same (catalogue_of o) c at)
-            (subst (λ l. SeesAll (λ a. a) (catalogue_of o) l (rebuilt b.0.view stored b.0.mark) b.1) (sym stored_is) (sees-known stored o b.0 b.1 all));
+            subst (λ x. SeesOwed k mode skips x line whole b.1) (some-same (catalogue_of o) c at)
+            (subst (λ l. SeesOwed k mode skips (catalogue_of o) l whole b.1) (sym stored_is) known);
       }
   rebuilds-reduced (Err e) s = record {
     kept = kept-known o o' f f' s.kept;
     faults = s.faults;
-    cause = follow_cause-known opening o e s.cause;
+    missing = s.missing;
+    cause = follow_cause-known mode opening o e sound s.cause;
     answer = tt;
     can = tt;
     sees = tt;
   }
 
 -- the whole follower after a poll, of which the code keeps a part
-abbrev pub polled-whole : Line → CloseResult → Follower → Follower → Result PollAnswer SlateError → Follower
-polled-whole stored None a b (Ok answer) = rebuilt b.view stored b.mark
-polled-whole stored (Some closed) a b (Ok answer) = a
-polled-whole stored closed a b (Err e) = a
+abbrev pub polled-whole : Objects → Line → CloseResult → (pinned : Bool) → Follower → Follower → Result PollAnswer SlateError → Follower
+polled-whole o stored None false a b (Ok answer) = rebuilt a.mode a.skips b.view (owed_line a.mode a.skips o b.view stored) b.mark
+polled-whole o stored closed pinned a b r = a
 
-pub polls-reduced : (stored : Line) (r : Result PollAnswer SlateError) (a b : Follower) (o o' : Objects) (f f' : ℕ) → IsSound o → content o ≡ stored → IsPrefix a.line stored → HasSeen o a → Polls (by_objects (Some o)) (kept_follower a) (holding o f) r b (holding o' f') → Polls (by_catalogue stored (catalogue_of o)) a (catalogued o f) r (polled-whole stored a.result a b r) (catalogued o' f')
+pub polls-reduced : (stored : Line) (r : Result PollAnswer SlateError) (a b : Follower) (o o' : Objects) (f f' : ℕ) → IsSound o → content o ≡ stored → IsPrefix a.line stored → (is_pinned a.mode ≡ false → HasSeen o a) → Polls (by_objects (Some o)) (kept_follower a) (holding o f) r b (holding o' f') → Polls (by_catalogue stored (catalogue_of o)) a (catalogued o f) r (polled-whole o stored a.result (is_pinned a.mode) a b r) (catalogued o' f')
 polls-reduced stored r a b o o' f f' sound is front seen s = record {
   closed = if_some {Q = λ q. (r ≡ Err (closed_error q)) × (catalogued o' f' ≡ catalogued o f)} a.result (λ q c. (c.0, same-known o o' f f' c.1)) s.closed;
   failed = failed-by r;
-  rebuilds = λ live. rebuilt-by r live (s.rebuilds live);
+  pinned = λ live stays. let p = s.pinned live stays in
+      (p.0 ∙ ap (λ n. Ok (Whole n)) (line_above-end a.view.manifest.last_l0_seq a.line), pinned-same live stays r, same-known o o' f f' p.2);
+  rebuilds = λ live free. rebuilt-by r live free (s.rebuilds live free);
 } where
-  failed-by : (r : Result PollAnswer SlateError) → IfErr r (λ e. polled-whole stored a.result a b r ≡ a)
+  failed-by : (r : Result PollAnswer SlateError) → IfErr r (λ e. polled-whole o stored a.result (is_pinned a.mode) a b r ≡ a)
   failed-by (Ok answer) = tt
-  failed-by (Err e) = by a.result where
-    by : (closed : CloseResult) → polled-whole stored closed a b (Err e) ≡ a
-    by None = refl
-    by (Some q) = refl
+  failed-by (Err e) = by a.result (is_pinned a.mode) where
+    by : (closed : CloseResult) (pinned : Bool) → polled-whole o stored closed pinned a b (Err e) ≡ a
+    by None true = refl
+    by None false = refl
+    by (Some q) pinned = refl
 
-  was_seen : kept_seen (kept_follower a) o stored
-  was_seen = (a, refl, front, seen)
+  pinned-same : a.result ≡ None → is_pinned a.mode ≡ true → (r : Result PollAnswer SlateError) → polled-whole o stored a.result (is_pinned a.mode) a b r ≡ a
+  pinned-same live stays r = ap (λ c. polled-whole o stored c (is_pinned a.mode) a b r) live ∙ (ap (λ p. polled-whole o stored None p a b r) stays ∙ by r) where
+    by : (r : Result PollAnswer SlateError) → polled-whole o stored None true a b r ≡ a
+    by (Ok answer) = refl
+    by (Err e) = refl
 
   Seen : ObjectsOf Span → Line → Type 0
   Seen objects line = Unit {0}
 
-  rebuilt-by : (r : Result PollAnswer SlateError) → a.result ≡ None → Rebuilds (by_objects (Some o)) false (kept_seen (kept_follower a)) (holding o f) (built b r) (holding o' f') → Rebuilds (by_catalogue stored (catalogue_of o)) false Seen (catalogued o f) (built (polled-whole stored a.result a b r) r) (catalogued o' f')
-  rebuilt-by (Ok answer) live d =
-      subst (λ closed. Rebuilds (by_catalogue stored (catalogue_of o)) false Seen (catalogued o f) (built (polled-whole stored closed a b (Ok answer)) (Ok answer)) (catalogued o' f')) (sym live)
-      (rebuilds-reduced stored false (kept_seen (kept_follower a)) Seen o o' f f' sound is was_seen (Ok (b, answer)) d)
-  rebuilt-by (Err e) live d = rebuilds-reduced stored false (kept_seen (kept_follower a)) Seen o o' f f' sound is was_seen (Err e) d
+  rebuilt-by : (r : Result PollAnswer SlateError) → a.result ≡ None → is_pinned a.mode ≡ false → Rebuilds (by_objects (Some o)) a.mode a.skips false (kept_seen (kept_follower a)) (holding o f) (built b r) (holding o' f') →
+      Rebuilds (by_catalogue stored (catalogue_of o)) a.mode a.skips false Seen (catalogued o f) (built (polled-whole o stored a.result (is_pinned a.mode) a b r) r) (catalogued o' f')
+  rebuilt-by (Ok answer) live free d =
+      let whole : (closed : CloseResult) (pinned : Bool) → Follower = λ closed pinned. polled-whole o stored closed pinned a b (Ok answer) in
+      let same : whole a.result (is_pinned a.mode) ≡ whole None false = ap (λ c. whole c (is_pinned a.mode)) live ∙ ap (whole None) free in
+      subst (λ w. Rebuilds (by_catalogue stored (catalogue_of o)) a.mode a.skips false Seen (catalogued o f) (Ok (w, answer)) (catalogued o' f')) (sym same)
+      (rebuilds-reduced stored a.mode a.skips false (kept_seen (kept_follower a)) Seen o o' f f' sound is (a, refl, front, seen free) (Ok (b, answer)) d)
+  rebuilt-by (Err e) live free d = rebuilds-reduced stored a.mode a.skips false (kept_seen (kept_follower a)) Seen o o' f f' sound is (a, refl, front, seen free) (Err e) d

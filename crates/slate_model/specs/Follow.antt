@@ -1,51 +1,63 @@
 -- What opening and polling a follower answers, and what it leaves.
-use Rattle.std.specs.Prelude.{◌≡◌, ℕ, ◌||◌, ◌⊎◌, Bool, false, not, Some, None, Result, Ok, Err, IfOk, IfErr, IfSome, true}
+use Rattle.std.specs.Prelude.{◌≡◌, ℕ, ◌⊎◌, Bool, false, Some, None, Result, Ok, Err, IfOk, IfErr, IfSome, true}
 use Rattle.slate_types.specs.Line.{Line, end}
 use Rattle.slate_store.specs.declared.objects.VersionedManifest.{VersionedManifest}
-use Rattle.slate_types.specs.declared.store_errors.StoreFault.TheVariants.{Unavailable}
-use Rattle.slate_store.specs.Objects.{ObjectsOf, last_log, latest_manifest}
+use Rattle.slate_store.specs.declared.reader_modes.DbReaderMode.{DbReaderMode}
+use Rattle.slate_store.specs.declared.reader_modes.DbReaderMode.TheVariants.{Checkpoint}
+use Rattle.slate_types.specs.declared.store_errors.StoreFault.TheVariants.{NotFound, Unavailable}
+use Rattle.slate_store.specs.Checkpoints.{found}
+use Rattle.slate_store.specs.Objects.{ObjectsOf, latest_manifest}
 use Rattle.slate_errors.specs.Errors.{closed_error}
 use Rattle.slate_errors.specs.declared.errors.SlateError.{SlateError}
 use Rattle.slate_errors.specs.declared.errors.SlateError.TheVariants as errors
 use Rattle.slate_model.specs.declared.answers.PollAnswer.{PollAnswer}
 use Rattle.slate_model.specs.declared.answers.PollAnswer.TheVariants.{Whole, Truncated}
-use Rattle.slate_model.specs.Follower.{Follower, number, rebuilt}
+use Rattle.slate_model.specs.Followed.{IsView, can_follow, last_read}
+use Rattle.slate_model.specs.Follower.{Follower, is_pinned, number, rebuilt}
+use Rattle.slate_model.specs.Handle.{up_to}
 use Rattle.slate_model.specs.Knowledge.{Knowledge}
-use Rattle.slate_model.specs.Known.{CountsFaults, Known}
+use Rattle.slate_model.specs.Known.{FaultsRise, Known}
 
--- Whether a database can be followed by its latest manifest: an opening wants it initialised.
-abbrev pub can_follow : (opening : Bool) → VersionedManifest → Bool
-can_follow opening latest = latest.manifest.initialized || not opening
-
--- Why an opening or a poll of a follower answers an error, over a store that is modelled
-abbrev pub FollowCause : {L : Type 0} → (opening : Bool) → ObjectsOf L → SlateError → Type 0
-FollowCause opening objects errors.LatestTransactionalObjectVersionMissing = latest_manifest objects ≡ None
-FollowCause opening objects errors.InvalidDBState =
+-- Why an opening or a poll of a follower answers an error, over a store that is modelled. `unpinned` says that the manifest
+-- isn't stored that its checkpoint keeps.
+abbrev pub FollowCause : {L : Type 0} → DbReaderMode → (opening : Bool) → (unpinned : Type 0) → ObjectsOf L → SlateError → Type 0
+FollowCause mode opening unpinned objects errors.LatestTransactionalObjectVersionMissing = latest_manifest objects ≡ None
+FollowCause mode opening unpinned objects errors.InvalidDBState =
     (latest : VersionedManifest) × (latest_manifest objects ≡ Some latest) × (can_follow opening latest ≡ false)
-FollowCause opening objects (errors.ObjectStoreError Unavailable) = Unit {0}
-FollowCause opening objects errors.NoMemory = Unit {0}
-FollowCause opening objects error = ⊥
+FollowCause mode opening unpinned objects (errors.CheckpointMissing id) =
+    (latest : VersionedManifest) × (latest_manifest objects ≡ Some latest) × (mode ≡ Checkpoint id) × (found id latest ≡ None)
+FollowCause mode opening unpinned objects (errors.ObjectStoreError Unavailable) = Unit {0}
+FollowCause mode opening unpinned objects (errors.ObjectStoreError NotFound) = unpinned
+FollowCause mode opening unpinned objects errors.NoMemory = Unit {0}
+FollowCause mode opening unpinned objects error = ⊥
 
 -- an answer of a poll gives this number
 abbrev pub AnswersAt : ℕ → PollAnswer → Type 0
 AnswersAt number answer = (answer ≡ Whole number) ⊎ (answer ≡ Truncated number)
 
--- the follower sees all of this line, which is stored, under the latest manifest and up to the last log file, and the answer
--- says so
-abbrev pub SeesAll : {L : Type 0} → (keep : Follower → Follower) → ObjectsOf L → Line → Follower → PollAnswer → Type 0
-SeesAll keep objects stored follower answer =
-    (latest : VersionedManifest) × (latest_manifest objects ≡ Some latest) × (follower ≡ keep (rebuilt latest stored (last_log latest.manifest.replay_after_wal_id objects)))
-    × (answer ≡ Whole (end stored))
+-- What a follower that goes by a manifest is owed of the line that is stored: all of it, or, at a checkpoint, what its manifest
+-- named when it was put. One that skips is owed what is in the tables of the manifest.
+abbrev pub IsOwed : {L : Type 0} → Knowledge L → DbReaderMode → (skips : Bool) → ObjectsOf L → VersionedManifest → (stored owed : Line) → Type 0
+IsOwed k mode true objects view stored owed = owed ≡ up_to view.manifest.last_l0_seq stored
+IsOwed k (Checkpoint id) false objects view stored owed = k.named objects view stored owed
+IsOwed k mode false objects view stored owed = owed ≡ stored
 
--- An opening of a follower, or a poll: it gives a follower that sees all that is stored, under the latest manifest, by which
--- the database can be followed, or answers why not, and changes nothing in the store. `seen` says what was seen before.
-pub record Rebuilds {L : Type 0} (k : Knowledge L) (opening : Bool) (seen : ObjectsOf L → Line → Type 0) (before : Known L) (result : Result (Follower × PollAnswer) SlateError) (after : Known L) : Type 0 where
+-- the follower sees what it is owed of the line that is stored, and has read the log files for it, and the answer says so
+abbrev pub SeesOwed : {L : Type 0} → Knowledge L → DbReaderMode → (skips : Bool) → ObjectsOf L → (stored : Line) → Follower → PollAnswer → Type 0
+SeesOwed k mode skips objects stored follower answer =
+    (owed : Line) × IsOwed k mode skips objects follower.view stored owed
+    × (follower ≡ k.keep_follower (rebuilt mode skips follower.view owed (last_read mode skips follower.view objects))) × (answer ≡ Whole (end owed))
+
+-- An opening of a follower, or a poll of one that doesn't stay at a checkpoint: it gives a follower in the mode asked for that
+-- sees what it is owed, or answers why not, and changes nothing in the store. `seen` says what was seen before.
+pub record Rebuilds {L : Type 0} (k : Knowledge L) (mode : DbReaderMode) (skips opening : Bool) (seen : ObjectsOf L → Line → Type 0) (before : Known L) (result : Result (Follower × PollAnswer) SlateError) (after : Known L) : Type 0 where
   pub kept : after.objects ≡ before.objects
-  pub faults : CountsFaults before.faults after.faults result
-  pub cause : IfErr result (λ error. IfSome before.objects (λ o. FollowCause opening o error))
-  pub answer : IfOk result (λ b. (b.0.result ≡ None) × AnswersAt (number b.0) b.1)
-  pub can : IfOk result (λ b. (o : ObjectsOf L) → before.objects ≡ Some o → (latest_manifest o ≡ Some b.0.view) × (can_follow opening b.0.view ≡ true))
-  pub sees : IfOk result (λ b. (o : ObjectsOf L) (line : Line) → before.objects ≡ Some o → k.is_stored line → seen o line → SeesAll k.keep_follower o line b.0 b.1)
+  pub faults : FaultsRise before.faults after.faults result
+  pub missing : result ≡ Err (errors.ObjectStoreError NotFound) → is_pinned mode ≡ true
+  pub cause : IfErr result (λ error. IfSome before.objects (λ o. FollowCause mode opening (k.unpinned mode o) o error))
+  pub answer : IfOk result (λ b. (b.0.mode ≡ mode) × (b.0.skips ≡ skips) × (b.0.result ≡ None) × AnswersAt (number b.0) b.1)
+  pub can : IfOk result (λ b. (o : ObjectsOf L) → before.objects ≡ Some o → IsView mode opening o b.0.view)
+  pub sees : IfOk result (λ b. (o : ObjectsOf L) (line : Line) → before.objects ≡ Some o → k.is_stored line → seen o line → SeesOwed k mode skips o line b.0 b.1)
 
 -- what a poll gives: the follower after it, and its answer
 abbrev pub built : Follower → Result PollAnswer SlateError → Result (Follower × PollAnswer) SlateError
@@ -56,9 +68,10 @@ built follower (Err error) = Err error
 abbrev pub unseen : {L : Type 0} → ObjectsOf L → Line → Type 0
 unseen objects line = Unit {0}
 
--- A poll of a follower. A closed one answers what closed it, and nothing changes; an open one sees what is stored, or answers
--- why not and is as before.
+-- A poll of a follower. A closed one answers what closed it, and nothing changes; one at a checkpoint stays there, and nothing
+-- changes; another sees what it is owed, or answers why not and is as before.
 pub record Polls {L : Type 0} (k : Knowledge L) (old : Follower) (before : Known L) (result : Result PollAnswer SlateError) (new : Follower) (after : Known L) : Type 0 where
   pub closed : IfSome old.result (λ r. (result ≡ Err (closed_error r)) × (after ≡ before))
   pub failed : IfErr result (λ error. new ≡ old)
-  pub rebuilds : old.result ≡ None → Rebuilds k false (k.has_seen old) before (built new result) after
+  pub pinned : old.result ≡ None → is_pinned old.mode ≡ true → (result ≡ Ok (Whole (number old))) × (new ≡ old) × (after ≡ before)
+  pub rebuilds : old.result ≡ None → is_pinned old.mode ≡ false → Rebuilds k old.mode old.skips false (k.has_seen old) before (built new result) after

@@ -1,11 +1,15 @@
 -- What a follower sees, and what the code keeps of it.
-use Rattle.std.specs.Prelude.{ℕ, None}
+use Rattle.std.specs.Prelude.{ℕ, Bool, true, false, None}
 use Rattle.slate_types.specs.Line.{Line, end}
 use Rattle.slate_store.specs.declared.objects.VersionedManifest.{VersionedManifest}
+use Rattle.slate_store.specs.declared.reader_modes.DbReaderMode.{DbReaderMode}
+use Rattle.slate_store.specs.declared.reader_modes.DbReaderMode.TheVariants.{Checkpoint}
 use Rattle.slate_model.specs.Handle.{CloseResult, line_above}
 
--- A reader that follows a database. What it sees is the stored line up to its number.
+-- A reader that follows a database. What it sees begins the line that is stored.
 pub record Follower : Type 0 where
+  pub mode : DbReaderMode
+  pub skips : Bool  -- whether it sees the tables alone, and reads no log file
   pub view : VersionedManifest  -- the manifest that it goes by
   pub line : Line  -- the batches that it sees
   pub mark : ℕ  -- up to this id it has what the log files have
@@ -15,9 +19,14 @@ pub record Follower : Type 0 where
 abbrev pub number : Follower → ℕ
 number follower = end follower.line
 
--- the follower that goes by a manifest under which this line is stored, and has what the log files up to a mark have
-abbrev pub rebuilt : VersionedManifest → Line → ℕ → Follower
-rebuilt view stored mark = record { view = view; line = stored; mark = mark; result = None }
+-- whether a reader in this mode stays at a checkpoint
+abbrev pub is_pinned : DbReaderMode → Bool
+is_pinned (Checkpoint id) = true
+is_pinned mode = false
+
+-- the follower that goes by a manifest, sees this line, and has what the log files up to a mark have
+abbrev pub rebuilt : (mode : DbReaderMode) → (skips : Bool) → VersionedManifest → Line → ℕ → Follower
+rebuilt mode skips view line mark = record { mode = mode; skips = skips; view = view; line = line; mark = mark; result = None }
 
 -- What the code keeps of a follower: of its line, the batches that aren't in the tables of its view.
 abbrev pub kept_follower : Follower → Follower

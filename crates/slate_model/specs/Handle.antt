@@ -1,5 +1,5 @@
 -- What a handle knows, which of its batches aren't stored, and what the code keeps of it.
-use Rattle.std.specs.Prelude.{ℕ, ℤ, ◌-◌, int_lt, Bool, if◌then◌else◌, List, [], ◌∷◌, length, Option, Result}
+use Rattle.std.specs.Prelude.{ℕ, ℤ, ◌-◌, int_lt, Bool, if◌then◌else◌, List, [], ◌∷◌, length, take, Option, Result}
 use Rattle.slate_types.specs.declared.batches.Batch.{Batch}
 use Rattle.slate_types.specs.Line.{Line, end, batches_above}
 use Rattle.slate_store.specs.declared.objects.Manifest.{Manifest}
@@ -26,6 +26,10 @@ pub record Handle : Type 0 where
 -- the number of the last batch that it accepted
 abbrev pub accepted : Handle → ℕ
 accepted handle = end handle.line
+
+-- the front of a line, up to a number
+abbrev pub up_to : ℕ → Line → Line
+up_to number line = record { floor = line.floor; batches = take (number - line.floor) line.batches }
 
 -- the batches that it accepted and that aren't stored yet
 abbrev pub unstored : Handle → List Batch

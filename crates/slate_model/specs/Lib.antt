@@ -3,6 +3,7 @@ pub mod Changes
 pub mod Close
 pub mod Flush
 pub mod Follow
+pub mod Followed
 pub mod Follower
 pub mod Handle
 pub mod Known

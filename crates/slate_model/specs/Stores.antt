@@ -1,20 +1,22 @@
 -- What a store's own calls know, and what a world knows.
-use Rattle.std.specs.Prelude.{◌≡◌, ◌++◌, ℤ, true, List, Contains, Option, Some}
+use Rattle.std.specs.Prelude.{◌≡◌, ◌≤◌, ◌++◌, ℤ, true, List, Contains, Option, Some, None}
 use Rattle.std.specs.List.{flat_map}
 use Rattle.slate_types.specs.declared.batches.Batch.{Batch}
-use Rattle.slate_types.specs.Line.{IsPrefix, Line}
+use Rattle.slate_types.specs.Line.{IsPrefix, Line, end}
 use Rattle.slate_types.specs.declared.store_errors.StoreFault.TheVariants.{NotFound}
 use Rattle.slate_store.specs.declared.objects.TableId.{TableId}
 use Rattle.slate_store.specs.declared.objects.VersionedManifest.{VersionedManifest}
+use Rattle.slate_store.specs.declared.reader_modes.DbReaderMode.{DbReaderMode}
 use Rattle.slate_reads.specs.Index.{AreRising}
 use Rattle.slate_store.specs.declared.refusals.StoreRefusal.TheVariants as refusals
 use Rattle.slate_store.specs.Compaction.{CompactCause}
-use Rattle.slate_store.specs.Content.{table_batches}
+use Rattle.slate_store.specs.Content.{pinned_content, table_batches}
 use Rattle.slate_store.specs.Objects.{ChangeOf, Objects, ObjectsOf, is_present, latest_manifest}
 use Rattle.slate_store.specs.Sweeps.{SweepCause}
 use Rattle.slate_errors.specs.declared.errors.SlateError.{SlateError}
 use Rattle.slate_errors.specs.declared.errors.SlateError.TheVariants as errors
 use Rattle.slate_model.specs.Catalogue.{Catalogue, Span, joined_span, span}
+use Rattle.slate_model.specs.Followed.{finds, view_under}
 use Rattle.slate_model.specs.Follower.{kept_follower}
 use Rattle.slate_model.specs.Handle.{kept_handle}
 use Rattle.slate_model.specs.Knowledge.{Knowledge}
@@ -47,6 +49,11 @@ SweepFault moment objects error = ⊥
 abbrev pub kept_seen : AFollower → Objects → Line → Type 0
 kept_seen kept objects line = (whole : AFollower) × (kept ≡ kept_follower whole) × IsPrefix whole.line line × HasSeen objects whole
 
+-- the manifest isn't stored that the checkpoint keeps at which a reader stays
+abbrev pub Unpinned : DbReaderMode → Objects → Type 0
+Unpinned mode objects =
+    (latest : VersionedManifest) × (latest_manifest objects ≡ Some latest) × (view_under mode objects latest ≡ None) × (finds mode latest ≡ true)
+
 -- the batches that an object reads: those of the tables of its view, and then those in memory
 abbrev pub kept_rows : Option Objects → Object → List Batch → Type 0
 kept_rows objects object rows =
@@ -63,6 +70,8 @@ by_objects objects =
       keep_follower = kept_follower;
       is_stored = IsContent objects;
       has_seen = kept_seen;
+      named = λ objects view stored line. line ≡ pinned_content objects view.manifest;
+      unpinned = Unpinned;
       rows = kept_rows objects;
       unsound = OpenFault;
       stands = Stands;
@@ -86,6 +95,8 @@ by_catalogue stored catalogue =
       keep_follower = λ follower. follower;
       is_stored = λ line. line ≡ stored;
       has_seen = λ follower objects line. Unit {0};
+      named = λ objects view stored line. IsPrefix line stored × (view.manifest.last_l0_seq ≤ end line);
+      unpinned = λ mode objects. ⊥;
       rows = world_rows stored catalogue;
       unsound = λ objects error. ⊥;
       stands = λ changes objects. ⊥;

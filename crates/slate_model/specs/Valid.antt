@@ -1,19 +1,17 @@
 -- What holds of each handle of a world that commands lead to, and what its objects read.
-use Rattle.std.specs.Prelude.{◌≡◌, ℕ, ◌-◌, ◌<◌, ◌≤◌, ◌++◌, All, List, take, Some, None}
+use Rattle.std.specs.Prelude.{◌≡◌, ℕ, ◌<◌, ◌≤◌, ◌++◌, All, List, false, Some, None}
 use Rattle.slate_types.specs.Line.{Line, IsLine, IsPrefix, batches_above, extended}
 use Rattle.slate_store.specs.declared.objects.VersionedManifest.{VersionedManifest}
 use Rattle.slate_store.specs.Content.{table_batches}
 use Rattle.slate_store.specs.declared.objects.TableId.{TableId}
 use Rattle.slate_store.specs.Objects.{Objects, ObjectsOf, latest_manifest, table_at}
 use Rattle.slate_model.specs.Catalogue.{Catalogue}
+use Rattle.slate_model.specs.Follower.{is_pinned}
+pub use Rattle.slate_model.specs.Handle.{up_to}
 use Rattle.slate_model.specs.Handle.{Handle, accepted, unstored}
 use Rattle.slate_model.specs.Object.{Object, Handle as AHandle, Follower as AFollower, line_of, view_of}
 use Rattle.slate_model.specs.Seen.{HasSeen}
 use Rattle.slate_model.specs.Tables.{AreStored}
-
--- the front of a line, up to a number
-abbrev pub up_to : ℕ → Line → Line
-up_to number line = record { floor = line.floor; batches = take (number - line.floor) line.batches }
 
 -- A handle of a world with this catalogue, in which this line is stored: its line is one, its batches up to its durable
 -- number begin what is stored, and those in the tables of its view are among them. No table is stored under the id of its next
@@ -51,10 +49,10 @@ ReadsLine objects view line =
 abbrev pub ReadsItsLine : Objects → Object → Type 0
 ReadsItsLine objects object = ReadsLine objects (view_of object) (line_of object)
 
--- a follower has seen these objects up to its mark
+-- a follower that takes what is new has seen these objects up to its mark
 abbrev pub HasSeenThem : Objects → Object → Type 0
 HasSeenThem objects (AHandle handle) = Unit {0}
-HasSeenThem objects (AFollower follower) = HasSeen objects follower
+HasSeenThem objects (AFollower follower) = is_pinned follower.mode ≡ false → HasSeen objects follower
 
 -- what the objects of a store are to one of a world
 abbrev pub IsHeld : Objects → Object → Type 0

@@ -5,7 +5,8 @@ use Rattle.std.specs.Str.{bytes_eq}
 use Rattle.slate_types.specs.declared.options.CloseOptions.{CloseOptions}
 use Rattle.slate_types.specs.declared.options.FlushType.{FlushType}
 use Rattle.slate_types.specs.declared.options.FlushType.TheVariants.{Wal, MemTable}
-use Rattle.slate_store.specs.declared.reader_modes.DbReaderMode.TheVariants.{FollowLatest}
+use Rattle.slate_store.specs.Checkpoints.{checkpoint_id}
+use Rattle.slate_store.specs.declared.reader_modes.DbReaderMode.TheVariants.{Checkpoint, FollowLatest}
 use Rattle.slate_text.specs.Numbers.{number_of, moment_of}
 use Rattle.slate_script.specs.Lines.{fields_of}
 use Rattle.slate_script.specs.declared.commands.Action.{Action}
@@ -80,10 +81,26 @@ close_form (o ∷ t ∷ []) = do
   Some (actions.Close object (Some options))
 close_form fields = None
 
--- follow latest
+-- `skip` as the last field, or nothing
+abbrev pub skip_of : List (List ℕ) → Option Bool
+skip_of [] = Some false
+skip_of (word ∷ []) = if bytes_eq word (codes "skip") then Some true else None
+skip_of fields = None
+
+-- follow pinned ID, follow pinned ID skip: the checkpoint that the manifest with this id commits
+abbrev pub pinned_form : List (List ℕ) → Option Action
+pinned_form [] = None
+pinned_form (i ∷ fields) = do
+  id ← number_of i
+  skip ← skip_of fields
+  Some (actions.Follow (Checkpoint (checkpoint_id id)) None skip)
+
+-- follow latest, follow latest skip, or one of the forms of a pinned reader
 abbrev pub follow_form : List (List ℕ) → Option Action
-follow_form (m ∷ []) = if bytes_eq m (codes "latest") then Some (actions.Follow FollowLatest None false) else None
-follow_form fields = None
+follow_form [] = None
+follow_form (m ∷ fields) =
+    if bytes_eq m (codes "latest") then option_map (λ skip. actions.Follow FollowLatest None skip) (skip_of fields)
+    else (if bytes_eq m (codes "pinned") then pinned_form fields else None)
 
 -- the command of a name and the fields behind it, where that follows, polls, or asks for a write or a status
 abbrev pub reader_of : List ℕ → List (List ℕ) → Option Action

@@ -3,7 +3,7 @@ ghost use Rattle.std.specs.Prelude.{◌≡◌, IfOk, IfSome};
 ghost use Rattle.slate_script.specs.Built.{IsBuilt};
 ghost use Rattle.slate_script.specs.declared.commands.Command.{Command};
 ghost use Rattle.slate_script.specs.Forms.{wal_of, open_form, flush_type_of, flush_form, one_number, checkpoint_form, sweep_form, close_options_of, close_form};
-ghost use Rattle.slate_script.specs.Forms.{follow_form, reader_of, other_of, action_of, command_of, line_of};
+ghost use Rattle.slate_script.specs.Forms.{skip_of, pinned_form, follow_form, reader_of, other_of, action_of, command_of, line_of};
 
 use crate::fields::cut_fields;
 use crate::queries::read_query;
@@ -14,6 +14,7 @@ use slate_store::DbReaderMode;
 use slate_text::{read_moment, read_number};
 use slate_types::{CloseOptions, FlushType, NoMemory};
 use std::alloc::Global;
+use uuid::Uuid;
 
 /// Whether a handle keeps a log.
 fn read_wal(word: &[u8]) -> Option<bool>
@@ -153,21 +154,54 @@ fn read_close(fields: &[Bytes]) -> Option<Action>
     }
 }
 
+/// Whether a reader skips log files: `skip` as the last field, or nothing.
+fn read_skip(fields: &[Bytes]) -> Option<bool>
+    ensures { result ≡ skip_of fields.now }
+{
+    match fields {
+        [] => Some(false),
+        [word] if word.as_slice() == b"skip".as_slice() => Some(true),
+        _ => None,
+    }
+}
+
+/// A reader of the checkpoint that the manifest with this id committed: the checkpoint's id is, as a number, the
+/// manifest's.
+fn read_pinned(fields: &[Bytes]) -> Option<Action>
+    ensures form { result ≡ pinned_form fields.now }
+    ensures built { IfSome result IsBuilt }
+{
+    let [id, behind @ ..] = fields else {
+        return None;
+    };
+    let id = read_number(id.as_slice())?;
+    let skip = read_skip(behind)?;
+    Some(Action::Follow {
+        mode: DbReaderMode::Checkpoint(Uuid::from_u128(u128::from(id))),
+        managed: None,
+        skip,
+    })
+}
+
 fn read_follow(fields: &[Bytes]) -> Option<Action>
     ensures form { result ≡ follow_form fields.now }
     ensures built { IfSome result IsBuilt }
 {
-    let [mode] = fields else {
+    let [mode, behind @ ..] = fields else {
         return None;
     };
-    if mode.as_slice() != b"latest".as_slice() {
-        return None;
+    if mode.as_slice() == b"latest".as_slice() {
+        let skip = read_skip(behind)?;
+        Some(Action::Follow {
+            mode: DbReaderMode::FollowLatest,
+            managed: None,
+            skip,
+        })
+    } else if mode.as_slice() == b"pinned".as_slice() {
+        read_pinned(behind)
+    } else {
+        None
     }
-    Some(Action::Follow {
-        mode: DbReaderMode::FollowLatest,
-        managed: None,
-        skip: false,
-    })
 }
 
 // The command of a name and the fields behind it, where that follows, polls, or asks for a write or a status.

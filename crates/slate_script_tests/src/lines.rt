@@ -1,5 +1,5 @@
-// Tests of the lines that open handles, write and read rows, and store them: the command that each spells, and lines that
-// are refused.
+// Tests of the lines that open handles and readers, write and read rows, and store them: the command that each spells, and
+// lines that are refused.
 use slate_script::{LineAnswer, read_line};
 use std::alloc::Global;
 use std::test::Fail;
@@ -128,6 +128,32 @@ fn tables(rt: HostRuntime) -> Result<(), Fail> {
     Ok(())
 }
 
+// Readers of the latest manifest and of a checkpoint by its number, with log files and without.
+#[test]
+fn readers(rt: HostRuntime) -> Result<(), Fail> {
+    for (line, want) in [
+        (
+            "0 follow latest",
+            "Follow { mode: FollowLatest, managed: None, skip: false }",
+        ),
+        (
+            "0 follow latest skip",
+            "Follow { mode: FollowLatest, managed: None, skip: true }",
+        ),
+        (
+            "0 follow pinned 18446744073709551615",
+            "Follow { mode: Checkpoint(00000000-0000-0000-ffff-ffffffffffff), managed: None, skip: false }",
+        ),
+        (
+            "0 follow pinned 258 skip",
+            "Follow { mode: Checkpoint(00000000-0000-0000-0000-000000000102), managed: None, skip: true }",
+        ),
+    ] {
+        assert_eq!(rt; action(rt.alloc(), line)?.as_str(), want);
+    }
+    Ok(())
+}
+
 #[test]
 fn refused(rt: HostRuntime) -> Result<(), Fail> {
     for line in [
@@ -164,6 +190,10 @@ fn refused(rt: HostRuntime) -> Result<(), Fail> {
         "0 checkpoint 18446744073709551616",
         "0 sweep 1",
         "0 close 0 log",
+        "0 follow latest no",
+        "0 follow pinned",
+        "0 follow pinned x",
+        "0 follow pinned 1 2",
     ] {
         let answer = read_line(rt.alloc(), line.as_bytes())?;
         assert!(rt; matches!(answer, LineAnswer::Refused), "{line}");

@@ -37,7 +37,7 @@ returns-in-Follow-clause-does g c merge lawful =
     let k = by_objects (g.S.Store.objects c.args.store.now) in
     let store = known g.S.Store.objects g.S.Store.faults c.args.store.now in
     let store' = known g.S.Store.objects g.S.Store.faults c.follow.new.store in
-    (0, does-at k s c.args.command.now 0 (running c.args.self.now store) c.follow.result (running c.follow.new.self store') NewFollower (ap target_of c.in-Follow.is) (c.follow.ensures.does merge))
+    (0, does-at k s c.args.command.now 0 (running c.args.self.now store) c.follow.result (running c.follow.new.self store') (NewFollower c.in-Follow.mode c.in-Follow.skip) (ap target_of c.in-Follow.is) (c.follow.ensures.does merge))
 
 pub returns-in-Follow-clause-link : goal.returns-in-Follow-clause-link
 returns-in-Follow-clause-link g c merge lawful =
@@ -45,7 +45,7 @@ returns-in-Follow-clause-link g c merge lawful =
     let k = by_objects (g.S.Store.objects c.args.store.now) in
     let store = known g.S.Store.objects g.S.Store.faults c.args.store.now in
     let store' = known g.S.Store.objects g.S.Store.faults c.follow.new.store in
-    linked s c.args.command.now c.args.self.now c.follow.new.self store store' 0 c.follow.result (does-at k s c.args.command.now 0 (running c.args.self.now store) c.follow.result (running c.follow.new.self store') NewFollower (ap target_of c.in-Follow.is) (c.follow.ensures.does merge))
+    linked s c.args.command.now c.args.self.now c.follow.new.self store store' 0 c.follow.result (does-at k s c.args.command.now 0 (running c.args.self.now store) c.follow.result (running c.follow.new.self store') (NewFollower c.in-Follow.mode c.in-Follow.skip) (ap target_of c.in-Follow.is) (c.follow.ensures.does merge))
 
 pub returns-in-Checkpoint-clause-does : goal.returns-in-Checkpoint-clause-does
 returns-in-Checkpoint-clause-does g c merge lawful =

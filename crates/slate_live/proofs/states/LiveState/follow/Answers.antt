@@ -10,7 +10,7 @@ returns-then-is_err-clause-does g c merge =
       record {
         result = _;
         replied = refl;
-        does = follows-nothing _ _;
+        does = follows-nothing _ _ _ _;
         objects = ap (map object_of) c.reserve.ensures.items ∙ sym (append-nil _);
         writes = refl;
       },

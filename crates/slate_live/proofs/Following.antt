@@ -1,0 +1,129 @@
+-- What an opening and a poll of a follower leave of it: over sound objects it sees what it is owed.
+use Rattle.std.proofs.Common.{◌≡◌, ℕ, ◌-◌, ◌≤◌, inl, inr, ◌⊎◌, Bool, true, false, Option, Some, refl, sym, subst, ap, ◌∙◌, arith}
+use Rattle.std.proofs.lemmas.List.{length-take}
+use Rattle.slate_types.specs.Line.{IsPrefix, Line, end}
+use Rattle.slate_store.specs.Content.{IsSound, content}
+use Rattle.slate_store.specs.Objects.{Objects, ObjectsOf, latest_manifest}
+use Rattle.slate_store.specs.declared.objects.VersionedManifest.{VersionedManifest}
+use Rattle.slate_store.specs.declared.reader_modes.DbReaderMode.{DbReaderMode}
+use Rattle.slate_store.specs.declared.reader_modes.DbReaderMode.TheVariants as modes
+use Rattle.slate_model.specs.Catalogue.{Catalogue, Span, catalogue_of}
+use Rattle.slate_model.specs.declared.answers.PollAnswer.{PollAnswer}
+use Rattle.slate_model.specs.Follow.{IsOwed, SeesOwed}
+use Rattle.slate_model.specs.Followed.{IsView, last_read}
+use Rattle.slate_model.specs.Follower.{Follower, is_pinned, kept_follower, number, rebuilt}
+use Rattle.slate_model.specs.Handle.{up_to}
+use Rattle.slate_model.specs.Object.{Follower as AFollower}
+use Rattle.slate_model.specs.Seen.{HasSeen}
+use Rattle.slate_model.specs.Stores.{by_catalogue, by_objects}
+use Rattle.slate_model.specs.Tables.{AreStored}
+use Rattle.slate_model.specs.Valid.{IsHeld, ReadsLine}
+use Rattle.slate_model.proofs.Moving.{Follows}
+use Rattle.slate_model.proofs.Owing.{are-stored, ends, owed-is, owed-reads, owed-seen, owed_line, view-tables}
+use Rattle.slate_model.proofs.Reduced.{its, its-line, owed-begins}
+use Rattle.slate_live.specs.Confirmed.{follows_all}
+use Rattle.slate_live.specs.Represents.{IsValidFollower}
+use Rattle.slate_live.proofs.Prefixes.{prefix-end, prefix-then}
+
+-- the manifest of a reader that doesn't stay at a checkpoint is the latest one
+pub latest-view : {L : Type 0} (mode : DbReaderMode) (opening : Bool) (o : ObjectsOf L) (view : VersionedManifest) → is_pinned mode ≡ false → IsView mode opening o view → latest_manifest o ≡ Some view
+latest-view (modes.Checkpoint id) opening o view free v = absurd (cc)
+latest-view modes.FollowLatest opening o view free v = v.1 ∙ v.3
+latest-view modes.ManagedCheckpoint opening o view free v = v.1 ∙ v.3
+
+-- what such a one is owed is all that is stored, or what is in tables
+owed-by : (c : Catalogue) (o : ObjectsOf Span) (mode : DbReaderMode) (skips : Bool) (view : VersionedManifest) (stored owed : Line) → is_pinned mode ≡ false → IsOwed (by_catalogue stored c) mode skips o view stored owed → (owed ≡ stored) ⊎ ((skips ≡ true) × (owed ≡ up_to view.manifest.last_l0_seq stored))
+owed-by c o mode true view stored owed free is = inr (refl, is)
+owed-by c o (modes.Checkpoint id) false view stored owed free is = absurd (cc)
+owed-by c o modes.FollowLatest false view stored owed free is = inl is
+owed-by c o modes.ManagedCheckpoint false view stored owed free is = inl is
+
+-- one that follows all that is stored is owed that
+pub owed-all : (c : Catalogue) (o : ObjectsOf Span) (mode : DbReaderMode) (skips : Bool) (view : VersionedManifest) (stored owed : Line) → follows_all mode skips ≡ true → IsOwed (by_catalogue stored c) mode skips o view stored owed → owed ≡ stored
+owed-all c o (modes.Checkpoint id) true view stored owed all is = absurd (cc)
+owed-all c o modes.FollowLatest true view stored owed all is = absurd (cc)
+owed-all c o modes.ManagedCheckpoint true view stored owed all is = absurd (cc)
+owed-all c o (modes.Checkpoint id) false view stored owed all is = absurd (cc)
+owed-all c o modes.FollowLatest false view stored owed all is = is
+owed-all c o modes.ManagedCheckpoint false view stored owed all is = is
+
+-- the front of a line up to a number doesn't end below one that isn't above it nor above the end of the line
+front-end : (n k : ℕ) (line : Line) → k ≤ n → k ≤ end line → line.floor ≤ k → k ≤ end (up_to n line)
+front-end n k line low within floor = let count = length-take (n - line.floor) line.batches in omega (arith, count, low, within, floor)
+
+prefix-floor : (a b : Line) → IsPrefix a b → a.floor ≡ b.floor
+prefix-floor a b p = sym (ap (λ (l : Line). l.floor) p.1)
+
+-- what a follower is owed doesn't end below its number
+pub owed-above : (stored : Line) (c : Catalogue) (f : Follower) (view : VersionedManifest) (owed : Line) → IsValidFollower stored c f → is_pinned f.mode ≡ false → IsView f.mode false c view → IsOwed (by_catalogue stored c) f.mode f.skips c view stored owed → number f ≤ end owed
+owed-above stored c f view owed v free goes is = elim (owed-by c c f.mode f.skips view stored owed free is) [
+  | inl all ↦ subst (λ l. number f ≤ end l) (sym all) (prefix-end f.line stored v.0)
+  | inr few ↦
+      let low = v.1 few.0 free view (latest-view f.mode false c view free goes) in
+      let floor = prefix-floor f.line stored v.0 in
+      subst (λ l. number f ≤ end l) (sym few.1) (front-end view.manifest.last_l0_seq (number f) stored low (prefix-end f.line stored v.0) (omega (arith, floor)))
+]
+
+-- a follower that was valid is valid over objects that follow
+pub follower-follows : (stored stored' : Line) (o o' : Objects) (latest latest' : VersionedManifest) → latest_manifest o ≡ Some latest → Follows stored stored' o o' latest latest' → (g : Follower) → IsValidFollower stored (catalogue_of o) g → IsValidFollower stored' (catalogue_of o') g
+follower-follows stored stored' o o' latest latest' is f g v = (
+  prefix-then g.line stored stored' v.0 f.grows,
+  λ skips free found at.
+      let same : latest' ≡ found = (let b = f.latest_is in cc) in
+      let e = ap (λ (m : VersionedManifest). m.manifest.last_l0_seq) same in
+      let before = v.1 skips free latest is in
+      let up = f.tabled in
+      omega (arith, e, before, up),
+)
+
+-- the follower that sees what it is owed under a manifest
+module _ (stored : Line) (mode : DbReaderMode) (skips opening : Bool) (o : Objects) (view : VersionedManifest) (sound : IsSound o) (holds : content o ≡ stored) (v : IsView mode opening o view) (mark : ℕ) (mark_is : mark ≡ last_read mode skips view o) where
+  abbrev new : Follower
+  new = rebuilt mode skips view (owed_line mode skips o view stored) mark
+
+  owed_floor : stored.floor ≤ view.manifest.last_l0_seq
+  owed_floor =
+      let e = ends o view.manifest (content o) (view-tables o mode opening view sound v) sound.line in
+      let same = ap (λ (l : Line). l.floor) holds in
+      omega (arith, e, same)
+
+  low-end : (mode : DbReaderMode) (skips : Bool) → skips ≡ true → end (owed_line mode skips o view stored) ≤ view.manifest.last_l0_seq
+  low-end mode false skips = absurd (cc)
+  low-end mode true skips =
+      let floor = owed_floor in
+      let count = length-take (view.manifest.last_l0_seq - stored.floor) stored.batches in
+      omega (arith, floor, count)
+
+  pub new-valid : IsValidFollower stored (catalogue_of o) new
+  new-valid = (
+    owed-begins stored mode skips opening o view sound holds v,
+    λ few free found at.
+        let is = latest-view mode opening o view free v in
+        let same : view ≡ found = (let b = at in cc) in
+        let e = ap (λ (m : VersionedManifest). m.manifest.last_l0_seq) same in
+        let low = low-end mode skips few in
+        omega (arith, e, low),
+  )
+
+  pub new-stored : AreStored o view.manifest.tables
+  new-stored = are-stored o view.manifest (content o) (view-tables o mode opening view sound v) sound.line
+
+  pub new-held : IsHeld o (AFollower new)
+  new-held =
+      let read = owed-reads o stored mode skips view (its stored mode skips opening o view sound holds v) in
+      let line = its-line stored mode skips opening o view sound holds v in (
+        subst (ReadsLine o view) line read,
+        λ free. subst (λ n. HasSeen o (rebuilt mode skips view (owed_line mode skips o view stored) n)) (sym mark_is)
+            (subst (λ l. HasSeen o (rebuilt mode skips view (owed_line mode skips o view l) (last_read mode skips view o))) holds (owed-seen o mode skips opening view sound v free)),
+      )
+
+-- the code keeps it where it was found that what it is owed is seen
+module _ (t : Option Objects) (stored : Line) (mode : DbReaderMode) (skips : Bool) (o : Objects) (b : Follower) (answer : PollAnswer) (all : SeesOwed (by_objects t) mode skips o stored b answer) where
+  pub seen-mark : b.mark ≡ last_read mode skips b.view o
+  seen-mark = ap (λ (x : Follower). x.mark) all.2
+
+  pub seen-kept : b ≡ kept_follower (rebuilt mode skips b.view (owed_line mode skips o b.view stored) b.mark)
+  seen-kept =
+      all.2
+      ∙ (ap (λ l. kept_follower (rebuilt mode skips b.view l (last_read mode skips b.view o))) (owed-is t o mode skips b.view stored all.0 all.1)
+      ∙ ap (λ n. kept_follower (rebuilt mode skips b.view (owed_line mode skips o b.view stored) n)) (sym seen-mark))

@@ -14,6 +14,7 @@ use Rattle.slate_script.specs.declared.commands.Action.TheVariants as actions
 use Rattle.slate_script.specs.declared.commands.Command.{Command}
 use Rattle.slate_script.specs.declared.commands.LineAnswer.{LineAnswer}
 use Rattle.slate_script.specs.declared.commands.LineAnswer.TheVariants as answers
+use Rattle.slate_script.specs.Lookups.{lookup_of}
 use Rattle.slate_script.specs.Queries.{query_of}
 use Rattle.slate_script.specs.Values.{◌>>=◌}
 use Rattle.slate_script.specs.Writes.{write_of}
@@ -102,14 +103,14 @@ follow_form (m ∷ fields) =
     if bytes_eq m (codes "latest") then option_map (λ skip. actions.Follow FollowLatest None skip) (skip_of fields)
     else (if bytes_eq m (codes "pinned") then pinned_form fields else None)
 
--- the command of a name and the fields behind it, where that follows, polls, or asks for a write or a status
+-- the command of a name and the fields behind it, where that follows, polls, or asks for a write, a status, a time or a number
 abbrev pub reader_of : List ℕ → List (List ℕ) → Option Action
 reader_of name fields =
     if bytes_eq name (codes "follow") then follow_form fields
     else (if bytes_eq name (codes "poll") then option_map (λ follower. actions.Poll follower) (one_number fields)
     else (if bytes_eq name (codes "await") then option_map (λ write. actions.Await write) (one_number fields)
     else (if bytes_eq name (codes "status") then option_map (λ object. actions.Status object) (one_number fields)
-    else None)))
+    else lookup_of name fields)))
 
 -- the command of a name and the fields behind it, where that neither writes nor reads keys
 abbrev pub other_of : List ℕ → List (List ℕ) → Option Action

@@ -3,6 +3,7 @@ pub mod Built
 pub mod Values
 pub mod Writes
 pub mod Queries
+pub mod Lookups
 pub mod Forms
 pub mod Scripts
 pub mod Replies

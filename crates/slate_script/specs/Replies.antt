@@ -79,6 +79,16 @@ prefixes_text prefixes = flat_map (λ prefix. codes " " ++ word_text prefix) pre
 abbrev pub status_text : DbStatus → List ℕ
 status_text status = standing_text status ++ prefixes_text (segments_of status)
 
+-- the time of a number in whole seconds, where one was found
+abbrev pub time_text : Option ℤ → List ℕ
+time_text None = codes "time none"
+time_text (Some seconds) = codes "time " ++ signed_decimal seconds
+
+-- the number at a time, where one was found
+abbrev pub number_text : Option ℕ → List ℕ
+number_text None = codes "number none"
+number_text (Some number) = codes "number " ++ decimal number
+
 -- a reply without the newline at its end
 abbrev pub reply_words : Reply → List ℕ
 reply_words (replies.Handle object) = codes "handle " ++ decimal object
@@ -97,6 +107,8 @@ reply_words replies.Pending = codes "pending"
 reply_words (replies.Polled whole at) = poll_text whole at
 reply_words (replies.Ended fault tasks) = fault_text fault ++ codes "ended" ++ tasks_text tasks
 reply_words (replies.Status status) = status_text status
+reply_words (replies.Time time) = time_text time
+reply_words (replies.Number number) = number_text number
 reply_words (replies.Refused error) = codes "error " ++ error_text error
 reply_words replies.Unknown = codes "error unknown object"
 reply_words replies.NoMemory = codes "error no memory"

@@ -3,6 +3,7 @@ ghost use Rattle.std.specs.Prelude.{◌≡◌};
 ghost use Rattle.slate_script.specs.declared.commands.ScriptFault.TheVariants.{NoMemory as OutOfMemory};
 
 use bytes::Bytes;
+use slate_seqtrack::FindOption;
 use slate_store::DbReaderMode;
 use slate_types::{ByteRange, CloseOptions, FlushType, IterationOrder, NoMemory, WriteBatch};
 use std::alloc::{AllocError, AllocFailed};
@@ -103,6 +104,18 @@ pub enum Action {
     /// Asks an object, open or closed, what it reports of itself.
     Status {
         object: u64,
+    },
+    /// Asks a handle, open or closed, when the batch with a number was written.
+    Ts {
+        handle: u64,
+        number: u64,
+        find: FindOption,
+    },
+    /// Asks a handle, open or closed, which number was written at a time in whole seconds.
+    Seq {
+        handle: u64,
+        seconds: i64,
+        find: FindOption,
     },
 }
 

@@ -6,6 +6,7 @@ ghost use Rattle.slate_script.specs.Forms.{wal_of, open_form, flush_type_of, flu
 ghost use Rattle.slate_script.specs.Forms.{skip_of, pinned_form, follow_form, reader_of, other_of, action_of, command_of, line_of};
 
 use crate::fields::cut_fields;
+use crate::lookups::read_lookup;
 use crate::queries::read_query;
 use crate::writes::read_write;
 use crate::{Action, Command, LineAnswer};
@@ -204,7 +205,8 @@ fn read_follow(fields: &[Bytes]) -> Option<Action>
     }
 }
 
-// The command of a name and the fields behind it, where that follows, polls, or asks for a write or a status.
+// The command of a name and the fields behind it, where that follows, polls, or asks for a write, a status, a time or a
+// number.
 fn read_reader(name: &[u8], fields: &[Bytes]) -> Option<Action>
     ensures form { result ≡ reader_of name.now fields.now }
     ensures built { IfSome result IsBuilt }
@@ -221,7 +223,7 @@ fn read_reader(name: &[u8], fields: &[Bytes]) -> Option<Action>
         let object = read_one_number(fields)?;
         Some(Action::Status { object })
     } else {
-        None
+        read_lookup(name, fields)
     }
 }
 

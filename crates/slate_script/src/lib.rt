@@ -5,6 +5,7 @@ mod commands;
 mod fields;
 mod forms;
 mod laws;
+mod lookups;
 mod options;
 mod printing;
 mod queries;

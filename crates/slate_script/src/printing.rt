@@ -2,7 +2,7 @@
 ghost use Rattle.std.specs.Prelude.{◌≡◌, ◌++◌, ◌∷◌, length, map, take, decimal, OnOk, OnErr};
 ghost use Rattle.std.specs.List.{flat_map};
 ghost use Rattle.slate_text.specs.Words.{word_text};
-ghost use Rattle.slate_script.specs.Replies.{because_text, prefixes_text, reason_text, standing_text};
+ghost use Rattle.slate_script.specs.Replies.{because_text, number_text, prefixes_text, reason_text, standing_text, time_text};
 ghost use Rattle.slate_script.specs.Replies.{expiry_text, fault_text, poll_text, row_text, rows_text, stamp_text, task_text, tasks_text, reply_words, reply_text, replies_text};
 
 use crate::Reply;
@@ -235,6 +235,29 @@ fn write_status(out: &mut Vec<u8>, status: &DbStatus) -> Result<(), NoMemory>
     write_segments(out, segments.as_slice())
 }
 
+fn write_time(out: &mut Vec<u8>, time: Option<i64>) -> Result<(), NoMemory>
+    ensures ok { OnOk result (out.new.items ≡ out.old.items ++ time_text time) }
+    ensures err { OnErr result (take (length out.old.items) out.new.items ≡ out.old.items) }
+{
+    match time {
+        None => write_text(out, "time none"),
+        Some(seconds) => {
+            write_text(out, "time ")?;
+            write_signed(out, seconds)
+        }
+    }
+}
+
+fn write_found_number(out: &mut Vec<u8>, number: Option<u64>) -> Result<(), NoMemory>
+    ensures ok { OnOk result (out.new.items ≡ out.old.items ++ number_text number) }
+    ensures err { OnErr result (take (length out.old.items) out.new.items ≡ out.old.items) }
+{
+    match number {
+        None => write_text(out, "number none"),
+        Some(number) => write_labelled(out, "number ", number),
+    }
+}
+
 fn write_words(out: &mut Vec<u8>, reply: &Reply) -> Result<(), NoMemory>
     ensures ok { OnOk result (out.new.items ≡ out.old.items ++ reply_words reply.now) }
     ensures err { OnErr result (take (length out.old.items) out.new.items ≡ out.old.items) }
@@ -256,6 +279,8 @@ fn write_words(out: &mut Vec<u8>, reply: &Reply) -> Result<(), NoMemory>
         Reply::Polled { whole, at } => write_poll(out, *whole, *at),
         Reply::Ended { fault, tasks } => write_ended(out, fault, tasks),
         Reply::Status(status) => write_status(out, status),
+        Reply::Time(time) => write_time(out, *time),
+        Reply::Number(number) => write_found_number(out, *number),
         Reply::Refused(error) => write_refused(out, error),
         Reply::Unknown => write_text(out, "error unknown object"),
         Reply::NoMemory => write_text(out, "error no memory"),

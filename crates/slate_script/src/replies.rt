@@ -56,6 +56,10 @@ pub enum Reply {
     },
     /// What an object reports of itself.
     Status(DbStatus),
+    /// When a batch was written, in whole seconds; None where the handle knows no time for its number.
+    Time(Option<i64>),
+    /// Which number was written at a time; None where the handle knows none.
+    Number(Option<u64>),
     /// The command was refused, or failed.
     Refused(SlateError),
     /// No object or write of the kind that the command names is there.

@@ -1,5 +1,5 @@
-// Tests of the lines that open handles and readers, write and read rows, and store them: the command that each spells, and
-// lines that are refused.
+// Tests of the lines that open handles and readers, write and read rows, store them, and look numbers and times up: the
+// command that each spells, and lines that are refused.
 use slate_script::{LineAnswer, read_line};
 use std::alloc::Global;
 use std::test::Fail;
@@ -154,6 +154,32 @@ fn readers(rt: HostRuntime) -> Result<(), Fail> {
     Ok(())
 }
 
+// When a batch was written, and which one was written at a time.
+#[test]
+fn lookups(rt: HostRuntime) -> Result<(), Fail> {
+    for (line, want) in [
+        (
+            "0 ts 1 18446744073709551615 up",
+            "Ts { handle: 1, number: 18446744073709551615, find: RoundUp }",
+        ),
+        (
+            "0 ts 1 007 down",
+            "Ts { handle: 1, number: 7, find: RoundDown }",
+        ),
+        (
+            "0 seq 2 9223372036854775807 up",
+            "Seq { handle: 2, seconds: 9223372036854775807, find: RoundUp }",
+        ),
+        (
+            "0 seq 2 0 down",
+            "Seq { handle: 2, seconds: 0, find: RoundDown }",
+        ),
+    ] {
+        assert_eq!(rt; action(rt.alloc(), line)?.as_str(), want);
+    }
+    Ok(())
+}
+
 #[test]
 fn refused(rt: HostRuntime) -> Result<(), Fail> {
     for line in [
@@ -194,6 +220,13 @@ fn refused(rt: HostRuntime) -> Result<(), Fail> {
         "0 follow pinned",
         "0 follow pinned x",
         "0 follow pinned 1 2",
+        "0 ts 0 1",
+        "0 ts 0 -1 up",
+        "0 ts 0 1 Up",
+        "0 ts 0 1 up down",
+        "0 seq 0 1",
+        "0 seq 0 1/2 up",
+        "0 seq 0 9223372036854775808 up",
     ] {
         let answer = read_line(rt.alloc(), line.as_bytes())?;
         assert!(rt; matches!(answer, LineAnswer::Refused), "{line}");

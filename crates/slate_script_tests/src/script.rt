@@ -193,6 +193,20 @@ fn printed_readers(rt: HostRuntime) -> Result<(), Fail> {
     Ok(())
 }
 
+#[test]
+fn printed_lookups(rt: HostRuntime) -> Result<(), Fail> {
+    let replies = [
+        Reply::Time(Some(61)),
+        Reply::Time(Some(-1)),
+        Reply::Time(None),
+        Reply::Number(Some(u64::MAX)),
+        Reply::Number(None),
+    ];
+    let want = "time 61\ntime -1\ntime none\nnumber 18446744073709551615\nnumber none\n";
+    assert_eq!(rt; printed(rt.alloc(), &replies)?.as_slice(), want.as_bytes());
+    Ok(())
+}
+
 // A status of a durable number 12 and a manifest 3.
 fn status(
     alloc: Global,

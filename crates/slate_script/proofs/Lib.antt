@@ -2,3 +2,4 @@ pub mod LineLemmas
 pub mod BatchLemmas
 pub mod BoundLemmas
 pub mod ScriptLemmas
+pub mod OptionLemmas

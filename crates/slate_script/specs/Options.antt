@@ -1,21 +1,43 @@
--- The words of the command line.
-use Rattle.std.specs.Prelude.{ℕ, true, ◌&&◌, List, [], ◌∷◌, Option, Some, None, codes, if◌then◌else◌}
+-- The words of the command line: options in any order, each at most once.
+use Rattle.std.specs.Prelude.{ℕ, true, ◌&&◌, List, [], ◌∷◌, Option, Some, None, codes, is_none, unwrap_or, if◌then◌else◌}
+use Rattle.std.specs.Option.{option_map}
 use Rattle.std.specs.Str.{bytes_eq}
 use Rattle.slate_types.specs.declared.operators.ConcatOperator.{ConcatOperator}
-use Rattle.slate_script.specs.declared.options.Options.{Options}
+use Rattle.slate_text.specs.Numbers.{number_of}
+use Rattle.slate_script.specs.declared.options.Given.{Given}
 use Rattle.slate_script.specs.declared.options.RunOptions.{RunOptions}
+use Rattle.slate_script.specs.Values.{◌>>=◌}
 
--- the options of handles where no word says otherwise
-abbrev pub default_options : Options
-default_options = record { max_unflushed_bytes = 1073741824; compactor = true; compaction_worker = true; collector = true }
+-- no option
+abbrev pub nothing_given : Given
+nothing_given = record { operator = None; limit = None }
 
--- the options of a run with this operator
-abbrev pub with_operator : Option ConcatOperator → RunOptions
-with_operator operator = record { operator = operator; options = default_options }
+-- the operator with this name
+abbrev pub operator_of : List ℕ → Option ConcatOperator
+operator_of name = if bytes_eq name (codes "concat") then Some (record {}) else None
 
--- the options that words spell: none, or `--merge concat`
+-- with the option that a word and its value spell, unless it is given already
+abbrev pub with_option : Given → List ℕ → List ℕ → Option Given
+with_option given word value =
+    if bytes_eq word (codes "--merge") && is_none given.operator then option_map (λ operator. record given { operator = Some operator }) (operator_of value)
+    else (if bytes_eq word (codes "--limit") && is_none given.limit then option_map (λ limit. record given { limit = Some limit }) (number_of value)
+    else None)
+
+-- with the options that words spell: each is a word, and the next one is its value
+abbrev pub with_words : Given → List (List ℕ) → Option Given
+with_words given [] = Some given
+with_words given (word ∷ []) = None
+with_words given (word ∷ value ∷ words) = do
+  more ← with_option given word value
+  with_words more words
+
+-- the options of a run to which these are given: without `--limit` the limit is 1,073,741,824 bytes
+abbrev pub run_options : Given → RunOptions
+run_options given = record {
+  operator = given.operator;
+  options = record { max_unflushed_bytes = unwrap_or given.limit 1073741824; compactor = true; compaction_worker = true; collector = true };
+}
+
+-- the options that words spell
 abbrev pub options_of : List (List ℕ) → Option RunOptions
-options_of [] = Some (with_operator None)
-options_of (word ∷ value ∷ []) =
-    if bytes_eq word (codes "--merge") && bytes_eq value (codes "concat") then Some (with_operator (Some (record {}))) else None
-options_of words = None
+options_of words = option_map run_options (with_words nothing_given words)

@@ -109,6 +109,7 @@ reply_words (replies.Ended fault tasks) = fault_text fault ++ codes "ended" ++ t
 reply_words (replies.Status status) = status_text status
 reply_words (replies.Time time) = time_text time
 reply_words (replies.Number number) = number_text number
+reply_words (replies.Backpressure unflushed limit) = codes "error backpressure " ++ decimal unflushed ++ codes " of " ++ decimal limit
 reply_words (replies.Refused error) = codes "error " ++ error_text error
 reply_words replies.Unknown = codes "error unknown object"
 reply_words replies.NoMemory = codes "error no memory"

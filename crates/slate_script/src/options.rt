@@ -1,13 +1,14 @@
 // The options of a run, as the words of the command line spell them.
 ghost use Rattle.std.specs.Prelude.{◌≡◌, map, string_bytes};
-ghost use Rattle.slate_script.specs.Options.{default_options, options_of};
+ghost use Rattle.slate_script.specs.Options.{operator_of, options_of, run_options, with_option};
 
+use slate_text::read_number;
 use slate_types::ConcatOperator;
 
-/// How the handles of a run are opened. No word says otherwise yet, and none of it has an effect yet.
+/// How the handles of a run are opened. Words say the limit alone yet, and what is to be registered has no effect yet.
 #[derive(Clone, Copy, Debug, PartialEq, Eq)]
 pub struct Options {
-    /// From this many unflushed bytes of keys and values on a write is to be held up. None is held up yet.
+    /// From this many unflushed bytes of keys and values on a write is refused.
     pub max_unflushed_bytes: u64,
     /// Whether handles are to register a compactor.
     pub compactor: bool,
@@ -26,33 +27,76 @@ pub struct RunOptions {
     pub options: Options,
 }
 
-/// Handles with their compactor, worker and collector, that hold up writes from 1,073,741,824 unflushed bytes on.
-fn default_options() -> Options
-    ensures { result ≡ default_options }
+/// The limit of unflushed bytes where no word says one.
+const DEFAULT_LIMIT: u64 = 1_073_741_824;
+
+/// The values of the options that were read so far.
+#[derive(Clone, Copy)]
+struct Given {
+    operator: Option<ConcatOperator>,
+    limit: Option<u64>,
+}
+
+/// The operator with this name.
+fn read_operator(name: &str) -> Option<ConcatOperator>
+    ensures { result ≡ operator_of name.now }
 {
-    Options {
-        max_unflushed_bytes: 1_073_741_824,
-        compactor: true,
-        compaction_worker: true,
-        collector: true,
+    if name == "concat" {
+        Some(ConcatOperator)
+    } else {
+        None
+    }
+}
+
+/// With the option that a word and its value spell, unless it is given already.
+fn with_option(given: Given, word: &str, value: &str) -> Option<Given>
+    ensures { result ≡ with_option given word.now value.now }
+{
+    if word == "--merge" && given.operator.is_none() {
+        let operator = Some(read_operator(value)?);
+        Some(Given { operator, ..given })
+    } else if word == "--limit" && given.limit.is_none() {
+        let limit = Some(read_number(value.as_bytes())?);
+        Some(Given { limit, ..given })
+    } else {
+        None
+    }
+}
+
+/// The options of a run to which these are given.
+fn run_options(given: Given) -> RunOptions
+    ensures { result ≡ run_options given }
+{
+    RunOptions {
+        operator: given.operator,
+        options: Options {
+            max_unflushed_bytes: given.limit.unwrap_or(DEFAULT_LIMIT),
+            compactor: true,
+            compaction_worker: true,
+            collector: true,
+        },
     }
 }
 
 /// The options that words spell, or None exactly where they spell none. `--merge concat` gives the operator that
-/// appends each operand; without words there is no operator. Any other words are refused, so also a word that stands
-/// twice and one without its value. It takes no memory.
+/// appends each operand, and `--limit N` the limit of unflushed bytes, one or more decimal digits, below 2^64; without
+/// them there is no operator, and the limit is 1,073,741,824. They may stand in any order, each at most once. Any other
+/// words are refused, so also one without its value. It takes no memory.
 pub fn read_words(words: &[String]) -> Option<RunOptions>
     ensures { result ≡ options_of (map string_bytes words.now) }
 {
-    let operator = match words {
-        [] => None,
-        [word, value] if word.as_str() == "--merge" && value.as_str() == "concat" => {
-            Some(ConcatOperator)
-        }
-        _ => return None,
+    let mut given = Given {
+        operator: None,
+        limit: None,
     };
-    Some(RunOptions {
-        operator,
-        options: default_options(),
-    })
+    let mut rest = words;
+    while let [word, value, behind @ ..] = rest {
+        given = with_option(given, word.as_str(), value.as_str())?;
+        rest = behind;
+    }
+    if rest.is_empty() {
+        Some(run_options(given))
+    } else {
+        None
+    }
 }

@@ -258,6 +258,15 @@ fn write_found_number(out: &mut Vec<u8>, number: Option<u64>) -> Result<(), NoMe
     }
 }
 
+fn write_backpressure(out: &mut Vec<u8>, unflushed: u64, limit: u64) -> Result<(), NoMemory>
+    ensures ok { OnOk result (out.new.items ≡ out.old.items ++ reply_words (Reply.Backpressure unflushed limit)) }
+    ensures err { OnErr result (take (length out.old.items) out.new.items ≡ out.old.items) }
+{
+    write_labelled(out, "error backpressure ", unflushed)?;
+    write_labelled(out, " of ", limit)?;
+    Ok(())
+}
+
 fn write_words(out: &mut Vec<u8>, reply: &Reply) -> Result<(), NoMemory>
     ensures ok { OnOk result (out.new.items ≡ out.old.items ++ reply_words reply.now) }
     ensures err { OnErr result (take (length out.old.items) out.new.items ≡ out.old.items) }
@@ -281,6 +290,7 @@ fn write_words(out: &mut Vec<u8>, reply: &Reply) -> Result<(), NoMemory>
         Reply::Status(status) => write_status(out, status),
         Reply::Time(time) => write_time(out, *time),
         Reply::Number(number) => write_found_number(out, *number),
+        Reply::Backpressure { unflushed, limit } => write_backpressure(out, *unflushed, *limit),
         Reply::Refused(error) => write_refused(out, error),
         Reply::Unknown => write_text(out, "error unknown object"),
         Reply::NoMemory => write_text(out, "error no memory"),

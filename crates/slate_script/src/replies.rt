@@ -60,6 +60,12 @@ pub enum Reply {
     Time(Option<i64>),
     /// Which number was written at a time; None where the handle knows none.
     Number(Option<u64>),
+    /// A write was refused: of the handle's batches this many bytes of keys and values are unflushed, and that isn't
+    /// below the limit.
+    Backpressure {
+        unflushed: u64,
+        limit: u64,
+    },
     /// The command was refused, or failed.
     Refused(SlateError),
     /// No object or write of the kind that the command names is there.

@@ -163,12 +163,16 @@ fn printed_replies(rt: HostRuntime) -> Result<(), Fail> {
         Reply::Compacted,
         Reply::Checkpointed { id: 3 },
         Reply::Swept,
+        Reply::Backpressure {
+            unflushed: 8,
+            limit: u64::MAX,
+        },
         Reply::Refused(SlateError::EmptyBatch),
         Reply::Unknown,
         Reply::NoMemory,
     ];
     let want =
-        "handle 0\nwrite 1 number 2\nnone\nflushed\nrefreshed\ncompacted\ncheckpoint 3\nswept\nerror Invalid error: empty write batch not allowed\nerror unknown object\nerror no memory\n";
+        "handle 0\nwrite 1 number 2\nnone\nflushed\nrefreshed\ncompacted\ncheckpoint 3\nswept\nerror backpressure 8 of 18446744073709551615\nerror Invalid error: empty write batch not allowed\nerror unknown object\nerror no memory\n";
     assert_eq!(rt; printed(rt.alloc(), &replies)?.as_slice(), want.as_bytes());
     Ok(())
 }
@@ -287,35 +291,64 @@ fn read(alloc: Global, words: &[&str]) -> Result<Option<RunOptions>, Fail> {
     Ok(read_words(owned.as_slice()))
 }
 
-// Only `--merge concat` is taken, once and whole.
-#[test]
-fn words(rt: HostRuntime) -> Result<(), Fail> {
-    let alloc = rt.alloc();
+fn run_options(operator: Option<ConcatOperator>, max_unflushed_bytes: u64) -> RunOptions {
     let options = Options {
-        max_unflushed_bytes: 1_073_741_824,
+        max_unflushed_bytes,
         compactor: true,
         compaction_worker: true,
         collector: true,
     };
-    let plain = RunOptions {
-        operator: None,
-        options,
-    };
-    let merging = RunOptions {
-        operator: Some(ConcatOperator),
-        options,
-    };
+    RunOptions { operator, options }
+}
+
+// `--merge concat` and `--limit N`, in any order.
+#[test]
+fn words(rt: HostRuntime) -> Result<(), Fail> {
+    let concat = Some(ConcatOperator);
     for (words, want) in [
-        ([].as_slice(), Some(plain)),
-        (["--merge", "concat"].as_slice(), Some(merging)),
-        (["--merge"].as_slice(), None),
-        (["--merge", "sum"].as_slice(), None),
-        (["concat", "--merge"].as_slice(), None),
-        (["--merge", "concat", "--merge", "concat"].as_slice(), None),
-        (["--bare"].as_slice(), None),
-        ([""].as_slice(), None),
+        ([].as_slice(), run_options(None, 1_073_741_824)),
+        (
+            ["--merge", "concat"].as_slice(),
+            run_options(concat, 1_073_741_824),
+        ),
+        (
+            ["--limit", "18446744073709551615"].as_slice(),
+            run_options(None, u64::MAX),
+        ),
+        (
+            ["--limit", "0", "--merge", "concat"].as_slice(),
+            run_options(concat, 0),
+        ),
+        (
+            ["--merge", "concat", "--limit", "008"].as_slice(),
+            run_options(concat, 8),
+        ),
     ] {
-        assert_eq!(rt; read(alloc, words)?, want);
+        assert_eq!(rt; read(rt.alloc(), words)?, Some(want));
+    }
+    Ok(())
+}
+
+// An option that is another, stands twice, or has another value or none.
+#[test]
+fn refused_words(rt: HostRuntime) -> Result<(), Fail> {
+    for words in [
+        [""].as_slice(),
+        ["--bare"].as_slice(),
+        ["--merge"].as_slice(),
+        ["--merge", "sum"].as_slice(),
+        ["concat", "--merge"].as_slice(),
+        ["--merge", "concat", "--merge", "concat"].as_slice(),
+        ["--limit"].as_slice(),
+        ["--limit", ""].as_slice(),
+        ["--limit", "-1"].as_slice(),
+        ["--limit", "18446744073709551616"].as_slice(),
+        ["--limit", "8", "--limit", "8"].as_slice(),
+        ["--limit", "8", "--merge", "concat", "--limit", "9"].as_slice(),
+        ["--limit", "--merge", "concat"].as_slice(),
+        ["--merge", "concat", "--limit"].as_slice(),
+    ] {
+        assert_eq!(rt; read(rt.alloc(), words)?, None);
     }
     Ok(())
 }

@@ -53,7 +53,7 @@ close_options_of word = if bytes_eq word (codes "none") then Some (record { flus
   flush_type ← flush_type_of word
   Some (record { flush_type = Some flush_type }))
 
--- one number and no other field, as in refresh H, compact H, poll F, await W and status O
+-- one number and no other field, as in refresh H, compact H, snapshot H, poll F, await W and status O
 abbrev pub one_number : List (List ℕ) → Option ℕ
 one_number (n ∷ []) = number_of n
 one_number fields = None
@@ -119,10 +119,11 @@ other_of name fields =
     else (if bytes_eq name (codes "flush") then flush_form fields
     else (if bytes_eq name (codes "refresh") then option_map (λ handle. actions.Refresh handle) (one_number fields)
     else (if bytes_eq name (codes "compact") then option_map (λ handle. actions.Compact handle) (one_number fields)
+    else (if bytes_eq name (codes "snapshot") then option_map (λ handle. actions.Snapshot handle) (one_number fields)
     else (if bytes_eq name (codes "checkpoint") then checkpoint_form fields
     else (if bytes_eq name (codes "sweep") then sweep_form fields
     else (if bytes_eq name (codes "close") then close_form fields
-    else reader_of name fields))))))
+    else reader_of name fields)))))))
 
 -- the action that a name and the fields after it spell
 abbrev pub action_of : List ℕ → List (List ℕ) → Option Action

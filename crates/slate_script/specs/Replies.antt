@@ -92,6 +92,7 @@ number_text (Some number) = codes "number " ++ decimal number
 -- a reply without the newline at its end
 abbrev pub reply_words : Reply → List ℕ
 reply_words (replies.Handle object) = codes "handle " ++ decimal object
+reply_words (replies.Snapshot object at) = codes "snapshot " ++ decimal object ++ codes " at " ++ decimal at
 reply_words (replies.Written write number) = codes "write " ++ decimal write ++ codes " number " ++ decimal number
 reply_words (replies.Found row) = codes "value " ++ word_text row.value ++ stamp_text row
 reply_words replies.Absent = codes "none"

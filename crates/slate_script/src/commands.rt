@@ -8,7 +8,7 @@ use slate_store::DbReaderMode;
 use slate_types::{ByteRange, CloseOptions, FlushType, IterationOrder, NoMemory, WriteBatch};
 use std::alloc::{AllocError, AllocFailed};
 
-/// What a command does. Handles and followers are the objects of a run.
+/// What a command does. Handles, snapshots and followers are the objects of a run.
 #[derive(Debug, Drop)]
 pub enum Action {
     /// Opens a handle, which keeps a log or not.
@@ -51,6 +51,10 @@ pub enum Action {
     },
     /// Joins the tables of the latest manifest into one.
     Compact {
+        handle: u64,
+    },
+    /// Opens a snapshot of a handle, which reads what the handle has written so far.
+    Snapshot {
         handle: u64,
     },
     /// Commits a checkpoint of what is stored, without an end or with a lifetime in milliseconds.

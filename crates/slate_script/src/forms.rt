@@ -242,6 +242,9 @@ fn read_other(name: &[u8], fields: &[Bytes]) -> Option<Action>
     } else if name == b"compact".as_slice() {
         let handle = read_one_number(fields)?;
         Some(Action::Compact { handle })
+    } else if name == b"snapshot".as_slice() {
+        let handle = read_one_number(fields)?;
+        Some(Action::Snapshot { handle })
     } else if name == b"checkpoint".as_slice() {
         read_checkpoint(fields)
     } else if name == b"sweep".as_slice() {

@@ -100,6 +100,14 @@ fn write_handle(out: &mut Vec<u8>, object: u64) -> Result<(), NoMemory>
     write_labelled(out, "handle ", object)
 }
 
+fn write_snapshot(out: &mut Vec<u8>, object: u64, at: u64) -> Result<(), NoMemory>
+    ensures ok { OnOk result (out.new.items ≡ out.old.items ++ reply_words (Reply.Snapshot object at)) }
+    ensures err { OnErr result (take (length out.old.items) out.new.items ≡ out.old.items) }
+{
+    write_labelled(out, "snapshot ", object)?;
+    write_labelled(out, " at ", at)
+}
+
 fn write_checkpointed(out: &mut Vec<u8>, id: u64) -> Result<(), NoMemory>
     ensures ok { OnOk result (out.new.items ≡ out.old.items ++ reply_words (Reply.Checkpointed id)) }
     ensures err { OnErr result (take (length out.old.items) out.new.items ≡ out.old.items) }
@@ -273,6 +281,7 @@ fn write_words(out: &mut Vec<u8>, reply: &Reply) -> Result<(), NoMemory>
 {
     match reply {
         Reply::Handle { object } => write_handle(out, *object),
+        Reply::Snapshot { object, at } => write_snapshot(out, *object, *at),
         Reply::Written { write, number } => write_written(out, *write, *number),
         Reply::Found(row) => write_found(out, row),
         Reply::Absent => write_text(out, "none"),

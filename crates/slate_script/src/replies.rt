@@ -10,6 +10,11 @@ pub enum Reply {
     Handle {
         object: u64,
     },
+    /// A snapshot of a handle was opened, and sees batches up to this number.
+    Snapshot {
+        object: u64,
+        at: u64,
+    },
     /// A reader was opened, and sees batches up to this number; whether it took all that is stored.
     Follower {
         object: u64,

@@ -88,7 +88,8 @@ fn reads(rt: HostRuntime) -> Result<(), Fail> {
     Ok(())
 }
 
-// A handle that keeps a log or not, where its batches are flushed, and what is done to tables and all that is stored.
+// A handle that keeps a log or not, where its batches are flushed, its snapshots, and what is done to tables and all that
+// is stored.
 #[test]
 fn tables(rt: HostRuntime) -> Result<(), Fail> {
     for (line, want) in [
@@ -106,6 +107,7 @@ fn tables(rt: HostRuntime) -> Result<(), Fail> {
         ),
         ("0 refresh 2", "Refresh { handle: 2 }"),
         ("0 compact 3", "Compact { handle: 3 }"),
+        ("0 snapshot 4", "Snapshot { handle: 4 }"),
         ("0 checkpoint", "Checkpoint { lifetime: None }"),
         ("5 checkpoint 1000", "Checkpoint { lifetime: Some(1000) }"),
         ("7 sweep", "Sweep"),
@@ -211,6 +213,8 @@ fn refused(rt: HostRuntime) -> Result<(), Fail> {
         "0 compact",
         "0 compact 0 memtable",
         "0 compact -1",
+        "0 snapshot",
+        "0 snapshot 0 1",
         "0 checkpoint x",
         "0 checkpoint 1 2",
         "0 checkpoint 18446744073709551616",

@@ -153,6 +153,7 @@ fn printed_rows(rt: HostRuntime) -> Result<(), Fail> {
 fn printed_replies(rt: HostRuntime) -> Result<(), Fail> {
     let replies = [
         Reply::Handle { object: 0 },
+        Reply::Snapshot { object: 1, at: 2 },
         Reply::Written {
             write: 1,
             number: 2,
@@ -172,7 +173,7 @@ fn printed_replies(rt: HostRuntime) -> Result<(), Fail> {
         Reply::NoMemory,
     ];
     let want =
-        "handle 0\nwrite 1 number 2\nnone\nflushed\nrefreshed\ncompacted\ncheckpoint 3\nswept\nerror backpressure 8 of 18446744073709551615\nerror Invalid error: empty write batch not allowed\nerror unknown object\nerror no memory\n";
+        "handle 0\nsnapshot 1 at 2\nwrite 1 number 2\nnone\nflushed\nrefreshed\ncompacted\ncheckpoint 3\nswept\nerror backpressure 8 of 18446744073709551615\nerror Invalid error: empty write batch not allowed\nerror unknown object\nerror no memory\n";
     assert_eq!(rt; printed(rt.alloc(), &replies)?.as_slice(), want.as_bytes());
     Ok(())
 }

@@ -3,6 +3,7 @@ use Rattle.slate_errors.specs.declared.errors.SlateError.TheVariants.{WalTruncat
 use Rattle.slate_errors.specs.declared.errors.SlateError.{SlateError}
 use Rattle.slate_model.specs.Changes.{after_part}
 use Rattle.slate_model.specs.Handle.{Handle, kept_handle, latest_tick}
+use Rattle.slate_model.specs.Tracked.{no_times}
 use Rattle.slate_model.specs.Open.{OpenFault, first_manifest, found_log, mark_of, next_manifest, open_changes, opened_handle, opened_manifest}
 use Rattle.slate_store.proofs.Committed.{committed}
 use Rattle.slate_store.proofs.Entries.{absent, entry-below, insert-last}
@@ -259,6 +260,7 @@ recovered keeps_log limit v bs =
       epoch = v.manifest.writer_epoch;
       counter = 0;
       tick = latest_tick v.manifest.last_tick bs;
+      tracker = no_times;
       view = v;
       result = None;
     }

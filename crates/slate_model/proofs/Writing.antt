@@ -13,6 +13,7 @@ use Rattle.slate_model.specs.declared.answers.Written.{Written}
 use Rattle.slate_model.specs.Catalogue.{Catalogue}
 use Rattle.slate_model.specs.Handle.{Handle, accepted, kept_handle, line_above, unstored}
 use Rattle.slate_model.specs.Valid.{IsValidHandle, ReadsLine}
+use Rattle.slate_model.specs.Tracked.{tracked}
 use Rattle.slate_model.specs.Write.{Writes, accepted_moment, batch_refusal, clock_refusal, closed_refusal, next_batch, number_refusal, write_refusal, written}
 use Rattle.slate_model.proofs.Keeping.{above-length, accepted-kept}
 
@@ -35,8 +36,9 @@ module _ (h : Handle) (low : h.view.manifest.last_l0_seq ≤ accepted h) where
 
   pub kept-written : (ops : List KeyOp) (at : ℤ) → written (kept_handle h) ops at ≡ kept_handle (written h ops at)
   kept-written ops at =
-      ap (λ n. record (kept_handle h) { line = extended (kept_handle h).line (record { number = n + 1; create_ts = at; ops = ops } ∷ []); tick = at }) (accepted-kept h)
-      ∙ ap (λ l. record (kept_handle h) { line = l; tick = at }) (sym (line_above-push h.view.manifest.last_l0_seq h.line (next_batch h ops at) (omega (arith, low))))
+      let t = λ (n : ℕ). tracked h.tracker (n + 1) at in
+      ap (λ n. record (kept_handle h) { line = extended (kept_handle h).line (record { number = n + 1; create_ts = at; ops = ops } ∷ []); tick = at; tracker = t n }) (accepted-kept h)
+      ∙ ap (λ l. record (kept_handle h) { line = l; tick = at; tracker = t (accepted h) }) (sym (line_above-push h.view.manifest.last_l0_seq h.line (next_batch h ops at) (omega (arith, low))))
 
   -- the whole handle after a write to what the code keeps of it
   abbrev pub rewritten : List KeyOp → Result Written SlateError → Handle

@@ -5,6 +5,7 @@ use Rattle.slate_types.specs.Line.{Line, end, batches_above}
 use Rattle.slate_store.specs.declared.objects.Manifest.{Manifest}
 use Rattle.slate_store.specs.declared.objects.TableId.{TableId}
 use Rattle.slate_store.specs.declared.objects.VersionedManifest.{VersionedManifest}
+use Rattle.slate_seqtrack.specs.Tracker.{Tracker}
 use Rattle.slate_errors.specs.declared.closing.CloseFault.{CloseFault}
 
 -- the result with which something closed, or None while it is open
@@ -20,6 +21,7 @@ pub record Handle : Type 0 where
   pub epoch : ℕ
   pub counter : ℕ  -- the index of its next table
   pub tick : ℤ  -- the creation time of its last batch, or that of what it was opened with
+  pub tracker : Tracker  -- when its batches were written, by their numbers
   pub view : VersionedManifest  -- the latest manifest, when it was opened or last found its epoch current
   pub result : CloseResult
 

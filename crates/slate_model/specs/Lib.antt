@@ -17,5 +17,6 @@ pub mod Refusal
 pub mod Seen
 pub mod Stores
 pub mod Tables
+pub mod Tracked
 pub mod Valid
 pub mod Write

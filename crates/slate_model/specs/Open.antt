@@ -13,6 +13,7 @@ use Rattle.slate_errors.specs.declared.errors.SlateError.TheVariants as errors
 use Rattle.slate_model.specs.Changes.{PartMade, after_part}
 use Rattle.slate_model.specs.Handle.{Handle, accepted, latest_tick}
 use Rattle.slate_model.specs.Knowledge.{Knowledge}
+use Rattle.slate_model.specs.Tracked.{no_times}
 use Rattle.slate_model.specs.Known.{CountsFaults, Known}
 use Rattle.slate_model.specs.Write.{last_number}
 
@@ -93,6 +94,7 @@ opened_handle keeps_log limit view stored =
       epoch = view.manifest.writer_epoch;
       counter = 0;
       tick = latest_tick view.manifest.last_tick (batches_above view.manifest.last_l0_seq stored.batches);
+      tracker = no_times;
       view = view;
       result = None;
     }

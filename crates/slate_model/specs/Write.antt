@@ -12,6 +12,7 @@ use Rattle.slate_types.specs.Line.{extended}
 use Rattle.slate_errors.specs.declared.errors.SlateError.{SlateError}
 use Rattle.slate_errors.specs.declared.errors.SlateError.TheVariants.{EmptyBatch, EmptyKey, IncompatibleMergeTtls, InvalidDBState, InvalidClockTick, NoMemory}
 use Rattle.slate_model.specs.declared.answers.Written.{Written}
+use Rattle.slate_model.specs.Tracked.{tracked}
 use Rattle.slate_model.specs.Handle.{Handle, CloseResult, accepted}
 use Rattle.slate_errors.specs.Errors.{closed_error}
 
@@ -86,7 +87,8 @@ next_batch handle ops at = record { number = accepted handle + 1; create_ts = at
 
 -- the handle after a write
 abbrev pub written : Handle → List KeyOp → ℤ → Handle
-written handle ops at = record handle { line = extended handle.line (next_batch handle ops at ∷ []); tick = at }
+written handle ops at =
+    record handle { line = extended handle.line (next_batch handle ops at ∷ []); tick = at; tracker = tracked handle.tracker (accepted handle + 1) at }
 
 -- a write of operations to a handle: it is accepted, or refused for what refuses it, or for want of memory
 pub record Writes (old : Handle) (ops : List KeyOp) (moment : ℤ) (second : Option ℤ) (result : Result Written SlateError) (new : Handle) : Type 0 where

@@ -6,3 +6,4 @@ pub mod Merging
 pub mod Modelled
 pub mod Puts
 pub mod Storing
+pub mod Tracking

@@ -16,11 +16,12 @@ use Rattle.slate_replay.proofs.Recovered.{recovered-all, replays-same}
 use Rattle.slate_replay.specs.declared.replays.Replayed.TheVariants.{Whole}
 use Rattle.slate_replay.specs.Replay.{Replays, calls_after}
 use Rattle.slate_store.specs.Objects.{Objects, Change, PutManifest, PutLog, is_present}
+use Rattle.slate_seqtrack.specs.Tracker.{Tracker}
 use Rattle.slate_errors.specs.Errors.{error_of_store}
 use Rattle.slate_errors.specs.declared.errors.SlateError.{SlateError}
 use Rattle.slate_errors.specs.declared.errors.SlateError.TheVariants as errors
 use Rattle.slate_model.specs.Changes.{after_part}
-use Rattle.slate_model.specs.Open.{IsFresh, OpenFault, Opens, OpensHandle, found_log, mark_of, next_manifest, open_changes, opened_handle, opened_manifest}
+use Rattle.slate_model.specs.Open.{IsFresh, OpenFault, Opens, OpensHandle, found_log, mark_of, next_manifest, open_changes, opened_handle, opened_manifest, replayed_logs}
 use Rattle.slate_store.specs.Objects.{changed, last_log, latest_manifest}
 use Rattle.slate_store.proofs.Entries.{absent}
 use Rattle.slate_model.proofs.Newest.{newest}
@@ -30,6 +31,7 @@ use Rattle.slate_model.proofs.Reopened.{opened-logs, opening-logs}
 use Rattle.slate_model.specs.Handle.{Handle, kept_handle, latest_tick}
 use Rattle.slate_model.specs.Known.{CountsFaults, Known}
 use Rattle.slate_model.specs.Stores.{by_objects}
+use Rattle.slate_model.specs.Tracked.{no_times}
 use Rattle.slate_writer.proofs.Modelled.{made_once, modelled_from, modelled_kept}
 use Rattle.slate_writer.specs.Opening.{CallsOpening, FindsNext, PutsOpening, Recovers, opening_puts}
 
@@ -75,6 +77,7 @@ recovered keeps_log limit v bs =
       epoch = v.manifest.writer_epoch;
       counter = 0;
       tick = latest_tick v.manifest.last_tick bs;
+      tracker = no_times;
       view = v;
       result = None;
     }
@@ -188,8 +191,8 @@ has_logs {t = Some o} view last batches found kept puts recovers =
     opened_by_replay o view last found p.0 p.2 batches (subst (λ x. IfSome x (λ o. Recovers view last o (Ok batches))) p.1 recovers)
 
 -- the fields of the handle of an opening
-pub recovered_at : (keeps_log : Bool) (limit : ℕ) (view : VersionedManifest) (batches bs : List Batch) (tick : ℤ) → bs ≡ batches → tick ≡ latest_tick view.manifest.last_tick batches → record (recovered keeps_log limit view batches) { durable = view.manifest.last_l0_seq + length bs; tick = tick } ≡ recovered keeps_log limit view batches
-recovered_at keeps_log limit view batches bs tick same is = rw (same, is) refl
+pub recovered_at : (keeps_log : Bool) (limit : ℕ) (view : VersionedManifest) (batches bs : List Batch) (tick : ℤ) (tracker : Tracker) → bs ≡ batches → tick ≡ latest_tick view.manifest.last_tick batches → tracker ≡ no_times → record (recovered keeps_log limit view batches) { durable = view.manifest.last_l0_seq + length bs; tick = tick; tracker = tracker } ≡ recovered keeps_log limit view batches
+recovered_at keeps_log limit view batches bs tick tracker same is untracked = rw (same, is, untracked) refl
 
 -- the manifest that was found is the one that the opening commits
 pub found_view : {t : Option Objects} (view : VersionedManifest) (last : ℕ) → IfSome t (λ o. FindsNext o (Ok (view, last))) → (o : Objects) → t ≡ Some o → view ≡ opened_manifest o
@@ -204,6 +207,10 @@ opens_none o e cause = absurd cause
 
 pub none_modelled : {A : Type 0} {t t' : Option Objects} (e : SlateError) → t' ≡ t → IfSome t (λ o. FindsNext o (Err e)) → WhereModelled (λ o o'. OpensModelled {A = A} o (Err e) o') t t'
 none_modelled e kept found = modelled_kept kept (λ o is. opens_none o e (subst (λ x. IfSome x (λ o. FindsNext o (Err e))) is found))
+
+-- an opening that has no memory for its tracker
+pub untracked_modelled : {A : Type 0} (t : Option Objects) → WhereModelled (λ o o'. OpensModelled {A = A} o (Err errors.NoMemory) o') t t
+untracked_modelled t = modelled_kept refl (λ o is. opens_none o errors.NoMemory tt)
 
 -- an opening that answers an error, and one that answers a handle
 some-same : (a b : Objects) → Some a ≡ Some b → a ≡ b
@@ -262,3 +269,19 @@ module _ (view : VersionedManifest) (last : ℕ) (e : SlateError) (calls before 
   pub calls-of : (t : Option Objects) → IfSome t (λ o. FindsNext o (Ok (view, last))) → IfSome t (λ o. CallsOpening {A = Handle} o calls calls' (Err e))
   calls-of None found = tt
   calls-of (Some o) found = calls-at o e refl found
+
+-- the calls of one that ended by its puts, after the two before them
+pub calls-of-puts : {t t0 t1 : Option Objects} (view : VersionedManifest) (fence : ℕ) (e : SlateError) (calls before calls' : ℕ) → before ≡ calls_after 2 calls → calls' ≤ before + 2 → t0 ≡ t → WhereModelled (PutsOpening view fence (Err e)) t0 t1 → IfSome t (λ o. CallsOpening {A = Handle} o calls calls' (Err e))
+calls-of-puts {t = None} view fence e calls before calls' two most kept puts = tt
+calls-of-puts {t = Some o} view fence e calls before calls' two most kept puts = by e (puts.some o kept).2 where
+  by : (err : SlateError) → PutsOpening view fence (Err err) o (puts.some o kept).0 → CallsOpening {A = Handle} o calls calls' (Err err)
+  by (errors.WalTruncated id) put = absurd put
+  by err put = omega (arith, two, most)
+
+-- and those of one that answered a handle
+pub calls-of-ok : (t : Option Objects) (view : VersionedManifest) (last : ℕ) (calls before calls' : ℕ) → before ≡ calls_after 4 calls → calls' ≤ before + (last - view.manifest.replay_after_wal_id) → IfSome t (λ o. FindsNext o (Ok (view, last))) → IfSome t (λ o. calls' ≤ calls + 4 + replayed_logs o)
+calls-of-ok None view last calls before calls' four most found = tt
+calls-of-ok (Some o) view last calls before calls' four most found =
+    let mark = ap (λ (v : VersionedManifest). v.manifest.replay_after_wal_id) found.1 ∙ mark-is (latest_manifest o) (found_log o) in
+    let up_to = found.2 in
+    omega (arith, mark, up_to, four, most)

@@ -1,5 +1,6 @@
 -- What a handle keeps in memory, and the handle of the model that it represents.
-use Rattle.std.specs.Prelude.{◌≡◌, ◌+◌, ◌<◌, ◌≤◌, ◌^◌, [], length}
+use Rattle.std.specs.Prelude.{◌≡◌, ◌+◌, ◌<◌, ◌≤◌, ◌^◌, [], length, IfSome}
+use Rattle.slate_seqtrack.specs.Tracker.{last_number}
 use Rattle.slate_types.specs.Line.{AreNumberedFrom}
 use Rattle.slate_model.specs.Handle.{Handle}
 use Rattle.slate_writer.specs.declared.states.WriterState.TheInside.{Inside}
@@ -15,13 +16,16 @@ handle_of a =
       epoch = a.epoch;
       counter = a.counter;
       tick = a.tick;
+      tracker = a.tracker;
       view = a.status.manifest;
       result = a.status.result;
     }
 
--- the batches in memory are numbered from the floor on, none past the last of them is stored, and none is in a segment
+-- the batches in memory are numbered from the floor on, none past the last of them is stored or tracked, and none is in a
+-- segment
 pub record IsKept (a : Inside) : Type 0 where
   pub numbered : AreNumberedFrom a.floor a.memory
   pub fits : a.floor + length a.memory < 2 ^ 64
   pub durable : a.status.durable ≤ a.floor + length a.memory
+  pub tracked : IfSome (last_number a.tracker.pairs) (λ last. last ≤ a.floor + length a.memory)
   pub unsegmented : a.status.segments ≡ []

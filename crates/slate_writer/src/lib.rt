@@ -10,6 +10,7 @@ mod refreshes;
 mod scans;
 mod states;
 mod tables;
+mod times;
 mod writes;
 
 pub use opens::WriterOptions;

@@ -17,6 +17,7 @@ use crate::WriterState;
 use slate_errors::SlateError;
 use slate_reads::IndexedTable;
 use slate_replay::Replayed;
+use slate_seqtrack::SequenceTracker;
 use slate_status::StatusRecord;
 use slate_store::{Manifest, Store, StoreError, VersionedManifest};
 use slate_types::{Batch, PrefixExtractor, Seq};
@@ -60,8 +61,9 @@ impl WriterState {
     /// replays the log files above the manifest's replay mark, and keeps their batches that aren't in the manifest's
     /// tables in memory. The handle sees all batches that are stored, and all of them are durable. It reads no table.
     /// It calls the store four times, and once for each log file that it replays; once more where the replay ended
-    /// early. It takes time linear in the operations of the log files, and for each key a logarithm of the keys.
-    /// SlateDB's `Db::open`.
+    /// early. It takes time linear in the operations of the log files, and for each key a logarithm of the keys. It first
+    /// makes room for 8194 numbers and times, 16 bytes a pair; none of the batches that it finds is tracked. SlateDB's
+    /// `Db::open`.
     ///
     /// It answers `InvalidDBState` where the latest manifest isn't initialised, and where the next manifest, epoch or
     /// log file would pass the greatest number; nothing is put then. A fault of the store (`ObjectStoreError`) or `NoMemory` may leave the manifest, which
@@ -84,6 +86,7 @@ impl WriterState {
         ensures replays { IfOk result (λ h. IfSome (S.objects store.old) (λ o. HasLogs o h)) }
         ensures calls { IfSome (S.objects store.old) (λ o. CallsOpening o (S.calls store.old) (S.calls store.new) result) }
     {
+        let tracker = SequenceTracker::new(alloc)?;
         let (view, last) = find_next(alloc, store)?;
         put_opening(alloc, store, &view, last + 1)?;
         let memory = recover(alloc, store, &view, last)?;
@@ -96,6 +99,7 @@ impl WriterState {
             epoch: view.manifest.writer_epoch,
             counter: 0,
             tick: latest_tick(view.manifest.last_tick, memory.batches()),
+            tracker,
             memory,
             status: StatusRecord::new(alloc, durable, view),
         })

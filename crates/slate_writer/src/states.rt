@@ -7,6 +7,7 @@ ghost use Rattle.slate_status.specs.Records.{status_by};
 
 use slate_errors::CloseFault;
 use slate_reads::IndexedTable;
+use slate_seqtrack::SequenceTracker;
 use slate_status::{DbStatus, StatusRecord};
 use slate_store::VersionedManifest;
 use slate_types::{Batch, NoMemory};
@@ -26,6 +27,7 @@ pub struct WriterState {
     pub(crate) epoch: u64,
     pub(crate) counter: u64,
     pub(crate) tick: i64,
+    pub(crate) tracker: SequenceTracker,
     pub(crate) status: StatusRecord,
 }
 

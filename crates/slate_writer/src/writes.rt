@@ -1,14 +1,17 @@
 // Writing a batch to a handle, and what refuses it.
-ghost use Rattle.std.specs.Prelude.{◌≡◌, ◌+◌, ◌<◌, ◌^◌, ◌⊎◌, Option, Some, None, Err, IfOk, IfErr};
+ghost use Rattle.std.specs.Prelude.{◌≡◌, ◌+◌, ◌<◌, ◌≤◌, ◌^◌, ◌⊎◌, Option, Some, None, Ok, Err, IfOk, IfErr, IfSome};
 ghost use Rattle.slate_model.specs.Handle.{accepted};
 ghost use Rattle.slate_errors.specs.Errors.{closed_error};
 ghost use Rattle.slate_model.specs.Write.{Writes, accepted_moment, batch_refusal, has_empty_key, write_refusal};
+ghost use Rattle.slate_model.specs.Tracked.{seconds_of, tracked};
+ghost use Rattle.slate_seqtrack.specs.Tracker.{inserted, last_number};
 ghost use Rattle.slate_writer.specs.Refusal.{answer_of};
 
 use crate::WriterState;
 use crate::merges::merge_refusal;
 use slate_errors::SlateError;
 use slate_model::Written;
+use slate_seqtrack::{SequenceTracker, TrackedSeq};
 use slate_types::{Batch, KeyOp, NoMemory, PrefixExtractor, WriteBatch};
 use std::alloc::Global;
 
@@ -27,8 +30,9 @@ impl WriterState {
     /// (`EmptyBatch`), with an empty key (`EmptyKey`), where it merges one key under two times of expiry
     /// (`IncompatibleMergeTtls`, which names the first such merge), after the greatest number (`InvalidDBState`), and
     /// where both moments are below the creation time of the batch before (`InvalidClockTick`). A refusal, and want of
-    /// memory (`NoMemory`), changes nothing and hands the batch back. It takes time linear in the batch's operations, and for each key that the handle doesn't
-    /// have yet a logarithm of its keys. SlateDB's `write`.
+    /// memory (`NoMemory`), changes nothing and hands the batch back. It takes time linear in the batch's operations, and
+    /// for each key that the handle doesn't have yet a logarithm of its keys. Where it is accepted, its number and its
+    /// creation time in whole seconds, rounded down, are tracked, at most one in 60 seconds. SlateDB's `write`.
     pub fn write<E: PrefixExtractor>(
         &mut self,
         alloc: Global,
@@ -54,6 +58,7 @@ impl WriterState {
             return refuse(SlateError::NoMemory, WriteBatch { ops: batch.ops });
         }
         self.tick = written.create_ts;
+        track(&mut self.tracker, written);
         Ok(written)
     }
 
@@ -87,6 +92,18 @@ impl WriterState {
         };
         Ok(Written { number, create_ts })
     }
+}
+
+/// Notes when a batch was written. Its number isn't below the last one, so that it is never refused.
+fn track(tracker: &mut SequenceTracker, written: Written)
+    requires { IfSome (last_number tracker.old.pairs) (λ last. last ≤ written.number) }
+    ensures tracked { tracker.new ≡ tracked tracker.old written.number written.create_ts }
+    ensures taken { inserted tracker.old (record { seq = written.number; ts = seconds_of written.create_ts }) ≡ Ok tracker.new }
+{
+    let _ = tracker.insert(TrackedSeq {
+        seq: written.number,
+        ts: written.create_ts.div_euclid(1000),
+    });
 }
 
 fn refuse(error: SlateError, batch: WriteBatch) -> Result<Written, WriteRefusal>

@@ -2,6 +2,7 @@ use Rattle.std.proofs.Common.{◌≡◌, ◌+◌, ◌-◌, length, ap, sym, ◌�
 use Rattle.slate_types.specs.Line.{AreNumberedFrom, batches_above}
 use Rattle.slate_model.specs.Handle.{accepted}
 use Rattle.slate_writer.proofs.Memory.{fewer-above, numbered-above}
+use Rattle.slate_writer.proofs.Tracking.{ends-later}
 use Rattle.slate_writer.proofs.states.WriterState.forget_tabled.Goals as goal
 
 pub overflow_sub-self : goal.overflow_sub-self
@@ -26,5 +27,6 @@ invariant_of-self c =
       numbered = subst (AreNumberedFrom (c.accepted-accepted.result - length c.batches.result.now)) (sym c.drop_through.ensures) (subst (λ f. AreNumberedFrom f left) from (numbered-above floor n memory c.self.invariant.numbered));
       fits = omega (arith, end_is, same, kept, fewer, c.self.invariant.fits);
       durable = omega (arith, end_is, same, kept, fewer, c.self.invariant.durable);
+      tracked = ends-later _ _ c.self.inside.tracker.pairs (omega (arith, end_is, same, kept, fewer)) c.self.invariant.tracked;
       unsegmented = c.self.invariant.unsegmented;
     }

@@ -2,6 +2,7 @@ use Rattle.std.proofs.Common.{◌≡◌, ◌+◌, ◌<◌, ◌^◌, length, leng
 use Rattle.slate_model.specs.Handle.{accepted}
 use Rattle.slate_types.proofs.Lines.{numbered-push}
 use Rattle.slate_replay.proofs.Appending.{numbered-last}
+use Rattle.slate_writer.proofs.Tracking.{ends-later, ends-pushed}
 use Rattle.slate_writer.proofs.states.WriterState.write.Goals as goal
 
 pub push-requires : goal.push-requires
@@ -11,6 +12,13 @@ push-requires g c =
     let admitted = rw c.in-Ok.is at c.admit.ensures.admitted in
     let next : number ≡ c.self.inside.floor + length memory + 1 = admitted.2 ∙ ap (λ h. accepted h + 1) (sym c.self.view_is) in
     numbered-last c.self.inside.floor number memory c.self.invariant.numbered (omega arith)
+
+pub track-requires : goal.track-requires
+track-requires g c =
+    let memory = c.self.inside.memory in
+    let admitted = rw c.in-Ok.is at c.admit.ensures.admitted in
+    let next : c.in-Ok.written.number ≡ c.self.inside.floor + length memory + 1 = admitted.2 ∙ ap (λ h. accepted h + 1) (sym c.self.view_is) in
+    ends-later _ _ c.self.inside.tracker.pairs (omega arith) c.self.invariant.tracked
 
 pub invariant_of-self-2 : goal.invariant_of-self-2
 invariant_of-self-2 g c =
@@ -23,5 +31,6 @@ invariant_of-self-2 g c =
       numbered = numbered-push c.self.inside.floor memory _ c.self.invariant.numbered (omega arith);
       fits = simp length-append (omega arith);
       durable = simp length-append (omega (arith, c.self.invariant.durable));
+      tracked = ends-pushed c.self.inside.floor memory _ c.self.inside.tracker _ _ c.self.invariant.tracked next c.track.ensures.taken;
       unsegmented = c.self.invariant.unsegmented;
     })

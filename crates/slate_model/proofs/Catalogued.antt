@@ -1,6 +1,6 @@
 -- Operations change a store's catalogue as they change its objects.
-use Rattle.std.proofs.Common.{◌≡◌, ℕ, ◌+◌, List, [], ◌∷◌, length, map, Option, Some, None, Result, Ok, Err, refl, sym, ap, ◌∙◌, zero, suc, Bool, true, false, cond, not, ◌++◌, take, flat_map, option_to_list, option_map, ltb}
-use Rattle.std.proofs.lemmas.List.{take-map, map-append}
+use Rattle.std.proofs.Common.{◌≡◌, ℕ, ◌+◌, List, [], ◌∷◌, length, map, Option, Some, None, Result, Ok, Err, refl, sym, ap, ◌∙◌, zero, suc, Bool, true, false, cond, not, ◌++◌, max, take, flat_map, option_to_list, option_map, unwrap_or, ltb, arith}
+use Rattle.std.proofs.lemmas.List.{append-nil, take-map, map-append}
 use Rattle.std.specs.Ordering.{nat_cmp}
 use Rattle.std.specs.declared.cmp.Ordering.{Ordering}
 use Rattle.std.specs.declared.cmp.Ordering.TheVariants.{Less, Equal, Greater}
@@ -9,10 +9,10 @@ use Rattle.std.specs.BTreeMap.{insert_entry, is_at}
 use Rattle.slate_types.specs.declared.batches.Batch.{Batch}
 use Rattle.slate_store.specs.declared.objects.VersionedManifest.{VersionedManifest}
 use Rattle.slate_types.specs.declared.store_errors.StoreFault.TheVariants.{Unavailable}
-use Rattle.slate_store.specs.Objects.{Objects, Change, ChangeOf, PutManifest, PutLog, PutTable, RemoveManifest, RemoveLog, RemoveTable, changed, table_cmp, without, latest_manifest, last_log, greatest, table_at}
+use Rattle.slate_store.specs.Objects.{Objects, Change, ChangeOf, PutManifest, PutLog, PutTable, RemoveManifest, RemoveLog, RemoveTable, changed, table_cmp, without, latest_manifest, last_log, log_at, greatest, table_at}
 use Rattle.slate_errors.specs.declared.errors.SlateError.{SlateError}
 use Rattle.slate_errors.specs.declared.errors.SlateError.TheVariants as errors
-use Rattle.slate_model.specs.Catalogue.{Span, span, catalogue_of, joined_span, joined_two}
+use Rattle.slate_model.specs.Catalogue.{Span, span, catalogue_of, greatest_in, greatest_of, joined_span, joined_two}
 use Rattle.slate_model.specs.Changes.{after_part}
 use Rattle.slate_model.specs.Open.{open_changes, next_manifest, mark_of, can_open, can_open_by, opened_manifest, Opens, OpenAnswer, OpenCause}
 use Rattle.slate_types.specs.declared.options.FlushType.{FlushType}
@@ -119,14 +119,15 @@ tables_put-known (RemoveTable id ∷ cs) = tables_put-known cs
 pub tables_part-known : (made : ℕ) (cs : List Change) → tables_put (take made (map reduced cs)) ≡ tables_put (take made cs)
 tables_part-known made cs = ap tables_put (take-map reduced made cs) ∙ tables_put-known (take made cs)
 
+-- the greatest number of some batches and then others
+greatest-append : (n : ℕ) (xs ys : List Batch) → greatest n (map (λ b. b.number) (xs ++ ys)) ≡ max (greatest_of xs) (greatest n (map (λ b. b.number) ys))
+greatest-append n [] ys = omega arith
+greatest-append n (x ∷ xs) ys = let rest = greatest-append n xs ys in omega (arith, rest)
+
 span-append : (xs ys : List Batch) → span (xs ++ ys) ≡ joined_two (span xs) (span ys)
 span-append [] ys = refl
-span-append (x ∷ []) [] = refl
-span-append (x ∷ []) (y ∷ ys) = refl
-span-append (x ∷ z ∷ xs) ys = by ys (span-append (z ∷ xs) ys) where
-  by : (ys : List Batch) → span ((z ∷ xs) ++ ys) ≡ joined_two (span (z ∷ xs)) (span ys) → span (x ∷ (z ∷ xs) ++ ys) ≡ joined_two (span (x ∷ z ∷ xs)) (span ys)
-  by [] same = ap (option_map (λ (s : ℕ × ℕ). (x.number, s.1))) same
-  by (y ∷ ys) same = ap (option_map (λ (s : ℕ × ℕ). (x.number, s.1))) same
+span-append (x ∷ xs) [] = ap (λ bs. Some (x.number, greatest_of (x ∷ bs))) (append-nil xs)
+span-append (x ∷ xs) (y ∷ ys) = ap (λ n. Some (x.number, n)) (greatest-append 0 (x ∷ xs) (y ∷ ys))
 
 -- tables that are joined, as they are known
 pub joined-known : (tables : List (List Batch)) → span (flat_map (λ bs. bs) tables) ≡ joined_span (map span tables)
@@ -137,6 +138,24 @@ joined-known (table ∷ tables) =
 -- a table under an id is known
 pub table-known : (id : TableId) (o : Objects) → table_at id (catalogue_of o) ≡ option_map span (table_at id o)
 table-known id o = lookup-map_values span (is_at (table_cmp id)) o.tables
+
+-- and the greatest number in log files
+log-known : (id : ℕ) (o : Objects) → log_at id (catalogue_of o) ≡ option_map span (log_at id o)
+log-known id o = lookup-map_values span (is_at (nat_cmp id)) o.logs
+
+greatest_in-known : (log : Option (List Batch)) → greatest_in (option_map span log) ≡ greatest_of (unwrap_or log [])
+greatest_in-known None = refl
+greatest_in-known (Some []) = refl
+greatest_in-known (Some (b ∷ bs)) = refl
+
+pub greatest-known : (n : ℕ) (o : Objects) (ids : List ℕ) →
+    greatest n (map (λ id. greatest_in (log_at id (catalogue_of o))) ids) ≡ greatest n (map (λ b. b.number) (flat_map (λ id. unwrap_or (log_at id o) []) ids))
+greatest-known n o [] = refl
+greatest-known n o (id ∷ ids) =
+    let first : greatest_in (log_at id (catalogue_of o)) ≡ greatest_of (unwrap_or (log_at id o) []) = ap greatest_in (log-known id o) ∙ greatest_in-known (log_at id o) in
+    let rest = greatest-known n o ids in
+    let all = greatest-append n (unwrap_or (log_at id o) []) (flat_map (λ id. unwrap_or (log_at id o) []) ids) in
+    omega (arith, first, rest, all)
 
 list-known : (table : Option (List Batch)) → option_to_list (option_map span table) ≡ map span (option_to_list table)
 list-known None = refl

@@ -1,36 +1,38 @@
 -- What a follower is owed, over sound objects: a line that begins what is stored, which the tables of its manifest and the log
 -- files that it reads make.
-use Rattle.std.proofs.Common.{◌≡◌, ℕ, ◌+◌, ◌-◌, ◌≤◌, List, [], ◌∷◌, ◌++◌, length, take, Bool, true, false, cond, Option, Some, None, is_some, refl, sym, subst, ap, ◌∙◌, append_assoc, arith, length-append}
+use Rattle.std.proofs.Common.{◌≡◌, ℕ, ◌+◌, ◌-◌, ◌≤◌, List, [], ◌∷◌, ◌++◌, length, map, max, take, Bool, true, false, cond, Option, Some, None, is_some, refl, sym, subst, ap, ◌∙◌, append_assoc, arith, length-append}
 use Rattle.std.proofs.Math.Seq.{take-append_seam}
 use Rattle.std.proofs.lemmas.List.Elements.{All-head, All-nil, All-tail, filter-append}
 use Rattle.std.proofs.lemmas.List.{append-nil}
-use Rattle.std.specs.List.{All, find}
+use Rattle.std.specs.List.{All, find, range_with_len}
 use Rattle.std.specs.Prelude.{nat_lt}
 use Rattle.std.specs.Option.{option_map}
 use Rattle.slate_types.proofs.Lines.{above-all, above-none}
-use Rattle.slate_types.specs.Line.{AreNumberedFrom, IsLine, IsPrefix, Line, batches_above, end}
+use Rattle.slate_types.specs.Line.{AreNumberedFrom, IsLine, IsPrefix, Line, batches_above, end, extended}
 use Rattle.slate_types.specs.declared.batches.Batch.{Batch}
 use Rattle.slate_store.proofs.Latest.{its-objects}
 use Rattle.slate_store.proofs.Logs.{between-none, no_gap-numbered, numbered-stand, whole-start}
 use Rattle.slate_store.specs.Checkpoints.{found, has_id}
 use Rattle.slate_store.specs.Content.{HasItsLogs, HasItsTables, IsPinned, IsSound, content, content_by, logged, number_before, pinned_content, table_batches}
-use Rattle.slate_store.specs.Logs.{AreWhole, BelongTo, StandsIn, batches_between}
-use Rattle.slate_store.specs.Objects.{Objects, entry_at, last_log, latest_manifest, versioned}
+use Rattle.slate_store.specs.Logs.{AreWhole, BelongTo, HaveNoGap, StandsIn, batches_between}
+use Rattle.slate_store.specs.Objects.{Objects, entry_at, greatest, last_log, latest_manifest, versioned}
 use Rattle.slate_store.specs.declared.objects.Checkpoint.{Checkpoint}
 use Rattle.slate_store.specs.declared.objects.Manifest.{Manifest}
 use Rattle.slate_store.specs.declared.objects.VersionedManifest.{VersionedManifest}
 use Rattle.slate_store.specs.declared.reader_modes.DbReaderMode.{DbReaderMode}
 use Rattle.slate_store.specs.declared.reader_modes.DbReaderMode.TheVariants as modes
+use Rattle.slate_model.proofs.Catalogued.{greatest-known}
 use Rattle.slate_model.proofs.Free.{numbered-front}
 use Rattle.slate_model.proofs.Logging.{all-seen, none-seen}
-use Rattle.slate_model.proofs.Prefixes.{prefix-same}
+use Rattle.slate_model.proofs.Prefixes.{prefix-same, up_to-end}
 use Rattle.slate_model.proofs.Reopened.{line_from, logs-by, numbered_rest}
+use Rattle.slate_model.specs.Catalogue.{Catalogue, catalogue_of, named_number}
 use Rattle.slate_model.specs.Follow.{IsOwed}
 use Rattle.slate_model.specs.Followed.{IsView, kept_by, last_read, view_under}
 use Rattle.slate_model.specs.Follower.{is_pinned, rebuilt}
 use Rattle.slate_model.specs.Seen.{HasSeen}
 use Rattle.slate_model.specs.Handle.{line_above, up_to}
-use Rattle.slate_model.specs.Stores.{Unpinned, by_objects}
+use Rattle.slate_model.specs.Stores.{Unpinned, by_catalogue, by_objects}
 use Rattle.slate_model.specs.Tables.{AreStored}
 use Rattle.slate_model.specs.Valid.{ReadsLine}
 
@@ -166,6 +168,20 @@ not-unpinned o (modes.Checkpoint id) sound u = by (found id (u.0)) refl u.2 u.3 
 not-unpinned o modes.FollowLatest sound u = let none = u.2 in cc
 not-unpinned o modes.ManagedCheckpoint sound u = let none = u.2 in cc
 
+-- the greatest of a number and others
+greatest-or : (n : ℕ) (xs : List ℕ) → greatest n xs ≡ max n (greatest 0 xs)
+greatest-or n [] = omega arith
+greatest-or n (x ∷ xs) = let rest = greatest-or n xs in omega (arith, rest)
+
+-- batches without a gap lead to the greatest number
+no_gap-greatest : (n e : ℕ) (bs : List Batch) → HaveNoGap n e bs → greatest n (map (λ b. b.number) bs) ≡ e
+no_gap-greatest n e [] h = sym h
+no_gap-greatest n e (b ∷ bs) h =
+    let rest = no_gap-greatest (max n b.number) e bs h.1 in
+    let first = greatest-or n (map (λ b. b.number) bs) in
+    let later = greatest-or (max n b.number) (map (λ b. b.number) bs) in
+    omega (arith, rest, first, later)
+
 -- what such a manifest named
 module _ (o : Objects) (m : Manifest) (keeps : Keeps o m) (sound : IsSound o) where
   abbrev read : List Batch
@@ -191,6 +207,26 @@ module _ (o : Objects) (m : Manifest) (keeps : Keeps o m) (sound : IsSound o) wh
 
   pub pinned-belong : BelongTo m.replay_after_wal_id (m.next_wal_id - 1) m.last_l0_seq (line_from m.last_l0_seq (batches_above m.last_l0_seq read)) o
   pinned-belong = numbered-stand m.last_l0_seq (batches_above m.last_l0_seq read) rest-is
+
+  -- it ends at the number that a catalogue gives, and so is the front of the content up to that
+  module _ (id : ℕ) where
+    abbrev number : ℕ
+    number = named_number (catalogue_of o) (record { id = id; manifest = m })
+
+    named-end : number ≡ end (pinned_content o m)
+    named-end =
+        let floor = m.last_l0_seq in
+        let above = batches_above floor read in
+        let tables = keeps.tables.joined in
+        let lengths = length-append (table_batches o m.tables) above in
+        let known = greatest-known floor o (range_with_len (m.replay_after_wal_id + 1) (m.next_wal_id - 1 - m.replay_after_wal_id)) in
+        known ∙ (no_gap-greatest floor (floor + length above) read pinned-whole.no_gap ∙ omega (arith, tables, lengths))
+
+    pub named-front : pinned_content o m ≡ up_to number (content o)
+    named-front =
+        let line = pinned_content o m in
+        let p = keeps.begins in
+        sym (up_to-end line p.0) ∙ (ap (λ n. up_to n (extended line p.0)) (sym named-end) ∙ ap (up_to number) (sym p.1))
 
 abbrev pub latest-tables : (o : Objects) (view : VersionedManifest) → IsSound o → latest_manifest o ≡ Some view → TablesBegin o view.manifest (content o)
 latest-tables o view sound is = record { tables = (its-objects o view sound is).tables; rest = logged o view.manifest; is = ap (content_by o) is }
@@ -265,6 +301,16 @@ owed-is t o mode true view stored a x = x
 owed-is t o (modes.Checkpoint id) false view stored a x = x
 owed-is t o modes.FollowLatest false view stored a x = x
 owed-is t o modes.ManagedCheckpoint false view stored a x = x
+
+-- what it is owed by objects is what it is owed by their catalogue
+pub owed-known : (stored : Line) (c : Catalogue) (t : Option Objects) (o : Objects) (mode : DbReaderMode) (skips opening : Bool) (view : VersionedManifest) (owed : Line) → IsSound o → content o ≡ stored → IsView mode opening o view →
+    IsOwed (by_objects t) mode skips o view stored owed → IsOwed (by_catalogue stored c) mode skips (catalogue_of o) view stored owed
+owed-known stored c t o mode true opening view owed sound is v x = x
+owed-known stored c t o (modes.Checkpoint id) false opening view owed sound is v x =
+    let keeps = pinned-keeps o v.0 view id sound v.1 v.3 in
+    x ∙ (named-front o view.manifest keeps sound view.id ∙ ap (up_to (named_number (catalogue_of o) view)) is)
+owed-known stored c t o modes.FollowLatest false opening view owed sound is v x = x
+owed-known stored c t o modes.ManagedCheckpoint false opening view owed sound is v x = x
 
 -- one that takes what is new has seen what it has read for it
 pub owed-seen : (o : Objects) (mode : DbReaderMode) (skips opening : Bool) (view : VersionedManifest) → IsSound o → IsView mode opening o view → is_pinned mode ≡ false →

@@ -1,5 +1,6 @@
 -- Lines that begin others.
-use Rattle.std.proofs.Common.{◌≡◌, ℕ, ◌-◌, ◌≤◌, Bool, true, false, List, [], ◌++◌, refl, sym, subst, ap, ◌∙◌, arith, append_assoc, length-append, if◌then◌else◌}
+use Rattle.std.proofs.Common.{◌≡◌, ℕ, ◌-◌, ◌≤◌, Bool, true, false, List, [], ◌++◌, length, take, refl, sym, subst, ap, ◌∙◌, arith, append_assoc, length-append, if◌then◌else◌}
+use Rattle.std.proofs.Math.Seq.{take-append_seam}
 use Rattle.std.proofs.lemmas.List.{append-nil, take_all}
 use Rattle.slate_types.specs.declared.batches.Batch.{Batch}
 use Rattle.slate_types.specs.Line.{Line, IsPrefix, end, extended}
@@ -29,6 +30,12 @@ prefix-end a b p =
 -- a line up to its end, or past it, is the line
 pub up_to-all : (number : ℕ) (line : Line) → end line ≤ number → up_to number line ≡ line
 up_to-all number line all = ap (λ bs. record { floor = line.floor; batches = bs }) (take_all (number - line.floor) line.batches (omega (arith, all)))
+
+-- what goes on from a line is the line, up to its end
+pub up_to-end : (line : Line) (batches : List Batch) → up_to (end line) (extended line batches) ≡ line
+up_to-end line batches =
+    let count : end line - line.floor ≡ length line.batches = omega arith in
+    ap (λ bs. record { floor = line.floor; batches = bs }) (ap (λ n. take n (line.batches ++ batches)) count ∙ take-append_seam line.batches batches)
 
 -- nothing more is stored where nothing was to be
 pub extended-nil : (line : Line) → extended line [] ≡ line

@@ -25,7 +25,7 @@ use Rattle.slate_store.specs.Checkpoints.{found}
 use Rattle.slate_store.specs.declared.objects.Checkpoint.{Checkpoint}
 use Rattle.slate_store.specs.declared.reader_modes.DbReaderMode.{DbReaderMode}
 use Rattle.slate_store.specs.declared.reader_modes.DbReaderMode.TheVariants as modes
-use Rattle.slate_model.proofs.Owing.{Owed, not-unpinned, owed-is, owed_line, owing, tabled}
+use Rattle.slate_model.proofs.Owing.{Owed, not-unpinned, owed-is, owed-known, owed_line, owing}
 use Rattle.slate_model.specs.declared.answers.PollAnswer.TheVariants.{Whole}
 use Rattle.slate_model.specs.Handle.{Handle, CloseResult, accepted, kept_handle, line_above, next_table}
 use Rattle.slate_model.specs.Known.{Known, Untouched}
@@ -375,13 +375,6 @@ last_read-known (modes.Checkpoint id) false view o = refl
 last_read-known modes.FollowLatest false view o = last_log-catalogue view.manifest.replay_after_wal_id o
 last_read-known modes.ManagedCheckpoint false view o = last_log-catalogue view.manifest.replay_after_wal_id o
 
-owed-known : (c : Catalogue) (o : Objects) (mode : DbReaderMode) (skips : Bool) (view : VersionedManifest) (stored : Line) → IsPrefix (owed_line mode skips o view stored) stored → view.manifest.last_l0_seq ≤ end (owed_line mode skips o view stored) →
-    IsOwed (by_catalogue stored c) mode skips (catalogue_of o) view stored (owed_line mode skips o view stored)
-owed-known c o mode true view stored begins has_tables = refl
-owed-known c o (modes.Checkpoint id) false view stored begins has_tables = (begins, has_tables)
-owed-known c o modes.FollowLatest false view stored begins has_tables = refl
-owed-known c o modes.ManagedCheckpoint false view stored begins has_tables = refl
-
 -- what a reader is owed of sound objects that goes by a manifest begins what is stored
 module _ (stored : Line) (mode : DbReaderMode) (skips opening : Bool) (o : Objects) (view : VersionedManifest) (sound : IsSound o) (is : content o ≡ stored) (v : IsView mode opening o view) where
   pub its : Owed o stored mode skips view
@@ -393,9 +386,6 @@ module _ (stored : Line) (mode : DbReaderMode) (skips opening : Bool) (o : Objec
   pub owed-begins : IsPrefix (owed_line mode skips o view stored) stored
   owed-begins = subst (λ l. IsPrefix l stored) its-line its.begins
 
-  pub owed-tabled : view.manifest.last_l0_seq ≤ end (owed_line mode skips o view stored)
-  owed-tabled = subst (λ l. view.manifest.last_l0_seq ≤ end l) its-line (tabled o view.manifest its.owed its.tables its.numbered)
-
 -- what is seen of objects is seen of their catalogue
 sees-known : (stored : Line) (mode : DbReaderMode) (skips opening : Bool) (o : Objects) (b : Follower) (answer : PollAnswer) → IsSound o → content o ≡ stored → IsView mode opening o b.view → SeesOwed (by_objects (Some o)) mode skips o stored b answer →
     SeesOwed (by_catalogue stored (catalogue_of o)) mode skips (catalogue_of o) stored (rebuilt mode skips b.view (owed_line mode skips o b.view stored) b.mark) answer
@@ -404,7 +394,7 @@ sees-known stored mode skips opening o b answer sound is v all =
     let line = owed-is (Some o) o mode skips b.view stored all.0 all.1 in
     let mark : b.mark ≡ last_read mode skips b.view (catalogue_of o) = ap (λ (x : Follower). x.mark) all.2 ∙ sym (last_read-known mode skips b.view o) in (
       owed,
-      owed-known (catalogue_of o) o mode skips b.view stored (owed-begins stored mode skips opening o b.view sound is v) (owed-tabled stored mode skips opening o b.view sound is v),
+      owed-known stored (catalogue_of o) (Some o) o mode skips opening b.view owed sound is v (subst (IsOwed (by_objects (Some o)) mode skips o b.view stored) line all.1),
       ap (rebuilt mode skips b.view owed) mark,
       all.3 ∙ ap (λ l. Whole (end l)) line,
     )

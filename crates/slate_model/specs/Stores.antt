@@ -1,8 +1,8 @@
 -- What a store's own calls know, and what a world knows.
-use Rattle.std.specs.Prelude.{◌≡◌, ◌≤◌, ◌++◌, ℤ, true, List, Contains, Option, Some, None}
+use Rattle.std.specs.Prelude.{◌≡◌, ◌++◌, ℤ, true, List, Contains, Option, Some, None}
 use Rattle.std.specs.List.{flat_map}
 use Rattle.slate_types.specs.declared.batches.Batch.{Batch}
-use Rattle.slate_types.specs.Line.{IsPrefix, Line, end}
+use Rattle.slate_types.specs.Line.{IsPrefix, Line}
 use Rattle.slate_types.specs.declared.store_errors.StoreFault.TheVariants.{NotFound}
 use Rattle.slate_store.specs.declared.objects.TableId.{TableId}
 use Rattle.slate_store.specs.declared.objects.VersionedManifest.{VersionedManifest}
@@ -15,10 +15,10 @@ use Rattle.slate_store.specs.Objects.{ChangeOf, Objects, ObjectsOf, is_present, 
 use Rattle.slate_store.specs.Sweeps.{SweepCause}
 use Rattle.slate_errors.specs.declared.errors.SlateError.{SlateError}
 use Rattle.slate_errors.specs.declared.errors.SlateError.TheVariants as errors
-use Rattle.slate_model.specs.Catalogue.{Catalogue, Span, joined_span, span}
+use Rattle.slate_model.specs.Catalogue.{Catalogue, Span, joined_span, named_number, span}
 use Rattle.slate_model.specs.Followed.{finds, view_under}
 use Rattle.slate_model.specs.Follower.{kept_follower}
-use Rattle.slate_model.specs.Handle.{kept_handle}
+use Rattle.slate_model.specs.Handle.{kept_handle, up_to}
 use Rattle.slate_model.specs.Knowledge.{Knowledge}
 use Rattle.slate_model.specs.Known.{IsContent}
 use Rattle.slate_model.specs.Follower.{Follower as AFollower}
@@ -95,7 +95,7 @@ by_catalogue stored catalogue =
       keep_follower = λ follower. follower;
       is_stored = λ line. line ≡ stored;
       has_seen = λ follower objects line. Unit {0};
-      named = λ objects view stored line. IsPrefix line stored × (view.manifest.last_l0_seq ≤ end line);
+      named = λ objects view stored line. line ≡ up_to (named_number objects view) stored;
       unpinned = λ mode objects. ⊥;
       rows = world_rows stored catalogue;
       unsound = λ objects error. ⊥;

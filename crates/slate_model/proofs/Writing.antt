@@ -1,7 +1,6 @@
 -- A write to a valid handle leaves a valid one, and what the code keeps of it.
 use Rattle.std.proofs.Common.{◌≡◌, ℕ, ℤ, ◌+◌, ◌-◌, ◌<◌, ◌≤◌, List, [], ◌∷◌, ◌++◌, length, Option, Result, Ok, Err, inl, inr, refl, sym, subst, ap, ◌∙◌, arith, append_assoc, length-append}
 use Rattle.std.proofs.lemmas.List.{take-append-le}
-use Rattle.std.specs.Option.{option_or}
 use Rattle.slate_types.proofs.Lines.{above-push, numbered-push}
 use Rattle.slate_types.specs.Line.{IsPrefix, Line, batches_above, end, extended}
 use Rattle.slate_types.specs.declared.batches.Batch.{Batch}
@@ -14,8 +13,9 @@ use Rattle.slate_model.specs.Catalogue.{Catalogue}
 use Rattle.slate_model.specs.Handle.{Handle, accepted, kept_handle, line_above, unstored}
 use Rattle.slate_model.specs.Valid.{IsValidHandle, ReadsLine}
 use Rattle.slate_model.specs.Tracked.{tracked}
-use Rattle.slate_model.specs.Write.{Writes, accepted_moment, batch_refusal, clock_refusal, closed_refusal, next_batch, number_refusal, write_refusal, written}
-use Rattle.slate_model.proofs.Keeping.{above-length, accepted-kept}
+use Rattle.slate_model.specs.Unflushed.{unflushed}
+use Rattle.slate_model.specs.Write.{Writes, next_batch, write_refusal, written}
+use Rattle.slate_model.proofs.Keeping.{above-length, accepted-kept, to_log-kept, untabled-kept}
 
 -- a line from a number on goes on by a batch above that number
 line_above-push : (n : ℕ) (line : Line) (b : Batch) → n < b.number → line_above n (extended line (b ∷ [])) ≡ extended (line_above n line) (b ∷ [])
@@ -29,10 +29,12 @@ line_above-push n line b above =
     ap (λ bs. record { floor = end (extended line (b ∷ [])) - length bs; batches = bs }) push
     ∙ ap (λ n. record { floor = n; batches = front ++ b ∷ [] }) floor
 
-module _ (h : Handle) (low : h.view.manifest.last_l0_seq ≤ accepted h) where
+module _ (h : Handle) (tabled : h.view.manifest.last_l0_seq ≤ h.durable) (low : h.view.manifest.last_l0_seq ≤ accepted h) where
+  unflushed-kept : unflushed (kept_handle h) ≡ unflushed h
+  unflushed-kept = rw (untabled-kept h h.view.manifest (omega arith)) (rw (to_log-kept h tabled) refl)
+
   refusal-kept : (ops : List KeyOp) (moment : ℤ) (second : Option ℤ) → write_refusal (kept_handle h) ops moment second ≡ write_refusal h ops moment second
-  refusal-kept ops moment second =
-      ap (λ n. option_or (closed_refusal h.result) (option_or (batch_refusal ops) (option_or (number_refusal n) (clock_refusal h.tick moment second (accepted_moment h.tick moment second))))) (accepted-kept h)
+  refusal-kept ops moment second = rw (accepted-kept h) (rw unflushed-kept refl)
 
   pub kept-written : (ops : List KeyOp) (at : ℤ) → written (kept_handle h) ops at ≡ kept_handle (written h ops at)
   kept-written ops at =

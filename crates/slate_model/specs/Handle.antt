@@ -15,7 +15,7 @@ CloseResult = Option (Result (Unit {0}) CloseFault)
 -- a handle that writes
 pub record Handle : Type 0 where
   pub keeps_log : Bool
-  pub limit : ℕ  -- from how many bytes that aren't stored a write is to be held up; none is yet
+  pub limit : ℕ  -- from how many bytes that aren't stored on a write is refused
   pub line : Line  -- the batches that it sees
   pub durable : ℕ  -- its batches up to this number are stored
   pub epoch : ℕ

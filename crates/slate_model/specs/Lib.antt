@@ -15,8 +15,10 @@ pub mod Read
 pub mod Refresh
 pub mod Refusal
 pub mod Seen
+pub mod Snapshot
 pub mod Stores
 pub mod Tables
 pub mod Tracked
+pub mod Unflushed
 pub mod Valid
 pub mod Write

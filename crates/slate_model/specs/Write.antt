@@ -14,6 +14,7 @@ use Rattle.slate_errors.specs.declared.errors.SlateError.TheVariants.{EmptyBatch
 use Rattle.slate_model.specs.declared.answers.Written.{Written}
 use Rattle.slate_model.specs.Tracked.{tracked}
 use Rattle.slate_model.specs.Handle.{Handle, CloseResult, accepted}
+use Rattle.slate_model.specs.Unflushed.{limit_refusal, unflushed}
 use Rattle.slate_errors.specs.Errors.{closed_error}
 
 -- the greatest number of a batch, manifest or log file
@@ -78,8 +79,9 @@ abbrev pub write_refusal : Handle → List KeyOp → ℤ → Option ℤ → Opti
 write_refusal handle ops moment second =
     option_or (closed_refusal handle.result)
     (option_or (batch_refusal ops)
+    (option_or (limit_refusal (unflushed handle) handle.limit)
     (option_or (number_refusal (accepted handle))
-    (clock_refusal handle.tick moment second (accepted_moment handle.tick moment second))))
+    (clock_refusal handle.tick moment second (accepted_moment handle.tick moment second)))))
 
 -- the batch that a write makes of operations: the next number, and the accepted moment
 abbrev pub next_batch : Handle → List KeyOp → ℤ → Batch

@@ -12,4 +12,6 @@ mod store;
 #[cfg(test)]
 mod streams;
 #[cfg(test)]
+mod times;
+#[cfg(test)]
 mod writes;

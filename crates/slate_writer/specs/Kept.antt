@@ -1,8 +1,10 @@
 -- What a handle keeps in memory, and the handle of the model that it represents.
-use Rattle.std.specs.Prelude.{◌≡◌, ◌+◌, ◌<◌, ◌≤◌, ◌^◌, [], length, IfSome}
+use Rattle.std.specs.Prelude.{◌≡◌, ◌+◌, ◌<◌, ◌≤◌, ◌^◌, [], length, min, IfSome}
 use Rattle.slate_seqtrack.specs.Tracker.{last_number}
-use Rattle.slate_types.specs.Line.{AreNumberedFrom}
+use Rattle.slate_types.specs.Line.{AreNumberedFrom, batches_above}
 use Rattle.slate_model.specs.Handle.{Handle}
+use Rattle.slate_model.specs.Unflushed.{most_bytes}
+use Rattle.slate_reads.specs.Size.{size_of}
 use Rattle.slate_writer.specs.declared.states.WriterState.TheInside.{Inside}
 
 -- the handle that the fields represent
@@ -21,11 +23,12 @@ handle_of a =
       result = a.status.result;
     }
 
--- the batches in memory are numbered from the floor on, none past the last of them is stored or tracked, and none is in a
--- segment
+-- the batches in memory are numbered from the floor on, none past the last of them is stored or tracked, none is in a
+-- segment, and those above a number have so many bytes
 pub record IsKept (a : Inside) : Type 0 where
   pub numbered : AreNumberedFrom a.floor a.memory
   pub fits : a.floor + length a.memory < 2 ^ 64
   pub durable : a.status.durable ≤ a.floor + length a.memory
   pub tracked : IfSome (last_number a.tracker.pairs) (λ last. last ≤ a.floor + length a.memory)
   pub unsegmented : a.status.segments ≡ []
+  pub counted : a.unlogged ≡ min (size_of (batches_above a.counted a.memory)) most_bytes

@@ -8,9 +8,11 @@ mod opens;
 mod reads;
 mod refreshes;
 mod scans;
+mod sizes;
 mod states;
 mod tables;
 mod times;
+mod unflushed;
 mod writes;
 
 pub use opens::WriterOptions;

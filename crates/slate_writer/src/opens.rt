@@ -28,7 +28,8 @@ use std::alloc::Global;
 pub struct WriterOptions {
     /// Whether the handle keeps a log. One that keeps none stores what it accepts in tables alone.
     pub wal_enabled: bool,
-    /// From how many bytes on that aren't stored a write is to be held up. None is held up yet.
+    /// From how many bytes of keys and values on that aren't stored a write is refused with `Backpressure`: those that
+    /// aren't in tables yet, and once more those that aren't in the log. At 0 each write is.
     pub max_unflushed_bytes: u64,
     /// Whether the handle is to run a compactor. None runs yet.
     pub compactor: bool,
@@ -100,6 +101,8 @@ impl WriterState {
             counter: 0,
             tick: latest_tick(view.manifest.last_tick, memory.batches()),
             tracker,
+            counted: durable,
+            unlogged: 0,
             memory,
             status: StatusRecord::new(alloc, durable, view),
         })

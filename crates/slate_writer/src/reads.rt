@@ -10,6 +10,7 @@ ghost use Rattle.slate_model.specs.Handle.{accepted};
 ghost use Rattle.slate_model.specs.Known.{FaultsRise, known};
 ghost use Rattle.slate_model.specs.Object.{Handle};
 ghost use Rattle.slate_model.specs.Read.{Reads};
+ghost use Rattle.slate_model.specs.Snapshot.{snapshot_number};
 ghost use Rattle.slate_model.specs.Stores.{kept_rows};
 ghost use Rattle.slate_model.specs.Tables.{AreJoined, AreStored};
 ghost use Rattle.slate_replay.specs.Tables.{IsOfTables};
@@ -23,9 +24,24 @@ use slate_types::{KeyValue, MergeOperator, ReadOptions};
 use std::alloc::Global;
 
 impl WriterState {
+    /// The number of a snapshot that is taken now: that of the last batch that the handle accepted. A `get` or a `scan` of
+    /// the handle that is passed it as its `snapshot` reads what the handle has now, whatever is written, flushed or
+    /// compacted later. Nothing is kept for a snapshot, and none is to be given back. On a closed handle it answers
+    /// `Closed` or the error that closed it. It takes no memory, and constant time. SlateDB's `snapshot`.
+    pub fn snapshot_number(&self) -> Result<u64, SlateError>
+        ensures { result ≡ snapshot_number self.now }
+    {
+        if let Some(result) = self.closed() {
+            return Err(SlateError::of_closed(result));
+        }
+        Ok(self.accepted())
+    }
+
     /// What the tables of the manifest that the handle goes by and then its batches in memory say of a key, up to the
     /// accepted number, or up to the durable one at the level `Remote`, and up to the number of a snapshot, where one is
-    /// given. None is: there is no value.
+    /// given; `None` where there is no value. So a snapshot's reads are of the batches up to its number, whatever is
+    /// written, flushed or compacted after it was taken, and at the level `Remote` of those among them that are durable.
+    /// SlateDB's `DbSnapshot`.
     ///
     /// On a closed handle it answers `Closed` or the error that closed it. It answers `MergeOperatorMissing` where
     /// operands are to be merged and there is no operator, `MergeOperatorError` where the operator refuses one, and

@@ -20,7 +20,8 @@ use std::alloc::Global;
 impl WriterState {
     /// The rows of the keys of a range that have one, in the order asked for: what the tables of the manifest that the
     /// handle goes by and then its batches in memory say of each, up to the accepted number, or up to the durable one at
-    /// the level `Remote`, and up to the number of a snapshot, where one is given. Bounds that cross have none.
+    /// the level `Remote`, and up to the number of a snapshot, where one is given, as `get` reads them. Bounds that cross
+    /// have none.
     ///
     /// On a closed handle it answers `Closed` or the error that closed it. Its other errors are `NoMemory`, and
     /// `ObjectStoreError` where the store fails, or a table isn't stored. Where

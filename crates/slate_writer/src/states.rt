@@ -17,7 +17,9 @@ use std::marker::Model;
 /// A handle that writes, without the store that it writes to. SlateDB's `Db`, as a plain value.
 ///
 /// A contract sees it as a handle whose line is the batches that it keeps in memory: after each flush, refresh and
-/// compaction these are the batches that it accepted and that aren't in the tables of its manifest.
+/// compaction these are the batches that it accepted and that aren't in the tables of its manifest. Its memory grows with
+/// them; once the bytes that aren't stored reach its limit (`WriterOptions`), it accepts no batch until a flush. It keeps
+/// when its batches were written, of at most 8192 (`find_ts`, `find_seq`).
 #[derive(Drop)]
 pub struct WriterState {
     pub(crate) keeps_log: bool,
@@ -28,6 +30,9 @@ pub struct WriterState {
     pub(crate) counter: u64,
     pub(crate) tick: i64,
     pub(crate) tracker: SequenceTracker,
+    /// The batches in memory above this number have `unlogged` bytes of keys and values.
+    pub(crate) counted: u64,
+    pub(crate) unlogged: u64,
     pub(crate) status: StatusRecord,
 }
 
@@ -119,5 +124,8 @@ impl WriterState {
         let tabled = self.view().manifest.last_l0_seq;
         self.memory.drop_through(tabled);
         self.floor = accepted - self.memory.batches().len() as u64;
+        if self.counted < tabled {
+            self.unlogged = self.memory.size();
+        }
     }
 }

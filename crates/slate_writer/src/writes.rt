@@ -9,6 +9,7 @@ ghost use Rattle.slate_writer.specs.Refusal.{answer_of};
 
 use crate::WriterState;
 use crate::merges::merge_refusal;
+use crate::sizes::ops_size;
 use slate_errors::SlateError;
 use slate_model::Written;
 use slate_seqtrack::{SequenceTracker, TrackedSeq};
@@ -28,11 +29,15 @@ impl WriterState {
     ///
     /// It is refused, in this order, on a closed handle (`Closed` or the error that closed it), without an operation
     /// (`EmptyBatch`), with an empty key (`EmptyKey`), where it merges one key under two times of expiry
-    /// (`IncompatibleMergeTtls`, which names the first such merge), after the greatest number (`InvalidDBState`), and
-    /// where both moments are below the creation time of the batch before (`InvalidClockTick`). A refusal, and want of
-    /// memory (`NoMemory`), changes nothing and hands the batch back. It takes time linear in the batch's operations, and
-    /// for each key that the handle doesn't have yet a logarithm of its keys. Where it is accepted, its number and its
-    /// creation time in whole seconds, rounded down, are tracked, at most one in 60 seconds. SlateDB's `write`.
+    /// (`IncompatibleMergeTtls`, which names the first such merge), where the bytes that aren't stored have reached the
+    /// handle's limit (`Backpressure`, which names both: what `unflushed` answers, without the batch's own bytes, and
+    /// `max_unflushed_bytes`), after the greatest number (`InvalidDBState`), and where both moments are below the creation
+    /// time of the batch before (`InvalidClockTick`). A refusal, and want of memory (`NoMemory`), changes nothing and hands
+    /// the batch back. After `Backpressure` a flush to a table makes room.
+    ///
+    /// It takes time linear in the batch's operations, and for each key that the handle doesn't have yet a logarithm of its
+    /// keys. Where it is accepted, its number and its creation time in whole seconds, rounded down, are tracked, at most one
+    /// in 60 seconds. SlateDB's `write`.
     pub fn write<E: PrefixExtractor>(
         &mut self,
         alloc: Global,
@@ -49,6 +54,9 @@ impl WriterState {
             Ok(written) => written,
             Err(error) => return refuse(error, batch),
         };
+        let size = ops_size(batch.ops.as_slice());
+        let unlogged = self.unstored_size().saturating_add(size);
+        let durable = self.durable();
         let accepted = Batch {
             number: written.number,
             create_ts: written.create_ts,
@@ -57,6 +65,8 @@ impl WriterState {
         if let Err(batch) = self.memory.push(accepted) {
             return refuse(SlateError::NoMemory, WriteBatch { ops: batch.ops });
         }
+        self.counted = durable;
+        self.unlogged = unlogged;
         self.tick = written.create_ts;
         track(&mut self.tracker, written);
         Ok(written)
@@ -79,6 +89,9 @@ impl WriterState {
             return Err(SlateError::of_closed(result));
         }
         if let Some(error) = batch_refusal(alloc, batch)? {
+            return Err(error);
+        }
+        if let Some(error) = self.limit_refusal() {
             return Err(error);
         }
         let Some(number) = self.accepted().checked_add(1) else {

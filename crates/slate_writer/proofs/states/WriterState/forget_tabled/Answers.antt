@@ -1,6 +1,12 @@
-use Rattle.std.proofs.Common.{◌≡◌, ◌+◌, ◌-◌, length, ap, sym, ◌∙◌, arith, subst}
+use Rattle.std.proofs.Common.{◌≡◌, ℕ, ◌+◌, ◌-◌, min, List, length, ap, sym, ◌∙◌, arith, subst}
+use Rattle.slate_types.specs.declared.batches.Batch.{Batch}
 use Rattle.slate_types.specs.Line.{AreNumberedFrom, batches_above}
 use Rattle.slate_model.specs.Handle.{accepted}
+use Rattle.slate_model.specs.Unflushed.{most_bytes}
+use Rattle.slate_reads.specs.Size.{size_of}
+use Rattle.slate_writer.specs.Kept.{IsKept}
+use Rattle.slate_writer.specs.declared.states.WriterState.TheInside.{Inside}
+use Rattle.slate_writer.proofs.Counted.{IsCounted, counted-beyond, counted-kept}
 use Rattle.slate_writer.proofs.Memory.{fewer-above, numbered-above}
 use Rattle.slate_writer.proofs.Tracking.{ends-later}
 use Rattle.slate_writer.proofs.states.WriterState.forget_tabled.Goals as goal
@@ -12,21 +18,36 @@ overflow_sub-self c =
     let fewer = fewer-above c.self.inside.floor c.view.result.now.manifest.last_l0_seq c.self.inside.memory c.self.invariant.numbered in
     omega (arith, end_is, same, fewer)
 
+-- what is kept once the batches up to a number are dropped
+forgotten : (a : Inside) (n end unlogged : ℕ) (memory bs : List Batch) → IsKept a → end ≡ a.floor + length a.memory → memory ≡ batches_above n a.memory → bs ≡ memory → IsCounted a.counted memory unlogged →
+    IsKept (record a { floor = end - length bs; memory = memory; unlogged = unlogged })
+forgotten a n end unlogged memory bs kept end_is left same counted =
+    let many = ap length left in
+    let all = ap length same in
+    let fewer = fewer-above a.floor n a.memory kept.numbered in
+    let from : a.floor + length a.memory - length (batches_above n a.memory) ≡ end - length bs = omega (arith, end_is, many, all) in
+    record {
+      numbered = subst (AreNumberedFrom (end - length bs)) (sym left) (subst (λ f. AreNumberedFrom f (batches_above n a.memory)) from (numbered-above a.floor n a.memory kept.numbered));
+      fits = omega (arith, end_is, many, all, fewer, kept.fits);
+      durable = omega (arith, end_is, many, all, fewer, kept.durable);
+      tracked = ends-later _ _ a.tracker.pairs (omega (arith, end_is, many, all, fewer)) kept.tracked;
+      unsegmented = kept.unsegmented;
+      counted = counted;
+    }
+
 pub invariant_of-self : goal.invariant_of-self
 invariant_of-self c =
     let n = c.view.result.now.manifest.last_l0_seq in
-    let floor = c.self.inside.floor in
-    let memory = c.self.inside.memory in
-    let left = batches_above n memory in
-    let end_is : c.accepted-accepted.result ≡ floor + length memory = c.accepted-accepted.ensures.value ∙ ap accepted (sym c.self.view_is) in
-    let same = ap length (c.batches.ensures.value ∙ c.drop_through.ensures) in
-    let kept = ap length c.drop_through.ensures in
-    let fewer = fewer-above floor n memory c.self.invariant.numbered in
-    let from : floor + length memory - length left ≡ c.accepted-accepted.result - length c.batches.result.now = omega (arith, end_is, same) in
-    record {
-      numbered = subst (AreNumberedFrom (c.accepted-accepted.result - length c.batches.result.now)) (sym c.drop_through.ensures) (subst (λ f. AreNumberedFrom f left) from (numbered-above floor n memory c.self.invariant.numbered));
-      fits = omega (arith, end_is, same, kept, fewer, c.self.invariant.fits);
-      durable = omega (arith, end_is, same, kept, fewer, c.self.invariant.durable);
-      tracked = ends-later _ _ c.self.inside.tracker.pairs (omega (arith, end_is, same, kept, fewer)) c.self.invariant.tracked;
-      unsegmented = c.self.invariant.unsegmented;
-    }
+    let left = c.drop_through.ensures in
+    let below = c.if-self-tabled.true in
+    forgotten c.self.inside n _ _ _ _ c.self.invariant (c.accepted-accepted.ensures.value ∙ ap accepted (sym c.self.view_is)) left c.batches.ensures.value
+    (subst (λ bs. IsCounted c.self.inside.counted bs c.size-self-inside.result) (sym left)
+    (counted-beyond c.self.inside.counted n c.self.inside.memory _ (omega (arith, below)) (c.size-self-inside.ensures ∙ ap (λ bs. min (size_of bs) most_bytes) left)))
+
+pub invariant_of-self-else-self-tabled : goal.invariant_of-self-else-self-tabled
+invariant_of-self-else-self-tabled c =
+    let n = c.view.result.now.manifest.last_l0_seq in
+    let left = c.drop_through.ensures in
+    forgotten c.self.inside n _ _ _ _ c.self.invariant (c.accepted-accepted.ensures.value ∙ ap accepted (sym c.self.view_is)) left c.batches.ensures.value
+    (subst (λ bs. IsCounted c.self.inside.counted bs c.self.inside.unlogged) (sym left)
+    (counted-kept c.self.inside.counted n c.self.inside.memory _ c.if-self-tabled.false c.self.invariant.counted))

@@ -1,6 +1,7 @@
-use Rattle.std.proofs.Common.{◌+◌, ◌∙◌, ap, arith, rules}
+use Rattle.std.proofs.Common.{◌+◌, ◌∙◌, ap, arith, length, rules}
 use Rattle.std.proofs.lemmas.Result.{err_from_is_err_and}
 use Rattle.slate_model.specs.Handle.{latest_tick}
+use Rattle.slate_writer.proofs.Counted.{counted-none}
 use Rattle.slate_writer.proofs.Openings.{calls-of, calls-of-ok, calls-of-puts, found_view, has_logs, none_modelled, opened_modelled, opens_err, opens_ok, puts_modelled, recovered_at, recovered_modelled, recovery_modelled, untracked_modelled}
 use Rattle.slate_writer.proofs.states.WriterState.open.Goals as goal
 
@@ -54,3 +55,16 @@ returns-in_err-memory-clause-calls g c =
 pub returns-clause-calls : goal.returns-clause-calls
 returns-clause-calls g c =
     calls-of-ok _ c.in_ok-view.view c.in_ok-view.last _ _ _ (let found = c.in_ok-view.ensures.counted in let puts = c.in_ok-put_opening.ensures.counted in omega (arith, found, puts)) c.in_ok-memory.ensures.calls c.in_ok-view.ensures.where_modelled
+
+pub invariant_of-result : goal.invariant_of-result
+invariant_of-result g c =
+    let fresh = c.new-2.ensures in
+    let same = ap length c.batches.ensures.value in
+    record {
+      numbered = c.in_ok-memory.ensures.numbered;
+      fits = c.in_ok-memory.ensures.fits;
+      durable = search rules;
+      tracked = rw c.in_ok-tracker.ensures tt;
+      unsegmented = search rules;
+      counted = counted-none c.in_ok-view.view.manifest.last_l0_seq c.in_ok-memory.memory c.batches.result.now c.in_ok-memory.ensures.numbered c.batches.ensures.value;
+    }

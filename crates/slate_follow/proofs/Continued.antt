@@ -18,8 +18,9 @@ use Rattle.slate_replay.specs.declared.replays.Replayed.{Replayed}
 use Rattle.slate_replay.specs.declared.replays.Replayed.TheVariants as replays
 use Rattle.slate_replay.specs.Replay.{Replays}
 use Rattle.slate_model.proofs.Free.{numbered-front}
+use Rattle.slate_model.proofs.Owing.{latest-view}
 use Rattle.slate_model.proofs.Reopened.{line_from, logs-by, numbered_rest}
-use Rattle.slate_model.specs.Follow.{SeesOwed}
+use Rattle.slate_model.specs.Follow.{HasAllLogs, SeesOwed}
 use Rattle.slate_model.specs.Followed.{IsView, last_read}
 use Rattle.slate_model.specs.Follower.{Follower, is_pinned, kept_follower, number, rebuilt}
 use Rattle.slate_model.specs.Handle.{line_above}
@@ -29,7 +30,7 @@ use Rattle.slate_model.specs.Stores.{by_objects, kept_seen}
 use Rattle.slate_model.specs.declared.answers.PollAnswer.{PollAnswer}
 use Rattle.slate_follow.specs.Rebuilding.{Continues, FindsView, GoesOn, Reaches, reached}
 use Rattle.slate_follow.proofs.Above.{above-append, above-fewer, above-twice, none-between}
-use Rattle.slate_follow.proofs.Rebuilt.{kept-end, kept-line, sees-kept, sees_stored, some_at, unpinned-last, unpinned-latest, unpinned-owed}
+use Rattle.slate_follow.proofs.Rebuilt.{has-all, kept-end, kept-line, sees-kept, sees_stored, some_at, unpinned-last, unpinned-owed}
 
 -- Log files of sound objects, where those up to one of them have no batch above a number, which isn't below the last one
 -- in tables.
@@ -164,7 +165,7 @@ goes-sees t o view reach old new answer reads free sound can seen reaches goes =
     let mode : old.mode ≡ w.mode = ap (λ (f : Follower). f.mode) seen.1 in
     let skips : old.skips ≡ w.skips = ap (λ (f : Follower). f.skips) seen.1 in
     subst (λ (f : Follower). SeesOwed (by_objects t) f.mode f.skips o (content o) new answer) (sym seen.1)
-    (whole-sees t o view w new answer (sym skips ∙ reads) (ap is_pinned (sym mode) ∙ free) sound (unpinned-latest o view old.mode false free can.0) seen.2 seen.3 (subst (λ f. Reaches f view) seen.1 reaches)
+    (whole-sees t o view w new answer (sym skips ∙ reads) (ap is_pinned (sym mode) ∙ free) sound (latest-view old.mode false o view free can.0) seen.2 seen.3 (subst (λ f. Reaches f view) seen.1 reaches)
     (subst (λ f. GoesOn o view (last_log view.manifest.replay_after_wal_id o) f new answer) seen.1 all))
 
 -- what went on took what the log files of the latest manifest have
@@ -192,6 +193,13 @@ module _ (view : VersionedManifest) (reach : ℕ) (old new : Follower) (answer :
 
   pub gone-can : (o : Objects) → t ≡ Some o → IsView old.mode false o new.view
   gone-can o at = (gone-continues o at).view
+
+  pub gone-logs : (o : Objects) → t ≡ Some o → is_pinned old.mode ≡ false → old.skips ≡ false → HasAllLogs o new answer
+  gone-logs o at unpinned unskipped =
+      let can = found_at o at in
+      let goes = gone_at o at in
+      let mark = ap (λ (f : Follower). f.mark) goes.becomes ∙ ap (reached goes.found) can.1 in
+      has-all o old.mode old.skips view goes.found (number new) new answer unpinned unskipped mark goes.answers
 
   pub gone-sees : (o : Objects) (stored : Line) → t ≡ Some o → IsContent t stored → kept_seen old o stored → SeesOwed (by_objects t) old.mode old.skips o stored new answer
   gone-sees o stored at content_is seen =

@@ -1,4 +1,5 @@
 pub mod Above
 pub mod Continued
+pub mod Cutting
 pub mod Joining
 pub mod Rebuilt

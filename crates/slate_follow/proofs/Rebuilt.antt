@@ -1,5 +1,5 @@
 -- What is built anew of a sound store sees all that it is owed.
-use Rattle.std.proofs.Common.{◌≡◌, ℕ, ◌+◌, length, Bool, true, false, List, [], Option, Some, None, Ok, refl, sym, subst, ap, ◌∙◌}
+use Rattle.std.proofs.Common.{◌≡◌, ℕ, ◌+◌, ◌≤◌, length, map, Bool, true, false, List, [], ◌∷◌, Option, Some, None, Ok, refl, sym, subst, ap, ◌∙◌, arith}
 use Rattle.std.specs.Option.{IfSome}
 use Rattle.slate_types.specs.declared.batches.Batch.{Batch}
 use Rattle.slate_types.specs.Line.{Line, end}
@@ -7,12 +7,12 @@ use Rattle.slate_store.specs.declared.objects.VersionedManifest.{VersionedManife
 use Rattle.slate_store.specs.declared.reader_modes.DbReaderMode.{DbReaderMode}
 use Rattle.slate_store.specs.declared.reader_modes.DbReaderMode.TheVariants as modes
 use Rattle.slate_store.specs.Content.{IsSound, content, logged}
-use Rattle.slate_store.specs.Objects.{Objects, last_log, latest_manifest}
+use Rattle.slate_store.specs.Objects.{Objects, greatest, last_log, latest_manifest}
 use Rattle.slate_replay.proofs.Recovered.{recovered-all}
 use Rattle.slate_replay.specs.Replay.{Replays}
 use Rattle.slate_replay.specs.declared.replays.Replayed.{Replayed}
 use Rattle.slate_replay.specs.declared.replays.Replayed.TheVariants as replays
-use Rattle.slate_model.specs.Follow.{IsOwed, SeesOwed}
+use Rattle.slate_model.specs.Follow.{HasAllLogs, IsOwed, SeesOwed}
 use Rattle.slate_model.specs.Followed.{IsView, last_read}
 use Rattle.slate_model.specs.Follower.{Follower, is_pinned, number, rebuilt}
 use Rattle.slate_model.specs.Handle.{Handle, kept_handle, line_above}
@@ -52,14 +52,8 @@ owed-any t o (modes.Checkpoint id) false view stored owed is = is
 owed-any t o modes.FollowLatest false view stored owed is = is
 owed-any t o modes.ManagedCheckpoint false view stored owed is = is
 
--- A reader that doesn't stay at a checkpoint goes by the latest manifest. Where it doesn't skip, it reads all log files, and is
--- owed all that is stored.
+-- A reader that doesn't stay at a checkpoint and doesn't skip reads all log files, and is owed all that is stored.
 module _ (o : Objects) (view : VersionedManifest) where
-  pub unpinned-latest : (mode : DbReaderMode) (opening : Bool) → is_pinned mode ≡ false → IsView mode opening o view → latest_manifest o ≡ Some view
-  unpinned-latest (modes.Checkpoint id) opening free v = absurd (cc)
-  unpinned-latest modes.FollowLatest opening free v = v.1 ∙ v.3
-  unpinned-latest modes.ManagedCheckpoint opening free v = v.1 ∙ v.3
-
   all_read : (mode : DbReaderMode) → is_pinned mode ≡ false → last_read mode false view o ≡ last_log view.manifest.replay_after_wal_id o
   all_read (modes.Checkpoint id) free = absurd (cc)
   all_read modes.FollowLatest free = refl
@@ -75,6 +69,20 @@ module _ (o : Objects) (view : VersionedManifest) where
 
   pub unpinned-owed : (t : Option Objects) (mode : DbReaderMode) (skips : Bool) (stored : Line) → is_pinned mode ≡ false → skips ≡ false → IsOwed (by_objects t) mode skips o view stored stored
   unpinned-owed t mode skips stored free reads = subst (λ s. IsOwed (by_objects t) mode s o view stored stored) (sym reads) (owed_all t mode stored free)
+
+-- the greatest of a number and others isn't below that of 0 and these
+greatest-least : (n : ℕ) (xs : List ℕ) → greatest 0 xs ≤ greatest n xs
+greatest-least n [] = omega arith
+greatest-least n (x ∷ xs) = let rest = greatest-least n xs in omega (arith, rest)
+
+-- a follower that was replayed to the last log file of all, and answers so, has them all
+pub has-all : (o : Objects) (mode : DbReaderMode) (skips : Bool) (view : VersionedManifest) (found : Replayed) (at : ℕ) (follower : Follower) (answer : PollAnswer) → is_pinned mode ≡ false → skips ≡ false →
+    follower.mark ≡ reached found (last_read mode skips view o) → answer ≡ answer_of found at → HasAllLogs o follower answer
+has-all o mode skips view (replays.Truncated id) at follower answer free reads mark answers = subst (HasAllLogs o follower) (sym answers) tt
+has-all o mode skips view replays.Whole at follower answer free reads mark answers =
+    let last = unpinned-last o view mode skips free reads in
+    let least = greatest-least view.manifest.replay_after_wal_id (map (λ log. log.0) o.logs) in
+    subst (HasAllLogs o follower) (sym answers) (omega (arith, mark, last, least))
 
 -- A follower that has the batches of a line that it is owed, those above the last number in tables, and that was replayed to the
 -- last log file that it reads, sees what it is owed.
@@ -158,6 +166,13 @@ module _ (mode : DbReaderMode) (skips opening : Bool) (view : VersionedManifest)
   built-can o at =
       let same : view ≡ follower.view = sym (ap (λ (f : Follower). f.view) (built_at o at).becomes) in
       subst (IsView mode opening o) same (found_at o at).0
+
+  pub built-logs : (o : Objects) → t ≡ Some o → is_pinned mode ≡ false → skips ≡ false → HasAllLogs o follower answer
+  built-logs o at free reads =
+      let can = found_at o at in
+      let built_it = built_at o at in
+      let mark = ap (λ (f : Follower). f.mark) built_it.becomes ∙ ap (reached built_it.found) can.1 in
+      has-all o mode skips view built_it.found (number follower) follower answer free reads mark built_it.answers
 
   pub built-sees : (o : Objects) (stored : Line) → t ≡ Some o → IsContent t stored → SeesOwed (by_objects t) mode skips o stored follower answer
   built-sees o stored at content_is =

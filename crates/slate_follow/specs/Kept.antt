@@ -2,7 +2,7 @@
 use Rattle.std.specs.Prelude.{◌≡◌, ◌+◌, ◌<◌, ◌^◌, [], length}
 use Rattle.slate_types.specs.Line.{AreNumberedFrom}
 use Rattle.slate_model.specs.Follower.{Follower, rebuilt}
-use Rattle.slate_follow.specs.Joined.{joined}
+use Rattle.slate_follow.specs.Joined.{AreFilled, joined}
 use Rattle.slate_follow.specs.declared.rebuilds.Rebuilt.TheInside.{Inside as Rebuilt}
 use Rattle.slate_follow.specs.declared.states.FollowerState.TheInside.{Inside}
 
@@ -18,9 +18,10 @@ follower_of a =
       result = a.status.result;
     }
 
--- the batches in memory are numbered from the last number in tables on, its number is that of the last one, and none is
--- in a segment
+-- each table in memory has a batch; their batches are numbered from the last number in tables on, its number is that of the
+-- last one, and none is in a segment
 pub record IsKept (a : Inside) : Type 0 where
+  pub filled : AreFilled a.kept.items
   pub numbered : AreNumberedFrom a.status.manifest.manifest.last_l0_seq (joined a.kept.items)
   pub fits : a.status.manifest.manifest.last_l0_seq + length (joined a.kept.items) < 2 ^ 64
   pub number : a.status.durable ≡ a.status.manifest.manifest.last_l0_seq + length (joined a.kept.items)

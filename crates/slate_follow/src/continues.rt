@@ -71,9 +71,9 @@ impl FollowerState {
     {
         let number = self.number() + added.batches().len() as u64;
         let tabled = view.manifest.last_l0_seq;
-        add(&mut self.kept, added)?;
+        add(alloc, &mut self.kept, added, self.limit)?;
         drop_through(&mut self.kept, tabled);
-        merge_small(alloc, &mut self.kept);
+        merge_small(alloc, &mut self.kept, self.limit);
         self.mark = mark;
         self.status.report_view(number, view);
         Ok(())

@@ -8,7 +8,8 @@ pub struct DbReaderOptions {
     pub checkpoint_lifetime_ms: u64,
     /// Whether the reader sees the tables alone, and reads no log file.
     pub skip_wal_replay: bool,
-    /// At how many bytes of replayed batches another table in memory is to be begun. It isn't looked at yet.
+    /// After the batch with which a table in memory has at least so many bytes of keys and values, another is begun. At 0
+    /// each batch has a table of its own.
     pub max_memtable_bytes: u64,
 }
 

@@ -26,7 +26,8 @@ impl FollowerState {
     /// It puts nothing, and reads no table: each read of the reader does. `ManagedCheckpoint` can't be opened yet, nor can
     /// a database with an extractor, and in the other modes `moment` isn't looked at. It calls the store twice at most, and
     /// once for each log file that it replays. It takes time linear in the operations of the log files, and for each key a
-    /// logarithm of the keys. SlateDB's `DbReader::open`.
+    /// logarithm of the keys; and as much once more, where they have `max_memtable_bytes` or more, since it cuts its tables
+    /// in memory there. SlateDB's `DbReader::open`.
     ///
     /// It answers `Truncated` where a log file or a batch is missing, and the reader has the batches before it; that
     /// never comes over a store that only handles wrote. It answers `LatestTransactionalObjectVersionMissing` where
@@ -53,7 +54,8 @@ impl FollowerState {
         };
         let (view, last) = find_view(alloc, store, following, true)?;
         let (rebuilt, answer) = rebuild(alloc, store, following, view, last)?;
-        Ok((FollowerState::new(alloc, rebuilt)?, answer))
+        let limit = options.max_memtable_bytes;
+        Ok((FollowerState::new(alloc, rebuilt, limit)?, answer))
     }
 
     /// Takes what is new since the last poll: from then on the reader goes by the latest manifest until the next poll,
@@ -64,7 +66,9 @@ impl FollowerState {
     /// It calls the store twice, and once for each log file that it reads: those above both the replay mark and its own
     /// mark, up to which it has what the log files have. It takes time linear in the operations of these, for each new
     /// key a logarithm of the keys, and time for each batch that it drops, since it is in the tables of the manifest.
-    /// Where it joins its last tables in memory, so that they stay few, that takes time linear in their operations, too.
+    /// Where it joins its last tables in memory, so that they stay few, or cuts what is new, since it has
+    /// `max_memtable_bytes` or more, that takes time linear in the operations of these, too; and each poll looks at each
+    /// table in memory.
     /// Only where its batches don't reach the manifest's tables, so that log files between may be gone, it reads all log
     /// files above the replay mark, as an opening does.
     ///

@@ -1,5 +1,5 @@
 // What a reader that follows a database keeps.
-ghost use Rattle.std.specs.Prelude.{◌≡◌, None, IfOk, OnOk, OnErr};
+ghost use Rattle.std.specs.Prelude.{◌≡◌, ◌≤◌, [], length, None, IfOk, OnOk, OnErr};
 ghost use Rattle.slate_model.specs.Follower.{is_pinned, number};
 ghost use Rattle.slate_status.specs.Records.{status_by};
 
@@ -27,7 +27,9 @@ pub(crate) struct Following {
 #[derive(Drop)]
 pub struct FollowerState {
     pub(crate) following: Following,
-    /// Its batches, joined: a table for each poll that found some, oldest first.
+    /// At how many bytes a table in memory is cut.
+    pub(crate) limit: u64,
+    /// Its batches, joined: the tables of each poll that found some, oldest first.
     pub(crate) kept: Vec<IndexedTable>,
     /// The log files up to this id are replayed.
     pub(crate) mark: u64,
@@ -47,14 +49,19 @@ impl Model for FollowerState {
 }
 
 impl FollowerState {
-    /// A reader that was opened with what was built.
-    pub(crate) fn new(alloc: Global, rebuilt: Rebuilt) -> Result<FollowerState, NoMemory>
+    /// A reader that was opened with what was built, and cuts its tables in memory at `limit` bytes.
+    pub(crate) fn new(
+        alloc: Global,
+        rebuilt: Rebuilt,
+        limit: u64,
+    ) -> Result<FollowerState, NoMemory>
         ensures { IfOk result (λ new. new ≡ rebuilt) }
     {
         let number = rebuilt.number();
         Ok(FollowerState {
             following: rebuilt.following,
-            kept: list_of(alloc, rebuilt.memory)?,
+            limit,
+            kept: list_of(alloc, rebuilt.memory, limit)?,
             mark: rebuilt.mark,
             status: StatusRecord::new(alloc, number, rebuilt.view),
         })
@@ -66,7 +73,7 @@ impl FollowerState {
         ensures err { OnErr result (self.new ≡ self.old) }
     {
         let number = rebuilt.number();
-        self.kept = list_of(alloc, rebuilt.memory)?;
+        self.kept = list_of(alloc, rebuilt.memory, self.limit)?;
         self.following = rebuilt.following;
         self.mark = rebuilt.mark;
         self.status.report_view(number, rebuilt.view);
@@ -92,6 +99,26 @@ impl FollowerState {
         ensures { result ≡ number self.now }
     {
         self.status.durable()
+    }
+
+    /// The id of the log file up to which it has what the log files have. After an answer `Whole` of a reader that follows
+    /// the latest manifest and reads log files, no log file was stored above it; after `Truncated` it is the id before the
+    /// log file where they break off. One that skips them answers its manifest's replay mark, and one of a checkpoint the
+    /// last one that its manifest named. It takes constant time.
+    pub fn mark(&self) -> u64
+        ensures { result ≡ self.now.mark }
+    {
+        self.mark
+    }
+
+    /// How many tables in memory a get and a scan look in, beside the stored ones: at most as many as there are batches
+    /// that it sees and that are in no stored table, and 0 only where there are none. Each takes a get a look-up, so
+    /// where there are many, `max_memtable_bytes` is small for what its polls find. It takes constant time.
+    pub fn tables_in_memory(&self) -> u64
+        ensures few { result ≤ length self.now.line.batches }
+        ensures none { result ≡ 0 → self.now.line.batches ≡ [] }
+    {
+        self.kept.len() as u64
     }
 
     /// The result with which it closed, or None while it is open.

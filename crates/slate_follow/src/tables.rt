@@ -1,25 +1,53 @@
-// The tables in memory of a reader: one for each poll that found a batch, oldest first.
-ghost use Rattle.std.specs.Prelude.{◌≡◌, ◌-◌, ◌≤◌, ◌++◌, ◌∷◌, [], List, length, take, IfOk, IfSome, OnOk, OnErr};
+// The tables in memory of a reader, oldest first: those of each poll that found a batch, cut at a size.
+ghost use Rattle.std.specs.Prelude.{◌≡◌, ◌+◌, ◌-◌, ◌<◌, ◌≤◌, ◌++◌, ◌∷◌, [], List, length, take, IfOk, IfSome, OnOk, OnErr};
 ghost use Rattle.slate_types.specs.declared.batches.Batch.{Batch as AnyBatch};
 ghost use Rattle.slate_types.specs.Line.{batches_above};
-ghost use Rattle.slate_follow.specs.Joined.{joined};
+ghost use Rattle.slate_reads.specs.Index.{IsAboveLast};
+ghost use Rattle.slate_reads.specs.Size.{size_of};
+ghost use Rattle.slate_follow.specs.Joined.{AddsCut, AreCut, AreFilled, filled_list, joined};
 
 use slate_reads::IndexedTable;
 use slate_types::{Batch, NoMemory};
 use std::alloc::Global;
+use std::mem;
 
-/// A list of a table, and of none where it has no batch.
-pub(crate) fn list_of(alloc: Global, table: IndexedTable) -> Result<Vec<IndexedTable>, NoMemory>
-    ensures { IfOk result (λ tables. joined tables.items ≡ table) }
+/// A list of a table, cut at `limit` bytes as by `add`, and of none where it has no batch.
+pub(crate) fn list_of(
+    alloc: Global,
+    table: IndexedTable,
+    limit: u64,
+) -> Result<Vec<IndexedTable>, NoMemory>
+    ensures same { IfOk result (λ tables. joined tables.items ≡ table) }
+    ensures filled { IfOk result (λ tables. AreFilled tables.items) }
+    ensures cut { IfOk result (λ tables. AreCut limit table tables.items) }
 {
     let mut tables = Vec::new(alloc);
-    add(&mut tables, table)?;
+    add(alloc, &mut tables, table, limit)?;
     Ok(tables)
 }
 
-/// Adds a table after the others, where it has a batch.
-pub(crate) fn add(tables: &mut Vec<IndexedTable>, table: IndexedTable) -> Result<(), NoMemory>
-    ensures ok { OnOk result (joined tables.new.items ≡ joined tables.old.items ++ table) }
+/// Adds a table after the others, where it has a batch. One with `limit` bytes or more is cut after each batch with
+/// which a table has that many.
+pub(crate) fn add(
+    alloc: Global,
+    tables: &mut Vec<IndexedTable>,
+    table: IndexedTable,
+    limit: u64,
+) -> Result<(), NoMemory>
+    ensures ok { OnOk result (AddsCut limit tables.old.items table tables.new.items) }
+    ensures err { OnErr result (tables.new.items ≡ tables.old.items) }
+{
+    if table.size() < limit {
+        return add_whole(tables, table);
+    }
+    let mut cut = cut(alloc, &table, limit)?;
+    tables.append(&mut cut)?;
+    Ok(())
+}
+
+/// Adds a table after the others as it is, where it has a batch.
+fn add_whole(tables: &mut Vec<IndexedTable>, table: IndexedTable) -> Result<(), NoMemory>
+    ensures ok { OnOk result (tables.new.items ≡ tables.old.items ++ filled_list table) }
     ensures err { OnErr result (tables.new.items ≡ tables.old.items) }
 {
     if table.batches().is_empty() {
@@ -29,9 +57,39 @@ pub(crate) fn add(tables: &mut Vec<IndexedTable>, table: IndexedTable) -> Result
     Ok(())
 }
 
+/// Copies of a table's batches, which share their keys and values, in tables that are cut after each batch with which
+/// one has `limit` bytes. It takes the time of as many pushes.
+fn cut(alloc: Global, table: &IndexedTable, limit: u64) -> Result<Vec<IndexedTable>, NoMemory>
+    ensures { IfOk result (λ tables. AreCut limit table.now tables.items) }
+{
+    let mut tables = Vec::new(alloc);
+    let mut last = IndexedTable::new(alloc);
+    for batch in table.batches() {
+        push_copy(&mut last, batch)?;
+        if limit <= last.size() {
+            let full = mem::replace(&mut last, IndexedTable::new(alloc));
+            tables.push(full).map_err(NoMemory::from)?;
+        }
+    }
+    add_whole(&mut tables, last)?;
+    Ok(tables)
+}
+
+/// Adds a copy of a batch, which shares its keys and values.
+fn push_copy(table: &mut IndexedTable, batch: &Batch) -> Result<(), NoMemory>
+    requires { IsAboveLast batch.now.number table.old }
+    ensures { OnOk result (table.new ≡ table.old ++ batch.now ∷ []) }
+{
+    match table.push(batch.clone()?) {
+        Ok(()) => Ok(()),
+        Err(_batch) => Err(NoMemory),
+    }
+}
+
 /// Drops the batches at or below a number, and the tables that have none then.
 pub(crate) fn drop_through(tables: &mut Vec<IndexedTable>, number: u64)
-    ensures { joined tables.new.items ≡ batches_above number (joined tables.old.items) }
+    ensures same { joined tables.new.items ≡ batches_above number (joined tables.old.items) }
+    ensures filled { AreFilled tables.new.items }
 {
     drop_from_each(tables.as_mut_slice(), number);
     drop_empty(tables);
@@ -48,18 +106,20 @@ fn drop_from_each(tables: &mut [IndexedTable], number: u64)
 
 /// Drops the tables without a batch.
 fn drop_empty(tables: &mut Vec<IndexedTable>)
-    ensures { joined tables.new.items ≡ joined tables.old.items }
+    ensures same { joined tables.new.items ≡ joined tables.old.items }
+    ensures filled { AreFilled tables.new.items }
 {
     tables.retain(|table| !table.batches().is_empty());
 }
 
-/// Joins the last two tables while the last one has at least half the bytes of the one before it, so that there are few
-/// tables. Where memory runs out for that, those that are there stay.
-pub(crate) fn merge_small(alloc: Global, tables: &mut Vec<IndexedTable>)
-    ensures { joined tables.new.items ≡ joined tables.old.items }
+/// Joins the last two tables while the last one has at least half the bytes of the one before it and both together have
+/// less than `limit`, so that there are few tables. Where memory runs out for that, those that are there stay.
+pub(crate) fn merge_small(alloc: Global, tables: &mut Vec<IndexedTable>, limit: u64)
+    ensures same { joined tables.new.items ≡ joined tables.old.items }
+    ensures filled { AreFilled tables.old.items → AreFilled tables.new.items }
 {
     for _ in 0..tables.len() {
-        let Some(merged) = merge_last(alloc, tables.as_slice()) else {
+        let Some(merged) = merge_last(alloc, tables.as_slice(), limit) else {
             return;
         };
         replace_last_two(tables, merged);
@@ -76,14 +136,16 @@ fn replace_last_two(tables: &mut Vec<IndexedTable>, table: IndexedTable)
     tables.truncate(last);
 }
 
-/// The last two tables joined, where the last one has at least half the bytes of the one before it, and memory serves.
-fn merge_last(alloc: Global, tables: &[IndexedTable]) -> Option<IndexedTable>
+/// The last two tables joined, where the last one has at least half the bytes of the one before it, both together have
+/// less than `limit`, and memory serves.
+fn merge_last(alloc: Global, tables: &[IndexedTable], limit: u64) -> Option<IndexedTable>
     ensures { IfSome result (λ merged. (earlier : List (List AnyBatch)) × (before last : List AnyBatch)
-        × (tables.now ≡ earlier ++ before ∷ last ∷ []) × (merged ≡ before ++ last)) }
+        × (tables.now ≡ earlier ++ before ∷ last ∷ []) × (merged ≡ before ++ last) × (size_of before + size_of last < limit)) }
 {
     let (last, earlier) = tables.split_last()?;
     let (before, _) = earlier.split_last()?;
-    if last.size() < before.size() / 2 {
+    let size = before.size().saturating_add(last.size());
+    if size >= limit || last.size() < before.size() / 2 {
         return None;
     }
     let mut merged = IndexedTable::new(alloc);
@@ -101,7 +163,7 @@ fn append_copies(table: &mut IndexedTable, batches: &[Batch]) -> Option<()>
         if !table.is_above_last(batch.number) {
             return None;
         }
-        table.push(batch.clone().ok()?).ok()?;
+        push_copy(table, batch).ok()?;
     }
     Some(())
 }

@@ -15,7 +15,7 @@ use Rattle.slate_store.proofs.Logs.{between-none, no_gap-numbered, numbered-stan
 use Rattle.slate_store.specs.Checkpoints.{found, has_id}
 use Rattle.slate_store.specs.Content.{HasItsLogs, HasItsTables, IsPinned, IsSound, content, content_by, logged, number_before, pinned_content, table_batches}
 use Rattle.slate_store.specs.Logs.{AreWhole, BelongTo, HaveNoGap, StandsIn, batches_between}
-use Rattle.slate_store.specs.Objects.{Objects, entry_at, greatest, last_log, latest_manifest, versioned}
+use Rattle.slate_store.specs.Objects.{Objects, ObjectsOf, entry_at, greatest, last_log, latest_manifest, versioned}
 use Rattle.slate_store.specs.declared.objects.Checkpoint.{Checkpoint}
 use Rattle.slate_store.specs.declared.objects.Manifest.{Manifest}
 use Rattle.slate_store.specs.declared.objects.VersionedManifest.{VersionedManifest}
@@ -227,6 +227,12 @@ module _ (o : Objects) (m : Manifest) (keeps : Keeps o m) (sound : IsSound o) wh
         let line = pinned_content o m in
         let p = keeps.begins in
         sym (up_to-end line p.0) ∙ (ap (λ n. up_to n (extended line p.0)) (sym named-end) ∙ ap (up_to number) (sym p.1))
+
+-- the manifest of a reader that doesn't stay at a checkpoint is the latest one
+pub latest-view : {L : Type 0} (mode : DbReaderMode) (opening : Bool) (o : ObjectsOf L) (view : VersionedManifest) → is_pinned mode ≡ false → IsView mode opening o view → latest_manifest o ≡ Some view
+latest-view (modes.Checkpoint id) opening o view free v = absurd (cc)
+latest-view modes.FollowLatest opening o view free v = v.1 ∙ v.3
+latest-view modes.ManagedCheckpoint opening o view free v = v.1 ∙ v.3
 
 abbrev pub latest-tables : (o : Objects) (view : VersionedManifest) → IsSound o → latest_manifest o ≡ Some view → TablesBegin o view.manifest (content o)
 latest-tables o view sound is = record { tables = (its-objects o view sound is).tables; rest = logged o view.manifest; is = ap (content_by o) is }

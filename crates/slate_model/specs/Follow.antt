@@ -1,12 +1,12 @@
 -- What opening and polling a follower answers, and what it leaves.
-use Rattle.std.specs.Prelude.{◌≡◌, ℕ, ◌⊎◌, Bool, false, Some, None, Result, Ok, Err, IfOk, IfErr, IfSome, true}
+use Rattle.std.specs.Prelude.{◌≡◌, ℕ, ◌≤◌, ◌⊎◌, Bool, false, Some, None, Result, Ok, Err, IfOk, IfErr, IfSome, true}
 use Rattle.slate_types.specs.Line.{Line, end}
 use Rattle.slate_store.specs.declared.objects.VersionedManifest.{VersionedManifest}
 use Rattle.slate_store.specs.declared.reader_modes.DbReaderMode.{DbReaderMode}
 use Rattle.slate_store.specs.declared.reader_modes.DbReaderMode.TheVariants.{Checkpoint}
 use Rattle.slate_types.specs.declared.store_errors.StoreFault.TheVariants.{NotFound, Unavailable}
 use Rattle.slate_store.specs.Checkpoints.{found}
-use Rattle.slate_store.specs.Objects.{ObjectsOf, latest_manifest}
+use Rattle.slate_store.specs.Objects.{ObjectsOf, last_log, latest_manifest}
 use Rattle.slate_errors.specs.Errors.{closed_error}
 use Rattle.slate_errors.specs.declared.errors.SlateError.{SlateError}
 use Rattle.slate_errors.specs.declared.errors.SlateError.TheVariants as errors
@@ -48,15 +48,23 @@ SeesOwed k mode skips objects stored follower answer =
     (owed : Line) × IsOwed k mode skips objects follower.view stored owed
     × (follower ≡ k.keep_follower (rebuilt mode skips follower.view owed (last_read mode skips follower.view objects))) × (answer ≡ Whole (end owed))
 
+-- where the answer says that the log files were whole, the follower has what each one has that is stored
+abbrev pub HasAllLogs : {L : Type 0} → ObjectsOf L → Follower → PollAnswer → Type 0
+HasAllLogs objects follower (Whole at) = last_log 0 objects ≤ follower.mark
+HasAllLogs objects follower (Truncated at) = Unit {0}
+
 -- An opening of a follower, or a poll of one that doesn't stay at a checkpoint: it gives a follower in the mode asked for that
--- sees what it is owed, or answers why not, and changes nothing in the store. `seen` says what was seen before.
-pub record Rebuilds {L : Type 0} (k : Knowledge L) (mode : DbReaderMode) (skips opening : Bool) (seen : ObjectsOf L → Line → Type 0) (before : Known L) (result : Result (Follower × PollAnswer) SlateError) (after : Known L) : Type 0 where
+-- sees what it is owed, and has all log files where it reads them, or answers why not, and changes nothing in the store. `seen`
+-- says what was seen before.
+pub record Rebuilds {L : Type 0} (k : Knowledge L) (mode : DbReaderMode) (skips opening : Bool) (seen : ObjectsOf L → Line → Type 0)
+    (before : Known L) (result : Result (Follower × PollAnswer) SlateError) (after : Known L) : Type 0 where
   pub kept : after.objects ≡ before.objects
   pub faults : FaultsRise before.faults after.faults result
   pub missing : result ≡ Err (errors.ObjectStoreError NotFound) → is_pinned mode ≡ true
   pub cause : IfErr result (λ error. IfSome before.objects (λ o. FollowCause mode opening (k.unpinned mode o) o error))
   pub answer : IfOk result (λ b. (b.0.mode ≡ mode) × (b.0.skips ≡ skips) × (b.0.result ≡ None) × AnswersAt (number b.0) b.1)
   pub can : IfOk result (λ b. (o : ObjectsOf L) → before.objects ≡ Some o → IsView mode opening o b.0.view)
+  pub logs : IfOk result (λ b. (o : ObjectsOf L) → before.objects ≡ Some o → is_pinned mode ≡ false → skips ≡ false → HasAllLogs o b.0 b.1)
   pub sees : IfOk result (λ b. (o : ObjectsOf L) (line : Line) → before.objects ≡ Some o → k.is_stored line → seen o line → SeesOwed k mode skips o line b.0 b.1)
 
 -- what a poll gives: the follower after it, and its answer

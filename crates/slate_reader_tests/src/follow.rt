@@ -40,34 +40,46 @@ fn database(alloc: Global, logs: Logs) -> Result<MemoryStore, Fail> {
 }
 
 fn open(alloc: Global, store: &mut MemoryStore) -> Result<(FollowerState, PollAnswer), SlateError> {
-    let options = DbReaderOptions::default();
-    let mode = DbReaderMode::FollowLatest;
-    FollowerState::open(alloc, store, mode, &options, NO_EXTRACTOR, 0)
+    open_with(alloc, store, &DbReaderOptions::default())
 }
 
-// What a reader of a database with these log files answers when it is opened, and when it is polled.
-fn answers(alloc: Global, logs: Logs) -> Result<(PollAnswer, PollAnswer), Fail> {
+fn open_with(
+    alloc: Global,
+    store: &mut MemoryStore,
+    options: &DbReaderOptions,
+) -> Result<(FollowerState, PollAnswer), SlateError> {
+    let mode = DbReaderMode::FollowLatest;
+    FollowerState::open(alloc, store, mode, options, NO_EXTRACTOR, 0)
+}
+
+// What a reader of a database with these log files answers when it is opened, and when it is polled, and its mark then.
+fn answers(alloc: Global, logs: Logs) -> Result<(PollAnswer, PollAnswer, u64), Fail> {
     let mut store = database(alloc, logs)?;
     let (mut follower, opened) = open(alloc, &mut store)?;
     let polled = follower.poll(alloc, &mut store, NO_EXTRACTOR, 1)?;
-    Ok((opened, polled))
+    Ok((opened, polled, follower.mark()))
 }
 
-// Log files, each with its id and the numbers of its batches, and what a reader finds of them.
-const FOUND: [(Logs, PollAnswer); 3] = [
+// Log files, each with its id and the numbers of its batches, what a reader finds of them, and up to which it has them.
+const FOUND: [(Logs, PollAnswer, u64); 3] = [
     (
         &[(1, &[]), (2, &[1, 2]), (3, &[3])],
         PollAnswer::Whole { at: 3 },
+        3,
     ),
-    (&[(1, &[1]), (3, &[2])], PollAnswer::Truncated { at: 1 }),
-    (&[(1, &[1]), (2, &[2, 4])], PollAnswer::Truncated { at: 2 }),
+    (&[(1, &[1]), (3, &[2])], PollAnswer::Truncated { at: 1 }, 1),
+    (
+        &[(1, &[1]), (2, &[2, 4])],
+        PollAnswer::Truncated { at: 2 },
+        1,
+    ),
 ];
 
 // A log file that is missing, and a batch, truncate what a reader takes.
 #[test]
 fn missing_logs(rt: HostRuntime) -> Result<(), Fail> {
-    for (logs, found) in FOUND {
-        assert_eq!(rt; answers(rt.alloc(), logs)?, (found, found));
+    for (logs, found, mark) in FOUND {
+        assert_eq!(rt; answers(rt.alloc(), logs)?, (found, found, mark));
     }
     Ok(())
 }
@@ -283,6 +295,39 @@ fn polls(rt: HostRuntime) -> Result<(), Fail> {
     let order = IterationOrder::Ascending;
     let rows = scanned(alloc, &mut store, &follower, b"", order)?;
     assert_eq!(rt; rows.as_slice(), b"a=x@4 b=x@2 c=x@3 d=x@5 ".as_slice());
+    Ok(())
+}
+
+// A database of batches with 4, 4 and 2 bytes.
+fn three_batches(alloc: Global) -> Result<MemoryStore, Fail> {
+    let mut store = two_batches(alloc)?;
+    put_log(alloc, &mut store, 3, b"d", b"z")?;
+    Ok(store)
+}
+
+// What a reader of these answers whose tables in memory are cut at a size, when it is opened, polled, and polled after 8
+// bytes more, and how many tables it has before the last poll and after it.
+fn cut_at(alloc: Global, size: u64) -> Result<([PollAnswer; 3], [u64; 2]), Fail> {
+    let mut store = three_batches(alloc)?;
+    let options = DbReaderOptions {
+        max_memtable_bytes: size,
+        ..DbReaderOptions::default()
+    };
+    let (mut follower, opened) = open_with(alloc, &mut store, &options)?;
+    let again = follower.poll(alloc, &mut store, NO_EXTRACTOR, 1)?;
+    let before = follower.tables_in_memory();
+    let more = polled(alloc, &mut store, &mut follower, 4, b"abcd")?;
+    Ok(([opened, again, more], [before, follower.tables_in_memory()]))
+}
+
+// A reader's tables in memory are cut between batches at the size that its options say, and smaller ones are joined.
+#[test]
+fn cut_tables(rt: HostRuntime) -> Result<(), Fail> {
+    let answers = [3, 3, 4].map(|at| PollAnswer::Whole { at });
+    let most = DbReaderOptions::default().max_memtable_bytes;
+    for (size, counts) in [(1, [3, 4]), (5, [2, 3]), (most, [1, 1])] {
+        assert_eq!(rt; cut_at(rt.alloc(), size)?, (answers, counts));
+    }
     Ok(())
 }
 

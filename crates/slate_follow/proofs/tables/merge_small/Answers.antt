@@ -1,5 +1,6 @@
-use Rattle.std.proofs.Common.{ap, sym, ◌∙◌, ◌-◌, ◌++◌, ◌∷◌, [], take, length}
-use Rattle.slate_follow.specs.Joined.{joined}
+use Rattle.std.proofs.Common.{◌≡◌, ap, subst, sym, ◌∙◌, ◌-◌, ◌++◌, ◌∷◌, [], take, length}
+use Rattle.slate_follow.specs.Joined.{AreFilled, joined}
+use Rattle.slate_follow.proofs.Cutting.{two-filled}
 use Rattle.slate_follow.proofs.Joining.{joined-two, two-tables}
 use Rattle.slate_follow.proofs.tables.merge_small.Goals as goal
 
@@ -11,6 +12,10 @@ pub loop-preserved : goal.loop-preserved
 loop-preserved c =
     let m = c.in-Some.ensures in
     let before = c.loop.tables.items in
-    ap joined c.replace_last_two.ensures
-    ∙ (ap (λ table. joined (take (length before - 2) before ++ table ∷ [])) m.4
-    ∙ (joined-two m.0 m.1 m.2 before (sym c.as_slice.ensures.value ∙ m.3) ∙ c.loop.invariant))
+    let parts = sym c.as_slice.ensures.value ∙ m.3 in
+    let front = take (length before - 2) before in
+    let after : c.replace_last_two.new.tables.items ≡ front ++ (m.1 ++ m.2) ∷ [] = c.replace_last_two.ensures ∙ ap (λ table. front ++ table ∷ []) m.4 in
+    record {
+      same = ap joined after ∙ (joined-two m.0 m.1 m.2 before parts ∙ c.loop.invariant.same);
+      filled = λ filled. subst AreFilled (sym after) (two-filled m.0 m.1 m.2 before parts (c.loop.invariant.filled filled));
+    }

@@ -1,5 +1,5 @@
 use Rattle.std.proofs.Common.{rules, true}
-use Rattle.slate_follow.proofs.Rebuilt.{built-can, built-sees, built-view, if_some}
+use Rattle.slate_follow.proofs.Rebuilt.{built-can, built-logs, built-sees, built-view, if_some}
 use Rattle.slate_follow.proofs.states.FollowerState.open.Goals as goal
 
 pub returns-clause-rebuilds : goal.returns-clause-rebuilds
@@ -16,6 +16,7 @@ returns-clause-rebuilds g c =
       cause = tt;
       answer = search rules;
       can = built-can mode skips true v.view v.last b.rebuilt b.answer v.ensures.kept v.ensures.where_modelled b.ensures.built;
+      logs = built-logs mode skips true v.view v.last b.rebuilt b.answer v.ensures.kept v.ensures.where_modelled b.ensures.built;
       sees = λ o line at stored seen. built-sees mode skips true v.view v.last b.rebuilt b.answer v.ensures.kept v.ensures.where_modelled b.ensures.built o line at stored;
     })
 

@@ -2,8 +2,8 @@ use Rattle.std.proofs.Common.{rules, ◌≡◌, Ok, false, subst, inl, inr}
 use Rattle.std.specs.Option.{IfSome}
 use Rattle.slate_model.specs.Follower.{Follower}
 use Rattle.slate_follow.specs.Rebuilding.{Builds, FindsView}
-use Rattle.slate_follow.proofs.Rebuilt.{built-can, built-sees, built-view, if_some}
-use Rattle.slate_follow.proofs.Continued.{gone-can, gone-continues, gone-sees}
+use Rattle.slate_follow.proofs.Rebuilt.{built-can, built-logs, built-sees, built-view, if_some}
+use Rattle.slate_follow.proofs.Continued.{gone-can, gone-continues, gone-logs, gone-sees}
 use Rattle.slate_follow.proofs.states.FollowerState.take_new.Goals as goal
 
 pub returns-then-reaches-clause-rebuilds : goal.returns-then-reaches-clause-rebuilds
@@ -21,6 +21,7 @@ returns-then-reaches-clause-rebuilds g c =
       cause = tt;
       answer = search rules;
       can = gone-can v.view v.last old new c.in_ok-answer.answer v.ensures.kept reads c.requires.free (search rules) found e.gone;
+      logs = gone-logs v.view v.last old new c.in_ok-answer.answer v.ensures.kept reads c.requires.free (search rules) found e.gone;
       sees = gone-sees v.view v.last old new c.in_ok-answer.answer v.ensures.kept reads c.requires.free (search rules) found e.gone;
     }
 
@@ -39,6 +40,7 @@ returns-clause-rebuilds g c =
       cause = tt;
       answer = search rules;
       can = built-can old.mode old.skips false v.view v.last b.rebuilt b.answer v.ensures.kept found built;
+      logs = built-logs old.mode old.skips false v.view v.last b.rebuilt b.answer v.ensures.kept found built;
       sees = λ o line at stored seen. built-sees old.mode old.skips false v.view v.last b.rebuilt b.answer v.ensures.kept found built o line at stored;
     })
 

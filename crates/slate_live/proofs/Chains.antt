@@ -23,6 +23,7 @@ use Rattle.slate_live.specs.Steps.{Chain, Step, last_world}
 use Rattle.slate_live.specs.Valid.{Link}
 use Rattle.slate_live.specs.World.{World, start}
 use Rattle.slate_live.proofs.Prefixes.{prefix-same, prefix-then}
+use Rattle.slate_live.proofs.Snapshots.{snapshots_stay}
 use Rattle.slate_live.proofs.Staying.{stay_confirmed}
 
 -- no object yet, over sound objects, represents the world of their start
@@ -37,6 +38,7 @@ stands_start o store live no_object no_write is sound =
         line = sound.line;
         followers = λ n f at. absurd (cc);
         handles = λ n h at. absurd (cc);
+        snapshots = λ n x at. absurd (cc);
         named = λ m n h x at_m at_n. absurd (cc);
         past = λ n x at. absurd (cc);
         distinct = λ m n a b at_m at_n epochs. absurd (cc);
@@ -111,6 +113,7 @@ leads_all settings commands i replies o faults live store steps all done stands 
       is_last = refl;
       grows = chain-grows settings (start o faults) steps done.chain;
       confirmed = stay_confirmed settings (start o faults) steps refl done.chain;
+      snapshots = snapshots_stay settings (start o faults) steps refl done.chain done.reached;
       after = held.0;
       modelled = held.1;
       sound = held.2;

@@ -35,12 +35,19 @@ use Rattle.slate_store.specs.declared.reader_modes.DbReaderMode.{DbReaderMode}
 use Rattle.slate_store.specs.declared.reader_modes.DbReaderMode.TheVariants as modes
 use Rattle.slate_model.specs.Handle.{CloseResult, Handle, accepted}
 use Rattle.slate_model.specs.Known.{CountsFaults, FaultsRise}
-use Rattle.slate_model.specs.Object.{Object, Handle as AHandle, Follower as AFollower}
+use Rattle.slate_model.specs.Catalogue.{Span}
+use Rattle.slate_model.specs.Knowledge.{Knowledge}
+use Rattle.slate_model.specs.Known.{Known}
+use Rattle.slate_model.specs.declared.snapshots.HandleSnapshot.{HandleSnapshot}
+use Rattle.slate_model.specs.Object.{Object, Handle as AHandle, Snapshot as ASnapshot, Follower as AFollower}
 use Rattle.slate_model.specs.Open.{OpenAnswer}
 use Rattle.slate_model.specs.Read.{AnswersRead, Gives, ReadsTables}
 use Rattle.slate_model.specs.Refresh.{CompactCause, Compacts, Refreshes}
 use Rattle.slate_model.specs.Stores.{by_catalogue}
 use Rattle.slate_model.specs.Tables.{AreStored}
+use Rattle.slate_model.specs.Snapshot.{unless_closed}
+use Rattle.slate_model.specs.Unflushed.{limit_refusal, unflushed}
+use Rattle.slate_live.specs.Handles.{TakesSnapshot}
 use Rattle.slate_model.specs.Write.{Writes, accepted_moment, batch_refusal, clock_refusal, last_number, number_refusal, write_refusal}
 use Rattle.slate_model.proofs.Reduced.{modelled}
 use Rattle.slate_status.specs.declared.statuses.DbStatus.{DbStatus}
@@ -48,18 +55,18 @@ use Rattle.slate_script.specs.declared.commands.Command.{Command}
 use Rattle.slate_script.specs.declared.replies.Reply.{Reply}
 use Rattle.slate_script.specs.declared.replies.Reply.TheVariants as replies
 use Rattle.slate_live.specs.declared.states.Write.{Write}
-use Rattle.slate_live.specs.Calls.{Call, Write as WriteCall, Merge as MergeCall, Flush, Refresh, Compact, Get, Scan, Seek, Close, Poll, Status, Nothing, call_of, Target, NewHandle, NewFollower, NewCheckpoint, WholeStore, OfWrite, OfObject, target_of}
-use Rattle.slate_live.specs.Commands.{ActsOn, DoesBy, asked_reply, write_reply}
+use Rattle.slate_live.specs.Calls.{Call, Write as WriteCall, Merge as MergeCall, Flush, Refresh, Compact, Get, Scan, Seek, Close, Poll, Status, FindTime, FindNumber, Nothing, call_of, Target, NewHandle, NewSnapshot, NewFollower, NewCheckpoint, WholeStore, OfWrite, OfObject, at_snapshot, target_of}
+use Rattle.slate_live.specs.Commands.{ActsAt, ActsOn, DoesBy, OpensSnapshot, ReadsSnapshot, asked_reply, write_reply}
 use Rattle.slate_live.specs.Followers.{FollowerActs}
 use Rattle.slate_live.specs.Handles.{HandleActs, MergesTo, WritesTo, flush_type_by, pending_reply}
 use Rattle.slate_live.specs.Replies.{AnswersStatus, IsRead, closed_reply, ended_reply, follower_ended_reply, followed_reply, found_reply, polled_reply, refusal, reply_to}
 use Rattle.slate_live.specs.Represents.{IsValid}
 use Rattle.slate_live.specs.Scans.{IsTaken, Takes, scanned, sought}
 use Rattle.slate_live.specs.Settings.{Settings}
-use Rattle.slate_live.specs.Valid.{AtObject, CanAsk, CanAskFollower, CanCheckpoint, CanClose, CanCompact, CanFollow, CanOpen, CanRead, CanRefresh, CanStore, CanSweep, CanTake, CanWrite, IsDurable, IsOkOrNoMemory, IsValidAt, IsValidCommand}
+use Rattle.slate_live.specs.Valid.{AtHandle, AtObject, CanAsk, CanAskFollower, CanAskSnapshot, CanCheckpoint, CanClose, CanCompact, CanFollow, CanOpen, CanRead, CanRefresh, CanStore, CanSweep, CanTake, CanWrite, IsDurable, IsOkOrNoMemory, IsValidAt, IsValidCommand}
 use Rattle.slate_live.specs.World.{Next, World, state_of}
 use Rattle.slate_live.proofs.Cases.{some-of}
-use Rattle.slate_live.proofs.Naming.{follower-did, handle-did}
+use Rattle.slate_live.proofs.Naming.{follower-did, handle-acted}
 use Rattle.slate_live.proofs.Writing.{accepts}
 
 none-some : {A : Type 0} (o : Option A) (x : A) → o ≡ None → o ≡ Some x → ⊥
@@ -184,9 +191,10 @@ close-completes w w' made h h' (Some (Err fault)) flush_type e reply at can c is
 no-refusal : (handle : Handle) (ops : List KeyOp) (moment : ℤ) (second : Option ℤ) → CanWrite ops moment second handle → write_refusal handle ops moment second ≡ None
 no-refusal handle ops moment second can =
     let batch : batch_refusal ops ≡ None = accepts ops can.writable in
+    let room : limit_refusal (unflushed handle) handle.limit ≡ None = ap (λ below. if below then None else Some (errors.Backpressure (unflushed handle) handle.limit)) (lt-ltb (unflushed handle) handle.limit can.room) in
     let number : number_refusal (accepted handle) ≡ None = ap (λ below. if below then None else Some errors.InvalidDBState) (lt-ltb (accepted handle) last_number can.number) in
     let clock : clock_refusal handle.tick moment second (accepted_moment handle.tick moment second) ≡ None = ap (clock_refusal handle.tick moment second) (can.moments).1 in
-    rw (can.unclosed, batch, number, clock) refl
+    rw (can.unclosed, batch, room, number, clock) refl
 
 memory-alone : (e : SlateError) (refused : Option SlateError) → refused ≡ None → (e ≡ errors.NoMemory) ⊎ (refused ≡ Some e) → e ≡ errors.NoMemory
 memory-alone e refused none (inl memory) = memory
@@ -336,19 +344,24 @@ status-completes status reply (inl is) = subst IsOkOrNoMemory (sym is) tt
 status-completes status reply (inr is) = subst IsOkOrNoMemory (sym is) tt
 
 -- the object that a valid command names
-by-object : {G : Type 0} (object : Option Object) (of_handle : Handle → Type 0) (of_follower : Follower → Type 0) → AtObject object of_handle of_follower → ((h : Handle) → object ≡ Some (AHandle h) → of_handle h → G) → ((f : Follower) → object ≡ Some (AFollower f) → of_follower f → G) → G
-by-object None of_handle of_follower at f g = absurd at
-by-object (Some (AHandle h)) of_handle of_follower at f g = f h refl at
-by-object (Some (AFollower x)) of_handle of_follower at f g = g x refl at
+by-object : {G : Type 0} (object : Option Object) (of_handle : Handle → Type 0) (of_snapshot : HandleSnapshot → Type 0) (of_follower : Follower → Type 0) → AtObject object of_handle of_snapshot of_follower →
+    ((h : Handle) → object ≡ Some (AHandle h) → of_handle h → G) → ((x : HandleSnapshot) → object ≡ Some (ASnapshot x) → of_snapshot x → G) → ((f : Follower) → object ≡ Some (AFollower f) → of_follower f → G) → G
+by-object None of_handle of_snapshot of_follower at f s g = absurd at
+by-object (Some (AHandle h)) of_handle of_snapshot of_follower at f s g = f h refl at
+by-object (Some (ASnapshot x)) of_handle of_snapshot of_follower at f s g = s x refl at
+by-object (Some (AFollower x)) of_handle of_snapshot of_follower at f s g = g x refl at
+
+-- the handle with a number
+by-handle : {G : Type 0} (w : World) (n : ℕ) (of_handle : Handle → Type 0) → AtHandle w n of_handle → ((h : Handle) → slice_get w.objects n ≡ Some (AHandle h) → of_handle h → G) → G
+by-handle w n of_handle at f = by-object (slice_get w.objects n) of_handle _ _ at f (λ x is never. absurd never) (λ g is never. absurd never)
 
 module _ (settings : Settings) (w w' : World) (valid : IsValid w) (command : Command) (made : ℕ) (reply : Reply) (calm : HasRisen w.faults w'.faults → ⊥) where
   asked : (found : Option Write) → IsDurable w found → IsOkOrNoMemory (write_reply w.objects found)
   asked None never = absurd never
   asked (Some write) at =
-      by-object (slice_get w.objects write.handle) _ _ at
+      by-handle w write.handle _ at
       (λ h is low. subst (λ x. IsOkOrNoMemory (asked_reply x write.number)) (sym is)
       (subst IsOkOrNoMemory (sym (ap (λ b. if b then replies.Durable else pending_reply h.result) (le-leb write.number h.durable low))) tt))
-      (λ f is never. absurd never)
 
   -- a handle that may be asked this
   handle-completes : (n : ℕ) (call : Call) (h h' : Handle) → CanAsk settings.merge w command.moment command.second call h → HandleActs (by_catalogue w.stored w.catalogue) settings.merge n command.moment command.second call made h (state_of w).store w.writes reply h' (state_of w').store w'.writes → IsOkOrNoMemory reply
@@ -359,15 +372,17 @@ module _ (settings : Settings) (w w' : World) (valid : IsValid w) (command : Com
       subst IsOkOrNoMemory (sym (a.0).replied) (free-reply _ (a.0).result (λ x at. tt) (refresh-free w w' h h' (a.0).result can.0 can.1 (a.0).does calm))
   handle-completes n Compact h h' can a =
       subst IsOkOrNoMemory (sym (a.0).replied) (free-reply _ (a.0).result (λ x at. tt) (compact-free w w' made h h' (a.0).result can.0 can.1 (a.0).does calm))
-  handle-completes n (Get key remote) h h' can a =
+  handle-completes n (Get key remote snapshot) h h' can a =
       read-completes found_reply found-free w w' h.result h.view.manifest.tables _ h.line.batches reply can.0 (λ others has. has.1) can.1 a.0 calm
-  handle-completes n (Scan range order remote) h h' can a =
+  handle-completes n (Scan range order remote snapshot) h h' can a =
       take-completes _ w w' h.result h.view.manifest.tables scanned h.line.batches reply can.0 (λ others has. has.1) can.1 a.0 calm
-  handle-completes n (Seek range take key order remote) h h' can a =
+  handle-completes n (Seek range take key order remote snapshot) h h' can a =
       take-completes _ w w' h.result h.view.manifest.tables (sought range take key) h.line.batches reply can.0 (λ others has. has.1) can.1 a.0 calm
   handle-completes n (Close t) h h' can a = close-completes w w' made h h' h.result t (a.0).ended reply refl can (a.0).does (a.0).replied calm
   handle-completes n Poll h h' can a = absurd can
   handle-completes n Status h h' can a = status-completes _ reply a.0
+  handle-completes n (FindTime number find) h h' can a = subst IsOkOrNoMemory (sym a.0.2) tt
+  handle-completes n (FindNumber seconds find) h h' can a = subst IsOkOrNoMemory (sym a.0.2) tt
   handle-completes n Nothing h h' can a = absurd can
 
   -- a follower that may be asked this
@@ -377,11 +392,13 @@ module _ (settings : Settings) (w w' : World) (valid : IsValid w) (command : Com
   follower-completes n (Flush t) f f' at can a = absurd can
   follower-completes n Refresh f f' at can a = absurd can
   follower-completes n Compact f f' at can a = absurd can
-  follower-completes n (Get key remote) f f' at can a =
+  follower-completes n (FindTime number find) f f' at can a = absurd can
+  follower-completes n (FindNumber seconds find) f f' at can a = absurd can
+  follower-completes n (Get key remote snapshot) f f' at can a =
       read-completes found_reply found-free w w' f.result f.view.manifest.tables _ w.stored.batches reply can.0 (λ others has. has.1) can.1 a.0 calm
-  follower-completes n (Scan range order remote) f f' at can a =
+  follower-completes n (Scan range order remote snapshot) f f' at can a =
       take-completes _ w w' f.result f.view.manifest.tables scanned w.stored.batches reply can.0 (λ others has. has.1) can.1 a.0 calm
-  follower-completes n (Seek range take key order remote) f f' at can a =
+  follower-completes n (Seek range take key order remote snapshot) f f' at can a =
       take-completes _ w w' f.result f.view.manifest.tables (sought range take key) w.stored.batches reply can.0 (λ others has. has.1) can.1 a.0 calm
   follower-completes n (Close t) f f' at can a = closed-follower-reply (recorded_fault f.result) reply can a.0
   follower-completes n Poll f f' at can a =
@@ -389,20 +406,43 @@ module _ (settings : Settings) (w w' : World) (valid : IsValid w) (command : Com
   follower-completes n Status f f' at can a = status-completes _ reply a.0
   follower-completes n Nothing f f' at can a = absurd can
 
-  object-completes : (n : ℕ) (call : Call) → call_of command.action ≡ call → AtObject (slice_get w.objects n) (CanAsk settings.merge w command.moment command.second call) (CanAskFollower settings.merge w call) → ActsOn (by_catalogue w.stored w.catalogue) settings.merge n command made (slice_get w.objects n) (state_of w) reply (state_of w') → IsOkOrNoMemory reply
-  object-completes n call is can d =
-      by-object (slice_get w.objects n) _ _ can
-      (λ h at can_ask.
-      let a = handle-did (by_catalogue w.stored w.catalogue) settings.merge n command call made (state_of w) reply (state_of w') (slice_get w.objects n) h is at d in
-      handle-completes n call h a.new can_ask a.acts)
+  abbrev k : Knowledge Span
+  k = by_catalogue w.stored w.catalogue
+
+  handle-acts : (n : ℕ) (call : Call) (h : Handle) → CanAsk settings.merge w command.moment command.second call h → ActsAt k settings.merge n command call made (AHandle h) (state_of w) reply (state_of w') → IsOkOrNoMemory reply
+  handle-acts n call h can d = let a = handle-acted k settings.merge n command call made (state_of w) reply (state_of w') h d in handle-completes n call h a.new can a.acts
+
+  snapshot-completes : (x : HandleSnapshot) (call : Call) → CanAskSnapshot settings.merge w command.moment command.second call x → ReadsSnapshot k settings.merge x command call made (slice_get w.objects x.handle) (state_of w) reply (state_of w') → IsOkOrNoMemory reply
+  snapshot-completes x call can d =
+      by-handle w x.handle _ can
+      (λ h at can_ask. handle-acts x.handle (at_snapshot x.number call) h can_ask (subst (λ found. ReadsSnapshot k settings.merge x command call made found (state_of w) reply (state_of w')) at d))
+
+  object-completes : (n : ℕ) (call : Call) → AtObject (slice_get w.objects n) (CanAsk settings.merge w command.moment command.second call) (CanAskSnapshot settings.merge w command.moment command.second call) (CanAskFollower settings.merge w call) → ActsOn k settings.merge n command call made (slice_get w.objects n) (state_of w) reply (state_of w') → IsOkOrNoMemory reply
+  object-completes n call can d =
+      by-object (slice_get w.objects n) _ _ _ can
+      (λ h at can_ask. handle-acts n call h can_ask (subst (λ found. ActsOn k settings.merge n command call made found (state_of w) reply (state_of w')) at d))
+      (λ x at can_ask. snapshot-completes x call can_ask (subst (λ found. ActsOn k settings.merge n command call made found (state_of w) reply (state_of w')) at d))
       (λ f at can_ask.
-      let a = follower-did (by_catalogue w.stored w.catalogue) settings.merge n command call made (state_of w) reply (state_of w') (slice_get w.objects n) f is at d in
+      let a = follower-did k settings.merge n command call made (state_of w) reply (state_of w') (slice_get w.objects n) f at d in
       follower-completes n call f a.new at can_ask a.acts)
+
+  -- a snapshot of an open handle
+  snapshot-free : (h : Handle) (before after : Known Span) (r : Result ℕ SlateError) → h.result ≡ None → TakesSnapshot h before r after → IsFree r
+  snapshot-free h before after r live (inl memory, same) = subst IsFree (sym memory) refl
+  snapshot-free h before after r live (inr number, same) = subst IsFree (sym (number ∙ ap (λ result. unless_closed result (accepted h)) live)) tt
+
+  opens-snapshot : (n : ℕ) → AtHandle w n (λ handle. handle.result ≡ None) → OpensSnapshot n made (slice_get w.objects n) (state_of w) reply (state_of w') → IsOkOrNoMemory reply
+  opens-snapshot n can d =
+      by-handle w n _ can
+      (λ h at live.
+      let a : OpensSnapshot n made (Some (AHandle h)) (state_of w) reply (state_of w') = subst (λ found. OpensSnapshot n made found (state_of w) reply (state_of w')) at d in
+      subst IsOkOrNoMemory (sym (a.0).replied) (free-reply _ (a.0).result (λ x at. tt) (snapshot-free h _ _ (a.0).result live (a.0).does)))
 
   completes-at : (target : Target) → DoesBy (by_catalogue w.stored w.catalogue) settings command target made (state_of w) reply (state_of w') → IsValidAt settings.merge w command.moment command.second (call_of command.action) target → IsOkOrNoMemory reply
   completes-at (NewHandle keeps_log) d can =
       let o = modelled w.catalogue w'.catalogue (d.does).opens in
       subst IsOkOrNoMemory (sym d.replied) (free-reply _ d.result (λ x at. tt) (open-free w w'.faults d.result o.answer (d.does).faults can calm))
+  completes-at (NewSnapshot n) d can = opens-snapshot n can d
   completes-at (NewFollower mode skips) d can = subst IsOkOrNoMemory (sym (d.0).replied) (follow-reply w w' mode skips (length w.objects) (d.0).result (d.0).does can calm)
   completes-at (NewCheckpoint lifetime) d can =
       let c = d.does in
@@ -413,7 +453,7 @@ module _ (settings : Settings) (w w' : World) (valid : IsValid w) (command : Com
       let o = modelled w.catalogue w'.catalogue (c.does).objects in
       subst IsOkOrNoMemory (sym c.replied) (free-reply _ c.result (λ x at. tt) (sweep-free w w'.catalogue w'.faults command.moment c.result o.answer (c.does).faults can calm))
   completes-at (OfWrite n) d can = subst IsOkOrNoMemory (sym d.1) (asked (slice_get w.writes n) can)
-  completes-at (OfObject n) d can = object-completes n (call_of command.action) refl can d
+  completes-at (OfObject n) d can = object-completes n (call_of command.action) can d
 
 -- a valid command that meets no fault is refused nothing
 pub completes : (settings : Settings) (w : World) (command : Command) (reply : Reply) (w' : World) → IsValid w → Next settings w command reply w' → IsValidCommand settings.merge w command → (HasRisen w.faults w'.faults → ⊥) → IsOkOrNoMemory reply

@@ -7,7 +7,7 @@ use Rattle.slate_types.specs.declared.batches.Batch.{Batch}
 use Rattle.slate_types.specs.Line.{Line, end}
 use Rattle.slate_model.specs.Catalogue.{Span}
 use Rattle.slate_model.specs.Handle.{CloseResult, Handle}
-use Rattle.slate_model.specs.Object.{Object, Handle as AHandle, Follower as AFollower}
+use Rattle.slate_model.specs.Object.{Object, Handle as AHandle, Snapshot as ASnapshot, Follower as AFollower}
 use Rattle.slate_model.specs.Stores.{by_catalogue}
 use Rattle.slate_script.specs.declared.commands.Action.TheVariants as actions
 use Rattle.slate_script.specs.declared.commands.Command.{Command}
@@ -44,6 +44,7 @@ pub record IsStoredOf (w : World) (n : ℕ) : Type 0 where
 
 stored-at : (w : World) (n : ℕ) (write : Write) (found : Option Object) → slice_get w.writes n ≡ Some write → slice_get w.objects write.handle ≡ found → replies.Durable ≡ asked_reply found write.number → IsStoredOf w n
 stored-at w n write None is at durable = absurd (cc)
+stored-at w n write (Some (ASnapshot x)) is at durable = absurd (cc)
 stored-at w n write (Some (AFollower f)) is at durable = absurd (cc)
 stored-at w n write (Some (AHandle h)) is at durable =
     record { write = write; is_write = is; handle = h; is_handle = at; durable = durable-by (leb write.number h.durable) write.number h.durable h.result refl durable }

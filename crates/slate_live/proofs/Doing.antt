@@ -1,5 +1,5 @@
 -- What the live state's calls do, by what the calls of its objects do.
-use Rattle.std.proofs.Common.{◌≡◌, ℕ, ℤ, Bool, List, set, true, Option, Some, None, Result, Ok, Err, refl, sym, subst, ap, arith}
+use Rattle.std.proofs.Common.{◌≡◌, ◌∙◌, inl, inr, ℕ, ℤ, Bool, List, set, true, Option, Some, None, Result, Ok, Err, refl, sym, subst, ap, arith}
 use Rattle.std.specs.Option.{IfSome, UnwrapsOrElse}
 use Rattle.slate_types.specs.declared.batches.Batch.{Batch}
 use Rattle.slate_types.specs.declared.options.CloseOptions.{CloseOptions}
@@ -18,19 +18,27 @@ use Rattle.slate_model.specs.Maintain.{CommitsCheckpoint, SweepsObjects}
 use Rattle.slate_model.specs.Stores.{by_objects}
 use Rattle.slate_model.proofs.Maintained.{answered, commits-by, sweeps-by}
 use Rattle.slate_live.specs.Maintenance.{CommitsTo, SweepsTo}
-use Rattle.slate_live.specs.Replies.{reply_to}
+use Rattle.slate_live.specs.Replies.{refusal, reply_to}
 use Rattle.slate_script.specs.declared.replies.Reply.TheVariants as replies
 use Rattle.slate_store.specs.declared.reader_modes.DbReaderMode.{DbReaderMode}
 use Rattle.slate_errors.specs.declared.errors.SlateError.TheVariants as errors
 use Rattle.slate_model.specs.Follow.{FollowCause, Rebuilds, unseen}
 use Rattle.slate_model.specs.Knowledge.{Knowledge}
 use Rattle.slate_model.specs.Known.{Known}
-use Rattle.slate_model.specs.Object.{Object}
+use Rattle.slate_model.specs.Object.{Object, Handle as AHandle, Snapshot as ASnapshot, Follower as AFollower}
 use Rattle.slate_model.specs.Open.{OpensHandle}
 use Rattle.slate_script.specs.declared.commands.Command.{Command}
 use Rattle.slate_script.specs.declared.replies.Reply.{Reply}
-use Rattle.slate_live.specs.Calls.{flush_of_close}
-use Rattle.slate_live.specs.Commands.{Acts, ActsOn}
+use Rattle.slate_live.specs.Calls.{Call, at_snapshot, flush_of_close, read_by, table_count}
+use Rattle.slate_live.specs.Commands.{Acts, ActsOn, OpensSnapshot, ReadsSnapshot}
+use Rattle.slate_live.specs.Sampling.{ActsAsOf, Pushes, snapshot_of, taken_of}
+use Rattle.slate_live.specs.declared.states.Write.{Write}
+use Rattle.slate_live.proofs.Places.{set-same}
+use Rattle.slate_errors.specs.declared.errors.SlateError.{SlateError}
+use Rattle.slate_model.specs.declared.snapshots.HandleSnapshot.{HandleSnapshot}
+use Rattle.slate_model.specs.Snapshot.{snapshot_number}
+use Rattle.std.specs.List.{slice_get}
+use Rattle.std.proofs.lemmas.List.{append-nil}
 use Rattle.slate_live.specs.State.{State}
 
 -- an opening that finds no room touches no store
@@ -58,6 +66,7 @@ follows-nothing k mode skips store = record {
   cause = caused k mode store.objects;
   answer = tt;
   can = tt;
+  logs = tt;
   sees = tt;
 }
 
@@ -67,9 +76,16 @@ close-type None found is = ap (λ (o : CloseOptions). o.flush_type) is
 close-type (Some options) found is = ap (λ (o : CloseOptions). o.flush_type) is
 
 -- the object at a place does what is asked of it
-pub acts_on : {L : Type 0} (k : Knowledge L) (merge : Option Merge) (n : ℕ) (command : Command) (made : ℕ) (found : Option Object) (s : State L) (reply : Reply) (s' : State L) (old new : Object) → found ≡ Some old → Acts k merge n command made old s.store s.writes reply new s'.store s'.writes → s'.objects ≡ set s.objects n new → ActsOn k merge n command made found s reply s'
-acts_on k merge n command made found s reply s' old new is acts objects =
-    subst (λ x. ActsOn k merge n command made x s reply s') (sym is) (record { new = new; acts = acts; objects = objects })
+acts-at : {L : Type 0} (k : Knowledge L) (merge : Option Merge) (n : ℕ) (command : Command) (call : Call) (made : ℕ) (s : State L) (reply : Reply) (s' : State L) (old new : Object) → Acts k merge n command call made old s.store s.writes reply new s'.store s'.writes → s'.objects ≡ set s.objects n new → ActsOn k merge n command call made (Some old) s reply s'
+acts-at k merge n command call made s reply s' (AHandle h) new acts objects = record { new = new; acts = acts; objects = objects }
+acts-at k merge n command call made s reply s' (ASnapshot x) (AHandle h) acts objects = absurd acts
+acts-at k merge n command call made s reply s' (ASnapshot x) (ASnapshot y) acts objects = absurd acts
+acts-at k merge n command call made s reply s' (ASnapshot x) (AFollower f) acts objects = absurd acts
+acts-at k merge n command call made s reply s' (AFollower f) new acts objects = record { new = new; acts = acts; objects = objects }
+
+pub acts_on : {L : Type 0} (k : Knowledge L) (merge : Option Merge) (n : ℕ) (command : Command) (call : Call) (made : ℕ) (found : Option Object) (s : State L) (reply : Reply) (s' : State L) (old new : Object) → found ≡ Some old → Acts k merge n command call made old s.store s.writes reply new s'.store s'.writes → s'.objects ≡ set s.objects n new → ActsOn k merge n command call made found s reply s'
+acts_on k merge n command call made found s reply s' old new is acts objects =
+    subst (λ x. ActsOn k merge n command call made x s reply s') (sym is) (acts-at k merge n command call made s reply s' old new acts objects)
 
 -- ---- checkpoints and sweeps
 -- so many changes were made, whether the store is modelled or not
@@ -138,3 +154,53 @@ sweeps moment given same a b faults faults' r reply swept counts replied =
         };
       },
     )
+
+-- ---- snapshots
+-- an object that is no snapshot is read by itself
+pub read-itself : (objects : List Object) (found : Option Object) (old : Object) → found ≡ Some old → snapshot_of old ≡ None → table_count (read_by objects found) ≡ table_count (Some old)
+read-itself objects found old is itself = ap (λ x. table_count (read_by objects x)) is ∙ by old itself where
+  by : (old : Object) → snapshot_of old ≡ None → table_count (read_by objects (Some old)) ≡ table_count (Some old)
+  by (AHandle h) itself = refl
+  by (ASnapshot x) itself = absurd (cc)
+  by (AFollower f) itself = refl
+
+-- a snapshot is read by what its handle does
+pub reads-snapshot : {L : Type 0} (k : Knowledge L) (merge : Option Merge) (x : HandleSnapshot) (command : Command) (call : Call) (s : State L) (reply : Reply) (after : Known L) (old : Object) → slice_get s.objects x.handle ≡ Some old →
+    ActsAsOf k merge x.handle command (at_snapshot x.number call) old s.store s.writes reply after → ReadsSnapshot k merge x command call 0 (slice_get s.objects x.handle) s reply (record { objects = s.objects; writes = s.writes; store = after })
+reads-snapshot k merge x command call s reply after old is acts =
+    subst (λ found. ReadsSnapshot k merge x command call 0 found s reply (record { objects = s.objects; writes = s.writes; store = after })) (sym is) (by old is acts) where
+      by : (old : Object) → slice_get s.objects x.handle ≡ Some old → ActsAsOf k merge x.handle command (at_snapshot x.number call) old s.store s.writes reply after → ReadsSnapshot k merge x command call 0 (Some old) s reply (record { objects = s.objects; writes = s.writes; store = after })
+      by (AHandle h) is acts = record { new = AHandle h; acts = acts; objects = sym (set-same s.objects x.handle (AHandle h) is) }
+      by (ASnapshot y) is acts = (refl, acts.0, ap (λ store. record { objects = s.objects; writes = s.writes; store = store }) acts.1)
+      by (AFollower f) is acts = (refl, acts.0, ap (λ store. record { objects = s.objects; writes = s.writes; store = store }) acts.1)
+
+-- what a command does that names a snapshot
+pub on-snapshot : {L : Type 0} (k : Knowledge L) (merge : Option Merge) (n : ℕ) (command : Command) (call : Call) (made : ℕ) (found : Option Object) (s : State L) (reply : Reply) (s' : State L) (old : Object) (x : HandleSnapshot) → found ≡ Some old → snapshot_of old ≡ Some x →
+    ReadsSnapshot k merge x command call made (slice_get s.objects x.handle) s reply s' → ActsOn k merge n command call made found s reply s'
+on-snapshot k merge n command call made found s reply s' old x is it reads = subst (λ found. ActsOn k merge n command call made found s reply s') (sym is) (by old it) where
+  by : (old : Object) → snapshot_of old ≡ Some x → ActsOn k merge n command call made (Some old) s reply s'
+  by (AHandle h) it = absurd (cc)
+  by (ASnapshot y) it = let same : y ≡ x = cc in subst (λ z. ReadsSnapshot k merge z command call made (slice_get s.objects z.handle) s reply s') (sym same) reads
+  by (AFollower f) it = absurd (cc)
+
+-- a snapshot that is taken of a handle and added
+pub takes-snapshot : {L : Type 0} (n : ℕ) (s : State L) (old : Object) (number : ℕ) (reply : Reply) (objects' : List Object) (writes' : List Write) → slice_get s.objects n ≡ Some old → taken_of old ≡ Some (Ok number) → Pushes s.objects (record { handle = n; number = number }) reply objects' → writes' ≡ s.writes →
+    OpensSnapshot n 0 (slice_get s.objects n) s reply (record { objects = objects'; writes = writes'; store = s.store })
+takes-snapshot n s old number reply objects' writes' is taken pushes same = subst (λ found. OpensSnapshot n 0 found s reply (record { objects = objects'; writes = writes'; store = s.store })) (sym is) (by old taken pushes) where
+  by : (old : Object) → taken_of old ≡ Some (Ok number) → Pushes s.objects (record { handle = n; number = number }) reply objects' → OpensSnapshot n 0 (Some old) s reply (record { objects = objects'; writes = writes'; store = s.store })
+  by (AHandle h) taken (inl added) =
+      let number_is : ◌≡◌ {A = Result ℕ SlateError} (snapshot_number h) (Ok number) = cc in
+      (record { result = Ok number; replied = added.0; does = (inr (sym number_is), refl); objects = added.1; writes = same }, refl)
+  by (AHandle h) taken (inr none) = (record { result = Err errors.NoMemory; replied = none.0; does = (inl refl, refl); objects = none.1 ∙ sym (append-nil s.objects); writes = same }, refl)
+  by (ASnapshot y) taken pushes = absurd (cc)
+  by (AFollower f) taken pushes = absurd (cc)
+
+-- and one that is refused
+pub refuses-snapshot : {L : Type 0} (n : ℕ) (s : State L) (old : Object) (error : SlateError) (reply : Reply) → slice_get s.objects n ≡ Some old → taken_of old ≡ Some (Err error) → reply ≡ refusal error → OpensSnapshot n 0 (slice_get s.objects n) s reply s
+refuses-snapshot n s old error reply is taken replied = subst (λ found. OpensSnapshot n 0 found s reply s) (sym is) (by old taken) where
+  by : (old : Object) → taken_of old ≡ Some (Err error) → OpensSnapshot n 0 (Some old) s reply s
+  by (AHandle h) taken =
+      let number_is : ◌≡◌ {A = Result ℕ SlateError} (snapshot_number h) (Err error) = cc in
+      (record { result = Err error; replied = replied; does = (inr (sym number_is), refl); objects = sym (append-nil s.objects); writes = refl }, refl)
+  by (ASnapshot y) taken = absurd (cc)
+  by (AFollower f) taken = absurd (cc)

@@ -19,17 +19,11 @@ use Rattle.slate_model.specs.Stores.{by_catalogue, by_objects}
 use Rattle.slate_model.specs.Tables.{AreStored}
 use Rattle.slate_model.specs.Valid.{IsHeld, ReadsLine}
 use Rattle.slate_model.proofs.Moving.{Follows}
-use Rattle.slate_model.proofs.Owing.{are-stored, ends, owed-is, owed-reads, owed-seen, owed_line, view-tables}
+use Rattle.slate_model.proofs.Owing.{are-stored, ends, latest-view, owed-is, owed-reads, owed-seen, owed_line, view-tables}
 use Rattle.slate_model.proofs.Reduced.{its, its-line, owed-begins}
 use Rattle.slate_live.specs.Confirmed.{follows_all}
 use Rattle.slate_live.specs.Represents.{IsValidFollower}
 use Rattle.slate_live.proofs.Prefixes.{prefix-end, prefix-then}
-
--- the manifest of a reader that doesn't stay at a checkpoint is the latest one
-pub latest-view : {L : Type 0} (mode : DbReaderMode) (opening : Bool) (o : ObjectsOf L) (view : VersionedManifest) → is_pinned mode ≡ false → IsView mode opening o view → latest_manifest o ≡ Some view
-latest-view (modes.Checkpoint id) opening o view free v = absurd (cc)
-latest-view modes.FollowLatest opening o view free v = v.1 ∙ v.3
-latest-view modes.ManagedCheckpoint opening o view free v = v.1 ∙ v.3
 
 -- what such a one is owed is all that is stored, or what is in tables
 owed-by : (c : Catalogue) (o : ObjectsOf Span) (mode : DbReaderMode) (skips : Bool) (view : VersionedManifest) (stored owed : Line) → is_pinned mode ≡ false → IsOwed (by_catalogue stored c) mode skips o view stored owed → (owed ≡ stored) ⊎ ((skips ≡ true) × (owed ≡ up_to view.manifest.last_l0_seq stored))

@@ -11,13 +11,15 @@ use Rattle.slate_errors.specs.declared.endings.TaskName.{TaskName}
 use Rattle.slate_errors.specs.declared.errors.SlateError.{SlateError}
 use Rattle.slate_errors.specs.declared.errors.SlateError.TheVariants as errors
 use Rattle.slate_model.specs.Catalogue.{Catalogue, Span}
+use Rattle.slate_model.specs.Knowledge.{Knowledge}
 use Rattle.slate_model.specs.declared.answers.PollAnswer.{PollAnswer}
 use Rattle.slate_model.specs.declared.answers.PollAnswer.TheVariants.{Whole, Truncated}
 use Rattle.slate_model.specs.declared.answers.Written.{Written}
 use Rattle.slate_model.specs.Follower.{Follower}
 use Rattle.slate_model.specs.Handle.{CloseResult, Handle, accepted}
 use Rattle.slate_model.specs.Known.{Known}
-use Rattle.slate_model.specs.Object.{Object, Handle as AHandle, Follower as AFollower}
+use Rattle.slate_model.specs.declared.snapshots.HandleSnapshot.{HandleSnapshot}
+use Rattle.slate_model.specs.Object.{Object, Handle as AHandle, Snapshot as ASnapshot, Follower as AFollower}
 use Rattle.slate_model.specs.Stores.{by_catalogue}
 use Rattle.slate_model.specs.Write.{Writes, next_batch, written}
 use Rattle.slate_script.specs.declared.commands.Command.{Command}
@@ -25,8 +27,9 @@ use Rattle.slate_status.specs.declared.statuses.DbStatus.{DbStatus}
 use Rattle.slate_script.specs.declared.replies.Reply.{Reply}
 use Rattle.slate_script.specs.declared.replies.Reply.TheVariants as replies
 use Rattle.slate_live.specs.declared.states.Write.{Write}
-use Rattle.slate_live.specs.Calls.{Call, Write as WriteCall, Merge as MergeCall, Flush, Refresh, Compact, Get, Scan, Seek, Close, Poll, Status, Nothing, call_of, Target, NewHandle, NewFollower, NewCheckpoint, WholeStore, OfWrite, OfObject, target_of}
-use Rattle.slate_live.specs.Commands.{Acts, ActsOn, DoesBy, asked_reply, write_reply}
+use Rattle.slate_live.proofs.Naming.{follower-did, handle-acted}
+use Rattle.slate_live.specs.Calls.{Call, Write as WriteCall, Merge as MergeCall, Flush, Refresh, Compact, Get, Scan, Seek, Close, Poll, Status, FindTime, FindNumber, Nothing, call_of, Target, NewHandle, NewSnapshot, NewFollower, NewCheckpoint, WholeStore, OfWrite, OfObject, at_snapshot, target_of}
+use Rattle.slate_live.specs.Commands.{ActsAt, ActsOn, DoesBy, OnlyAnswers, OpensSnapshot, ReadsSnapshot, asked_reply, write_reply}
 use Rattle.slate_live.specs.Confirmed.{StandsIn}
 use Rattle.slate_live.specs.Followers.{FollowerActs}
 use Rattle.slate_live.specs.Handles.{HandleActs, MergesTo, noted, pending_reply}
@@ -45,9 +48,10 @@ KeepsHandles objects objects' = (n : ℕ) (h : Handle) → IsHandleAt objects n 
 
 handle-of : (ys : List Object) (n : ℕ) (h : Handle) (new : Object) → slice_get ys n ≡ Some new → Rises (AHandle h) new → (h' : Handle) × IsHandleAt ys n h' × IsPrefix h.line h'.line
 handle-of ys n h (AHandle h') at rises = (h', at, rises.line)
+handle-of ys n h (ASnapshot x) at rises = absurd rises
 handle-of ys n h (AFollower f) at rises = absurd rises
 
-keeps-handles : (xs ys : List Object) → Rise xs ys → KeepsHandles xs ys
+pub keeps-handles : (xs ys : List Object) → Rise xs ys → KeepsHandles xs ys
 keeps-handles xs ys rise n h at = let r = rise n (AHandle h) at in handle-of ys n h r.0 r.1 r.2
 
 -- the batch of each write stands in the line of its handle
@@ -121,6 +125,7 @@ numbers-by vs is numbers = subst (Numbers vs) (sym is) numbers
 
 numbers-refusal : (vs : List Write) (e : SlateError) → Numbers vs (refusal e)
 numbers-refusal vs errors.NoMemory = tt
+numbers-refusal vs (errors.Backpressure unflushed limit) = tt
 numbers-refusal vs e = tt
 
 numbers-to : {A : Type 0} (vs : List Write) (done : A → Reply) (r : Result A SlateError) → ((x : A) → Numbers vs (done x)) → Numbers vs (reply_to done r)
@@ -160,6 +165,7 @@ numbers-pending vs false (Some q) = tt
 numbers-asked : (vs : List Write) (found : Option Object) (k : ℕ) → Numbers vs (asked_reply found k)
 numbers-asked vs None k = tt
 numbers-asked vs (Some (AHandle h)) k = numbers-pending vs (leb k h.durable) h.result
+numbers-asked vs (Some (ASnapshot x)) k = tt
 numbers-asked vs (Some (AFollower f)) k = tt
 
 numbers-write : (vs : List Write) (xs : List Object) (write : Option Write) → Numbers vs (write_reply xs write)
@@ -189,48 +195,75 @@ module _ (xs ys : List Object) (rise : Rise xs ys) (ws vs : List Write) where
       keeps-by xs ys rise ws vs reply a.1 (numbers-by vs (a.0).replied (numbers-to vs _ (a.0).result (λ x. tt)))
   handle-keeps stored catalogue merge n moment second (Close t) made h h' before after reply at set_is a =
       keeps-by xs ys rise ws vs reply a.1 (numbers-by vs (a.0).replied (numbers-closed vs _ _))
-  handle-keeps stored catalogue merge n moment second (Get key remote) made h h' before after reply at set_is a =
+  handle-keeps stored catalogue merge n moment second (Get key remote snapshot) made h h' before after reply at set_is a =
       keeps-by xs ys rise ws vs reply a.3 (numbers-by vs (a.0).replied (numbers-to vs _ (a.0).result (numbers-found vs)))
-  handle-keeps stored catalogue merge n moment second (Scan range order remote) made h h' before after reply at set_is a =
+  handle-keeps stored catalogue merge n moment second (Scan range order remote snapshot) made h h' before after reply at set_is a =
       keeps-by xs ys rise ws vs reply a.3 (numbers-by vs (a.0).replied (numbers-to vs _ (a.0).result (λ x. tt)))
-  handle-keeps stored catalogue merge n moment second (Seek range take key order remote) made h h' before after reply at set_is a =
+  handle-keeps stored catalogue merge n moment second (Seek range take key order remote snapshot) made h h' before after reply at set_is a =
       keeps-by xs ys rise ws vs reply a.3 (numbers-by vs (a.0).replied (numbers-to vs _ (a.0).result (λ x. tt)))
   handle-keeps stored catalogue merge n moment second Poll made h h' before after reply at set_is a = keeps-by xs ys rise ws vs reply a.3 (numbers-by vs a.0 tt)
   handle-keeps stored catalogue merge n moment second Status made h h' before after reply at set_is a = keeps-by xs ys rise ws vs reply a.3 (numbers-status vs _ a.0)
+  handle-keeps stored catalogue merge n moment second (FindTime number find) made h h' before after reply at set_is a = keeps-by xs ys rise ws vs reply a.3 (numbers-by vs a.0.2 tt)
+  handle-keeps stored catalogue merge n moment second (FindNumber seconds find) made h h' before after reply at set_is a = keeps-by xs ys rise ws vs reply a.3 (numbers-by vs a.0.2 tt)
   handle-keeps stored catalogue merge n moment second Nothing made h h' before after reply at set_is a = keeps-by xs ys rise ws vs reply a.3 (numbers-by vs a.0 tt)
 
   follower-keeps : (stored : Line) (catalogue : Catalogue) (merge : Option Merge) (call : Call) (made : ℕ) (f f' : Follower) (before after : Known Span) (reply : Reply) → FollowerActs (by_catalogue stored catalogue) merge call made f before ws reply f' after vs → Keeps xs ws reply ys vs
   follower-keeps stored catalogue merge Poll made f f' before after reply a =
       keeps-by xs ys rise ws vs reply a.2 (numbers-by vs (a.0).replied (numbers-to vs _ (a.0).result (numbers-polled vs)))
-  follower-keeps stored catalogue merge (Get key remote) made f f' before after reply a =
+  follower-keeps stored catalogue merge (Get key remote snapshot) made f f' before after reply a =
       keeps-by xs ys rise ws vs reply a.3 (numbers-by vs (a.0).replied (numbers-to vs _ (a.0).result (numbers-found vs)))
   follower-keeps stored catalogue merge (Close t) made f f' before after reply a = keeps-by xs ys rise ws vs reply a.3 (numbers-by vs a.0 (numbers-follower-closed vs _ _))
-  follower-keeps stored catalogue merge (Scan range order remote) made f f' before after reply a =
+  follower-keeps stored catalogue merge (Scan range order remote snapshot) made f f' before after reply a =
       keeps-by xs ys rise ws vs reply a.3 (numbers-by vs (a.0).replied (numbers-to vs _ (a.0).result (λ x. tt)))
-  follower-keeps stored catalogue merge (Seek range take key order remote) made f f' before after reply a =
+  follower-keeps stored catalogue merge (Seek range take key order remote snapshot) made f f' before after reply a =
       keeps-by xs ys rise ws vs reply a.3 (numbers-by vs (a.0).replied (numbers-to vs _ (a.0).result (λ x. tt)))
   follower-keeps stored catalogue merge (WriteCall ops) made f f' before after reply a = keeps-by xs ys rise ws vs reply a.3 (numbers-by vs a.0 tt)
   follower-keeps stored catalogue merge (MergeCall op) made f f' before after reply a = keeps-by xs ys rise ws vs reply a.3 (numbers-by vs a.0 tt)
   follower-keeps stored catalogue merge (Flush t) made f f' before after reply a = keeps-by xs ys rise ws vs reply a.3 (numbers-by vs a.0 tt)
   follower-keeps stored catalogue merge Refresh made f f' before after reply a = keeps-by xs ys rise ws vs reply a.3 (numbers-by vs a.0 tt)
   follower-keeps stored catalogue merge Compact made f f' before after reply a = keeps-by xs ys rise ws vs reply a.3 (numbers-by vs a.0 tt)
+  follower-keeps stored catalogue merge (FindTime number find) made f f' before after reply a = keeps-by xs ys rise ws vs reply a.3 (numbers-by vs a.0 tt)
+  follower-keeps stored catalogue merge (FindNumber seconds find) made f f' before after reply a = keeps-by xs ys rise ws vs reply a.3 (numbers-by vs a.0 tt)
   follower-keeps stored catalogue merge Status made f f' before after reply a = keeps-by xs ys rise ws vs reply a.3 (numbers-status vs _ a.0)
   follower-keeps stored catalogue merge Nothing made f f' before after reply a = keeps-by xs ys rise ws vs reply a.3 (numbers-by vs a.0 tt)
 
 module _ (settings : Settings) (w w' : World) (command : Command) (made : ℕ) (reply : Reply) (rise : Rise w.objects w'.objects) where
-  acts-keep : (n : ℕ) (old new : Object) → slice_get w.objects n ≡ Some old → w'.objects ≡ set w.objects n new → Acts (by_catalogue w.stored w.catalogue) settings.merge n command made old (state_of w).store w.writes reply new (state_of w').store w'.writes → Keeps w.objects w.writes reply w'.objects w'.writes
-  acts-keep n (AHandle h) (AHandle h') at set_is a = handle-keeps w.objects w'.objects rise w.writes w'.writes w.stored w.catalogue settings.merge n command.moment command.second (call_of command.action) made h h' _ _ reply at set_is a
-  acts-keep n (AFollower f) (AFollower f') at set_is a = follower-keeps w.objects w'.objects rise w.writes w'.writes w.stored w.catalogue settings.merge (call_of command.action) made f f' _ _ reply a
-  acts-keep n (AHandle h) (AFollower f') at set_is a = absurd a
-  acts-keep n (AFollower f) (AHandle h') at set_is a = absurd a
+  abbrev k : Knowledge Span
+  k = by_catalogue w.stored w.catalogue
 
-  on-keeps : (n : ℕ) (found : Option Object) → slice_get w.objects n ≡ found → ActsOn (by_catalogue w.stored w.catalogue) settings.merge n command made found (state_of w) reply (state_of w') → Keeps w.objects w.writes reply w'.objects w'.writes
-  on-keeps n None at d = keeps-by w.objects w'.objects rise w.writes w'.writes reply (ap (λ (s : State Span). s.writes) d.2) (numbers-by w'.writes d.1 tt)
-  on-keeps n (Some old) at d = acts-keep n old d.new at d.objects d.acts
+  only-keeps : (answer : Reply) → Numbers w'.writes answer → OnlyAnswers answer made (state_of w) reply (state_of w') → Keeps w.objects w.writes reply w'.objects w'.writes
+  only-keeps answer numbers d = keeps-by w.objects w'.objects rise w.writes w'.writes reply (ap (λ (s : State Span). s.writes) d.2) (numbers-by w'.writes d.1 numbers)
+
+  handle-keep : (n : ℕ) (call : Call) (h : Handle) → slice_get w.objects n ≡ Some (AHandle h) → ActsAt k settings.merge n command call made (AHandle h) (state_of w) reply (state_of w') → Keeps w.objects w.writes reply w'.objects w'.writes
+  handle-keep n call h at a =
+      let d = handle-acted k settings.merge n command call made (state_of w) reply (state_of w') h a in
+      handle-keeps w.objects w'.objects rise w.writes w'.writes w.stored w.catalogue settings.merge n command.moment command.second call made h d.new _ _ reply at d.objects d.acts
+
+  snapshot-keeps : (x : HandleSnapshot) (call : Call) (found : Option Object) → slice_get w.objects x.handle ≡ found → ReadsSnapshot k settings.merge x command call made found (state_of w) reply (state_of w') → Keeps w.objects w.writes reply w'.objects w'.writes
+  snapshot-keeps x call (Some (AHandle h)) at d = handle-keep x.handle (at_snapshot x.number call) h at d
+  snapshot-keeps x call (Some (ASnapshot y)) at d = only-keeps _ tt d
+  snapshot-keeps x call (Some (AFollower f)) at d = only-keeps _ tt d
+  snapshot-keeps x call None at d = only-keeps _ tt d
+
+  on-keeps : (n : ℕ) (call : Call) (found : Option Object) → slice_get w.objects n ≡ found → ActsOn k settings.merge n command call made found (state_of w) reply (state_of w') → Keeps w.objects w.writes reply w'.objects w'.writes
+  on-keeps n call None at d = only-keeps _ tt d
+  on-keeps n call (Some (AHandle h)) at d = handle-keep n call h at d
+  on-keeps n call (Some (ASnapshot x)) at d = snapshot-keeps x call (slice_get w.objects x.handle) refl d
+  on-keeps n call (Some (AFollower f)) at d =
+      let a = follower-did k settings.merge n command call made (state_of w) reply (state_of w') (Some (AFollower f)) f refl d in
+      follower-keeps w.objects w'.objects rise w.writes w'.writes w.stored w.catalogue settings.merge call made f a.new _ _ reply a.acts
+
+  opened-keeps : (n : ℕ) (found : Option Object) → OpensSnapshot n made found (state_of w) reply (state_of w') → Keeps w.objects w.writes reply w'.objects w'.writes
+  opened-keeps n (Some (AHandle h)) d =
+      keeps-by w.objects w'.objects rise w.writes w'.writes reply (d.0).writes (numbers-by w'.writes (d.0).replied (numbers-to w'.writes _ (d.0).result (λ x. tt)))
+  opened-keeps n (Some (ASnapshot x)) d = only-keeps _ tt d
+  opened-keeps n (Some (AFollower f)) d = only-keeps _ tt d
+  opened-keeps n None d = only-keeps _ tt d
 
   keeps-target : (target : Target) → DoesBy (by_catalogue w.stored w.catalogue) settings command target made (state_of w) reply (state_of w') → Keeps w.objects w.writes reply w'.objects w'.writes
   keeps-target (NewHandle keeps_log) d =
       keeps-by w.objects w'.objects rise w.writes w'.writes reply d.writes (numbers-by w'.writes d.replied (numbers-to w'.writes _ d.result (λ x. tt)))
+  keeps-target (NewSnapshot n) d = opened-keeps n (slice_get w.objects n) d
   keeps-target (NewFollower mode skips) d =
       keeps-by w.objects w'.objects rise w.writes w'.writes reply (d.0).writes (numbers-by w'.writes (d.0).replied (numbers-to w'.writes _ (d.0).result (λ (b : Follower × PollAnswer). numbers-followed w'.writes (length w.objects) b.1)))
   keeps-target (NewCheckpoint lifetime) d =
@@ -238,8 +271,8 @@ module _ (settings : Settings) (w w' : World) (command : Command) (made : ℕ) (
   keeps-target WholeStore d =
       keeps-by w.objects w'.objects rise w.writes w'.writes reply d.writes (numbers-by w'.writes (d.does).replied (numbers-to w'.writes _ (d.does).result (λ x. tt)))
   keeps-target (OfWrite n) d =
-      keeps-by w.objects w'.objects rise w.writes w'.writes reply (ap (λ (s : State Span). s.writes) d.2) (numbers-by w'.writes d.1 (numbers-write w'.writes w.objects (slice_get w.writes n)))
-  keeps-target (OfObject n) d = on-keeps n (slice_get w.objects n) refl d
+      only-keeps _ (numbers-write w'.writes w.objects (slice_get w.writes n)) d
+  keeps-target (OfObject n) d = on-keeps n (call_of command.action) (slice_get w.objects n) refl d
 
 -- what every command keeps, where no object goes back
 pub keeps : (settings : Settings) (w : World) (command : Command) (reply : Reply) (w' : World) → Rise w.objects w'.objects → Next settings w command reply w' → Keeps w.objects w.writes reply w'.objects w'.writes

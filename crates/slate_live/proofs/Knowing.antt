@@ -39,7 +39,7 @@ use Rattle.slate_model.proofs.Reduced.{catalogued, closes-reduced, compacts-redu
 use Rattle.slate_model.proofs.Writing.{rewritten, writes-whole, written-reads, written-valid}
 use Rattle.slate_script.specs.declared.replies.Reply.{Reply}
 use Rattle.slate_live.specs.declared.states.Write.{Write}
-use Rattle.slate_live.specs.Calls.{Call, Write as WriteCall, Merge as MergeCall, Flush, Refresh, Compact, Get, Scan, Seek, Close, Poll, Status, Nothing}
+use Rattle.slate_live.specs.Calls.{Call, Write as WriteCall, Merge as MergeCall, Flush, Refresh, Compact, Get, Scan, Seek, Close, Poll, Status, FindTime, FindNumber, Nothing}
 use Rattle.slate_live.specs.Followers.{FollowerActs, IsPlainReadAt, IsPlainScanAt, TakesFromFollower}
 use Rattle.slate_live.specs.Handles.{HandleActs, IsPlainRead, IsPlainScan, MergesTo, cut, flush_type_by, WritesTo, TakesFrom, level_of}
 use Rattle.slate_live.specs.Replies.{AnswersStatus, polled_reply, reply_to}
@@ -72,15 +72,15 @@ rows-known line o h reads rows r =
       r.2 ∙ (ap (λ bs. bs ++ batches_above h.view.manifest.last_l0_seq h.line.batches) all.1 ∙ reads all.0),
     )
 
-cut-kept : (h : Handle) (remote : Bool) → cut (kept_handle h) remote ≡ cut h remote
-cut-kept h remote = ap (λ n. read_bound None h.durable n (level_of remote) false) (accepted-kept h)
+cut-kept : (h : Handle) (remote : Bool) (snapshot : Option ℕ) → cut (kept_handle h) remote snapshot ≡ cut h remote snapshot
+cut-kept h remote snapshot = ap (λ n. read_bound snapshot h.durable n (level_of remote) false) (accepted-kept h)
 
-read-known : (merge : Option Merge) (key : List ℕ) (remote : Bool) (h : Handle) (rows : List Batch) (a : Result (Option KeyValue) ReadFault) → IsPlainRead merge key remote (kept_handle h) rows a → IsPlainRead merge key remote h rows a
-read-known merge key remote h rows a plain = plain ∙ ap (λ c. read_at merge rows c key) (cut-kept h remote)
+read-known : (merge : Option Merge) (key : List ℕ) (remote : Bool) (snapshot : Option ℕ) (h : Handle) (rows : List Batch) (a : Result (Option KeyValue) ReadFault) → IsPlainRead merge key remote snapshot (kept_handle h) rows a → IsPlainRead merge key remote snapshot h rows a
+read-known merge key remote snapshot h rows a plain = plain ∙ ap (λ c. read_at merge rows c key) (cut-kept h remote snapshot)
 
-scan-known : (merge : Option Merge) (range : ByteRange) (order : IterationOrder) (remote : Bool) (h : Handle) (rows : List Batch) (a : Result Iteration ReadFault) → Gives (IsPlainScan merge range order remote (kept_handle h)) rows a → Gives (IsPlainScan merge range order remote h) rows a
-scan-known merge range order remote h rows (Ok it) plain = subst (λ c. BeginsScan merge rows c range order it) (cut-kept h remote) plain
-scan-known merge range order remote h rows (Err fault) plain = plain
+scan-known : (merge : Option Merge) (range : ByteRange) (order : IterationOrder) (remote : Bool) (snapshot : Option ℕ) (h : Handle) (rows : List Batch) (a : Result Iteration ReadFault) → Gives (IsPlainScan merge range order remote snapshot (kept_handle h)) rows a → Gives (IsPlainScan merge range order remote snapshot h) rows a
+scan-known merge range order remote snapshot h rows (Ok it) plain = subst (λ c. BeginsScan merge rows c range order it) (cut-kept h remote snapshot) plain
+scan-known merge range order remote snapshot h rows (Err fault) plain = plain
 
 -- a read leaves the objects
 objects-read : {A : Type 0} {has : List Batch → Type 0} {P : List Batch → Result A ReadFault → Type 0} (closed : CloseResult) (tables : List TableId) (r : Result A SlateError) (o o' : Objects) (f f' : ℕ) → Reads closed tables has P (holding o f) r (holding o' f') → o' ≡ o
@@ -139,14 +139,14 @@ module _ (stored : Line) (o o' : Objects) (f f' : ℕ) (made : ℕ) (writes writ
   still-same : o' ≡ o → Moved stored stored o o' latest h h
   still-same same = still h same refl (omega arith) refl v reads
 
-  wrote : (ops : List KeyOp) (r : Result Written SlateError) → o' ≡ o → Moved stored stored o o' latest h (rewritten h low ops r)
+  wrote : (ops : List KeyOp) (r : Result Written SlateError) → o' ≡ o → Moved stored stored o o' latest h (rewritten h v.tabled low ops r)
   wrote ops (Ok w) same = still (written h ops w.create_ts) same refl (omega arith) refl (written-valid stored (catalogue_of o) h ops w.create_ts v) (written-reads stored (catalogue_of o) h ops w.create_ts v o reads)
   wrote ops (Err e) same = still-same same
 
   write-led : (ops : List KeyOp) → WritesTo n ops moment second (kept_handle h) writes reply k writes' → Untouched made (holding o f) (holding o' f') → (new : Handle) × (k ≡ kept_handle new) × Moved stored stored o o' latest h new × WritesTo n ops moment second h writes reply new writes'
   write-led ops a u =
-      let w = writes-whole h low ops moment second a.result k a.does in (
-        rewritten h low ops a.result,
+      let w = writes-whole h v.tabled low ops moment second a.result k a.does in (
+        rewritten h v.tabled low ops a.result,
         w.1,
         wrote ops a.result (objects-same o o' f f' u.1),
         record { result = a.result; replied = a.replied; does = w.0; noted = a.noted },
@@ -221,12 +221,12 @@ module _ (stored : Line) (o o' : Objects) (f f' : ℕ) (made : ℕ) (writes writ
         compact-moved stored o o' latest h k r made sound holds is live v reads before same step,
       ))
 
-  taken-known : (range : ByteRange) (order : IterationOrder) (remote : Bool) (taken : Iteration → Result (List KeyValue) SlateError) → TakesFrom (by_objects (Some o)) merge range order remote taken (kept_handle h) (holding o f) reply (holding o' f') → TakesFrom (by_catalogue stored (catalogue_of o)) merge range order remote taken h (catalogued o f) reply (catalogued o' f')
-  taken-known range order remote taken a = record {
+  taken-known : (range : ByteRange) (order : IterationOrder) (remote : Bool) (snapshot : Option ℕ) (taken : Iteration → Result (List KeyValue) SlateError) → TakesFrom (by_objects (Some o)) merge range order remote snapshot taken (kept_handle h) (holding o f) reply (holding o' f') → TakesFrom (by_catalogue stored (catalogue_of o)) merge range order remote snapshot taken h (catalogued o f) reply (catalogued o' f')
+  taken-known range order remote snapshot taken a = record {
     scan = a.scan;
     result = a.result;
-    scans = reads-reduced {has = kept_rows (Some o) (AHandle (kept_handle h))} {has' = world_rows stored (catalogue_of o) (AHandle h)} {P = Gives (IsPlainScan merge range order remote (kept_handle h))} {P' = Gives (IsPlainScan merge range order remote h)}
-        (λ rows q has plain. (rows, rows-known stored o h reads rows has, scan-known merge range order remote h rows q plain)) h.result h.view.manifest.tables a.scan o o' f f' a.scans;
+    scans = reads-reduced {has = kept_rows (Some o) (AHandle (kept_handle h))} {has' = world_rows stored (catalogue_of o) (AHandle h)} {P = Gives (IsPlainScan merge range order remote snapshot (kept_handle h))} {P' = Gives (IsPlainScan merge range order remote snapshot h)}
+        (λ rows q has plain. (rows, rows-known stored o h reads rows has, scan-known merge range order remote snapshot h rows q plain)) h.result h.view.manifest.tables a.scan o o' f f' a.scans;
     takes = a.takes;
     replied = a.replied;
   }
@@ -268,7 +268,7 @@ module _ (stored : Line) (o o' : Objects) (f f' : ℕ) (made : ℕ) (writes writ
         moved = g.1;
         known = (record { ended = (a.0).ended; replied = (a.0).replied; does = closes-reduced stored h o o' f f' v.tabled ahead made flush_type k (a.0).ended (λ t some. flush-unset o latest h sound is free t) (a.0).does }, a.1);
       }
-  handle-led (Get key remote) a = record {
+  handle-led (Get key remote snapshot) a = record {
     new = h;
     kept = a.1;
     moved = still-same (objects-read h.result h.view.manifest.tables (a.0).result o o' f f' (a.0).does);
@@ -276,28 +276,30 @@ module _ (stored : Line) (o o' : Objects) (f f' : ℕ) (made : ℕ) (writes writ
       record {
         result = (a.0).result;
         replied = (a.0).replied;
-        does = reads-reduced {has = kept_rows (Some o) (AHandle (kept_handle h))} {has' = world_rows stored (catalogue_of o) (AHandle h)} {P = IsPlainRead merge key remote (kept_handle h)} {P' = IsPlainRead merge key remote h}
-            (λ rows q has plain. (rows, rows-known stored o h reads rows has, read-known merge key remote h rows q plain)) h.result h.view.manifest.tables (a.0).result o o' f f' (a.0).does;
+        does = reads-reduced {has = kept_rows (Some o) (AHandle (kept_handle h))} {has' = world_rows stored (catalogue_of o) (AHandle h)} {P = IsPlainRead merge key remote snapshot (kept_handle h)} {P' = IsPlainRead merge key remote snapshot h}
+            (λ rows q has plain. (rows, rows-known stored o h reads rows has, read-known merge key remote snapshot h rows q plain)) h.result h.view.manifest.tables (a.0).result o o' f f' (a.0).does;
       },
       refl,
       a.2,
       a.3,
     );
   }
-  handle-led (Scan range order remote) a = record {
+  handle-led (Scan range order remote snapshot) a = record {
     new = h;
     kept = a.1;
     moved = still-same (objects-read h.result h.view.manifest.tables (a.0).scan o o' f f' (a.0).scans);
-    known = (taken-known range order remote scanned a.0, refl, a.2, a.3);
+    known = (taken-known range order remote snapshot scanned a.0, refl, a.2, a.3);
   }
-  handle-led (Seek range take key order remote) a = record {
+  handle-led (Seek range take key order remote snapshot) a = record {
     new = h;
     kept = a.1;
     moved = still-same (objects-read h.result h.view.manifest.tables (a.0).scan o o' f f' (a.0).scans);
-    known = (taken-known range order remote (sought range take key) a.0, refl, a.2, a.3);
+    known = (taken-known range order remote snapshot (sought range take key) a.0, refl, a.2, a.3);
   }
   handle-led Poll a = record { new = h; kept = a.1; moved = still-same (objects-same o o' f f' a.2.1); known = (a.0, refl, untouched-known made o o' f f' a.2, a.3) }
   handle-led Status a = record { new = h; kept = a.1; moved = still-same (objects-same o o' f f' a.2.1); known = (a.0, refl, untouched-known made o o' f f' a.2, a.3) }
+  handle-led (FindTime number find) a = record { new = h; kept = a.1; moved = still-same (objects-same o o' f f' a.2.1); known = (a.0, refl, untouched-known made o o' f f' a.2, a.3) }
+  handle-led (FindNumber seconds find) a = record { new = h; kept = a.1; moved = still-same (objects-same o o' f f' a.2.1); known = (a.0, refl, untouched-known made o o' f f' a.2, a.3) }
   handle-led Nothing a = record { new = h; kept = a.1; moved = still-same (objects-same o o' f f' a.2.1); known = (a.0, refl, untouched-known made o o' f f' a.2, a.3) }
 
 -- ---- the objects afterwards
@@ -330,11 +332,13 @@ module _ (o : Objects) (f : ℕ) (made : ℕ) (writes writes' : List Write) (rep
       close-by (by_objects (Some o)) made h (holding o f) k store' (AfterOf store') flush_type (a.0).ended (a.0).does
       (λ q is error same u. as-before o f store' u.1) (λ live none error same u. as-before o f store' u.1) (λ t live some without error same u. as-before o f store' u.1)
       (λ t can some error fl s. let t = (s.objects).some o refl in (t.0, t.1))
-  handle-after n moment second (Get key remote) h k a = read-after h.result h.view.manifest.tables (a.0).result o f store' (a.0).does
-  handle-after n moment second (Scan range order remote) h k a = read-after h.result h.view.manifest.tables (a.0).scan o f store' (a.0).scans
-  handle-after n moment second (Seek range take key order remote) h k a = read-after h.result h.view.manifest.tables (a.0).scan o f store' (a.0).scans
+  handle-after n moment second (Get key remote snapshot) h k a = read-after h.result h.view.manifest.tables (a.0).result o f store' (a.0).does
+  handle-after n moment second (Scan range order remote snapshot) h k a = read-after h.result h.view.manifest.tables (a.0).scan o f store' (a.0).scans
+  handle-after n moment second (Seek range take key order remote snapshot) h k a = read-after h.result h.view.manifest.tables (a.0).scan o f store' (a.0).scans
   handle-after n moment second Poll h k a = as-before o f store' a.2.1
   handle-after n moment second Status h k a = as-before o f store' a.2.1
+  handle-after n moment second (FindTime number find) h k a = as-before o f store' a.2.1
+  handle-after n moment second (FindNumber seconds find) h k a = as-before o f store' a.2.1
   handle-after n moment second Nothing h k a = as-before o f store' a.2.1
 
   polled-after : (r : Result PollAnswer SlateError) (g g' : Follower) → Polls (by_objects (Some o)) g (holding o f) r g' store' → AfterOf store'
@@ -347,9 +351,9 @@ module _ (o : Objects) (f : ℕ) (made : ℕ) (writes writes' : List Write) (rep
 
   pub follower-after : (call : Call) (g g' : Follower) → FollowerActs (by_objects (Some o)) merge call made g (holding o f) writes reply g' store' writes' → AfterOf store'
   follower-after Poll g g' a = polled-after (a.0).result g g' (a.0).does
-  follower-after (Get key remote) g g' a = read-after g.result g.view.manifest.tables (a.0).result o f store' (a.0).does
-  follower-after (Scan range order remote) g g' a = read-after g.result g.view.manifest.tables (a.0).scan o f store' (a.0).scans
-  follower-after (Seek range take key order remote) g g' a = read-after g.result g.view.manifest.tables (a.0).scan o f store' (a.0).scans
+  follower-after (Get key remote snapshot) g g' a = read-after g.result g.view.manifest.tables (a.0).result o f store' (a.0).does
+  follower-after (Scan range order remote snapshot) g g' a = read-after g.result g.view.manifest.tables (a.0).scan o f store' (a.0).scans
+  follower-after (Seek range take key order remote snapshot) g g' a = read-after g.result g.view.manifest.tables (a.0).scan o f store' (a.0).scans
   follower-after (Close t) g g' a = as-before o f store' a.2.1
   follower-after (WriteCall ops) g g' a = as-before o f store' a.2.1
   follower-after (MergeCall op) g g' a = as-before o f store' a.2.1
@@ -357,6 +361,8 @@ module _ (o : Objects) (f : ℕ) (made : ℕ) (writes writes' : List Write) (rep
   follower-after Refresh g g' a = as-before o f store' a.2.1
   follower-after Compact g g' a = as-before o f store' a.2.1
   follower-after Status g g' a = as-before o f store' a.2.1
+  follower-after (FindTime number find) g g' a = as-before o f store' a.2.1
+  follower-after (FindNumber seconds find) g g' a = as-before o f store' a.2.1
   follower-after Nothing g g' a = as-before o f store' a.2.1
 
 -- ---- followers
@@ -466,7 +472,7 @@ module _ (stored : Line) (o o' : Objects) (f f' : ℕ) (made : ℕ) (writes writ
 
   pub follower-led : (call : Call) → FollowerActs (by_objects (Some o)) merge call made (kept_follower g) (holding o f) writes reply k (holding o' f') writes' → LedFollower call
   follower-led Poll a = polled-led (a.0).result (a.0).replied (a.0).does a.1 a.2
-  follower-led (Get key remote) a = unled (Get key remote) (objects-read g.result g.view.manifest.tables (a.0).result o o' f f' (a.0).does) a.1 (
+  follower-led (Get key remote snapshot) a = unled (Get key remote snapshot) (objects-read g.result g.view.manifest.tables (a.0).result o o' f f' (a.0).does) a.1 (
     record {
       result = (a.0).result;
       replied = (a.0).replied;
@@ -477,8 +483,8 @@ module _ (stored : Line) (o o' : Objects) (f f' : ℕ) (made : ℕ) (writes writ
     a.2,
     a.3,
   )
-  follower-led (Scan range order remote) a = unled (Scan range order remote) (objects-read g.result g.view.manifest.tables (a.0).scan o o' f f' (a.0).scans) a.1 (taken-follower range order scanned a.0, refl, a.2, a.3)
-  follower-led (Seek range take key order remote) a = unled (Seek range take key order remote) (objects-read g.result g.view.manifest.tables (a.0).scan o o' f f' (a.0).scans) a.1 (taken-follower range order (sought range take key) a.0, refl, a.2, a.3)
+  follower-led (Scan range order remote snapshot) a = unled (Scan range order remote snapshot) (objects-read g.result g.view.manifest.tables (a.0).scan o o' f f' (a.0).scans) a.1 (taken-follower range order scanned a.0, refl, a.2, a.3)
+  follower-led (Seek range take key order remote snapshot) a = unled (Seek range take key order remote snapshot) (objects-read g.result g.view.manifest.tables (a.0).scan o o' f f' (a.0).scans) a.1 (taken-follower range order (sought range take key) a.0, refl, a.2, a.3)
   follower-led (Close t) a = record {
     new = closed_follower g;
     kept = a.1;
@@ -494,4 +500,6 @@ module _ (stored : Line) (o o' : Objects) (f f' : ℕ) (made : ℕ) (writes writ
   follower-led (Flush t) a = unled (Flush t) (objects-same o o' f f' a.2.1) a.1 (a.0, refl, untouched-known made o o' f f' a.2, a.3)
   follower-led Refresh a = unled Refresh (objects-same o o' f f' a.2.1) a.1 (a.0, refl, untouched-known made o o' f f' a.2, a.3)
   follower-led Compact a = unled Compact (objects-same o o' f f' a.2.1) a.1 (a.0, refl, untouched-known made o o' f f' a.2, a.3)
+  follower-led (FindTime number find) a = unled (FindTime number find) (objects-same o o' f f' a.2.1) a.1 (a.0, refl, untouched-known made o o' f f' a.2, a.3)
+  follower-led (FindNumber seconds find) a = unled (FindNumber seconds find) (objects-same o o' f f' a.2.1) a.1 (a.0, refl, untouched-known made o o' f f' a.2, a.3)
   follower-led Nothing a = unled Nothing (objects-same o o' f f' a.2.1) a.1 (a.0, refl, untouched-known made o o' f f' a.2, a.3)

@@ -10,7 +10,7 @@ use Rattle.slate_store.specs.declared.objects.VersionedManifest.{VersionedManife
 use Rattle.slate_model.specs.Catalogue.{catalogue_of}
 use Rattle.slate_model.specs.Follower.{Follower}
 use Rattle.slate_model.specs.Handle.{Handle, unstored}
-use Rattle.slate_model.specs.Object.{Object, Handle as AHandle, Follower as AFollower, view_of}
+use Rattle.slate_model.specs.Object.{Object, Handle as AHandle, Snapshot as ASnapshot, Follower as AFollower, tables_of}
 use Rattle.slate_model.specs.Tables.{AreStored}
 use Rattle.slate_model.proofs.Adding.{Lasts}
 use Rattle.slate_model.proofs.Logging.{LogsFollow, still-seen}
@@ -53,8 +53,9 @@ past-follows o o' latest next is is' up ids past =
 
 -- what objects are to one of a world they are after they changed, where the tables of its view last
 pub still-held : (o o' : Objects) (latest next : VersionedManifest) → latest_manifest o ≡ Some latest → latest_manifest o' ≡ Some next → LogsFollow o o' latest.manifest.replay_after_wal_id next.manifest.replay_after_wal_id →
-    (x : Object) → All (Lasts o o') (view_of x).manifest.tables → IsHeld o x → IsHeld o' x
+    (x : Object) → All (Lasts o o') (tables_of x) → IsHeld o x → IsHeld o' x
 still-held o o' latest next is is' logs (AHandle a) last held = (still-reads o o' a.view a.line last held.0, tt)
+still-held o o' latest next is is' logs (ASnapshot x) last held = (tt, tt)
 still-held o o' latest next is is' logs (AFollower g) last held = (still-reads o o' g.view g.line last held.0, λ free. still-seen o o' latest next g is is' logs (held.1 free))
 
 -- what holds of the objects of a world that it represents with objects of a store: a line is stored there, and each handle
@@ -64,8 +65,8 @@ pub record Leads (stored' : Line) (o' : Objects) (objects : List Object) : Type 
   pub content : content o' ≡ stored'
   pub handles : (m : ℕ) (a : Handle) → IsHandleAt objects m a → IsValidHandle stored' (catalogue_of o') a
   pub followers : (m : ℕ) (f : Follower) → IsFollowerAt objects m f → IsValidFollower stored' (catalogue_of o') f
-  pub named : (m n : ℕ) (a : Handle) (x : Object) → IsHandleAt objects m a → slice_get objects n ≡ Some x → AreBefore a (view_of x).manifest.tables
-  pub past : (n : ℕ) (x : Object) → slice_get objects n ≡ Some x → AreOfPast (catalogue_of o') (view_of x).manifest.tables
+  pub named : (m n : ℕ) (a : Handle) (x : Object) → IsHandleAt objects m a → slice_get objects n ≡ Some x → AreBefore a (tables_of x)
+  pub past : (n : ℕ) (x : Object) → slice_get objects n ≡ Some x → AreOfPast (catalogue_of o') (tables_of x)
   pub distinct : (m n : ℕ) (a b : Handle) → IsHandleAt objects m a → IsHandleAt objects n b → a.epoch ≡ b.epoch → m ≡ n
   pub reads : (n : ℕ) (x : Object) → slice_get objects n ≡ Some x → IsHeld o' x
 
@@ -73,8 +74,8 @@ module _ (w : World) (o : Objects) (is_sound : IsSound o) (holds : Holds o w) (v
   pub valid-over : (m : ℕ) (a : Handle) → IsHandleAt w.objects m a → IsValidHandle w.stored (catalogue_of o) a
   valid-over m a at = subst (λ c. IsValidHandle w.stored c a) (sym holds.catalogue) (valid.handles m a at)
 
-  pub past-over : (n : ℕ) (x : Object) → slice_get w.objects n ≡ Some x → AreOfPast (catalogue_of o) (view_of x).manifest.tables
-  past-over n x at = subst (λ c. AreOfPast c (view_of x).manifest.tables) (sym holds.catalogue) (valid.past n x at)
+  pub past-over : (n : ℕ) (x : Object) → slice_get w.objects n ≡ Some x → AreOfPast (catalogue_of o) (tables_of x)
+  past-over n x at = subst (λ c. AreOfPast c (tables_of x)) (sym holds.catalogue) (valid.past n x at)
 
   pub followers-over : (m : ℕ) (f : Follower) → IsFollowerAt w.objects m f → IsValidFollower w.stored (catalogue_of o) f
   followers-over m f at = subst (λ c. IsValidFollower w.stored c f) (sym holds.catalogue) (valid.followers m f at)
@@ -138,20 +139,20 @@ module _ (w : World) (o : Objects) (is_sound : IsSound o) (holds : Holds o w) (v
       before-then : (ids : List TableId) → AreBefore h ids → AreBefore new ids
       before-then ids before k d less epoch = let low = before k d less (epoch ∙ moved.epoch) in let up = moved.counter in omega (arith, low, up)
 
-      named-by : (i j : ℕ) (a : Handle) (x : Object) → ((i ≡ n) × (AHandle new ≡ AHandle a)) ⊎ ((i ≢ n) × IsHandleAt w.objects i a) → ((j ≡ n) × (AHandle new ≡ x)) ⊎ ((j ≢ n) × (slice_get w.objects j ≡ Some x)) → AreBefore a (view_of x).manifest.tables
+      named-by : (i j : ℕ) (a : Handle) (x : Object) → ((i ≡ n) × (AHandle new ≡ AHandle a)) ⊎ ((i ≢ n) × IsHandleAt w.objects i a) → ((j ≡ n) × (AHandle new ≡ x)) ⊎ ((j ≢ n) × (slice_get w.objects j ≡ Some x)) → AreBefore a (tables_of x)
       named-by i j a x (inl mine) (inl here) =
           let is_new : new ≡ a = (let e = mine.1 in cc) in
-          subst (λ (b : Handle). AreBefore b (view_of x).manifest.tables) is_new
-          (subst (λ (y : Object). AreBefore new (view_of y).manifest.tables) here.1
+          subst (λ (b : Handle). AreBefore b (tables_of x)) is_new
+          (subst (λ (y : Object). AreBefore new (tables_of y)) here.1
           (elim moved.view [
             | inl same ↦ subst (λ (v : VersionedManifest). AreBefore new v.manifest.tables) (sym same) (before-then h.view.manifest.tables (valid.named n n h (AHandle h) there there))
             | inr stored ↦ stored-before stored' o' new moved.mine new.view.manifest.tables stored
           ]))
       named-by i j a x (inl mine) (inr elsewhere) =
           let is_new : new ≡ a = (let e = mine.1 in cc) in
-          subst (λ (b : Handle). AreBefore b (view_of x).manifest.tables) is_new (before-then (view_of x).manifest.tables (valid.named n j h x there elsewhere.1))
+          subst (λ (b : Handle). AreBefore b (tables_of x)) is_new (before-then (tables_of x) (valid.named n j h x there elsewhere.1))
       named-by i j a x (inr other) (inl here) =
-          subst (λ (y : Object). AreBefore a (view_of y).manifest.tables) here.1
+          subst (λ (y : Object). AreBefore a (tables_of y)) here.1
           (elim moved.view [
             | inl same ↦ subst (λ (v : VersionedManifest). AreBefore a v.manifest.tables) (sym same) (valid.named i n a (AHandle h) other.1 there)
             | inr stored ↦ other-named i a other.0 other.1 new.view.manifest.tables stored
@@ -161,14 +162,14 @@ module _ (w : World) (o : Objects) (is_sound : IsSound o) (holds : Holds o w) (v
       past-then : (ids : List TableId) → AreOfPast (catalogue_of o) ids → AreOfPast (catalogue_of o') ids
       past-then ids past = past-follows o o' the_latest moved.next is_latest f.latest_is f.epochs ids past
 
-      past-by : (j : ℕ) (x : Object) → ((j ≡ n) × (AHandle new ≡ x)) ⊎ ((j ≢ n) × (slice_get w.objects j ≡ Some x)) → AreOfPast (catalogue_of o') (view_of x).manifest.tables
+      past-by : (j : ℕ) (x : Object) → ((j ≡ n) × (AHandle new ≡ x)) ⊎ ((j ≢ n) × (slice_get w.objects j ≡ Some x)) → AreOfPast (catalogue_of o') (tables_of x)
       past-by j x (inl here) =
-          subst (λ (y : Object). AreOfPast (catalogue_of o') (view_of y).manifest.tables) here.1
+          subst (λ (y : Object). AreOfPast (catalogue_of o') (tables_of y)) here.1
           (elim moved.view [
             | inl same ↦ subst (λ (v : VersionedManifest). AreOfPast (catalogue_of o') v.manifest.tables) (sym same) (past-then h.view.manifest.tables (past-over n (AHandle h) there))
             | inr stored ↦ stored-past o' moved.next f.sound f.latest_is new.view.manifest.tables stored
           ])
-      past-by j x (inr elsewhere) = past-then (view_of x).manifest.tables (past-over j x elsewhere.1)
+      past-by j x (inr elsewhere) = past-then (tables_of x) (past-over j x elsewhere.1)
 
       reads-by : (j : ℕ) (x : Object) → ((j ≡ n) × (AHandle new ≡ x)) ⊎ ((j ≢ n) × (slice_get w.objects j ≡ Some x)) → IsHeld o' x
       reads-by j x (inl here) = subst (IsHeld o') here.1 (moved.reads, tt)
@@ -191,18 +192,18 @@ module _ (w : World) (o : Objects) (is_sound : IsSound o) (holds : Holds o w) (v
     follower-before : (m : ℕ) (a : Handle) → IsHandleAt (set w.objects n (AFollower g')) m a → IsHandleAt w.objects m a
     follower-before = handles-set-follower w.objects n (AFollower g) g' there
 
-    follower-named : (i j : ℕ) (a : Handle) (x : Object) → IsHandleAt w.objects i a → ((j ≡ n) × (AFollower g' ≡ x)) ⊎ ((j ≢ n) × (slice_get w.objects j ≡ Some x)) → AreBefore a (view_of x).manifest.tables
+    follower-named : (i j : ℕ) (a : Handle) (x : Object) → IsHandleAt w.objects i a → ((j ≡ n) × (AFollower g' ≡ x)) ⊎ ((j ≢ n) × (slice_get w.objects j ≡ Some x)) → AreBefore a (tables_of x)
     follower-named i j a x at (inl here) =
-        subst (λ (y : Object). AreBefore a (view_of y).manifest.tables) here.1
+        subst (λ (y : Object). AreBefore a (tables_of y)) here.1
         (elim view [
           | inl same ↦ subst (λ (v : VersionedManifest). AreBefore a v.manifest.tables) (sym same) (valid.named i n a (AFollower g) at there)
           | inr stored ↦ stored-before w.stored o a (valid-over i a at) g'.view.manifest.tables stored
         ])
     follower-named i j a x at (inr elsewhere) = valid.named i j a x at elsewhere.1
 
-    follower-past : (j : ℕ) (x : Object) → ((j ≡ n) × (AFollower g' ≡ x)) ⊎ ((j ≢ n) × (slice_get w.objects j ≡ Some x)) → AreOfPast (catalogue_of o) (view_of x).manifest.tables
+    follower-past : (j : ℕ) (x : Object) → ((j ≡ n) × (AFollower g' ≡ x)) ⊎ ((j ≢ n) × (slice_get w.objects j ≡ Some x)) → AreOfPast (catalogue_of o) (tables_of x)
     follower-past j x (inl here) =
-        subst (λ (y : Object). AreOfPast (catalogue_of o) (view_of y).manifest.tables) here.1
+        subst (λ (y : Object). AreOfPast (catalogue_of o) (tables_of y)) here.1
         (elim view [
           | inl same ↦ subst (λ (v : VersionedManifest). AreOfPast (catalogue_of o) v.manifest.tables) (sym same) (past-over n (AFollower g) there)
           | inr stored ↦ stored-past o (past-over n (AFollower g) there).0 is_sound (past-over n (AFollower g) there).1 g'.view.manifest.tables stored

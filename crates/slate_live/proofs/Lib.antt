@@ -21,5 +21,6 @@ pub mod Reading
 pub mod Representing
 pub mod Rising
 pub mod Seeing
+pub mod Snapshots
 pub mod Staying
 pub mod Writing

@@ -7,6 +7,7 @@ use Rattle.slate_types.specs.declared.options.FlushType.{FlushType}
 use Rattle.slate_types.specs.declared.ranges.ByteRange.{ByteRange}
 use Rattle.slate_types.specs.declared.scan_options.IterationOrder.{IterationOrder}
 use Rattle.slate_types.specs.Line.{IsPrefix, Line}
+use Rattle.slate_seqtrack.specs.declared.pairs.FindOption.{FindOption}
 use Rattle.slate_model.specs.Flush.{grown, grows as counts}
 use Rattle.slate_model.specs.Handle.{Handle, unstored}
 use Rattle.slate_model.specs.Knowledge.{Knowledge}
@@ -79,7 +80,9 @@ Names action n =
     ⊎ (((range : ByteRange) × (take : ℕ) × (key : List ℕ) × (order : IterationOrder) × (remote : Bool) × (action ≡ actions.Seek n range take key order remote))
     ⊎ (((options : Option CloseOptions) × (action ≡ actions.Close n options))
     ⊎ ((action ≡ actions.Poll n)
-    ⊎ (action ≡ actions.Status n))))))))))))
+    ⊎ ((action ≡ actions.Status n)
+    ⊎ (((number : ℕ) × (find : FindOption) × (action ≡ actions.Ts n number find))
+    ⊎ ((seconds : ℤ) × (find : FindOption) × (action ≡ actions.Seq n seconds find)))))))))))))))
 
 pub names-object : (action : Action) (n : ℕ) → Names action n → target_of action ≡ OfObject n
 names-object action n (inl put) = ap target_of put.3
@@ -94,4 +97,6 @@ names-object action n (inr (inr (inr (inr (inr (inr (inr (inr (inl scan)))))))))
 names-object action n (inr (inr (inr (inr (inr (inr (inr (inr (inr (inl seek)))))))))) = ap target_of seek.5
 names-object action n (inr (inr (inr (inr (inr (inr (inr (inr (inr (inr (inl close))))))))))) = ap target_of close.1
 names-object action n (inr (inr (inr (inr (inr (inr (inr (inr (inr (inr (inr (inl poll)))))))))))) = ap target_of poll
-names-object action n (inr (inr (inr (inr (inr (inr (inr (inr (inr (inr (inr (inr status)))))))))))) = ap target_of status
+names-object action n (inr (inr (inr (inr (inr (inr (inr (inr (inr (inr (inr (inr (inl status))))))))))))) = ap target_of status
+names-object action n (inr (inr (inr (inr (inr (inr (inr (inr (inr (inr (inr (inr (inr (inl time)))))))))))))) = ap target_of time.2
+names-object action n (inr (inr (inr (inr (inr (inr (inr (inr (inr (inr (inr (inr (inr (inr number)))))))))))))) = ap target_of number.2

@@ -6,7 +6,7 @@ use Rattle.slate_store.specs.Content.{IsSound, content}
 use Rattle.slate_store.specs.declared.objects.VersionedManifest.{VersionedManifest}
 use Rattle.slate_model.specs.Catalogue.{catalogue_of}
 use Rattle.slate_model.specs.Handle.{Handle}
-use Rattle.slate_model.specs.Object.{Follower as AFollower, Object, view_of}
+use Rattle.slate_model.specs.Object.{Follower as AFollower, Object, tables_of}
 use Rattle.slate_model.proofs.Maintained.{Maintained}
 use Rattle.slate_model.proofs.Logging.{stay-follow}
 use Rattle.slate_model.proofs.Moving.{Follows, still-valid}
@@ -62,7 +62,7 @@ module _ (w : World) (o : Objects) (is_sound : IsSound o) (holds : Holds o w) (v
     past = λ n x at.
         let p = past-over w o is_sound holds valid reads n x at in
         let next = m.latest p.0 p.1 in
-        past-follows o o' p.0 next.0 p.1 next.1 (follows p.0 p.1).epochs (view_of x).manifest.tables p;
+        past-follows o o' p.0 next.0 p.1 next.1 (follows p.0 p.1).epochs (tables_of x) p;
     distinct = valid.distinct;
     reads = λ n x at.
         let p = past-over w o is_sound holds valid reads n x at in

@@ -5,7 +5,7 @@ use Rattle.slate_store.specs.Content.{IsSound}
 use Rattle.slate_store.specs.Objects.{Objects}
 use Rattle.slate_model.specs.Changes.{after_part}
 use Rattle.slate_model.specs.Handle.{Handle}
-use Rattle.slate_model.specs.Object.{Object, Handle as AHandle, Follower as AFollower, view_of}
+use Rattle.slate_model.specs.Object.{Object, Handle as AHandle, Follower as AFollower, tables_of}
 use Rattle.slate_model.specs.Open.{found_log, next_manifest, open_changes, opened_handle, opened_manifest}
 use Rattle.slate_model.specs.Catalogue.{catalogue_of}
 use Rattle.slate_model.specs.Tables.{AreStored}
@@ -41,7 +41,7 @@ module _ (w : World) (o : Objects) (is_sound : IsSound o) (holds : Holds o w) (v
         named = valid.named;
         past = λ n x at.
             let p = past-over w o is_sound holds valid reads n x at in
-            past-follows o (after (suc made)) p.0 (opened_manifest o) p.1 b.latest (opened-follows w.stored o (suc made) is_sound holds.stored some few p.0 p.1).epochs (view_of x).manifest.tables p;
+            past-follows o (after (suc made)) p.0 (opened_manifest o) p.1 b.latest (opened-follows w.stored o (suc made) is_sound holds.stored some few p.0 p.1).epochs (tables_of x) p;
         distinct = valid.distinct;
         reads = λ n x at.
             let p = past-over w o is_sound holds valid reads n x at in
@@ -82,26 +82,26 @@ module _ (w : World) (o : Objects) (is_sound : IsSound o) (holds : Holds o w) (v
       mine-past = stored-past (after made) (opened_manifest o) l.sound (opened o made is_sound some few).latest new.view.manifest.tables mine-stored
 
       -- no view that was there names a table of its epoch
-      unnamed : (n : ℕ) (x : Object) → slice_get w.objects n ≡ Some x → AreBefore new (view_of x).manifest.tables
+      unnamed : (n : ℕ) (x : Object) → slice_get w.objects n ≡ Some x → AreBefore new (tables_of x)
       unnamed n x at k d less epoch =
           let p = past-over w o is_sound holds valid reads n x at in
           let low = p.2 k d less in
           let above : (opened_manifest o).manifest.writer_epoch ≡ p.0.manifest.writer_epoch + 1 = ap (λ y. (next_manifest y (found_log o)).manifest.writer_epoch) p.1 in
           absurd (omega (arith, low, above, epoch))
 
-      named-by : (m n : ℕ) (a : Handle) (x : Object) → IsHandleAt w.objects m a ⊎ ((m ≡ length w.objects) × (AHandle new ≡ AHandle a)) → (slice_get w.objects n ≡ Some x) ⊎ ((n ≡ length w.objects) × (AHandle new ≡ x)) → AreBefore a (view_of x).manifest.tables
+      named-by : (m n : ℕ) (a : Handle) (x : Object) → IsHandleAt w.objects m a ⊎ ((m ≡ length w.objects) × (AHandle new ≡ AHandle a)) → (slice_get w.objects n ≡ Some x) ⊎ ((n ≡ length w.objects) × (AHandle new ≡ x)) → AreBefore a (tables_of x)
       named-by m n a x (inl first) (inl second) = valid.named m n a x first second
       named-by m n a x (inl first) (inr last_one) =
-          subst (λ (y : Object). AreBefore a (view_of y).manifest.tables) last_one.1 (stored-before w.stored (after made) a (l.handles m a first) new.view.manifest.tables mine-stored)
+          subst (λ (y : Object). AreBefore a (tables_of y)) last_one.1 (stored-before w.stored (after made) a (l.handles m a first) new.view.manifest.tables mine-stored)
       named-by m n a x (inr last_first) (inl second) =
-          subst (λ (b : Handle). AreBefore b (view_of x).manifest.tables) (same_handle a last_first.1) (unnamed n x second)
+          subst (λ (b : Handle). AreBefore b (tables_of x)) (same_handle a last_first.1) (unnamed n x second)
       named-by m n a x (inr last_first) (inr last_one) =
-          subst (λ (b : Handle). AreBefore b (view_of x).manifest.tables) (same_handle a last_first.1)
-          (subst (λ (y : Object). AreBefore new (view_of y).manifest.tables) last_one.1 (stored-before w.stored (after made) new mine-valid new.view.manifest.tables mine-stored))
+          subst (λ (b : Handle). AreBefore b (tables_of x)) (same_handle a last_first.1)
+          (subst (λ (y : Object). AreBefore new (tables_of y)) last_one.1 (stored-before w.stored (after made) new mine-valid new.view.manifest.tables mine-stored))
 
-      past-by : (n : ℕ) (x : Object) → (slice_get w.objects n ≡ Some x) ⊎ ((n ≡ length w.objects) × (AHandle new ≡ x)) → AreOfPast (catalogue_of (after made)) (view_of x).manifest.tables
+      past-by : (n : ℕ) (x : Object) → (slice_get w.objects n ≡ Some x) ⊎ ((n ≡ length w.objects) × (AHandle new ≡ x)) → AreOfPast (catalogue_of (after made)) (tables_of x)
       past-by n x (inl old) = l.past n x old
-      past-by n x (inr last_one) = subst (λ (y : Object). AreOfPast (catalogue_of (after made)) (view_of y).manifest.tables) last_one.1 mine-past
+      past-by n x (inr last_one) = subst (λ (y : Object). AreOfPast (catalogue_of (after made)) (tables_of y)) last_one.1 mine-past
 
       reads-by : (n : ℕ) (x : Object) → (slice_get w.objects n ≡ Some x) ⊎ ((n ≡ length w.objects) × (AHandle new ≡ x)) → IsHeld (after made) x
       reads-by n x (inl old) = l.reads n x old

@@ -66,17 +66,25 @@ rows-same : (f g : List ℕ → Result (Option KeyValue) ReadFault) → ((key : 
 rows-same f g same [] = refl
 rows-same f g same (key ∷ keys) = ap (λ r. with_found r (rows_of f keys)) (same key) ∙ ap (with_found (g key)) (rows-same f g same keys)
 
--- a scan of what a follower sees is one of what is stored
-pub front-scan : (merge : Option Merge) (line stored : Line) (range : ByteRange) (order : IterationOrder) (it : Iteration) → IsPrefix line stored → IsLine stored → BeginsScan merge line.batches (Some (end line)) range order it → BeginsScan merge stored.batches (Some (end line)) range order it
-front-scan merge line stored range order it p numbered begun =
+-- a scan goes by the batches up to its bound alone
+scan-by : (merge : Option Merge) (bs cs : List Batch) (n : ℕ) (range : ByteRange) (order : IterationOrder) (it : Iteration) → filter (λ b. is_within (Some n) b.number) bs ≡ filter (λ b. is_within (Some n) b.number) cs → BeginsScan merge bs (Some n) range order it → BeginsScan merge cs (Some n) range order it
+scan-by merge bs cs n range order it same begun =
     let s = begun.plain in
-    let same = λ (key : List ℕ). front-read merge line stored key p numbered in
+    let reads = λ (key : List ℕ). ap (λ xs. fold_versions merge key None (since_base (flat_map (versions_in key) xs))) same in
     record {
       unbegun = begun.unbegun;
       plain = record {
         keys = s.keys;
         in_order = s.in_order;
-        whole = λ key. subst (λ (bs : List Batch). Contains s.keys key ↔ (IsTrue (contains range key) × (flat_map (versions_in key) bs ≢ []))) (sym (front-within line stored p numbered)) (s.whole key);
-        taken = sym (rows-same _ _ same s.keys) ∙ s.taken;
+        whole = λ key. subst (λ (xs : List Batch). Contains s.keys key ↔ (IsTrue (contains range key) × (flat_map (versions_in key) xs ≢ []))) same (s.whole key);
+        taken = sym (rows-same _ _ reads s.keys) ∙ s.taken;
       };
     }
+
+-- a scan of what a follower sees is one of what is stored
+pub front-scan : (merge : Option Merge) (line stored : Line) (range : ByteRange) (order : IterationOrder) (it : Iteration) → IsPrefix line stored → IsLine stored → BeginsScan merge line.batches (Some (end line)) range order it → BeginsScan merge stored.batches (Some (end line)) range order it
+front-scan merge line stored range order it p numbered = scan-by merge line.batches stored.batches (end line) range order it (sym (front-within line stored p numbered))
+
+-- and one of a line, up to a number, is one of its front
+pub scan-front : (merge : Option Merge) (line stored : Line) (range : ByteRange) (order : IterationOrder) (it : Iteration) → IsPrefix line stored → IsLine stored → BeginsScan merge stored.batches (Some (end line)) range order it → BeginsScan merge line.batches (Some (end line)) range order it
+scan-front merge line stored range order it p numbered = scan-by merge stored.batches line.batches (end line) range order it (front-within line stored p numbered)

@@ -1,11 +1,12 @@
 -- A command over an honest store leads to a world that the live state and the store represent.
-use Rattle.std.proofs.Common.{◌≡◌, ℕ, ◌≤◌, Bool, true, length, List, [], ◌∷◌, ◌++◌, set, map, option_map, Option, Some, None, Result, Ok, Err, refl, sym, subst, ap, ◌∙◌, arith, zero, suc, inl, inr, ◌<◌}
+use Rattle.std.proofs.Common.{◌≡◌, ◌≢◌, ℕ, ◌≤◌, Bool, true, length, List, [], ◌∷◌, ◌++◌, set, map, option_map, Option, Some, None, Result, Ok, Err, refl, sym, subst, ap, ◌∙◌, arith, zero, suc, inl, inr, ◌<◌}
 use Rattle.std.proofs.lemmas.List.{append-nil, length-map, map-append}
+use Rattle.std.proofs.lemmas.List.Elements.{All-nil}
 use Rattle.std.specs.List.{slice_get}
 use Rattle.slate_types.specs.declared.batches.Batch.{Batch}
 use Rattle.slate_types.specs.Line.{IsLine, Line}
 use Rattle.slate_store.specs.Content.{IsSound}
-use Rattle.slate_store.specs.Objects.{Objects, latest_manifest}
+use Rattle.slate_store.specs.Objects.{Objects, latest_manifest, table_at}
 use Rattle.slate_store.specs.declared.objects.VersionedManifest.{VersionedManifest}
 use Rattle.slate_errors.specs.declared.errors.SlateError.{SlateError}
 use Rattle.slate_model.specs.Catalogue.{catalogue_of}
@@ -16,7 +17,12 @@ use Rattle.slate_model.specs.Handle.{Handle, kept_handle}
 use Rattle.slate_model.specs.Known.{Known}
 use Rattle.slate_model.specs.Maintain.{Checkpoints, Sweeps}
 use Rattle.slate_model.specs.Tables.{AreStored}
-use Rattle.slate_model.specs.Object.{Object, Handle as AHandle, Follower as AFollower, kept, view_of}
+use Rattle.slate_model.specs.declared.snapshots.HandleSnapshot.{HandleSnapshot}
+use Rattle.slate_model.specs.Object.{Object, Handle as AHandle, Snapshot as ASnapshot, Follower as AFollower, kept, tables_of}
+use Rattle.slate_model.specs.Snapshot.{unless_closed, snapshot_number}
+use Rattle.slate_model.proofs.Keeping.{accepted-kept}
+use Rattle.slate_live.specs.Handles.{TakesSnapshot}
+use Rattle.slate_live.proofs.Naming.{follower-did, handle-acted}
 use Rattle.slate_model.specs.Open.{OpensHandle, opened_manifest, opened_handle}
 use Rattle.slate_model.specs.Stores.{by_catalogue, by_objects}
 use Rattle.slate_model.proofs.Flushed.{part_le}
@@ -26,8 +32,8 @@ use Rattle.slate_script.specs.declared.commands.Command.{Command}
 use Rattle.slate_script.specs.declared.replies.Reply.{Reply}
 use Rattle.slate_script.specs.declared.replies.Reply.TheVariants as replies
 use Rattle.slate_live.specs.declared.states.Write.{Write}
-use Rattle.slate_live.specs.Calls.{Call, Write as WriteCall, Merge as MergeCall, Flush, Refresh, Compact, Get, Scan, Seek, Close, Poll, Status, Nothing, call_of, named, Target, NewHandle, NewFollower, NewCheckpoint, WholeStore, OfWrite, OfObject, target_of}
-use Rattle.slate_live.specs.Commands.{Acts, ActsOn, Does, DoesBy, DoesToStore, added, asked_reply, write_reply}
+use Rattle.slate_live.specs.Calls.{Call, Write as WriteCall, Merge as MergeCall, Flush, Refresh, Compact, Get, Scan, Seek, Close, Poll, Status, FindTime, FindNumber, Nothing, call_of, named, Target, NewHandle, NewSnapshot, NewFollower, NewCheckpoint, WholeStore, OfWrite, OfObject, at_snapshot, target_of}
+use Rattle.slate_live.specs.Commands.{Acts, ActsAt, ActsOn, Does, DoesBy, DoesToStore, OpensSnapshot, ReadsSnapshot, added, asked_reply, write_reply}
 use Rattle.slate_live.specs.Maintenance.{CommitsTo, SweepsTo}
 use Rattle.slate_live.specs.Replies.{followed_reply, reply_to}
 use Rattle.slate_live.specs.Represents.{AreBefore, AreOfPast, IsHeld, Holds, IsHandleAt, IsValid, IsValidFollower, Represents}
@@ -42,6 +48,7 @@ use Rattle.slate_live.proofs.Leading.{followers-over, Leads, follower-leads, is_
 use Rattle.slate_live.proofs.Maintaining.{maintained-leads}
 use Rattle.slate_live.proofs.Opening.{opened-leads, unopened-leads}
 use Rattle.slate_live.proofs.Places.{get-map, get-push}
+use Rattle.slate_live.proofs.Snapshots.{snapshots-kept}
 
 -- what is kept of objects of which one was set
 map-set : {X Y : Type 0} (f : X → Y) (xs : List X) (n : ℕ) (x : X) → map f (set xs n x) ≡ set (map f xs) n (f x)
@@ -57,11 +64,13 @@ no-growth (WriteCall ops) made stored = refl
 no-growth (MergeCall op) made stored = refl
 no-growth Refresh made stored = refl
 no-growth Compact made stored = refl
-no-growth (Get key remote) made stored = refl
-no-growth (Scan range order remote) made stored = refl
-no-growth (Seek range take key order remote) made stored = refl
+no-growth (Get key remote snapshot) made stored = refl
+no-growth (Scan range order remote snapshot) made stored = refl
+no-growth (Seek range take key order remote snapshot) made stored = refl
 no-growth Poll made stored = refl
 no-growth Status made stored = refl
+no-growth (FindTime number find) made stored = refl
+no-growth (FindNumber seconds find) made stored = refl
 no-growth Nothing made stored = refl
 
 follower-growth : (call : Call) (made : ℕ) (stored : Line) (g : Follower) → grown_by call made stored (Some (AFollower g)) ≡ stored
@@ -71,17 +80,53 @@ follower-growth (WriteCall ops) made stored g = refl
 follower-growth (MergeCall op) made stored g = refl
 follower-growth Refresh made stored g = refl
 follower-growth Compact made stored g = refl
-follower-growth (Get key remote) made stored g = refl
-follower-growth (Scan range order remote) made stored g = refl
-follower-growth (Seek range take key order remote) made stored g = refl
+follower-growth (Get key remote snapshot) made stored g = refl
+follower-growth (Scan range order remote snapshot) made stored g = refl
+follower-growth (Seek range take key order remote snapshot) made stored g = refl
 follower-growth Poll made stored g = refl
 follower-growth Status made stored g = refl
+follower-growth (FindTime number find) made stored g = refl
+follower-growth (FindNumber seconds find) made stored g = refl
 follower-growth Nothing made stored g = refl
+
+-- nor by what a snapshot asks its handle
+snapshot-growth : (x : ℕ) (call : Call) (made : ℕ) (stored : Line) (h : Handle) → grown_by (at_snapshot x call) made stored (Some (AHandle h)) ≡ stored
+snapshot-growth x (Flush t) made stored h = refl
+snapshot-growth x (Close t) made stored h = refl
+snapshot-growth x (WriteCall ops) made stored h = refl
+snapshot-growth x (MergeCall op) made stored h = refl
+snapshot-growth x Refresh made stored h = refl
+snapshot-growth x Compact made stored h = refl
+snapshot-growth x (Get key remote snapshot) made stored h = refl
+snapshot-growth x (Scan range order remote snapshot) made stored h = refl
+snapshot-growth x (Seek range take key order remote snapshot) made stored h = refl
+snapshot-growth x Poll made stored h = refl
+snapshot-growth x Status made stored h = refl
+snapshot-growth x (FindTime number find) made stored h = refl
+snapshot-growth x (FindNumber seconds find) made stored h = refl
+snapshot-growth x Nothing made stored h = refl
+
+unnamed-growth : (call : Call) (made : ℕ) (stored : Line) (x : HandleSnapshot) → grown_by call made stored (Some (ASnapshot x)) ≡ stored
+unnamed-growth (Flush t) made stored x = refl
+unnamed-growth (Close t) made stored x = refl
+unnamed-growth (WriteCall ops) made stored x = refl
+unnamed-growth (MergeCall op) made stored x = refl
+unnamed-growth Refresh made stored x = refl
+unnamed-growth Compact made stored x = refl
+unnamed-growth (Get key remote snapshot) made stored x = refl
+unnamed-growth (Scan range order remote snapshot) made stored x = refl
+unnamed-growth (Seek range take key order remote snapshot) made stored x = refl
+unnamed-growth Poll made stored x = refl
+unnamed-growth Status made stored x = refl
+unnamed-growth (FindTime number find) made stored x = refl
+unnamed-growth (FindNumber seconds find) made stored x = refl
+unnamed-growth Nothing made stored x = refl
 
 -- what is asked of a write is answered by what is kept
 asked-kept : (found : Option Object) (number : ℕ) → asked_reply (option_map kept found) number ≡ asked_reply found number
 asked-kept None number = refl
 asked-kept (Some (AHandle h)) number = refl
+asked-kept (Some (ASnapshot x)) number = refl
 asked-kept (Some (AFollower g)) number = refl
 
 write-kept : (objects : List Object) (write : Option Write) → write_reply (map kept objects) write ≡ write_reply objects write
@@ -152,39 +197,47 @@ module _ (settings : Settings) (w : World) (o : Objects) (is_sound : IsSound o) 
         does = does (d.0, d.1, state);
       }
 
-  -- a handle's command
-  led-handle : (n : ℕ) (h k : Handle) → target_of command.action ≡ OfObject n → slice_get w.objects n ≡ Some (AHandle h) →
-      Acts (by_objects (Some o)) settings.merge n command made (AHandle (kept_handle h)) (holding o w.faults) w.writes reply (AHandle k) store writes → live_objects ≡ set (map kept w.objects) n (AHandle k) → Led
-  led-handle n h k is at a objects =
-      let o' = handle-after o w.faults made w.writes writes reply settings.merge store n command.moment command.second (call_of command.action) (kept_handle h) k a in
+  -- a handle is asked this; what that does is what the command does
+  led-handle : (n : ℕ) (call : Call) (h k : Handle) → slice_get w.objects n ≡ Some (AHandle h) → stored' ≡ grown_by call made w.stored (Some (AHandle h)) →
+      ((after : Objects) (objects : List Object) → ActsAt (by_catalogue w.stored w.catalogue) settings.merge n command call made (AHandle h) (state_of w) reply (state_of (world after objects)) →
+      Does (by_catalogue w.stored w.catalogue) settings made (state_of w) command reply (state_of (world after objects))) →
+      Acts (by_objects (Some o)) settings.merge n command call made (AHandle (kept_handle h)) (holding o w.faults) w.writes reply (AHandle k) store writes → live_objects ≡ set (map kept w.objects) n (AHandle k) → Led
+  led-handle n call h k at grows does a objects =
+      let o' = handle-after o w.faults made w.writes writes reply settings.merge store n command.moment command.second call (kept_handle h) k a in
       let v = valid-over w o is_sound holds valid reads n h at in
-      let by_held = subst (λ x. Acts (by_objects (Some o)) settings.merge n command made (AHandle (kept_handle h)) (holding o w.faults) w.writes reply (AHandle k) x writes) (store-is o'.0 o'.1) a in
+      let by_held = subst (λ x. Acts (by_objects (Some o)) settings.merge n command call made (AHandle (kept_handle h)) (holding o w.faults) w.writes reply (AHandle k) x writes) (store-is o'.0 o'.1) a in
       let latest = the_latest w o is_sound holds valid reads n h at in
-      let l = handle-led w.stored o o'.0 w.faults store.faults made w.writes writes reply is_sound holds.stored latest (is_latest w o is_sound holds valid reads n h at) h k v (reads n (AHandle h) at).0 (valid.named n n h (AHandle h) at at) settings.merge n command.moment command.second (call_of command.action) by_held in
-      let grows = named-is (OfObject n) is (Some (AHandle h)) at in
+      let l = handle-led w.stored o o'.0 w.faults store.faults made w.writes writes reply is_sound holds.stored latest (is_latest w o is_sound holds valid reads n h at) h k v (reads n (AHandle h) at).0 (valid.named n n h (AHandle h) at at) settings.merge n command.moment command.second call by_held in
       let objects' = set w.objects n (AHandle l.new) in
       record {
         after = o'.0;
         objects = objects';
         modelled = o'.1;
         kept = objects ∙ (ap (λ x. set (map kept w.objects) n (AHandle x)) l.kept ∙ sym (map-set kept w.objects n (AHandle l.new)));
-        leads = subst (λ x. Leads x o'.0 objects') (sym grows) (moved-leads w o is_sound holds valid reads n h at (grown_by (call_of command.action) made w.stored (Some (AHandle h))) o'.0 l.new l.moved);
-        does = does-at (OfObject n) is o'.0 objects'
-            (subst (λ found. ActsOn (by_catalogue w.stored w.catalogue) settings.merge n command made found (state_of w) reply (state_of (world o'.0 objects'))) (sym at)
-            (record {
-              new = AHandle l.new;
-              acts = subst (λ c. Acts (by_catalogue w.stored c) settings.merge n command made (AHandle h) (record { objects = Some c; faults = w.faults }) w.writes reply (AHandle l.new) (catalogued o'.0 store.faults) writes) holds.catalogue l.known;
-              objects = refl;
-            }));
+        leads = subst (λ x. Leads x o'.0 objects') (sym grows) (moved-leads w o is_sound holds valid reads n h at (grown_by call made w.stored (Some (AHandle h))) o'.0 l.new l.moved);
+        does = does o'.0 objects' (record {
+          new = AHandle l.new;
+          acts = subst (λ c. Acts (by_catalogue w.stored c) settings.merge n command call made (AHandle h) (record { objects = Some c; faults = w.faults }) w.writes reply (AHandle l.new) (catalogued o'.0 store.faults) writes) holds.catalogue l.known;
+          objects = refl;
+        });
       }
+
+  -- what a handle did that is asked this, by what is kept of it
+  led-asked : (n : ℕ) (call : Call) (h : Handle) → slice_get w.objects n ≡ Some (AHandle h) → stored' ≡ grown_by call made w.stored (Some (AHandle h)) →
+      ((after : Objects) (objects : List Object) → ActsAt (by_catalogue w.stored w.catalogue) settings.merge n command call made (AHandle h) (state_of w) reply (state_of (world after objects)) →
+      Does (by_catalogue w.stored w.catalogue) settings made (state_of w) command reply (state_of (world after objects))) →
+      ActsAt (by_objects (Some o)) settings.merge n command call made (AHandle (kept_handle h)) s reply s' → Led
+  led-asked n call h at grows does a =
+      let d = handle-acted (by_objects (Some o)) settings.merge n command call made s reply s' (kept_handle h) a in
+      led-handle n call h d.new at grows does d.acts d.objects
 
   -- a follower's command
   led-follower : (n : ℕ) (g k : Follower) → target_of command.action ≡ OfObject n → slice_get w.objects n ≡ Some (AFollower g) →
-      Acts (by_objects (Some o)) settings.merge n command made (AFollower (kept_follower g)) (holding o w.faults) w.writes reply (AFollower k) store writes → live_objects ≡ set (map kept w.objects) n (AFollower k) → Led
+      Acts (by_objects (Some o)) settings.merge n command (call_of command.action) made (AFollower (kept_follower g)) (holding o w.faults) w.writes reply (AFollower k) store writes → live_objects ≡ set (map kept w.objects) n (AFollower k) → Led
   led-follower n g k is at a objects =
       let o' = follower-after o w.faults made w.writes writes reply settings.merge store (call_of command.action) (kept_follower g) k a in
       let mine = followers-over w o is_sound holds valid reads n g at in
-      let by_held = subst (λ x. Acts (by_objects (Some o)) settings.merge n command made (AFollower (kept_follower g)) (holding o w.faults) w.writes reply (AFollower k) x writes) (store-is o'.0 o'.1) a in
+      let by_held = subst (λ x. Acts (by_objects (Some o)) settings.merge n command (call_of command.action) made (AFollower (kept_follower g)) (holding o w.faults) w.writes reply (AFollower k) x writes) (store-is o'.0 o'.1) a in
       let l = follower-led w.stored o o'.0 w.faults store.faults made w.writes writes reply is_sound holds.stored valid.line settings.merge g k mine (reads n (AFollower g) at) (call_of command.action) by_held in
       let grows = named-is (OfObject n) is (Some (AFollower g)) at ∙ follower-growth (call_of command.action) made w.stored g in
       let objects' = set w.objects n (AFollower l.new) in
@@ -195,27 +248,52 @@ module _ (settings : Settings) (w : World) (o : Objects) (is_sound : IsSound o) 
         kept = objects ∙ (ap (λ x. set (map kept w.objects) n (AFollower x)) l.kept ∙ sym (map-set kept w.objects n (AFollower l.new)));
         leads = subst (λ x. Leads stored' x objects') (sym l.same) (over grows (follower-leads w o is_sound holds valid reads n g l.new at l.view l.valid l.holds_it));
         does = does-at (OfObject n) is o'.0 objects'
-            (subst (λ found. ActsOn (by_catalogue w.stored w.catalogue) settings.merge n command made found (state_of w) reply (state_of (world o'.0 objects'))) (sym at)
+            (subst (λ found. ActsOn (by_catalogue w.stored w.catalogue) settings.merge n command (call_of command.action) made found (state_of w) reply (state_of (world o'.0 objects'))) (sym at)
             (record {
               new = AFollower l.new;
-              acts = subst (λ c. Acts (by_catalogue w.stored c) settings.merge n command made (AFollower g) (record { objects = Some c; faults = w.faults }) w.writes reply (AFollower l.new) (catalogued o'.0 store.faults) writes) holds.catalogue l.acts;
+              acts = subst (λ c. Acts (by_catalogue w.stored c) settings.merge n command (call_of command.action) made (AFollower g) (record { objects = Some c; faults = w.faults }) w.writes reply (AFollower l.new) (catalogued o'.0 store.faults) writes) holds.catalogue l.acts;
               objects = refl;
             }));
       }
 
-  -- a command of what an object keeps
-  led-object : (n : ℕ) (old new : Object) → target_of command.action ≡ OfObject n → slice_get w.objects n ≡ Some old →
-      Acts (by_objects (Some o)) settings.merge n command made (kept old) (holding o w.faults) w.writes reply new store writes → live_objects ≡ set (map kept w.objects) n new → Led
-  led-object n (AHandle h) (AHandle k) is at a objects = led-handle n h k is at a objects
-  led-object n (AFollower g) (AFollower g') is at a objects = led-follower n g g' is at a objects
-  led-object n (AHandle h) (AFollower g') is at a objects = absurd a
-  led-object n (AFollower g) (AHandle k) is at a objects = absurd a
+  -- what the command does, by the object that it names
+  abbrev Acted : ℕ → Option Object → Objects → List Object → Type 0
+  Acted n found after objects = ActsOn (by_catalogue w.stored w.catalogue) settings.merge n command (call_of command.action) made found (state_of w) reply (state_of (world after objects))
 
-  led-on : (n : ℕ) (found : Option Object) → target_of command.action ≡ OfObject n → slice_get w.objects n ≡ found → ActsOn (by_objects (Some o)) settings.merge n command made (option_map kept found) s reply s' → Led
-  led-on n None is at a =
-      led-only _ (unnamed (OfObject n) is at) a
-      (λ only. does-at (OfObject n) is o w.objects (subst (λ found. ActsOn (by_catalogue w.stored w.catalogue) settings.merge n command made found (state_of w) reply (state_of (world o w.objects))) (sym at) only))
-  led-on n (Some old) is at a = led-object n old a.new is at a.acts a.objects
+  acted : (n : ℕ) (found : Option Object) → target_of command.action ≡ OfObject n → slice_get w.objects n ≡ found → (after : Objects) (objects : List Object) → Acted n found after objects → Does (by_catalogue w.stored w.catalogue) settings made (state_of w) command reply (state_of (world after objects))
+  acted n found is at after objects a = does-at (OfObject n) is after objects (subst (λ found. Acted n found after objects) (sym at) a)
+
+  -- a snapshot is read by its handle
+  abbrev SnapshotRead : HandleSnapshot → Option Object → Objects → List Object → Type 0
+  SnapshotRead x found after objects = ReadsSnapshot (by_catalogue w.stored w.catalogue) settings.merge x command (call_of command.action) made found (state_of w) reply (state_of (world after objects))
+
+  led-snapshot : (n : ℕ) (x : HandleSnapshot) (found : Option Object) → target_of command.action ≡ OfObject n → slice_get w.objects n ≡ Some (ASnapshot x) → slice_get w.objects x.handle ≡ found →
+      ReadsSnapshot (by_objects (Some o)) settings.merge x command (call_of command.action) made (option_map kept found) s reply s' → Led
+  led-snapshot n x found is at there a = by found there a where
+    same : stored' ≡ w.stored
+    same = named-is (OfObject n) is (Some (ASnapshot x)) at ∙ unnamed-growth (call_of command.action) made w.stored x
+
+    does : (found : Option Object) → slice_get w.objects x.handle ≡ found → (after : Objects) (objects : List Object) → SnapshotRead x found after objects → Does (by_catalogue w.stored w.catalogue) settings made (state_of w) command reply (state_of (world after objects))
+    does found there after objects a = acted n (Some (ASnapshot x)) is at after objects (subst (λ found. SnapshotRead x found after objects) (sym there) a)
+
+    by : (found : Option Object) → slice_get w.objects x.handle ≡ found → ReadsSnapshot (by_objects (Some o)) settings.merge x command (call_of command.action) made (option_map kept found) s reply s' → Led
+    by (Some (AHandle h)) there a =
+        led-asked x.handle (at_snapshot x.number (call_of command.action)) h there (same ∙ sym (snapshot-growth x.number (call_of command.action) made w.stored h))
+        (does (Some (AHandle h)) there) a
+    by (Some (ASnapshot y)) there a = led-only _ same a (λ only. does (Some (ASnapshot y)) there o w.objects only)
+    by (Some (AFollower g)) there a = led-only _ same a (λ only. does (Some (AFollower g)) there o w.objects only)
+    by None there a = led-only _ same a (λ only. does None there o w.objects only)
+
+  led-on : (n : ℕ) (found : Option Object) → target_of command.action ≡ OfObject n → slice_get w.objects n ≡ found → ActsOn (by_objects (Some o)) settings.merge n command (call_of command.action) made (option_map kept found) s reply s' → Led
+  led-on n None is at a = led-only _ (unnamed (OfObject n) is at) a (λ only. acted n None is at o w.objects only)
+  led-on n (Some (AHandle h)) is at a =
+      led-asked n (call_of command.action) h at (named-is (OfObject n) is (Some (AHandle h)) at) (acted n (Some (AHandle h)) is at) a
+  led-on n (Some (ASnapshot x)) is at a =
+      led-snapshot n x (slice_get w.objects x.handle) is at refl
+      (subst (λ found. ReadsSnapshot (by_objects (Some o)) settings.merge x command (call_of command.action) made found s reply s') (get-map kept w.objects x.handle) a)
+  led-on n (Some (AFollower g)) is at a =
+      let d = follower-did (by_objects (Some o)) settings.merge n command (call_of command.action) made s reply s' (Some (AFollower (kept_follower g))) (kept_follower g) refl a in
+      led-follower n g d.new is at d.acts d.objects
 
   -- an opening of a handle
   led-opened : (keeps_log : Bool) → target_of command.action ≡ NewHandle keeps_log → (r : Result Handle SlateError) → OpensHandle (by_objects (Some o)) made keeps_log settings.options.max_unflushed_bytes (holding o w.faults) r store →
@@ -266,40 +344,105 @@ module _ (settings : Settings) (w : World) (o : Objects) (is_sound : IsSound o) 
         });
       }
 
-  -- the objects with a follower more, which goes by a manifest whose tables are stored
-  module _ (g : Follower) (latest : VersionedManifest) (is : latest_manifest o ≡ Some latest) (tables-stored : AreStored o g.view.manifest.tables) where
-    before-push : (m : ℕ) (a : Handle) → IsHandleAt (w.objects ++ AFollower g ∷ []) m a → IsHandleAt w.objects m a
+  -- the objects with one more, which is no handle and goes by tables that are stored
+  module _ (object : Object) (no_handle : (a : Handle) → object ≡ AHandle a → ⊥) (latest : VersionedManifest) (is : latest_manifest o ≡ Some latest) (tables-stored : AreStored o (tables_of object)) where
+    before-push : (m : ℕ) (a : Handle) → IsHandleAt (w.objects ++ object ∷ []) m a → IsHandleAt w.objects m a
     before-push m a at =
-        elim (get-push w.objects (AFollower g) (AHandle a) m at) [
+        elim (get-push w.objects object (AHandle a) m at) [
           | inl old ↦ old
-          | inr last_one ↦ absurd (let other = last_one.1 in cc)
+          | inr last_one ↦ absurd (no_handle a last_one.1)
         ]
 
-    pushed : (P : Object → Type 0) → P (AFollower g) → ((m : ℕ) (x : Object) → slice_get w.objects m ≡ Some x → P x) → (m : ℕ) (x : Object) → slice_get (w.objects ++ AFollower g ∷ []) m ≡ Some x → P x
+    pushed : (P : Object → Type 0) → P object → ((m : ℕ) (x : Object) → slice_get w.objects m ≡ Some x → P x) → (m : ℕ) (x : Object) → slice_get (w.objects ++ object ∷ []) m ≡ Some x → P x
     pushed P mine before m x at =
-        elim (get-push w.objects (AFollower g) x m at) [
+        elim (get-push w.objects object x m at) [
           | inl old ↦ before m x old
           | inr last_one ↦ subst P last_one.1 mine
         ]
 
-    followed-leads : IsValidFollower w.stored (catalogue_of o) g → IsHeld o (AFollower g) → Leads w.stored o (w.objects ++ AFollower g ∷ [])
-    followed-leads mine its = record {
+    pushed-leads : ((f : Follower) → object ≡ AFollower f → IsValidFollower w.stored (catalogue_of o) f) → IsHeld o object → Leads w.stored o (w.objects ++ object ∷ [])
+    pushed-leads mine its = record {
       sound = is_sound;
       content = holds.stored;
       handles = λ m a at. valid-over w o is_sound holds valid reads m a (before-push m a at);
       followers = λ m f at.
-          elim (get-push w.objects (AFollower g) (AFollower f) m at) [
+          elim (get-push w.objects object (AFollower f) m at) [
             | inl old ↦ followers-over w o is_sound holds valid reads m f old
-            | inr last_one ↦ (let other = last_one.1 in let same : g ≡ f = cc in subst (IsValidFollower w.stored (catalogue_of o)) same mine)
+            | inr last_one ↦ mine f last_one.1
           ];
       named = λ i j a x at_i at_j.
           let at_before = before-push i a at_i in
-          pushed (λ y. AreBefore a (view_of y).manifest.tables) (stored-before w.stored o a (valid-over w o is_sound holds valid reads i a at_before) g.view.manifest.tables tables-stored)
+          pushed (λ y. AreBefore a (tables_of y)) (stored-before w.stored o a (valid-over w o is_sound holds valid reads i a at_before) (tables_of object) tables-stored)
           (λ m y at. valid.named i m a y at_before at) j x at_j;
-      past = pushed (λ y. AreOfPast (catalogue_of o) (view_of y).manifest.tables) (stored-past o latest is_sound is g.view.manifest.tables tables-stored) (past-over w o is_sound holds valid reads);
+      past = pushed (λ y. AreOfPast (catalogue_of o) (tables_of y)) (stored-past o latest is_sound is (tables_of object) tables-stored) (past-over w o is_sound holds valid reads);
       distinct = λ i j a b at_i at_j epochs. valid.distinct i j a b (before-push i a at_i) (before-push j b at_j) epochs;
       reads = pushed (IsHeld o) its reads;
     }
+
+  followed-leads : (g : Follower) (latest : VersionedManifest) → latest_manifest o ≡ Some latest → AreStored o g.view.manifest.tables → IsValidFollower w.stored (catalogue_of o) g → IsHeld o (AFollower g) → Leads w.stored o (w.objects ++ AFollower g ∷ [])
+  followed-leads g latest is there mine its =
+      pushed-leads (AFollower g) (λ a same. absurd (cc)) latest is there
+      (λ f same. let is_it : g ≡ f = cc in subst (IsValidFollower w.stored (catalogue_of o)) is_it mine) its
+
+  -- a snapshot of a handle
+  led-taken : (n : ℕ) (h : Handle) → target_of command.action ≡ NewSnapshot n → slice_get w.objects n ≡ Some (AHandle h) → (r : Result ℕ SlateError) → TakesSnapshot (kept_handle h) (holding o w.faults) r store → made ≡ 0 →
+      reply ≡ reply_to (λ number. replies.Snapshot (length (map kept w.objects)) number) r → live_objects ≡ map kept w.objects ++ added (λ number. ASnapshot (record { handle = n; number = number })) r → writes ≡ w.writes → Led
+  led-taken n h is at r d none replied objects same_writes = by r d replied objects where
+    same : stored' ≡ w.stored
+    same = unnamed (NewSnapshot n) is refl
+
+    known : store ≡ holding o w.faults
+    known = d.1
+
+    number-kept : snapshot_number (kept_handle h) ≡ snapshot_number h
+    number-kept = ap (unless_closed h.result) (accepted-kept h)
+
+    took : (r : Result ℕ SlateError) → TakesSnapshot (kept_handle h) (holding o w.faults) r store → TakesSnapshot h (state_of w).store r (catalogued o store.faults)
+    took r (inl memory, same_store) = (inl memory, ap (λ (k : Known (List Batch)). catalogued o k.faults) known ∙ known-before)
+    took r (inr number, same_store) = (inr (number ∙ number-kept), ap (λ (k : Known (List Batch)). catalogued o k.faults) known ∙ known-before)
+
+    does : (after : Objects) (objects : List Object) → OpensSnapshot n made (Some (AHandle h)) (state_of w) reply (state_of (world after objects)) → Does (by_catalogue w.stored w.catalogue) settings made (state_of w) command reply (state_of (world after objects))
+    does after objects a = does-at (NewSnapshot n) is after objects (subst (λ found. OpensSnapshot n made found (state_of w) reply (state_of (world after objects))) (sym at) a)
+
+    by : (r : Result ℕ SlateError) → TakesSnapshot (kept_handle h) (holding o w.faults) r store → reply ≡ reply_to (λ number. replies.Snapshot (length (map kept w.objects)) number) r →
+        live_objects ≡ map kept w.objects ++ added (λ number. ASnapshot (record { handle = n; number = number })) r → Led
+    by (Ok number) d replied objects =
+        let new = ASnapshot (record { handle = n; number = number }) in
+        let objects' = w.objects ++ new ∷ [] in
+        record {
+          after = o;
+          objects = objects';
+          modelled = ap (λ (k : Known (List Batch)). k.objects) known;
+          kept = objects ∙ sym (map-append kept w.objects (new ∷ []));
+          leads = over same (pushed-leads new (λ a same. absurd (cc)) (the_latest w o is_sound holds valid reads n h at) (is_latest w o is_sound holds valid reads n h at) (All-nil (λ id. table_at id o ≢ None)) (λ f same. absurd (cc)) (tt, tt));
+          does = does o objects' (
+            record { result = Ok number; replied = replied ∙ ap (λ m. replies.Snapshot m number) (length-map w.objects kept); does = took (Ok number) d; objects = refl; writes = same_writes },
+            none,
+          );
+        }
+    by (Err e) d replied objects =
+        record {
+          after = o;
+          objects = w.objects;
+          modelled = ap (λ (k : Known (List Batch)). k.objects) known;
+          kept = objects ∙ append-nil (map kept w.objects);
+          leads = over same (leads-same w o is_sound holds valid reads);
+          does = does o w.objects (
+            record { result = Err e; replied = replied; does = took (Err e) d; objects = sym (append-nil w.objects); writes = same_writes },
+            none,
+          );
+        }
+
+  led-sampled : (n : ℕ) (found : Option Object) → target_of command.action ≡ NewSnapshot n → slice_get w.objects n ≡ found → OpensSnapshot n made (option_map kept found) s reply s' → Led
+  led-sampled n found is at d = by found at d where
+    only : (found : Option Object) → slice_get w.objects n ≡ found → OpensSnapshot n made found (state_of w) reply (state_of (world o w.objects)) → Does (by_catalogue w.stored w.catalogue) settings made (state_of w) command reply (state_of (world o w.objects))
+    only found at a = does-at (NewSnapshot n) is o w.objects (subst (λ found. OpensSnapshot n made found (state_of w) reply (state_of (world o w.objects))) (sym at) a)
+
+    by : (found : Option Object) → slice_get w.objects n ≡ found → OpensSnapshot n made (option_map kept found) s reply s' → Led
+    by (Some (AHandle h)) at d = led-taken n h is at (d.0).result (d.0).does d.1 (d.0).replied (d.0).objects (d.0).writes
+    by (Some (ASnapshot x)) at d = led-only _ (unnamed (NewSnapshot n) is refl) d (λ a. only (Some (ASnapshot x)) at a)
+    by (Some (AFollower g)) at d = led-only _ (unnamed (NewSnapshot n) is refl) d (λ a. only (Some (AFollower g)) at a)
+    by None at d = led-only _ (unnamed (NewSnapshot n) is refl) d (λ a. only None at a)
 
   -- an opening of a follower
   led-followed : (mode : DbReaderMode) (skips : Bool) → target_of command.action ≡ NewFollower mode skips → (r : Result (Follower × PollAnswer) SlateError) → Rebuilds (by_objects (Some o)) mode skips true unseen (holding o w.faults) r store → made ≡ 0 →
@@ -399,6 +542,8 @@ module _ (settings : Settings) (w : World) (o : Objects) (is_sound : IsSound o) 
 
   led-by : (target : Target) → target_of command.action ≡ target → DoesBy (by_objects (Some o)) settings command target made s reply s' → Led
   led-by (NewHandle keeps_log) is d = led-opened keeps_log is d.result d.does d.replied d.objects d.writes
+  led-by (NewSnapshot n) is d =
+      led-sampled n (slice_get w.objects n) is refl (subst (λ found. OpensSnapshot n made found s reply s') (get-map kept w.objects n) d)
   led-by (NewFollower mode skips) is d = led-followed mode skips is (d.0).result (d.0).does d.1 (d.0).replied (d.0).objects (d.0).writes
   led-by (NewCheckpoint lifetime) is d = led-checkpoint lifetime is d
   led-by WholeStore is d = led-swept is d
@@ -406,7 +551,7 @@ module _ (settings : Settings) (w : World) (o : Objects) (is_sound : IsSound o) 
       let answer = write_reply w.objects (slice_get w.writes n) in
       led-only answer (unnamed (OfWrite n) is refl) (d.0, d.1 ∙ write-kept w.objects (slice_get w.writes n), d.2) (λ only. does-at (OfWrite n) is o w.objects only)
   led-by (OfObject n) is d =
-      led-on n (slice_get w.objects n) is refl (subst (λ found. ActsOn (by_objects (Some o)) settings.merge n command made found s reply s') (get-map kept w.objects n) d)
+      led-on n (slice_get w.objects n) is refl (subst (λ found. ActsOn (by_objects (Some o)) settings.merge n command (call_of command.action) made found s reply s') (get-map kept w.objects n) d)
 
 -- from a world that is represented, a command leads to one that is
 pub leads : (settings : Settings) (live live' : Live) (store store' : Known (List Batch)) (w : World) (command : Command) (made : ℕ) (reply : Reply) → Represents live store w → Does (by_objects store.objects) settings made (running live store) command reply (running live' store') →
@@ -430,6 +575,6 @@ leads settings live live' store store' w command made reply r d =
         faults = refl;
         objects = l.kept;
         writes = refl;
-        valid = record { line = subst IsLine lead.content (lead.sound).line; followers = lead.followers; handles = lead.handles; named = lead.named; past = lead.past; distinct = lead.distinct };
+        valid = record { line = subst IsLine lead.content (lead.sound).line; followers = lead.followers; handles = lead.handles; snapshots = snapshots-kept settings w (world settings w o (r.held).2 (r.held).3 r.valid (r.held).4 command made reply live'.objects live'.writes store' l.after l.objects) command reply r.valid (record { made = made; does = l.does; stored = refl }); named = lead.named; past = lead.past; distinct = lead.distinct };
       },
     )

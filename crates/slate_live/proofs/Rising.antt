@@ -21,14 +21,16 @@ use Rattle.slate_model.specs.Follower.{Follower, is_pinned, number}
 use Rattle.slate_model.specs.Handle.{CloseResult, Handle, accepted}
 use Rattle.slate_model.specs.Knowledge.{Knowledge}
 use Rattle.slate_model.specs.Known.{Known}
-use Rattle.slate_model.specs.Object.{Object, Handle as AHandle, Follower as AFollower}
+use Rattle.slate_model.specs.declared.snapshots.HandleSnapshot.{HandleSnapshot}
+use Rattle.slate_model.specs.Object.{Object, Handle as AHandle, Snapshot as ASnapshot, Follower as AFollower}
 use Rattle.slate_model.specs.Stores.{by_catalogue}
 use Rattle.slate_model.specs.Write.{Writes, accepted_moment}
 use Rattle.slate_script.specs.declared.commands.Command.{Command}
 use Rattle.slate_script.specs.declared.replies.Reply.{Reply}
 use Rattle.slate_live.specs.declared.states.Write.{Write}
-use Rattle.slate_live.specs.Calls.{Call, Write as WriteCall, Merge as MergeCall, Flush, Refresh, Compact, Get, Scan, Seek, Close, Poll, Status, Nothing, call_of, Target, NewHandle, NewFollower, NewCheckpoint, WholeStore, OfWrite, OfObject, target_of}
-use Rattle.slate_live.specs.Commands.{Acts, ActsOn, DoesBy}
+use Rattle.slate_live.proofs.Naming.{follower-did, handle-acted}
+use Rattle.slate_live.specs.Calls.{Call, Write as WriteCall, Merge as MergeCall, Flush, Refresh, Compact, Get, Scan, Seek, Close, Poll, Status, FindTime, FindNumber, Nothing, call_of, Target, NewHandle, NewSnapshot, NewFollower, NewCheckpoint, WholeStore, OfWrite, OfObject, at_snapshot, target_of}
+use Rattle.slate_live.specs.Commands.{ActsAt, ActsOn, DoesBy, OnlyAnswers, OpensSnapshot, ReadsSnapshot}
 use Rattle.slate_live.specs.Followers.{FollowerActs}
 use Rattle.slate_live.specs.Handles.{HandleActs, MergesTo}
 use Rattle.slate_live.specs.Represents.{IsValidFollower, IsValid}
@@ -135,11 +137,13 @@ handle-rises stored catalogue merge n moment second Compact made h before writes
     compact-cases (by_catalogue stored catalogue) made h before h' after (HandleRises h h') (a.0).result (a.0).does
     (λ q is error same store. rises-same h h' same)
     (λ live joins. moved-rises h h' h'.counter _ live joins.same)
-handle-rises stored catalogue merge n moment second (Get key remote) made h before writes reply h' after writes' low a = rises-same h h' a.1
-handle-rises stored catalogue merge n moment second (Scan range order remote) made h before writes reply h' after writes' low a = rises-same h h' a.1
-handle-rises stored catalogue merge n moment second (Seek range take key order remote) made h before writes reply h' after writes' low a = rises-same h h' a.1
+handle-rises stored catalogue merge n moment second (Get key remote snapshot) made h before writes reply h' after writes' low a = rises-same h h' a.1
+handle-rises stored catalogue merge n moment second (Scan range order remote snapshot) made h before writes reply h' after writes' low a = rises-same h h' a.1
+handle-rises stored catalogue merge n moment second (Seek range take key order remote snapshot) made h before writes reply h' after writes' low a = rises-same h h' a.1
 handle-rises stored catalogue merge n moment second Poll made h before writes reply h' after writes' low a = rises-same h h' a.1
 handle-rises stored catalogue merge n moment second Status made h before writes reply h' after writes' low a = rises-same h h' a.1
+handle-rises stored catalogue merge n moment second (FindTime number find) made h before writes reply h' after writes' low a = rises-same h h' a.1
+handle-rises stored catalogue merge n moment second (FindNumber seconds find) made h before writes reply h' after writes' low a = rises-same h h' a.1
 handle-rises stored catalogue merge n moment second Nothing made h before writes reply h' after writes' low a = rises-same h h' a.1
 
 follower-same : (f f' : Follower) → f' ≡ f → FollowerRises f f'
@@ -175,19 +179,22 @@ closed-follower-rises f (Some q) is = record { mode = refl; skips = refl; number
 pub follower-rises : (stored : Line) (catalogue : Catalogue) (merge : Option Merge) (call : Call) (made : ℕ) (f : Follower) (before : Known Span) (writes : List Write) (reply : Reply) (f' : Follower) (after : Known Span) (writes' : List Write) → before.objects ≡ Some catalogue → IsValidFollower stored catalogue f → FollowerActs (by_catalogue stored catalogue) merge call made f before writes reply f' after writes' → FollowerRises f f'
 follower-rises stored catalogue merge Poll made f before writes reply f' after writes' at front a = poll-rises stored catalogue f f' before after (a.0).result at front (a.0).does
 follower-rises stored catalogue merge (Close t) made f before writes reply f' after writes' at front a = subst (FollowerRises f) (sym a.1) (closed-follower-rises f f.result refl)
-follower-rises stored catalogue merge (Get key remote) made f before writes reply f' after writes' at front a = follower-same f f' a.1
-follower-rises stored catalogue merge (Scan range order remote) made f before writes reply f' after writes' at front a = follower-same f f' a.1
-follower-rises stored catalogue merge (Seek range take key order remote) made f before writes reply f' after writes' at front a = follower-same f f' a.1
+follower-rises stored catalogue merge (Get key remote snapshot) made f before writes reply f' after writes' at front a = follower-same f f' a.1
+follower-rises stored catalogue merge (Scan range order remote snapshot) made f before writes reply f' after writes' at front a = follower-same f f' a.1
+follower-rises stored catalogue merge (Seek range take key order remote snapshot) made f before writes reply f' after writes' at front a = follower-same f f' a.1
 follower-rises stored catalogue merge (WriteCall ops) made f before writes reply f' after writes' at front a = follower-same f f' a.1
 follower-rises stored catalogue merge (MergeCall op) made f before writes reply f' after writes' at front a = follower-same f f' a.1
 follower-rises stored catalogue merge (Flush t) made f before writes reply f' after writes' at front a = follower-same f f' a.1
 follower-rises stored catalogue merge Refresh made f before writes reply f' after writes' at front a = follower-same f f' a.1
 follower-rises stored catalogue merge Compact made f before writes reply f' after writes' at front a = follower-same f f' a.1
 follower-rises stored catalogue merge Status made f before writes reply f' after writes' at front a = follower-same f f' a.1
+follower-rises stored catalogue merge (FindTime number find) made f before writes reply f' after writes' at front a = follower-same f f' a.1
+follower-rises stored catalogue merge (FindNumber seconds find) made f before writes reply f' after writes' at front a = follower-same f f' a.1
 follower-rises stored catalogue merge Nothing made f before writes reply f' after writes' at front a = follower-same f f' a.1
 
 rises-refl : (x : Object) → Rises x x
 rises-refl (AHandle h) = rises-same h h refl
+rises-refl (ASnapshot x) = refl
 rises-refl (AFollower f) = follower-same f f refl
 
 rise-same : (xs ys : List Object) → ys ≡ xs → Rise xs ys
@@ -211,23 +218,43 @@ module _ (settings : Settings) (w : World) (valid : IsValid w) (command : Comman
   abbrev k : Knowledge Span
   k = by_catalogue w.stored w.catalogue
 
-  acts-rise : (n : ℕ) (old new : Object) → slice_get w.objects n ≡ Some old → Acts k settings.merge n command made old (state_of w).store w.writes reply new s'.store s'.writes → Rises old new
-  acts-rise n (AHandle h) (AHandle h') at a = handle-rises w.stored w.catalogue settings.merge n command.moment command.second (call_of command.action) made h _ w.writes reply h' _ _ (valid.handles n h at).durable a
-  acts-rise n (AFollower f) (AFollower f') at a = follower-rises w.stored w.catalogue settings.merge (call_of command.action) made f _ w.writes reply f' _ _ refl (valid.followers n f at) a
-  acts-rise n (AHandle h) (AFollower f') at a = absurd a
-  acts-rise n (AFollower f) (AHandle h') at a = absurd a
+  only-rises : (answer : Reply) → OnlyAnswers answer made (state_of w) reply s' → Rise w.objects s'.objects
+  only-rises answer a = rise-same w.objects s'.objects (ap (λ (s : State Span). s.objects) a.2)
 
-  on-rises : (n : ℕ) (found : Option Object) → slice_get w.objects n ≡ found → ActsOn k settings.merge n command made found (state_of w) reply s' → Rise w.objects s'.objects
-  on-rises n None at a = rise-same w.objects s'.objects (ap (λ (s : State Span). s.objects) a.2)
-  on-rises n (Some old) at a = rise-set w.objects s'.objects n old a.new at (acts-rise n old a.new at a.acts) a.objects
+  handle-rise : (n : ℕ) (call : Call) (h : Handle) → slice_get w.objects n ≡ Some (AHandle h) → ActsAt k settings.merge n command call made (AHandle h) (state_of w) reply s' → Rise w.objects s'.objects
+  handle-rise n call h at a =
+      let d = handle-acted k settings.merge n command call made (state_of w) reply s' h a in
+      rise-set w.objects s'.objects n (AHandle h) (AHandle d.new) at
+      (handle-rises w.stored w.catalogue settings.merge n command.moment command.second call made h _ w.writes reply d.new _ _ (valid.handles n h at).durable d.acts) d.objects
+
+  snapshot-rises : (x : HandleSnapshot) (call : Call) (found : Option Object) → slice_get w.objects x.handle ≡ found → ReadsSnapshot k settings.merge x command call made found (state_of w) reply s' → Rise w.objects s'.objects
+  snapshot-rises x call (Some (AHandle h)) at a = handle-rise x.handle (at_snapshot x.number call) h at a
+  snapshot-rises x call (Some (ASnapshot y)) at a = only-rises _ a
+  snapshot-rises x call (Some (AFollower f)) at a = only-rises _ a
+  snapshot-rises x call None at a = only-rises _ a
+
+  on-rises : (n : ℕ) (call : Call) (found : Option Object) → slice_get w.objects n ≡ found → ActsOn k settings.merge n command call made found (state_of w) reply s' → Rise w.objects s'.objects
+  on-rises n call None at a = only-rises _ a
+  on-rises n call (Some (AHandle h)) at a = handle-rise n call h at a
+  on-rises n call (Some (ASnapshot x)) at a = snapshot-rises x call (slice_get w.objects x.handle) refl a
+  on-rises n call (Some (AFollower f)) at a =
+      let d = follower-did k settings.merge n command call made (state_of w) reply s' (Some (AFollower f)) f refl a in
+      rise-set w.objects s'.objects n (AFollower f) (AFollower d.new) at (follower-rises w.stored w.catalogue settings.merge call made f _ w.writes reply d.new _ _ refl (valid.followers n f at) d.acts) d.objects
+
+  opened-rises : (n : ℕ) (found : Option Object) → OpensSnapshot n made found (state_of w) reply s' → Rise w.objects s'.objects
+  opened-rises n (Some (AHandle h)) d = rise-push w.objects s'.objects _ (d.0).objects
+  opened-rises n (Some (ASnapshot x)) d = only-rises _ d
+  opened-rises n (Some (AFollower f)) d = only-rises _ d
+  opened-rises n None d = only-rises _ d
 
   does-rises : (target : Target) → DoesBy k settings command target made (state_of w) reply s' → Rise w.objects s'.objects
   does-rises (NewHandle keeps_log) d = rise-push w.objects s'.objects _ d.objects
+  does-rises (NewSnapshot n) d = opened-rises n (slice_get w.objects n) d
   does-rises (NewFollower mode skips) d = rise-push w.objects s'.objects _ (d.0).objects
   does-rises (NewCheckpoint lifetime) d = rise-same w.objects s'.objects d.objects
   does-rises WholeStore d = rise-same w.objects s'.objects d.objects
   does-rises (OfWrite n) d = rise-same w.objects s'.objects (ap (λ (s : State Span). s.objects) d.2)
-  does-rises (OfObject n) d = on-rises n (slice_get w.objects n) refl d
+  does-rises (OfObject n) d = on-rises n (call_of command.action) (slice_get w.objects n) refl d
 
 -- whatever a command answers, no object goes back
 pub rises : (settings : Settings) (w : World) (command : Command) (reply : Reply) (w' : World) → IsValid w → Next settings w command reply w' → Rise w.objects w'.objects

@@ -12,7 +12,8 @@ use Rattle.slate_model.specs.Follow.{unseen, Polls, Rebuilds, built}
 use Rattle.slate_model.specs.Follower.{Follower, is_pinned, number}
 use Rattle.slate_store.specs.declared.reader_modes.DbReaderMode.{DbReaderMode}
 use Rattle.slate_model.specs.Handle.{Handle}
-use Rattle.slate_model.specs.Object.{Object, Handle as AHandle, Follower as AFollower}
+use Rattle.slate_model.specs.declared.snapshots.HandleSnapshot.{HandleSnapshot}
+use Rattle.slate_model.specs.Object.{Object, Handle as AHandle, Snapshot as ASnapshot, Follower as AFollower}
 use Rattle.slate_model.specs.Open.{OpensHandle}
 use Rattle.slate_model.specs.Stores.{by_catalogue}
 use Rattle.slate_script.specs.declared.commands.Action.{Action}
@@ -20,8 +21,8 @@ use Rattle.slate_script.specs.declared.commands.Action.TheVariants as actions
 use Rattle.slate_script.specs.declared.commands.Command.{Command}
 use Rattle.slate_script.specs.declared.replies.Reply.{Reply}
 use Rattle.slate_script.specs.declared.replies.Reply.TheVariants as replies
-use Rattle.slate_live.specs.Calls.{Poll, call_of, target_of}
-use Rattle.slate_live.specs.Commands.{ActsOn, DoesBy, added}
+use Rattle.slate_live.specs.Calls.{Poll, at_snapshot, call_of, target_of}
+use Rattle.slate_live.specs.Commands.{ActsOn, DoesBy, ReadsSnapshot, added}
 use Rattle.slate_live.specs.Confirmed.{Sees, StandsIn, follows_all}
 use Rattle.slate_live.specs.Represents.{IsFollowerAt}
 use Rattle.slate_live.proofs.Following.{owed-all}
@@ -29,7 +30,7 @@ use Rattle.slate_live.specs.Replies.{followed_reply, polled_reply, refusal, repl
 use Rattle.slate_live.specs.Settings.{Settings}
 use Rattle.slate_live.specs.World.{Next, World, state_of}
 use Rattle.slate_live.proofs.Cases.{by-option, some-of}
-use Rattle.slate_live.proofs.Naming.{follower-did, handle-did}
+use Rattle.slate_live.proofs.Naming.{follower-did, handle-acted}
 use Rattle.slate_live.proofs.Places.{get-seam, get-set_same}
 
 -- the number of what stands in a line is at most that of its end
@@ -54,8 +55,15 @@ sees-error batch (actions.Follow mode managed skip) e w = tt
 sees-error batch (actions.Poll n) e w = tt
 sees-error batch action e w = tt
 
+sees-held-up : (batch : Batch) (action : Action) (unflushed limit : ℕ) (w : World) → Sees batch action (replies.Backpressure unflushed limit) w
+sees-held-up batch (actions.Open wal) unflushed limit w = tt
+sees-held-up batch (actions.Follow mode managed skip) unflushed limit w = tt
+sees-held-up batch (actions.Poll n) unflushed limit w = tt
+sees-held-up batch action unflushed limit w = tt
+
 sees-refusal : (batch : Batch) (action : Action) (e : SlateError) (w : World) → Sees batch action (refusal e) w
 sees-refusal batch action errors.NoMemory w = sees-no-memory batch action w
+sees-refusal batch action (errors.Backpressure unflushed limit) w = sees-held-up batch action unflushed limit w
 sees-refusal batch action e w = sees-error batch action e w
 
 -- the handle of an opening has it in its line
@@ -124,13 +132,22 @@ module _ (n : ℕ) (batch : Batch) (w w' : World) (f f' : Follower) (at : IsFoll
             subst (λ x. Sees batch (actions.Poll n) (reply_to polled_reply x) w') (sym q.0) (stayed-sees (number f) q.1 stays)
         by live false free = polled-sees r free (p.rebuilds live free)
 
-sees-on : (settings : Settings) (batch : Batch) (w w' : World) (command : Command) (made n : ℕ) (reply : Reply) (found : Option Object) → call_of command.action ≡ Poll → StandsIn batch w.stored → slice_get w.objects n ≡ found → ActsOn (by_catalogue w.stored w.catalogue) settings.merge n command made found (state_of w) reply (state_of w') → Sees batch (actions.Poll n) reply w'
-sees-on settings batch w w' command made n reply None is stands at d = sees-by batch (actions.Poll n) w' d.1 tt
-sees-on settings batch w w' command made n reply (Some (AHandle h)) is stands at d =
-    let a = handle-did (by_catalogue w.stored w.catalogue) settings.merge n command Poll made (state_of w) reply (state_of w') (Some (AHandle h)) h is refl d in
+snapshot-sees : (settings : Settings) (batch : Batch) (w w' : World) (command : Command) (made n : ℕ) (reply : Reply) (x : HandleSnapshot) (found : Option Object) → ReadsSnapshot (by_catalogue w.stored w.catalogue) settings.merge x command Poll made found (state_of w) reply (state_of w') → Sees batch (actions.Poll n) reply w'
+snapshot-sees settings batch w w' command made n reply x (Some (AHandle h)) d =
+    let a = handle-acted (by_catalogue w.stored w.catalogue) settings.merge x.handle command (at_snapshot x.number Poll) made (state_of w) reply (state_of w') h d in
     sees-by batch (actions.Poll n) w' (a.acts).0 tt
-sees-on settings batch w w' command made n reply (Some (AFollower f)) is stands at d =
-    let a = follower-did (by_catalogue w.stored w.catalogue) settings.merge n command Poll made (state_of w) reply (state_of w') (Some (AFollower f)) f is refl d in
+snapshot-sees settings batch w w' command made n reply x (Some (ASnapshot y)) d = sees-by batch (actions.Poll n) w' d.1 tt
+snapshot-sees settings batch w w' command made n reply x (Some (AFollower f)) d = sees-by batch (actions.Poll n) w' d.1 tt
+snapshot-sees settings batch w w' command made n reply x None d = sees-by batch (actions.Poll n) w' d.1 tt
+
+sees-on : (settings : Settings) (batch : Batch) (w w' : World) (command : Command) (made n : ℕ) (reply : Reply) (found : Option Object) → StandsIn batch w.stored → slice_get w.objects n ≡ found → ActsOn (by_catalogue w.stored w.catalogue) settings.merge n command Poll made found (state_of w) reply (state_of w') → Sees batch (actions.Poll n) reply w'
+sees-on settings batch w w' command made n reply None stands at d = sees-by batch (actions.Poll n) w' d.1 tt
+sees-on settings batch w w' command made n reply (Some (AHandle h)) stands at d =
+    let a = handle-acted (by_catalogue w.stored w.catalogue) settings.merge n command Poll made (state_of w) reply (state_of w') h d in
+    sees-by batch (actions.Poll n) w' (a.acts).0 tt
+sees-on settings batch w w' command made n reply (Some (ASnapshot x)) stands at d = snapshot-sees settings batch w w' command made n reply x (slice_get w.objects x.handle) d
+sees-on settings batch w w' command made n reply (Some (AFollower f)) stands at d =
+    let a = follower-did (by_catalogue w.stored w.catalogue) settings.merge n command Poll made (state_of w) reply (state_of w') (Some (AFollower f)) f refl d in
     sees-by batch (actions.Poll n) w' (a.acts).0.replied (poll-sees n batch w w' f a.new at a.objects stands (a.acts).0.result (a.acts).0.does)
 
 sees-action : (settings : Settings) (batch : Batch) (w w' : World) (command : Command) (made : ℕ) (action : Action) (reply : Reply) → command.action ≡ action → StandsIn batch w.stored → DoesBy (by_catalogue w.stored w.catalogue) settings command (target_of action) made (state_of w) reply (state_of w') → Sees batch action reply w'
@@ -139,7 +156,9 @@ sees-action settings batch w w' command made (actions.Open wal) reply is stands 
 sees-action settings batch w w' command made (actions.Follow mode managed skip) reply is stands d =
     sees-by batch (actions.Follow mode managed skip) w' (d.0).replied
     (follow-sees batch w w' (length w.objects) mode managed skip (d.0).result (d.0).does stands)
-sees-action settings batch w w' command made (actions.Poll n) reply is stands d = sees-on settings batch w w' command made n reply (slice_get w.objects n) (ap call_of is) stands refl d
+sees-action settings batch w w' command made (actions.Poll n) reply is stands d =
+    sees-on settings batch w w' command made n reply (slice_get w.objects n) stands refl
+    (subst (λ a. ActsOn (by_catalogue w.stored w.catalogue) settings.merge n command (call_of a) made (slice_get w.objects n) (state_of w) reply (state_of w')) is d)
 sees-action settings batch w w' command made (actions.Put n key value expire) reply is stands d = tt
 sees-action settings batch w w' command made (actions.Merge n key value expire) reply is stands d = tt
 sees-action settings batch w w' command made (actions.Delete n key) reply is stands d = tt
@@ -152,6 +171,9 @@ sees-action settings batch w w' command made (actions.Scan n range order remote)
 sees-action settings batch w w' command made (actions.Seek n range take key order remote) reply is stands d = tt
 sees-action settings batch w w' command made (actions.Close n options) reply is stands d = tt
 sees-action settings batch w w' command made (actions.Status n) reply is stands d = tt
+sees-action settings batch w w' command made (actions.Ts n number find) reply is stands d = tt
+sees-action settings batch w w' command made (actions.Seq n seconds find) reply is stands d = tt
+sees-action settings batch w w' command made (actions.Snapshot n) reply is stands d = tt
 sees-action settings batch w w' command made (actions.Await n) reply is stands d = tt
 sees-action settings batch w w' command made (actions.Checkpoint lifetime) reply is stands d = tt
 sees-action settings batch w w' command made actions.Sweep reply is stands d = tt

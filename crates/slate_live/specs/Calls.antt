@@ -7,21 +7,24 @@ use Rattle.slate_types.specs.declared.options.FlushType.{FlushType}
 use Rattle.slate_types.specs.declared.options.FlushType.TheVariants.{MemTable}
 use Rattle.slate_types.specs.declared.ranges.ByteRange.{ByteRange}
 use Rattle.slate_types.specs.declared.scan_options.IterationOrder.{IterationOrder}
+use Rattle.slate_seqtrack.specs.declared.pairs.FindOption.{FindOption}
 use Rattle.slate_store.specs.Compaction.{compact_calls}
 use Rattle.slate_store.specs.Objects.{Objects}
 use Rattle.slate_store.specs.declared.reader_modes.DbReaderMode.{DbReaderMode}
 use Rattle.slate_store.specs.Sweeps.{sweep_calls}
 use Rattle.slate_model.specs.Followed.{followed_logs}
-use Rattle.slate_model.specs.Object.{Object, view_of}
+use Rattle.slate_model.specs.Object.{Object, Handle, Snapshot, Follower, tables_of}
 use Rattle.slate_model.specs.Open.{replayed_logs}
 use Rattle.slate_script.specs.declared.commands.Action.{Action}
 use Rattle.slate_script.specs.declared.commands.Action.TheVariants as actions
 use Rattle.slate_script.specs.declared.commands.Command.{Command}
 
--- where a command goes: it opens a handle, which keeps a log or not, or a follower in a mode, which skips log files or not, commits a checkpoint of the store, with
--- a lifetime or without an end, sweeps the store, asks for the write with a number, or names the object with one
+-- Where a command goes: it opens a handle, which keeps a log or not, a snapshot of the handle with a number, or a follower in
+-- a mode, which skips log files or not; it commits a checkpoint of the store, with a lifetime or without an end, sweeps the
+-- store, asks for the write with a number, or names the object with one.
 pub data Target : Type 0 where
   NewHandle : (keeps_log : Bool) → Target
+  NewSnapshot : (handle : ℕ) → Target
   NewFollower : (mode : DbReaderMode) → (skips : Bool) → Target
   NewCheckpoint : (lifetime : Option ℕ) → Target
   WholeStore : Target
@@ -30,6 +33,7 @@ pub data Target : Type 0 where
 
 abbrev pub target_of : Action → Target
 target_of (actions.Open wal) = NewHandle wal
+target_of (actions.Snapshot n) = NewSnapshot n
 target_of (actions.Follow mode managed skip) = NewFollower mode skip
 target_of (actions.Checkpoint lifetime) = NewCheckpoint lifetime
 target_of actions.Sweep = WholeStore
@@ -47,6 +51,8 @@ target_of (actions.Seek n range take key order remote) = OfObject n
 target_of (actions.Close n options) = OfObject n
 target_of (actions.Poll n) = OfObject n
 target_of (actions.Status n) = OfObject n
+target_of (actions.Ts n number find) = OfObject n
+target_of (actions.Seq n seconds find) = OfObject n
 
 abbrev pub put_op : List ℕ → List ℕ → Option ℤ → KeyOp
 put_op key value expire = record { key = key; op = Put value expire }
@@ -77,12 +83,14 @@ pub data Call : Type 0 where
   Flush : (flush_type : Option FlushType) → Call  -- without a type, to where the handle stores its batches first
   Refresh : Call
   Compact : Call
-  Get : (key : List ℕ) → (remote : Bool) → Call
-  Scan : (range : ByteRange) → (order : IterationOrder) → (remote : Bool) → Call
-  Seek : (range : ByteRange) → (take : ℕ) → (key : List ℕ) → (order : IterationOrder) → (remote : Bool) → Call
+  Get : (key : List ℕ) → (remote : Bool) → (snapshot : Option ℕ) → Call  -- of a handle, up to the number of a snapshot
+  Scan : (range : ByteRange) → (order : IterationOrder) → (remote : Bool) → (snapshot : Option ℕ) → Call
+  Seek : (range : ByteRange) → (take : ℕ) → (key : List ℕ) → (order : IterationOrder) → (remote : Bool) → (snapshot : Option ℕ) → Call
   Close : (flush_type : Option FlushType) → Call
   Poll : Call
   Status : Call
+  FindTime : (number : ℕ) → (find : FindOption) → Call  -- when the batch with this number was written
+  FindNumber : (seconds : ℤ) → (find : FindOption) → Call  -- the number of the batch that was written then
   Nothing : Call
 
 abbrev pub call_of : Action → Call
@@ -93,18 +101,34 @@ call_of (actions.Batch n batch) = Write batch.ops
 call_of (actions.Flush n flush_type) = Flush flush_type
 call_of (actions.Refresh n) = Refresh
 call_of (actions.Compact n) = Compact
-call_of (actions.Get n key remote) = Get key remote
-call_of (actions.Scan n range order remote) = Scan range order remote
-call_of (actions.Seek n range take key order remote) = Seek range take key order remote
+call_of (actions.Get n key remote) = Get key remote None
+call_of (actions.Scan n range order remote) = Scan range order remote None
+call_of (actions.Seek n range take key order remote) = Seek range take key order remote None
 call_of (actions.Close n options) = Close (flush_of_close options)
 call_of (actions.Poll n) = Poll
 call_of (actions.Status n) = Status
+call_of (actions.Ts n number find) = FindTime number find
+call_of (actions.Seq n seconds find) = FindNumber seconds find
 call_of action = Nothing
 
+-- what a snapshot of a handle asks the handle: to read up to the snapshot's number
+abbrev pub at_snapshot : ℕ → Call → Call
+at_snapshot number (Get key remote snapshot) = Get key remote (Some number)
+at_snapshot number (Scan range order remote snapshot) = Scan range order remote (Some number)
+at_snapshot number (Seek range take key order remote snapshot) = Seek range take key order remote (Some number)
+at_snapshot number call = Nothing
+
+-- the object whose tables are read: the one that is named, or the handle of a snapshot
+abbrev pub read_by : List Object → Option Object → Option Object
+read_by objects None = None
+read_by objects (Some (Handle handle)) = Some (Handle handle)
+read_by objects (Some (Snapshot snapshot)) = slice_get objects snapshot.handle
+read_by objects (Some (Follower follower)) = Some (Follower follower)
+
 -- how many tables a read of an object reads: those of its view
-abbrev pub tables_of : Option Object → ℕ
-tables_of None = 0
-tables_of (Some object) = length (view_of object).manifest.tables
+abbrev pub table_count : Option Object → ℕ
+table_count None = 0
+table_count (Some object) = length (tables_of object)
 
 -- how often what is asked of an object calls a store at most that holds these objects, where the object's view names so many
 -- tables
@@ -112,9 +136,9 @@ abbrev pub most_asked : Objects → (tables : ℕ) → Call → ℕ
 most_asked objects tables (Flush flush_type) = 5
 most_asked objects tables Refresh = 1
 most_asked objects tables Compact = compact_calls objects
-most_asked objects tables (Get key remote) = tables
-most_asked objects tables (Scan range order remote) = tables
-most_asked objects tables (Seek range take key order remote) = tables
+most_asked objects tables (Get key remote snapshot) = tables
+most_asked objects tables (Scan range order remote snapshot) = tables
+most_asked objects tables (Seek range take key order remote snapshot) = tables
 most_asked objects tables (Close flush_type) = 5
 most_asked objects tables Poll = replayed_logs objects + 2
 most_asked objects tables call = 0
@@ -122,6 +146,7 @@ most_asked objects tables call = 0
 -- and how often a command at a moment does; an opening calls it once more where its replay ends early
 abbrev pub most_made : Objects → (tables : ℕ) → ℤ → Target → Call → ℕ
 most_made objects tables moment (NewHandle keeps_log) call = replayed_logs objects + 5
+most_made objects tables moment (NewSnapshot n) call = 0
 most_made objects tables moment (NewFollower mode skips) call = followed_logs mode skips objects + 2
 most_made objects tables moment (NewCheckpoint lifetime) call = 16
 most_made objects tables moment WholeStore call = sweep_calls moment objects
@@ -136,4 +161,4 @@ named objects target = None
 -- how often a command calls a store at most that holds these objects, in a run with these live ones
 abbrev pub most_calls : Objects → List Object → Command → ℕ
 most_calls objects live command =
-    most_made objects (tables_of (named live (target_of command.action))) command.moment (target_of command.action) (call_of command.action)
+    most_made objects (table_count (read_by live (named live (target_of command.action)))) command.moment (target_of command.action) (call_of command.action)

@@ -7,15 +7,16 @@ use Rattle.slate_errors.specs.declared.errors.SlateError.{SlateError}
 use Rattle.slate_model.specs.Follow.{Rebuilds, unseen}
 use Rattle.slate_model.specs.Knowledge.{Knowledge}
 use Rattle.slate_model.specs.Known.{Known}
-use Rattle.slate_model.specs.Object.{Object, Handle, Follower}
+use Rattle.slate_model.specs.declared.snapshots.HandleSnapshot.{HandleSnapshot}
+use Rattle.slate_model.specs.Object.{Object, Handle, Snapshot, Follower}
 use Rattle.slate_model.specs.Open.{OpensHandle}
 use Rattle.slate_script.specs.declared.commands.Command.{Command}
 use Rattle.slate_script.specs.declared.replies.Reply.{Reply}
 use Rattle.slate_script.specs.declared.replies.Reply.TheVariants as replies
 use Rattle.slate_live.specs.declared.states.Write.{Write}
-use Rattle.slate_live.specs.Calls.{Target, NewHandle, NewFollower, NewCheckpoint, WholeStore, OfWrite, OfObject, call_of, target_of}
+use Rattle.slate_live.specs.Calls.{Call, Target, NewHandle, NewSnapshot, NewFollower, NewCheckpoint, WholeStore, OfWrite, OfObject, at_snapshot, call_of, target_of}
 use Rattle.slate_live.specs.Followers.{FollowerActs}
-use Rattle.slate_live.specs.Handles.{HandleActs, durable_reply}
+use Rattle.slate_live.specs.Handles.{HandleActs, TakesSnapshot, durable_reply}
 use Rattle.slate_live.specs.Maintenance.{CommitsTo, SweepsTo}
 use Rattle.slate_live.specs.Replies.{followed_reply, reply_to}
 use Rattle.slate_live.specs.Settings.{Settings}
@@ -45,24 +46,38 @@ pub record DoesToStore {L : Type 0} (did : Known L → Reply → Known L → Typ
   pub objects : s'.objects ≡ s.objects
   pub writes : s'.writes ≡ s.writes
 
--- what an object does at a command, by its kind
-abbrev pub Acts : {L : Type 0} → Knowledge L → Option Merge → ℕ → Command → ℕ → Object → Known L → List Write → Reply → Object → Known L → List Write → Type 0
-Acts k merge n command made (Handle old) before writes reply (Handle new) after writes' =
-    HandleActs k merge n command.moment command.second (call_of command.action) made old before writes reply new after writes'
-Acts k merge n command made (Follower old) before writes reply (Follower new) after writes' =
-    FollowerActs k merge (call_of command.action) made old before writes reply new after writes'
-Acts k merge n command made old before writes reply new after writes' = ⊥
+-- what an object does that a command asks this, by its kind
+abbrev pub Acts : {L : Type 0} → Knowledge L → Option Merge → ℕ → Command → Call → ℕ → Object → Known L → List Write → Reply → Object → Known L → List Write → Type 0
+Acts k merge n command call made (Handle old) before writes reply (Handle new) after writes' =
+    HandleActs k merge n command.moment command.second call made old before writes reply new after writes'
+Acts k merge n command call made (Follower old) before writes reply (Follower new) after writes' =
+    FollowerActs k merge call made old before writes reply new after writes'
+Acts k merge n command call made old before writes reply new after writes' = ⊥
 
 -- The object with number n does what is asked of it. All others are as before.
-pub record ActsAt {L : Type 0} (k : Knowledge L) (merge : Option Merge) (n : ℕ) (command : Command) (made : ℕ) (old : Object) (s : State L) (reply : Reply) (s' : State L) : Type 0 where
+pub record ActsAt {L : Type 0} (k : Knowledge L) (merge : Option Merge) (n : ℕ) (command : Command) (call : Call) (made : ℕ) (old : Object) (s : State L) (reply : Reply) (s' : State L) : Type 0 where
   pub new : Object
-  pub acts : Acts k merge n command made old s.store s.writes reply new s'.store s'.writes
+  pub acts : Acts k merge n command call made old s.store s.writes reply new s'.store s'.writes
   pub objects : s'.objects ≡ slice_set s.objects n new
 
--- an object that isn't there is unknown
-abbrev pub ActsOn : {L : Type 0} → Knowledge L → Option Merge → ℕ → Command → ℕ → Option Object → State L → Reply → State L → Type 0
-ActsOn k merge n command made None s reply s' = OnlyAnswers replies.Unknown made s reply s'
-ActsOn k merge n command made (Some old) s reply s' = ActsAt k merge n command made old s reply s'
+-- a snapshot is read by its handle, up to the snapshot's number
+abbrev pub ReadsSnapshot : {L : Type 0} → Knowledge L → Option Merge → HandleSnapshot → Command → Call → ℕ → Option Object → State L → Reply → State L → Type 0
+ReadsSnapshot k merge snapshot command call made (Some (Handle handle)) s reply s' =
+    ActsAt k merge snapshot.handle command (at_snapshot snapshot.number call) made (Handle handle) s reply s'
+ReadsSnapshot k merge snapshot command call made found s reply s' = OnlyAnswers replies.Unknown made s reply s'
+
+-- what a command does that names the object with a number and asks this; one that isn't there is unknown
+abbrev pub ActsOn : {L : Type 0} → Knowledge L → Option Merge → ℕ → Command → Call → ℕ → Option Object → State L → Reply → State L → Type 0
+ActsOn k merge n command call made None s reply s' = OnlyAnswers replies.Unknown made s reply s'
+ActsOn k merge n command call made (Some (Snapshot snapshot)) s reply s' =
+    ReadsSnapshot k merge snapshot command call made (slice_get s.objects snapshot.handle) s reply s'
+ActsOn k merge n command call made (Some old) s reply s' = ActsAt k merge n command call made old s reply s'
+
+-- a snapshot of the object with number n, where that is a handle
+abbrev pub OpensSnapshot : {L : Type 0} → (n : ℕ) → (made : ℕ) → Option Object → State L → Reply → State L → Type 0
+OpensSnapshot n made (Some (Handle handle)) s reply s' =
+    Adds (TakesSnapshot handle) (λ number. Snapshot (record { handle = n; number = number })) (λ object number. replies.Snapshot object number) s reply s' × (made ≡ 0)
+OpensSnapshot n made found s reply s' = OnlyAnswers replies.Unknown made s reply s'
 
 -- the reply where a write with this number is asked for, by the object that it was written to
 abbrev pub asked_reply : Option Object → ℕ → Reply
@@ -85,11 +100,12 @@ module _ {L : Type 0} (k : Knowledge L) (settings : Settings) where
   -- what a command does, by where it goes; so many of its changes were made
   abbrev pub DoesBy : Command → Target → ℕ → State L → Reply → State L → Type 0
   DoesBy command (NewHandle keeps_log) made s reply s' = OpensHandleIn keeps_log made s reply s'
+  DoesBy command (NewSnapshot n) made s reply s' = OpensSnapshot n made (slice_get s.objects n) s reply s'
   DoesBy command (NewFollower mode skips) made s reply s' = OpensFollowerIn mode skips made s reply s'
   DoesBy command (NewCheckpoint lifetime) made s reply s' = DoesToStore (CommitsTo k made lifetime command.moment) s reply s'
   DoesBy command WholeStore made s reply s' = DoesToStore (SweepsTo k made command.moment) s reply s'
   DoesBy command (OfWrite n) made s reply s' = OnlyAnswers (write_reply s.objects (slice_get s.writes n)) made s reply s'
-  DoesBy command (OfObject n) made s reply s' = ActsOn k settings.merge n command made (slice_get s.objects n) s reply s'
+  DoesBy command (OfObject n) made s reply s' = ActsOn k settings.merge n command (call_of command.action) made (slice_get s.objects n) s reply s'
 
   abbrev pub Does : ℕ → State L → Command → Reply → State L → Type 0
   Does made s command reply s' = DoesBy command (target_of command.action) made s reply s'

@@ -56,11 +56,11 @@ pub record PollsFollower {L : Type 0} (k : Knowledge L) (old : Follower) (before
 -- that it is unknown.
 module _ {L : Type 0} (k : Knowledge L) (merge : Option Merge) where
   abbrev pub FollowerActs : Call → ℕ → Follower → Known L → List Write → Reply → Follower → Known L → List Write → Type 0
-  FollowerActs (Get key remote) made old before writes reply new after writes' =
+  FollowerActs (Get key remote snapshot) made old before writes reply new after writes' =
       GetsFromFollower k merge key old before reply after × (new ≡ old) × (made ≡ 0) × (writes' ≡ writes)
-  FollowerActs (Scan range order remote) made old before writes reply new after writes' =
+  FollowerActs (Scan range order remote snapshot) made old before writes reply new after writes' =
       TakesFromFollower k merge range order scanned old before reply after × (new ≡ old) × (made ≡ 0) × (writes' ≡ writes)
-  FollowerActs (Seek range take key order remote) made old before writes reply new after writes' =
+  FollowerActs (Seek range take key order remote snapshot) made old before writes reply new after writes' =
       TakesFromFollower k merge range order (sought range take key) old before reply after × (new ≡ old) × (made ≡ 0) × (writes' ≡ writes)
   FollowerActs (Close flush_type) made old before writes reply new after writes' =
       (reply ≡ follower_ended_reply (ended (recorded_fault old.result))) × (new ≡ closed_follower old) × Untouched made before after × (writes' ≡ writes)

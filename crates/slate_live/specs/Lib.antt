@@ -8,9 +8,11 @@ pub mod Replies
 pub mod Represents
 pub mod Rising
 pub mod Run
+pub mod Sampling
 pub mod Scans
 pub mod Session
 pub mod Settings
+pub mod Snapshots
 pub mod State
 pub mod Steps
 pub mod Valid

@@ -20,6 +20,7 @@ use Rattle.slate_script.specs.declared.replies.Reply.TheVariants as replies
 -- the reply to a command that answers an error
 abbrev pub refusal : SlateError → Reply
 refusal errors.NoMemory = replies.NoMemory
+refusal (errors.Backpressure unflushed limit) = replies.Backpressure unflushed limit
 refusal error = replies.Refused error
 
 -- the reply to what is answered Ok, or with an error

@@ -7,9 +7,10 @@ use Rattle.slate_store.specs.Objects.{Objects, latest_manifest}
 use Rattle.slate_store.specs.Content.{AreRising, IsSound, content}
 use Rattle.slate_model.specs.Catalogue.{Catalogue, catalogue_of}
 use Rattle.slate_model.specs.Follower.{Follower, is_pinned, number}
-use Rattle.slate_model.specs.Handle.{Handle}
+use Rattle.slate_model.specs.Handle.{Handle, accepted}
 use Rattle.slate_model.specs.Known.{Known}
-use Rattle.slate_model.specs.Object.{Object, Handle as AHandle, Follower as AFollower, kept, view_of}
+use Rattle.slate_model.specs.declared.snapshots.HandleSnapshot.{HandleSnapshot}
+use Rattle.slate_model.specs.Object.{Object, Handle as AHandle, Snapshot as ASnapshot, Follower as AFollower, kept, tables_of}
 pub use Rattle.slate_model.specs.Valid.{AreBefore, AreOfPast, IsHeld, IsValidHandle, ReadsItsLine, up_to}
 use Rattle.slate_script.specs.declared.replies.Reply.{Reply}
 use Rattle.slate_live.specs.State.{Live}
@@ -35,16 +36,22 @@ IsValidFollower stored catalogue follower = IsPrefix follower.line stored × IsT
 abbrev pub IsFollowerAt : List Object → ℕ → Follower → Type 0
 IsFollowerAt live n follower = slice_get live n ≡ Some (AFollower follower)
 
--- What holds of every world that commands lead to: a line is stored, its handles and followers are valid, and no two
--- handles have the same epoch. The tables that an object's view names were put: those of a handle come before its next one,
+-- a snapshot is of a handle, whose line has its number
+abbrev pub IsOfHandle : List Object → HandleSnapshot → Type 0
+IsOfHandle objects snapshot =
+    (handle : Handle) × IsHandleAt objects snapshot.handle handle × (handle.line.floor ≤ snapshot.number) × (snapshot.number ≤ accepted handle)
+
+-- What holds of every world that commands lead to: a line is stored, its handles, snapshots and followers are valid, and no
+-- two handles have the same epoch. The tables that an object's view names were put: those of a handle come before its next one,
 -- and their epochs aren't above the latest manifest's. So no table is put under an id that a view names.
 pub record IsValid (w : World) : Type 0 where
   pub line : IsLine w.stored
   pub followers : (n : ℕ) (follower : Follower) → IsFollowerAt w.objects n follower → IsValidFollower w.stored w.catalogue follower
   pub handles : (n : ℕ) (handle : Handle) → IsHandleAt w.objects n handle → IsValidHandle w.stored w.catalogue handle
+  pub snapshots : (n : ℕ) (snapshot : HandleSnapshot) → slice_get w.objects n ≡ Some (ASnapshot snapshot) → IsOfHandle w.objects snapshot
   pub named : (m n : ℕ) (handle : Handle) (object : Object) → IsHandleAt w.objects m handle → slice_get w.objects n ≡ Some object →
-      AreBefore handle (view_of object).manifest.tables
-  pub past : (n : ℕ) (object : Object) → slice_get w.objects n ≡ Some object → AreOfPast w.catalogue (view_of object).manifest.tables
+      AreBefore handle (tables_of object)
+  pub past : (n : ℕ) (object : Object) → slice_get w.objects n ≡ Some object → AreOfPast w.catalogue (tables_of object)
   pub distinct : (m n : ℕ) (a b : Handle) → IsHandleAt w.objects m a → IsHandleAt w.objects n b → a.epoch ≡ b.epoch → m ≡ n
 
 -- what holds of every world that a run leads to: it is valid, and its manifests have rising ids

@@ -3,7 +3,7 @@ use Rattle.std.specs.Prelude.{◌≡◌, ℕ, ◌≤◌, int_lt, false, List, sl
 use Rattle.slate_types.specs.Line.{IsPrefix}
 use Rattle.slate_model.specs.Follower.{Follower as AFollower, number}
 use Rattle.slate_model.specs.Handle.{Handle as AHandle, CloseResult}
-use Rattle.slate_model.specs.Object.{Object, Handle, Follower}
+use Rattle.slate_model.specs.Object.{Object, Handle, Snapshot, Follower}
 
 -- the first result stays
 abbrev pub StaysClosed : CloseResult → CloseResult → Type 0
@@ -26,9 +26,10 @@ pub record FollowerRises (old new : AFollower) : Type 0 where
 
 abbrev pub Rises : Object → Object → Type 0
 Rises (Handle old) (Handle new) = HandleRises old new
+Rises (Snapshot old) (Snapshot new) = new ≡ old
 Rises (Follower old) (Follower new) = FollowerRises old new
 Rises old new = ⊥
 
--- each object stays, and what is said of it above
+-- each object stays, and what is said of it above; a snapshot is as it was
 abbrev pub Rise : List Object → List Object → Type 0
 Rise objects objects' = (n : ℕ) (old : Object) → slice_get objects n ≡ Some old → (new : Object) × (slice_get objects' n ≡ Some new) × Rises old new

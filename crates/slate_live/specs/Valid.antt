@@ -22,6 +22,7 @@ use Rattle.slate_store.specs.declared.reader_modes.DbReaderMode.{DbReaderMode}
 use Rattle.slate_model.specs.Close.{recorded_fault}
 use Rattle.slate_live.specs.declared.states.Write.{Write}
 use Rattle.slate_model.specs.Open.{can_open}
+use Rattle.slate_model.specs.Unflushed.{unflushed}
 use Rattle.slate_model.specs.Write.{accepted_moment, last_number, merge_expiry}
 use Rattle.slate_script.specs.declared.commands.Action.TheVariants as actions
 use Rattle.slate_script.specs.declared.commands.Command.{Command}
@@ -29,9 +30,10 @@ use Rattle.slate_script.specs.declared.replies.Reply.{Reply}
 use Rattle.slate_script.specs.declared.replies.Reply.TheVariants as replies
 use Rattle.slate_live.specs.Confirmed.{IsBatchOf, Sees, StandsIn}
 use Rattle.slate_model.specs.Tables.{AreStored}
-use Rattle.slate_model.specs.Object.{Object, Handle as AHandle, Follower as AFollower}
-use Rattle.slate_live.specs.Calls.{Call, Write as WriteCall, Merge, Flush, Refresh, Compact, Get, Scan, Seek, Close, Poll, Status, call_of}
-use Rattle.slate_live.specs.Calls.{Target, NewHandle, NewFollower, NewCheckpoint, WholeStore, OfWrite, OfObject, target_of}
+use Rattle.slate_model.specs.declared.snapshots.HandleSnapshot.{HandleSnapshot}
+use Rattle.slate_model.specs.Object.{Object, Handle as AHandle, Snapshot as ASnapshot, Follower as AFollower}
+use Rattle.slate_live.specs.Calls.{Call, Write as WriteCall, Merge, Flush, Refresh, Compact, Get, Scan, Seek, Close, Poll, Status, FindTime, FindNumber, call_of}
+use Rattle.slate_live.specs.Calls.{Target, NewHandle, NewSnapshot, NewFollower, NewCheckpoint, WholeStore, OfWrite, OfObject, at_snapshot, target_of}
 use Rattle.slate_live.specs.Followers.{IsPlainReadAt, IsPlainScanAt}
 use Rattle.slate_live.specs.Handles.{IsPlainRead, IsPlainScan, flush_type_by}
 use Rattle.slate_live.specs.Scans.{scanned, sought}
@@ -41,10 +43,15 @@ use Rattle.slate_live.specs.Represents.{up_to}
 use Rattle.slate_live.specs.World.{Next, World}
 
 -- what holds of the object with a number, by its kind; nothing of a number without one
-abbrev pub AtObject : Option Object → (Handle → Type 0) → (Follower → Type 0) → Type 0
-AtObject None of_handle of_follower = ⊥
-AtObject (Some (AHandle handle)) of_handle of_follower = of_handle handle
-AtObject (Some (AFollower follower)) of_handle of_follower = of_follower follower
+abbrev pub AtObject : Option Object → (Handle → Type 0) → (HandleSnapshot → Type 0) → (Follower → Type 0) → Type 0
+AtObject None of_handle of_snapshot of_follower = ⊥
+AtObject (Some (AHandle handle)) of_handle of_snapshot of_follower = of_handle handle
+AtObject (Some (ASnapshot snapshot)) of_handle of_snapshot of_follower = of_snapshot snapshot
+AtObject (Some (AFollower follower)) of_handle of_snapshot of_follower = of_follower follower
+
+-- what holds of the handle with a number
+abbrev pub AtHandle : World → ℕ → (Handle → Type 0) → Type 0
+AtHandle w n of_handle = AtObject (slice_get w.objects n) of_handle (λ snapshot. ⊥) (λ follower. ⊥)
 
 -- an opening: an existing manifest is initialised, and the ids and the epoch that it uses are left
 abbrev pub CanOpen : World → Type 0
@@ -58,10 +65,11 @@ pub record AreWritable (ops : List KeyOp) : Type 0 where
   pub expiries : (i j : ℕ) (a b : KeyOp) (x y : Option ℤ) → slice_get ops i ≡ Some a → slice_get ops j ≡ Some b → a.key ≡ b.key →
       merge_expiry a.op ≡ Some x → merge_expiry b.op ≡ Some y → x ≡ y
 
--- a write to a handle: the operations may be accepted, a number is left, and one of the moments isn't below the tick
+-- a write to a handle: the operations may be accepted, less than the limit isn't stored yet, a number is left, and one of the moments isn't below the tick
 pub record CanWrite (ops : List KeyOp) (moment : ℤ) (second : Option ℤ) (handle : Handle) : Type 0 where
   pub unclosed : handle.result ≡ None
   pub writable : AreWritable ops
+  pub room : unflushed handle < handle.limit
   pub number : accepted handle < last_number
   pub moments : (at : ℤ) × (accepted_moment handle.tick moment second ≡ Some at)
 
@@ -129,47 +137,55 @@ ByLine w handle can = ReadsBy w handle.view handle.line.batches can
 abbrev pub ByStored : World → Follower → (List Batch → Type 0) → Type 0
 ByStored w follower can = ReadsBy w follower.view w.stored.batches can
 
--- what a handle may be asked; its status always
+-- what a handle may be asked; its status and its tracker always
 abbrev pub CanAsk : Option MergeFunction → World → ℤ → Option ℤ → Call → Handle → Type 0
 CanAsk merge w moment second (WriteCall ops) handle = CanWrite ops moment second handle
 CanAsk merge w moment second (Merge op) handle = (merge ≢ None) × CanWrite (op ∷ []) moment second handle
 CanAsk merge w moment second (Flush flush_type) handle = (handle.result ≡ None) × CanStore w (flush_type_by flush_type handle) handle
 CanAsk merge w moment second Refresh handle = (handle.result ≡ None) × CanRefresh w handle
 CanAsk merge w moment second Compact handle = (handle.result ≡ None) × CanCompact w handle
-CanAsk merge w moment second (Get key remote) handle = ByLine w handle (CanRead handle.result (IsPlainRead merge key remote handle))
-CanAsk merge w moment second (Scan range order remote) handle =
-    ByLine w handle (CanTake handle.result (IsPlainScan merge range order remote handle) scanned)
-CanAsk merge w moment second (Seek range take key order remote) handle =
-    ByLine w handle (CanTake handle.result (IsPlainScan merge range order remote handle) (sought range take key))
+CanAsk merge w moment second (Get key remote snapshot) handle = ByLine w handle (CanRead handle.result (IsPlainRead merge key remote snapshot handle))
+CanAsk merge w moment second (Scan range order remote snapshot) handle =
+    ByLine w handle (CanTake handle.result (IsPlainScan merge range order remote snapshot handle) scanned)
+CanAsk merge w moment second (Seek range take key order remote snapshot) handle =
+    ByLine w handle (CanTake handle.result (IsPlainScan merge range order remote snapshot handle) (sought range take key))
 CanAsk merge w moment second (Close flush_type) handle = CanClose handle.result flush_type w handle
 CanAsk merge w moment second Status handle = Unit {0}
+CanAsk merge w moment second (FindTime number find) handle = Unit {0}
+CanAsk merge w moment second (FindNumber seconds find) handle = Unit {0}
 CanAsk merge w moment second call handle = ⊥
 
 -- what a follower may be asked; its status always
 abbrev pub CanAskFollower : Option MergeFunction → World → Call → Follower → Type 0
-CanAskFollower merge w (Get key remote) follower = ByStored w follower (CanRead follower.result (IsPlainReadAt merge key follower))
-CanAskFollower merge w (Scan range order remote) follower =
+CanAskFollower merge w (Get key remote snapshot) follower = ByStored w follower (CanRead follower.result (IsPlainReadAt merge key follower))
+CanAskFollower merge w (Scan range order remote snapshot) follower =
     ByStored w follower (CanTake follower.result (IsPlainScanAt merge range order follower) scanned)
-CanAskFollower merge w (Seek range take key order remote) follower =
+CanAskFollower merge w (Seek range take key order remote snapshot) follower =
     ByStored w follower (CanTake follower.result (IsPlainScanAt merge range order follower) (sought range take key))
 CanAskFollower merge w (Close flush_type) follower = recorded_fault follower.result ≡ None
 CanAskFollower merge w Poll follower = (follower.result ≡ None) × (is_pinned follower.mode ≡ false → CanFollow follower.mode false w)
 CanAskFollower merge w Status follower = Unit {0}
 CanAskFollower merge w call follower = ⊥
 
+-- what a snapshot may be asked: what its handle may be, up to the snapshot's number
+abbrev pub CanAskSnapshot : Option MergeFunction → World → ℤ → Option ℤ → Call → HandleSnapshot → Type 0
+CanAskSnapshot merge w moment second call snapshot =
+    AtHandle w snapshot.handle (CanAsk merge w moment second (at_snapshot snapshot.number call))
+
 -- a write that is durable
 abbrev pub IsDurable : World → Option Write → Type 0
 IsDurable w None = ⊥
-IsDurable w (Some write) = AtObject (slice_get w.objects write.handle) (λ handle. write.number ≤ handle.durable) (λ follower. ⊥)
+IsDurable w (Some write) = AtHandle w write.handle (λ handle. write.number ≤ handle.durable)
 
 abbrev pub IsValidAt : Option MergeFunction → World → ℤ → Option ℤ → Call → Target → Type 0
 IsValidAt merge w moment second call (NewHandle keeps_log) = CanOpen w
+IsValidAt merge w moment second call (NewSnapshot n) = AtHandle w n (λ handle. handle.result ≡ None)
 IsValidAt merge w moment second call (NewFollower mode skips) = CanFollow mode true w
 IsValidAt merge w moment second call (NewCheckpoint lifetime) = CanCheckpoint w
 IsValidAt merge w moment second call WholeStore = CanSweep w moment
 IsValidAt merge w moment second call (OfWrite n) = IsDurable w (slice_get w.writes n)
 IsValidAt merge w moment second call (OfObject n) =
-    AtObject (slice_get w.objects n) (CanAsk merge w moment second call) (CanAskFollower merge w call)
+    AtObject (slice_get w.objects n) (CanAsk merge w moment second call) (CanAskSnapshot merge w moment second call) (CanAskFollower merge w call)
 
 -- nothing in this world stands against the command
 abbrev pub IsValidCommand : Option MergeFunction → World → Command → Type 0
@@ -182,6 +198,7 @@ IsOkOrNoMemory (replies.Ended (Some errors.NoMemory) tasks) = Unit {0}
 IsOkOrNoMemory (replies.Ended (Some error) tasks) = ⊥
 IsOkOrNoMemory replies.Unknown = ⊥
 IsOkOrNoMemory replies.Pending = ⊥
+IsOkOrNoMemory (replies.Backpressure unflushed limit) = ⊥
 IsOkOrNoMemory (replies.Follower object false at) = ⊥
 IsOkOrNoMemory (replies.Polled false at) = ⊥
 IsOkOrNoMemory reply = Unit {0}

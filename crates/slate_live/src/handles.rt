@@ -1,5 +1,5 @@
 // What commands do to a handle that writes.
-ghost use Rattle.std.specs.Prelude.{◌≡◌, ◌≤◌, ℕ, ◌+◌, [], ◌∷◌, ◌++◌, false, length, None, Option, IfErr, IfOk, IfSome, IsTrue, ◌↔◌};
+ghost use Rattle.std.specs.Prelude.{◌≡◌, ◌≤◌, ℕ, List, ◌+◌, [], ◌∷◌, ◌++◌, false, length, None, Option, IfErr, IfOk, IfSome, IsTrue, ◌↔◌};
 ghost use Rattle.std.specs.Option.{option_copied};
 ghost use Rattle.slate_types.specs.Operator.{Merge};
 ghost use Rattle.slate_reads.specs.Read.{IsOperator};
@@ -9,7 +9,8 @@ ghost use Rattle.slate_model.specs.Object.{Handle};
 ghost use Rattle.slate_model.specs.Read.{Gives, Reads};
 ghost use Rattle.slate_model.specs.Stores.{by_objects, kept_rows};
 ghost use Rattle.slate_model.specs.Write.{Writes};
-ghost use Rattle.slate_live.specs.Calls.{call_of, flush_of_close, most_asked, ops_of};
+ghost use Rattle.slate_live.specs.Calls.{at_snapshot, call_of, flush_of_close, most_asked, ops_of};
+ghost use Rattle.slate_live.specs.declared.states.Write.{Write as AWrite};
 ghost use Rattle.slate_live.specs.Handles.{ClosesHandle, CompactsHandle, FlushesHandle, GetsFrom, HandleActs, IsPlainScan, RefreshesHandle};
 ghost use Rattle.slate_live.specs.Handles.{TakesFrom, WritesTo, durable_reply, flush_type_by, handle_status, level_of, noted};
 ghost use Rattle.slate_live.specs.Replies.{AnswersStatus, ended_reply, found_reply, refusal, reply_to};
@@ -62,13 +63,15 @@ pub(crate) fn act<S: Store, M: MergeOperator, E: PrefixExtractor>(
         Action::Flush { flush_type, .. } => flush(writer, alloc, store, *flush_type),
         Action::Refresh { .. } => refresh(writer, alloc, store),
         Action::Compact { .. } => compact(writer, alloc, store),
-        Action::Get { key, remote, .. } => get(writer, alloc, store, key, *remote, operator),
+        Action::Get { key, remote, .. } => {
+            get(writer, alloc, store, key, *remote, None, operator)
+        }
         Action::Scan {
             range,
             order,
             remote,
             ..
-        } => scan(writer, alloc, store, range, *order, *remote, operator),
+        } => scan(writer, alloc, store, range, *order, *remote, None, operator),
         Action::Seek {
             range,
             take,
@@ -78,10 +81,75 @@ pub(crate) fn act<S: Store, M: MergeOperator, E: PrefixExtractor>(
             ..
         } => {
             let from = (*take, key);
-            seek(writer, alloc, store, range, from, *order, *remote, operator)
+            seek(
+                writer, alloc, store, range, from, *order, *remote, None, operator,
+            )
         }
         Action::Close { options, .. } => close(writer, alloc, store, *options),
         Action::Status { .. } => status(writer, alloc),
+        Action::Ts { number, find, .. } => Reply::Time(writer.find_ts(*number, *find)),
+        Action::Seq { seconds, find, .. } => Reply::Number(writer.find_seq(*seconds, *find)),
+        _ => Reply::Unknown,
+    }
+}
+
+/// Does a command that names a snapshot of the handle: it reads up to the snapshot's number. Nothing else is asked of a
+/// snapshot.
+pub(crate) fn act_at<S: Store, M: MergeOperator>(
+    writer: &WriterState,
+    alloc: Global,
+    store: &mut S,
+    snapshot: u64,
+    operator: Option<&M>,
+    command: &Command,
+) -> Reply
+    ensures faults { S.faults store.old ≤ S.faults store.new }
+    ensures calls { IfSome (S.objects store.old) (λ o.
+        S.calls store.new ≤ S.calls store.old + most_asked o (length writer.now.view.manifest.tables) (call_of command.now.action)) }
+    ensures does { (merge : Option Merge) (handle : ℕ) (writes : List AWrite) → IsOperator M.may_answer (option_copied operator.entry) merge →
+        HandleActs (by_objects (S.objects store.old)) merge handle command.now.moment command.now.second (at_snapshot snapshot (call_of command.now.action)) 0
+        writer.now (known S.objects S.faults store.old) writes result writer.now (known S.objects S.faults store.new) writes }
+{
+    match &command.action {
+        Action::Get { key, remote, .. } => {
+            get(writer, alloc, store, key, *remote, Some(snapshot), operator)
+        }
+        Action::Scan {
+            range,
+            order,
+            remote,
+            ..
+        } => scan(
+            writer,
+            alloc,
+            store,
+            range,
+            *order,
+            *remote,
+            Some(snapshot),
+            operator,
+        ),
+        Action::Seek {
+            range,
+            take,
+            key,
+            order,
+            remote,
+            ..
+        } => {
+            let from = (*take, key);
+            seek(
+                writer,
+                alloc,
+                store,
+                range,
+                from,
+                *order,
+                *remote,
+                Some(snapshot),
+                operator,
+            )
+        }
         _ => Reply::Unknown,
     }
 }
@@ -179,6 +247,7 @@ pub(crate) fn refusal(error: SlateError) -> Reply
 {
     match error {
         SlateError::NoMemory => Reply::NoMemory,
+        SlateError::Backpressure { unflushed, limit } => Reply::Backpressure { unflushed, limit },
         error => Reply::Refused(error),
     }
 }
@@ -239,22 +308,23 @@ fn compact<S: Store>(writer: &mut WriterState, alloc: Global, store: &mut S) -> 
     }
 }
 
-/// Reads a key of a handle.
+/// Reads a key of a handle, up to the number of a snapshot, where one is given.
 fn get<S: Store, M: MergeOperator>(
     writer: &WriterState,
     alloc: Global,
     store: &mut S,
     key: &Bytes,
     remote: bool,
+    snapshot: Option<u64>,
     operator: Option<&M>,
 ) -> Reply
     ensures faults { S.faults store.old ≤ S.faults store.new }
     ensures calls { S.calls store.new ≤ S.calls store.old + length writer.now.view.manifest.tables }
     ensures read { (merge : Option Merge) → IsOperator M.may_answer (option_copied operator.entry) merge →
-        GetsFrom (by_objects (S.objects store.old)) merge key.now remote writer.now (known S.objects S.faults store.old) result (known S.objects S.faults store.new) }
+        GetsFrom (by_objects (S.objects store.old)) merge key.now remote snapshot writer.now (known S.objects S.faults store.old) result (known S.objects S.faults store.new) }
 {
     let options = read_options(remote);
-    read_reply(writer.get(alloc, store, key.as_slice(), &options, None, operator))
+    read_reply(writer.get(alloc, store, key.as_slice(), &options, snapshot, operator))
 }
 
 /// The reply to a read.
@@ -283,7 +353,7 @@ fn read_options(remote: bool) -> ReadOptions
     }
 }
 
-/// Reads a range of a handle.
+/// Reads a range of a handle, up to the number of a snapshot, where one is given.
 fn scan<S: Store, M: MergeOperator>(
     writer: &WriterState,
     alloc: Global,
@@ -291,15 +361,18 @@ fn scan<S: Store, M: MergeOperator>(
     range: &ByteRange,
     order: IterationOrder,
     remote: bool,
+    snapshot: Option<u64>,
     operator: Option<&M>,
 ) -> Reply
     ensures faults { S.faults store.old ≤ S.faults store.new }
     ensures calls { S.calls store.new ≤ S.calls store.old + length writer.now.view.manifest.tables }
     ensures read { (merge : Option Merge) → IsOperator M.may_answer (option_copied operator.entry) merge →
-        TakesFrom (by_objects (S.objects store.old)) merge range.now order remote scanned
+        TakesFrom (by_objects (S.objects store.old)) merge range.now order remote snapshot scanned
         writer.now (known S.objects S.faults store.old) result (known S.objects S.faults store.new) }
 {
-    let scan = begin_scan(writer, alloc, store, range, order, remote, operator);
+    let scan = begin_scan(
+        writer, alloc, store, range, order, remote, snapshot, operator,
+    );
     rows_reply(all_rows(alloc, scan))
 }
 
@@ -312,16 +385,19 @@ fn seek<S: Store, M: MergeOperator>(
     take_and_key: (u64, &Bytes),
     order: IterationOrder,
     remote: bool,
+    snapshot: Option<u64>,
     operator: Option<&M>,
 ) -> Reply
     ensures faults { S.faults store.old ≤ S.faults store.new }
     ensures calls { S.calls store.new ≤ S.calls store.old + length writer.now.view.manifest.tables }
     ensures read { (merge : Option Merge) → IsOperator M.may_answer (option_copied operator.entry) merge →
-        TakesFrom (by_objects (S.objects store.old)) merge range.now order remote (sought range.now take_and_key.entry.0 take_and_key.entry.1.now)
+        TakesFrom (by_objects (S.objects store.old)) merge range.now order remote snapshot (sought range.now take_and_key.entry.0 take_and_key.entry.1.now)
         writer.now (known S.objects S.faults store.old) result (known S.objects S.faults store.new) }
 {
     let (take, key) = take_and_key;
-    let scan = begin_scan(writer, alloc, store, range, order, remote, operator);
+    let scan = begin_scan(
+        writer, alloc, store, range, order, remote, snapshot, operator,
+    );
     rows_reply(rows_with_seek(alloc, scan, take, key, range))
 }
 
@@ -333,16 +409,17 @@ fn begin_scan<S: Store, M: MergeOperator>(
     range: &ByteRange,
     order: IterationOrder,
     remote: bool,
+    snapshot: Option<u64>,
     operator: Option<&M>,
 ) -> Result<DbIterator, SlateError>
     ensures faults { S.faults store.old ≤ S.faults store.new }
     ensures calls { S.calls store.new ≤ S.calls store.old + length writer.now.view.manifest.tables }
     ensures scans { (merge : Option Merge) → IsOperator M.may_answer (option_copied operator.entry) merge →
         Reads writer.now.result writer.now.view.manifest.tables (kept_rows (S.objects store.old) (Handle writer.now))
-        (Gives (IsPlainScan merge range.now order remote writer.now)) (known S.objects S.faults store.old) result (known S.objects S.faults store.new) }
+        (Gives (IsPlainScan merge range.now order remote snapshot writer.now)) (known S.objects S.faults store.old) result (known S.objects S.faults store.new) }
 {
     let options = scan_options(order, remote);
-    writer.scan(alloc, store, range, &options, None, operator)
+    writer.scan(alloc, store, range, &options, snapshot, operator)
 }
 
 /// The options of a scan in an order, of durable batches alone, or of all.

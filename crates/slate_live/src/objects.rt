@@ -1,17 +1,21 @@
 // What commands name by a number, and what it does when a command names it.
-ghost use Rattle.std.specs.Prelude.{◌≡◌, ◌≤◌, ◌+◌, ℕ, None, Some, Option, IfSome};
+ghost use Rattle.std.specs.Prelude.{◌≡◌, ◌≤◌, ◌+◌, ℕ, None, Some, List, Option, IfSome};
 ghost use Rattle.std.specs.Option.{option_copied};
 ghost use Rattle.slate_types.specs.Operator.{Merge};
 ghost use Rattle.slate_reads.specs.Read.{IsOperator};
 ghost use Rattle.slate_model.specs.Known.{known};
 ghost use Rattle.slate_model.specs.Stores.{by_objects};
-ghost use Rattle.slate_live.specs.Calls.{call_of, most_asked, tables_of};
+ghost use Rattle.slate_live.specs.Calls.{at_snapshot, call_of, most_asked, table_count};
 ghost use Rattle.slate_live.specs.Commands.{Acts, asked_reply};
 ghost use Rattle.slate_live.specs.Objects.{object_of};
+ghost use Rattle.slate_live.specs.Sampling.{ActsAsOf, snapshot_of, taken_of};
+ghost use Rattle.slate_live.specs.declared.states.Write.{Write as AWrite};
 
 use crate::states::Write;
 use crate::{followers, handles};
+use slate_errors::SlateError;
 use slate_follow::FollowerState;
+use slate_model::HandleSnapshot;
 use slate_script::{Command, Reply};
 use slate_store::Store;
 use slate_types::{MergeOperator, PrefixExtractor};
@@ -23,12 +27,14 @@ use std::alloc::Global;
 pub enum Object {
     /// A handle that writes.
     Handle(WriterState),
+    /// A snapshot of a handle.
+    Snapshot(HandleSnapshot),
     /// A reader that follows a database.
     Follower(FollowerState),
 }
 
 impl Object {
-    /// Does a command that names it by this number.
+    /// Does a command that names it by this number. A snapshot does nothing by itself: it is read by its handle.
     pub(crate) fn act<S: Store, M: MergeOperator, E: PrefixExtractor>(
         &mut self,
         alloc: Global,
@@ -39,21 +45,67 @@ impl Object {
         extractor: Option<&E>,
         command: &Command,
     ) -> Reply
-        requires { extractor ≡ None }
+        requires extractor { extractor ≡ None }
+        requires itself { snapshot_of (object_of self.old) ≡ None }
         ensures faults { S.faults store.old ≤ S.faults store.new }
         ensures calls { IfSome (S.objects store.old) (λ o.
-            S.calls store.new ≤ S.calls store.old + most_asked o (tables_of (Some (object_of self.old))) (call_of command.now.action)) }
+            S.calls store.new ≤ S.calls store.old + most_asked o (table_count (Some (object_of self.old))) (call_of command.now.action)) }
         ensures does { (merge : Option Merge) → IsOperator M.may_answer (option_copied operator.entry) merge →
-            (made : ℕ) × Acts (by_objects (S.objects store.old)) merge number command.now made
+            (made : ℕ) × Acts (by_objects (S.objects store.old)) merge number command.now (call_of command.now.action) made
             (object_of self.old) (known S.objects S.faults store.old) writes.old.items result (object_of self.new) (known S.objects S.faults store.new) writes.new.items }
     {
         match self {
             Object::Handle(writer) => handles::act(
                 writer, alloc, store, writes, number, operator, extractor, command,
             ),
+            Object::Snapshot(_) => Reply::Unknown,
             Object::Follower(follower) => {
                 followers::act(follower, alloc, store, operator, extractor, command)
             }
+        }
+    }
+
+    /// Does a command that names a snapshot of it, up to the snapshot's number; only a handle has snapshots.
+    pub(crate) fn act_at<S: Store, M: MergeOperator>(
+        &self,
+        alloc: Global,
+        store: &mut S,
+        snapshot: u64,
+        operator: Option<&M>,
+        command: &Command,
+    ) -> Reply
+        ensures faults { S.faults store.old ≤ S.faults store.new }
+        ensures calls { IfSome (S.objects store.old) (λ o.
+            S.calls store.new ≤ S.calls store.old + most_asked o (table_count (Some (object_of self.now))) (call_of command.now.action)) }
+        ensures does { (merge : Option Merge) (handle : ℕ) (writes : List AWrite) → IsOperator M.may_answer (option_copied operator.entry) merge →
+            ActsAsOf (by_objects (S.objects store.old)) merge handle command.now (at_snapshot snapshot (call_of command.now.action))
+            (object_of self.now) (known S.objects S.faults store.old) writes result (known S.objects S.faults store.new) }
+    {
+        match self {
+            Object::Handle(writer) => {
+                handles::act_at(writer, alloc, store, snapshot, operator, command)
+            }
+            _ => Reply::Unknown,
+        }
+    }
+
+    /// The snapshot, where it is one.
+    pub(crate) fn snapshot(&self) -> Option<HandleSnapshot>
+        ensures { result ≡ snapshot_of (object_of self.now) }
+    {
+        match self {
+            Object::Snapshot(snapshot) => Some(*snapshot),
+            _ => None,
+        }
+    }
+
+    /// The number of a snapshot that is taken of it now, or why none is, where it is a handle.
+    pub(crate) fn snapshot_number(&self) -> Option<Result<u64, SlateError>>
+        ensures { result ≡ taken_of (object_of self.now) }
+    {
+        match self {
+            Object::Handle(writer) => Some(writer.snapshot_number()),
+            _ => None,
         }
     }
 
@@ -63,7 +115,7 @@ impl Object {
     {
         match self {
             Object::Handle(writer) => handles::durable_reply(writer, number),
-            Object::Follower(_) => Reply::Unknown,
+            _ => Reply::Unknown,
         }
     }
 }

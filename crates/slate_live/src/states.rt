@@ -1,15 +1,17 @@
 // The live objects of a run and its writes, and what one command does to them.
-ghost use Rattle.std.specs.Prelude.{◌≡◌, ◌≤◌, ◌+◌, ℕ, [], true, None, Option, slice_get, IfSome};
+ghost use Rattle.std.specs.Prelude.{◌≡◌, ◌≤◌, ◌+◌, ℕ, [], true, None, List, Option, slice_get, IfSome};
+ghost use Rattle.slate_types.specs.declared.batches.Batch.{Batch as AnyBatch};
 ghost use Rattle.std.specs.Option.{option_copied};
 ghost use Rattle.slate_types.specs.Operator.{Merge};
 ghost use Rattle.slate_reads.specs.Read.{IsOperator};
 ghost use Rattle.slate_model.specs.Followed.{followed_logs};
-ghost use Rattle.slate_model.specs.Known.{known};
+ghost use Rattle.slate_model.specs.Known.{Known, known};
 ghost use Rattle.slate_model.specs.Open.{replayed_logs};
 ghost use Rattle.slate_model.specs.Stores.{by_objects};
 ghost use Rattle.slate_script.specs.Built.{IsBuilt, is_unmanaged};
-ghost use Rattle.slate_live.specs.Calls.{call_of, most_asked, most_calls, tables_of};
-ghost use Rattle.slate_live.specs.Commands.{ActsOn, Does, OpensFollowerIn, OpensHandleIn, write_reply};
+ghost use Rattle.slate_live.specs.Calls.{call_of, most_asked, most_calls, read_by, table_count};
+ghost use Rattle.slate_live.specs.Commands.{ActsOn, Does, OpensFollowerIn, OpensHandleIn, OpensSnapshot, ReadsSnapshot, write_reply};
+ghost use Rattle.slate_live.specs.Sampling.{Pushes};
 ghost use Rattle.slate_live.specs.Replies.{followed_reply};
 ghost use Rattle.slate_live.specs.Represents.{Links};
 ghost use Rattle.slate_live.specs.State.{running};
@@ -19,6 +21,7 @@ use crate::handles::refusal;
 use crate::maintenance::{checkpoint, sweep};
 use crate::objects::Object;
 use slate_follow::{DbReaderMode, DbReaderOptions, FollowerState, PollAnswer};
+use slate_model::HandleSnapshot;
 use slate_script::{Action, Command, Options, Reply};
 use slate_store::Store;
 use slate_types::{MergeOperator, PrefixExtractor};
@@ -93,6 +96,7 @@ impl LiveState {
     {
         match &command.action {
             Action::Open { wal } => self.open(alloc, store, *wal, extractor),
+            Action::Snapshot { handle } => self.snapshot(*handle),
             Action::Follow { mode, skip, .. } => self.follow(
                 alloc,
                 store,
@@ -116,7 +120,9 @@ impl LiveState {
             | Action::Seek { object: number, .. }
             | Action::Close { object: number, .. }
             | Action::Poll { follower: number }
-            | Action::Status { object: number } => {
+            | Action::Status { object: number }
+            | Action::Ts { handle: number, .. }
+            | Action::Seq { handle: number, .. } => {
                 self.act(alloc, store, *number, operator, extractor, command)
             }
         }
@@ -161,6 +167,41 @@ impl LiveState {
             compactor: self.options.compactor,
             compaction_worker: self.options.compaction_worker,
             collector: self.options.collector,
+        }
+    }
+
+    /// Takes a snapshot of the handle with a number.
+    fn snapshot(&mut self, handle: u64) -> Reply
+        ensures options { self.new.options ≡ self.old.options }
+        ensures does { (store : Known (List AnyBatch)) → OpensSnapshot handle 0 (slice_get self.old.objects handle) (running self.old store) result (running self.new store) }
+    {
+        let place = handle as usize;
+        if place >= self.objects.len() {
+            return Reply::Unknown;
+        }
+        let Some(taken) = self.objects[place].snapshot_number() else {
+            return Reply::Unknown;
+        };
+        match taken {
+            Ok(number) => self.add_snapshot(HandleSnapshot { handle, number }),
+            Err(error) => refusal(error),
+        }
+    }
+
+    /// Adds a snapshot to the objects.
+    fn add_snapshot(&mut self, snapshot: HandleSnapshot) -> Reply
+        ensures options { self.new.options ≡ self.old.options }
+        ensures writes { self.new.writes ≡ self.old.writes }
+        ensures added { Pushes self.old.objects snapshot result self.new.objects }
+    {
+        if self.objects.reserve(1).is_err() {
+            return Reply::NoMemory;
+        }
+        let object = self.objects.len() as u64;
+        self.objects.push_reserved(Object::Snapshot(snapshot));
+        Reply::Snapshot {
+            object,
+            at: snapshot.number,
         }
     }
 
@@ -213,14 +254,17 @@ impl LiveState {
         ensures options { self.new.options ≡ self.old.options }
         ensures faults { S.faults store.old ≤ S.faults store.new }
         ensures calls { IfSome (S.objects store.old) (λ o.
-            S.calls store.new ≤ S.calls store.old + most_asked o (tables_of (slice_get self.old.objects number)) (call_of command.now.action)) }
+            S.calls store.new ≤ S.calls store.old + most_asked o (table_count (read_by self.old.objects (slice_get self.old.objects number))) (call_of command.now.action)) }
         ensures does { (merge : Option Merge) → IsOperator M.may_answer (option_copied operator.entry) merge →
-            (made : ℕ) × ActsOn (by_objects (S.objects store.old)) merge number command.now made (slice_get self.old.objects number)
+            (made : ℕ) × ActsOn (by_objects (S.objects store.old)) merge number command.now (call_of command.now.action) made (slice_get self.old.objects number)
             (running self.old (known S.objects S.faults store.old)) result (running self.new (known S.objects S.faults store.new)) }
     {
         let place = number as usize;
         if place >= self.objects.len() {
             return Reply::Unknown;
+        }
+        if let Some(snapshot) = self.objects[place].snapshot() {
+            return self.act_at(alloc, store, snapshot, operator, command);
         }
         let object = &mut self.objects[place];
         object.act(
@@ -232,6 +276,29 @@ impl LiveState {
             extractor,
             command,
         )
+    }
+
+    /// Does a command that names a snapshot: its handle is read, up to the snapshot's number.
+    fn act_at<S: Store, M: MergeOperator>(
+        &self,
+        alloc: Global,
+        store: &mut S,
+        snapshot: HandleSnapshot,
+        operator: Option<&M>,
+        command: &Command,
+    ) -> Reply
+        ensures faults { S.faults store.old ≤ S.faults store.new }
+        ensures calls { IfSome (S.objects store.old) (λ o.
+            S.calls store.new ≤ S.calls store.old + most_asked o (table_count (slice_get self.now.objects snapshot.handle)) (call_of command.now.action)) }
+        ensures does { (merge : Option Merge) → IsOperator M.may_answer (option_copied operator.entry) merge →
+            ReadsSnapshot (by_objects (S.objects store.old)) merge snapshot command.now (call_of command.now.action) 0 (slice_get self.now.objects snapshot.handle)
+            (running self.now (known S.objects S.faults store.old)) result (running self.now (known S.objects S.faults store.new)) }
+    {
+        let place = snapshot.handle as usize;
+        if place >= self.objects.len() {
+            return Reply::Unknown;
+        }
+        self.objects[place].act_at(alloc, store, snapshot.number, operator, command)
     }
 
     /// Whether the write with a number is durable.

@@ -18,7 +18,7 @@ use Rattle.slate_errors.specs.Errors.{closed_error}
 use Rattle.slate_model.specs.Catalogue.{Span, catalogue_of, span, Catalogue, joined_span}
 use Rattle.slate_model.specs.declared.answers.PollAnswer.{PollAnswer}
 use Rattle.slate_model.specs.Close.{Closes, ended, fault_again, closing_flush}
-use Rattle.slate_model.specs.Follow.{FollowCause, IsOwed, Polls, Rebuilds, SeesOwed, built}
+use Rattle.slate_model.specs.Follow.{FollowCause, HasAllLogs, IsOwed, Polls, Rebuilds, SeesOwed, built}
 use Rattle.slate_model.specs.Followed.{IsView, kept_by, last_read, view_under}
 use Rattle.slate_model.specs.Follower.{Follower, is_pinned, kept_follower, rebuilt}
 use Rattle.slate_store.specs.Checkpoints.{found}
@@ -26,7 +26,7 @@ use Rattle.slate_store.specs.declared.objects.Checkpoint.{Checkpoint}
 use Rattle.slate_store.specs.declared.reader_modes.DbReaderMode.{DbReaderMode}
 use Rattle.slate_store.specs.declared.reader_modes.DbReaderMode.TheVariants as modes
 use Rattle.slate_model.proofs.Owing.{Owed, not-unpinned, owed-is, owed-known, owed_line, owing}
-use Rattle.slate_model.specs.declared.answers.PollAnswer.TheVariants.{Whole}
+use Rattle.slate_model.specs.declared.answers.PollAnswer.TheVariants.{Whole, Truncated}
 use Rattle.slate_model.specs.Handle.{Handle, CloseResult, accepted, kept_handle, line_above, next_table}
 use Rattle.slate_model.specs.Known.{Known, Untouched}
 use Rattle.slate_model.proofs.Reopened.{no-fault}
@@ -386,6 +386,11 @@ module _ (stored : Line) (mode : DbReaderMode) (skips opening : Bool) (o : Objec
   pub owed-begins : IsPrefix (owed_line mode skips o view stored) stored
   owed-begins = subst (λ l. IsPrefix l stored) its-line its.begins
 
+-- that all log files are read of objects is known by their catalogue
+logs-known : (o : Objects) (f g : Follower) (answer : PollAnswer) → f.mark ≡ g.mark → HasAllLogs o f answer → HasAllLogs (catalogue_of o) g answer
+logs-known o f g (Whole at) same all = let last = last_log-catalogue 0 o in omega (arith, same, all, last)
+logs-known o f g (Truncated at) same all = tt
+
 -- what is seen of objects is seen of their catalogue
 sees-known : (stored : Line) (mode : DbReaderMode) (skips opening : Bool) (o : Objects) (b : Follower) (answer : PollAnswer) → IsSound o → content o ≡ stored → IsView mode opening o b.view → SeesOwed (by_objects (Some o)) mode skips o stored b answer →
     SeesOwed (by_catalogue stored (catalogue_of o)) mode skips (catalogue_of o) stored (rebuilt mode skips b.view (owed_line mode skips o b.view stored) b.mark) answer
@@ -415,6 +420,7 @@ module _ (stored : Line) (mode : DbReaderMode) (skips opening : Bool) (seen : Ob
         cause = tt;
         answer = (refl, refl, refl, inl (all.3 ∙ ap (λ l. Whole (end l)) (owed-is (Some o) o mode skips b.0.view stored all.0 all.1)));
         can = λ c at. subst (λ x. IsView mode opening x b.0.view) (some-same (catalogue_of o) c at) (view-known mode opening o b.0.view v);
+        logs = λ c at free reads_logs. subst (λ x. HasAllLogs x whole b.1) (some-same (catalogue_of o) c at) (logs-known o b.0 whole b.1 refl (s.logs o refl free reads_logs));
         sees = λ c line at stored_is seen_before.
             subst (λ x. SeesOwed k mode skips x line whole b.1) (some-same (catalogue_of o) c at)
             (subst (λ l. SeesOwed k mode skips (catalogue_of o) l whole b.1) (sym stored_is) known);
@@ -426,6 +432,7 @@ module _ (stored : Line) (mode : DbReaderMode) (skips opening : Bool) (seen : Ob
     cause = follow_cause-known mode opening o e sound s.cause;
     answer = tt;
     can = tt;
+    logs = tt;
     sees = tt;
   }
 

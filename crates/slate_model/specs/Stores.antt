@@ -1,5 +1,5 @@
 -- What a store's own calls know, and what a world knows.
-use Rattle.std.specs.Prelude.{◌≡◌, ◌++◌, ℤ, true, List, Contains, Option, Some, None}
+use Rattle.std.specs.Prelude.{◌≡◌, ◌++◌, ℤ, true, List, [], Contains, Option, Some, None}
 use Rattle.std.specs.List.{flat_map}
 use Rattle.slate_types.specs.declared.batches.Batch.{Batch}
 use Rattle.slate_types.specs.Line.{IsPrefix, Line}
@@ -22,7 +22,7 @@ use Rattle.slate_model.specs.Handle.{kept_handle, up_to}
 use Rattle.slate_model.specs.Knowledge.{Knowledge}
 use Rattle.slate_model.specs.Known.{IsContent}
 use Rattle.slate_model.specs.Follower.{Follower as AFollower}
-use Rattle.slate_model.specs.Object.{Object, Handle, Follower, line_of, view_of}
+use Rattle.slate_model.specs.Object.{Object, Handle, Snapshot, Follower, batches_of, tables_of}
 use Rattle.slate_model.specs.Open.{OpenFault}
 use Rattle.slate_model.specs.Seen.{HasSeen}
 use Rattle.slate_model.specs.Tables.{AreJoined, AreStored}
@@ -57,7 +57,7 @@ Unpinned mode objects =
 -- the batches that an object reads: those of the tables of its view, and then those in memory
 abbrev pub kept_rows : Option Objects → Object → List Batch → Type 0
 kept_rows objects object rows =
-    (stored : List Batch) × AreJoined objects (view_of object).manifest.tables stored × (rows ≡ stored ++ (line_of object).batches)
+    (stored : List Batch) × AreJoined objects (tables_of object) stored × (rows ≡ stored ++ batches_of object)
 
 -- a log file and a table are their batches, of an object's line only the end is kept, and a line is stored where the
 -- store is honest
@@ -80,9 +80,10 @@ by_objects objects =
     }
 
 -- The batches that an object of a world reads, while the tables of its view are stored: a handle its line, and a follower
--- what is stored.
+-- what is stored. A snapshot reads by its handle.
 abbrev pub world_rows : Line → Catalogue → Object → List Batch → Type 0
 world_rows stored catalogue (Handle handle) rows = AreStored catalogue handle.view.manifest.tables × (rows ≡ handle.line.batches)
+world_rows stored catalogue (Snapshot snapshot) rows = rows ≡ []
 world_rows stored catalogue (Follower follower) rows = AreStored catalogue follower.view.manifest.tables × (rows ≡ stored.batches)
 
 -- a log file and a table are the spans of their batches, all of an object's line is there, and this line is stored

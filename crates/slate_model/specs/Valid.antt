@@ -9,7 +9,7 @@ use Rattle.slate_model.specs.Catalogue.{Catalogue}
 use Rattle.slate_model.specs.Follower.{is_pinned}
 pub use Rattle.slate_model.specs.Handle.{up_to}
 use Rattle.slate_model.specs.Handle.{Handle, accepted, unstored}
-use Rattle.slate_model.specs.Object.{Object, Handle as AHandle, Follower as AFollower, line_of, view_of}
+use Rattle.slate_model.specs.Object.{Object, Handle as AHandle, Snapshot as ASnapshot, Follower as AFollower}
 use Rattle.slate_model.specs.Seen.{HasSeen}
 use Rattle.slate_model.specs.Tables.{AreStored}
 
@@ -45,13 +45,16 @@ ReadsLine objects view line =
     let m = view.manifest in
     AreStored objects m.tables → table_batches objects m.tables ++ batches_above m.last_l0_seq line.batches ≡ line.batches
 
--- so an object reads its line
+-- so an object reads its line; a snapshot has none of its own
 abbrev pub ReadsItsLine : Objects → Object → Type 0
-ReadsItsLine objects object = ReadsLine objects (view_of object) (line_of object)
+ReadsItsLine objects (AHandle handle) = ReadsLine objects handle.view handle.line
+ReadsItsLine objects (ASnapshot snapshot) = Unit {0}
+ReadsItsLine objects (AFollower follower) = ReadsLine objects follower.view follower.line
 
 -- a follower that takes what is new has seen these objects up to its mark
 abbrev pub HasSeenThem : Objects → Object → Type 0
 HasSeenThem objects (AHandle handle) = Unit {0}
+HasSeenThem objects (ASnapshot snapshot) = Unit {0}
 HasSeenThem objects (AFollower follower) = is_pinned follower.mode ≡ false → HasSeen objects follower
 
 -- what the objects of a store are to one of a world

@@ -4,6 +4,8 @@
 
 mod answers;
 mod refusals;
+mod snapshots;
 
 pub use answers::{PollAnswer, Written};
 pub use refusals::error_of_refusal;
+pub use snapshots::HandleSnapshot;

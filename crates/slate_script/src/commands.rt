@@ -109,13 +109,15 @@ pub enum Action {
     Status {
         object: u64,
     },
-    /// Asks a handle, open or closed, when the batch with a number was written.
+    /// Asks a handle, open or closed, when the batch with a number was written, or else the next one up or down of which
+    /// it keeps the time.
     Ts {
         handle: u64,
         number: u64,
         find: FindOption,
     },
-    /// Asks a handle, open or closed, which number was written at a time in whole seconds.
+    /// Asks a handle, open or closed, which number was written at a time in whole seconds, or else at the next one up or
+    /// down that it keeps.
     Seq {
         handle: u64,
         seconds: i64,

@@ -1,4 +1,7 @@
-use Rattle.std.proofs.Common.{refl}
+use Rattle.std.proofs.Common.{rules, ◌≡◌, refl, subst, w64, to_z, of_z}
+use Rattle.std.specs.Ordering.{int_cmp}
+use Rattle.slate_seqtrack.specs.Lookup.{IsPartner}
+use Rattle.slate_seqtrack.specs.Tracker.{numbers_of, times_of}
 use Rattle.slate_live.proofs.handles.act.Goals as goal
 
 pub returns-in-Flush-clause-does : goal.returns-in-Flush-clause-does
@@ -12,3 +15,13 @@ returns-in-Scan-clause-does g c merge lawful = (0, rw c.in-Scan.is (c.scan.ensur
 
 pub returns-in-Seek-clause-does : goal.returns-in-Seek-clause-does
 returns-in-Seek-clause-does g c merge lawful = (0, rw c.in-Seek.is (c.seek.ensures.read merge lawful, refl {a = c.args.writer.now}, refl, refl {a = c.args.writes.now.items}))
+
+pub returns-in-Ts-clause-does : goal.returns-in-Ts-clause-does
+returns-in-Ts-clause-does g c merge lawful = (0, rw c.in-Ts.is ((c.find_ts.result, c.find_ts.ensures, refl), refl {a = c.args.writer.now}, (refl, refl), refl {a = c.args.writes.now.items}))
+
+pub returns-in-Seq-clause-does : goal.returns-in-Seq-clause-does
+returns-in-Seq-clause-does g c merge lawful =
+    let back : to_z w64 (of_z w64 c.in-Seq.seconds) ≡ c.in-Seq.seconds = search rules in
+    let tracker = c.args.writer.now.tracker in
+    let found = subst (λ seconds. IsPartner int_cmp c.in-Seq.find seconds (times_of tracker) (numbers_of tracker) c.find_seq.result) back c.find_seq.ensures in
+    (0, rw c.in-Seq.is ((c.find_seq.result, found, refl), refl {a = c.args.writer.now}, (refl, refl), refl {a = c.args.writes.now.items}))

@@ -1,4 +1,4 @@
-use Rattle.std.proofs.Common.{◌≡◌, None, subst}
+use Rattle.std.proofs.Common.{◌≡◌, subst}
 use Rattle.slate_types.specs.declared.options.ReadOptions.{ReadOptions}
 use Rattle.slate_reads.specs.Bound.{read_bound}
 use Rattle.slate_reads.specs.Read.{read_at}
@@ -17,5 +17,5 @@ returns-clause-read g c merge lawful =
     record {
       result = c.get.result;
       replied = c.read_reply.ensures;
-      does = rw (← c.as_slice.ensures) (subst (λ (o : ReadOptions). Reads h.result h.view.manifest.tables (kept_rows (g.S.Store.objects c.args.store.now) (Handle h)) (λ rows answer. answer ≡ read_at merge rows (read_bound None h.durable (accepted h) o.durability_filter o.dirty) c.as_slice.result.now) before c.get.result after) c.read_options-options.ensures (c.get.ensures.read merge lawful));
+      does = rw (← c.as_slice.ensures) (subst (λ (o : ReadOptions). Reads h.result h.view.manifest.tables (kept_rows (g.S.Store.objects c.args.store.now) (Handle h)) (λ rows answer. answer ≡ read_at merge rows (read_bound c.args.snapshot h.durable (accepted h) o.durability_filter o.dirty) c.as_slice.result.now) before c.get.result after) c.read_options-options.ensures (c.get.ensures.read merge lawful));
     }

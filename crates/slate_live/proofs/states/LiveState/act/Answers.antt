@@ -1,7 +1,14 @@
-use Rattle.std.proofs.Common.{arith}
+use Rattle.std.proofs.Common.{◌≡◌, ◌≤◌, ◌+◌, Option, Some, None, refl, sym, subst, ◌∙◌, arith}
+use Rattle.std.specs.List.{slice_get}
+use Rattle.std.specs.Option.{IfSome}
 use Rattle.std.proofs.lemmas.List.{map-set}
+use Rattle.slate_model.specs.Known.{known}
+use Rattle.slate_model.specs.Stores.{by_objects}
+use Rattle.slate_live.specs.Calls.{call_of, most_asked}
+use Rattle.slate_live.specs.Sampling.{snapshot_of}
+use Rattle.slate_live.specs.State.{running}
 use Rattle.slate_live.specs.Objects.{object_of}
-use Rattle.slate_live.proofs.Doing.{acts_on}
+use Rattle.slate_live.proofs.Doing.{acts_on, on-snapshot, read-itself}
 use Rattle.slate_live.proofs.Places.{get-map_at}
 use Rattle.slate_live.proofs.states.LiveState.act.Goals as goal
 
@@ -10,6 +17,30 @@ returns-clause-does g c merge lawful =
     let d = c.act.ensures.does merge lawful in
     rw (← c.self.view_is) (
       d.0,
-      acts_on _ merge c.args.number c.args.command.now d.0 _ _ c.act.result _ _ _ (get-map_at object_of c.self.inside.objects.items c.args.number c.index_mut-object.result.now (omega (arith, c.len.ensures)) c.index_mut-object.ensures.value) d.1
+      acts_on _ merge c.args.number c.args.command.now (call_of c.args.command.now.action) d.0 _ _ c.act.result _ _ _ (get-map_at object_of c.self.inside.objects.items c.args.number c.index_mut-object.result.now (omega (arith, c.len.ensures)) c.index_mut-object.ensures.value) d.1
           (map-set object_of c.self.inside.objects.items c.args.number c.act.new.self),
     )
+
+pub returns-in-Some-clause-does : goal.returns-in-Some-clause-does
+returns-in-Some-clause-does g c merge lawful = (
+  0,
+  on-snapshot (by_objects (g.S.Store.objects c.args.store.now)) merge c.args.number c.args.command.now (call_of c.args.command.now.action) 0 (slice_get c.args.self.now.objects c.args.number) (running c.args.self.now (known g.S.Store.objects g.S.Store.faults c.args.store.now)) c.act_at.result (running c.args.self.now (known g.S.Store.objects g.S.Store.faults c.act_at.new.store)) (object_of c.index.result.now) c.in-Some.snapshot
+      (rw (← c.self.view_is) (get-map_at object_of c.self.inside.objects.items c.args.number c.index.result.now (omega (arith, c.len.ensures)) c.index.ensures))
+      (sym c.snapshot.ensures ∙ c.in-Some.is) (c.act_at.ensures.does merge lawful),
+)
+
+none-of : {A : Type 0} (o : Option A) → ((x : A) → o ≡ Some x → ⊥) → o ≡ None
+none-of None never = refl
+none-of (Some x) never = absurd (never x refl)
+
+some-same : {A : Type 0} (o : Option A) (a b : A) → o ≡ Some a → o ≡ Some b → a ≡ b
+some-same o a b is is' = cc
+
+pub returns-clause-calls : goal.returns-clause-calls
+returns-clause-calls g c =
+    let objects = c.args.self.now.objects in
+    let old = object_of c.index_mut-object.result.now in
+    let first : slice_get objects c.args.number ≡ Some (object_of c.index.result.now) = rw (← c.self.view_is) (get-map_at object_of c.self.inside.objects.items c.args.number c.index.result.now (omega (arith, c.len.ensures)) c.index.ensures) in
+    let second : slice_get objects c.args.number ≡ Some old = rw (← c.self.view_is) (get-map_at object_of c.self.inside.objects.items c.args.number c.index_mut-object.result.now (omega (arith, c.len.ensures)) c.index_mut-object.ensures.value) in
+    let itself = subst (λ x. snapshot_of x ≡ None) (some-same _ _ old first second) (sym c.snapshot.ensures ∙ none-of c.snapshot.result c.in_default.not-Some) in
+    subst (λ count. IfSome (g.S.Store.objects c.args.store.now) (λ o. g.S.Store.calls c.act.new.store ≤ g.S.Store.calls c.args.store.now + most_asked o count (call_of c.args.command.now.action))) (sym (read-itself objects (slice_get objects c.args.number) old second itself)) c.act.ensures.calls

@@ -1,7 +1,7 @@
 use Rattle.std.proofs.Common.{rules, ◌≡◌, Option, refl, subst, ap, w64, to_z, of_z}
 use Rattle.slate_types.specs.Operator.{Merge}
 use Rattle.slate_script.specs.declared.options.Options.{Options}
-use Rattle.slate_live.specs.Calls.{NewHandle, NewFollower, NewCheckpoint, WholeStore, OfWrite, OfObject, target_of}
+use Rattle.slate_live.specs.Calls.{NewHandle, NewSnapshot, NewFollower, NewCheckpoint, WholeStore, OfWrite, OfObject, target_of}
 use Rattle.slate_model.specs.Known.{known}
 use Rattle.slate_model.specs.Stores.{by_objects}
 use Rattle.slate_live.specs.Maintenance.{CommitsTo, SweepsTo}
@@ -116,3 +116,10 @@ returns-in-Put-clause-link g c merge lawful =
     let store = known g.S.Store.objects g.S.Store.faults c.args.store.now in
     let store' = known g.S.Store.objects g.S.Store.faults c.act.new.store in
     linked s c.args.command.now c.args.self.now c.act.new.self store store' d.0 c.act.result (does-at k s c.args.command.now d.0 (running c.args.self.now store) c.act.result (running c.act.new.self store') (OfObject c.in-Put.number) (names-object c.args.command.now.action c.in-Put.number c.in-Put.is) d.1)
+
+pub returns-in-Snapshot-clause-link : goal.returns-in-Snapshot-clause-link
+returns-in-Snapshot-clause-link g c merge lawful =
+    let s = with_merge merge c.args.self.now.options in
+    let k = by_objects (g.S.Store.objects c.args.store.now) in
+    let store = known g.S.Store.objects g.S.Store.faults c.args.store.now in
+    linked s c.args.command.now c.args.self.now c.snapshot.new.self store store 0 c.snapshot.result (does-at k s c.args.command.now 0 (running c.args.self.now store) c.snapshot.result (running c.snapshot.new.self store) (NewSnapshot c.in-Snapshot.handle) (ap target_of c.in-Snapshot.is) (c.snapshot.ensures.does store))

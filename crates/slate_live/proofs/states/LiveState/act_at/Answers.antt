@@ -1,0 +1,14 @@
+use Rattle.std.proofs.Common.{arith}
+use Rattle.slate_live.specs.Calls.{call_of}
+use Rattle.slate_live.specs.Objects.{object_of}
+use Rattle.slate_live.proofs.Doing.{reads-snapshot}
+use Rattle.slate_live.proofs.Places.{get-map_at}
+use Rattle.slate_live.proofs.states.LiveState.act_at.Goals as goal
+
+pub returns-clause-does : goal.returns-clause-does
+returns-clause-does g c merge lawful =
+    rw (← c.self.view_is) (
+    reads-snapshot _ merge c.args.snapshot c.args.command.now (call_of c.args.command.now.action) _ c.act_at.result _ (object_of c.index.result.now)
+    (get-map_at object_of c.self.inside.objects.items c.args.snapshot.handle c.index.result.now (omega (arith, c.len.ensures)) c.index.ensures)
+    (c.act_at.ensures.does merge c.args.snapshot.handle c.self.inside.writes.items lawful)
+    )

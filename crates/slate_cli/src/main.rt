@@ -16,14 +16,15 @@ const HELP: &str = "\
 slate reads a script of timed commands from standard input, runs it over a fresh
 store in memory or over a directory, and prints a reply per command.
 
-usage: slate [--store DIR] [--merge concat] < SCRIPT
+usage: slate [--store DIR] [--merge concat] [--limit N] < SCRIPT
        slate --help | --version
 
 With --store DIR the database is kept in the directory DIR, which is made where
 it isn't there: what a flush answered is there for later runs, also after a
 crash. Any number of runs may use one directory at once.
 With --merge concat the operands of a key are appended; without it a merge is
-refused.
+refused. With --limit N a write is refused where its handle has N bytes of keys
+and values or more that aren't stored; without it N is 1,073,741,824.
 
 A line of the script is a moment in milliseconds and a command, as in
   0 open

@@ -11,14 +11,15 @@ pub const NO_EXTRACTOR: Option<&FixedPrefix> = None;
 pub const NO_OPERATOR: Option<&ConcatOperator> = None;
 
 /// Writes two keys to a database, and answers what a reader finds under one of them.
-pub fn write_and_follow<S: Store>(
-    alloc: Global,
-    store: &mut S,
-) -> Result<Option<KeyValue>, SlateError> {
+pub fn put_and_get<S: Store>(alloc: Global, store: &mut S) -> Result<Option<KeyValue>, SlateError> {
     let mut db = WriterState::open(alloc, store, &WriterOptions::default(), NO_EXTRACTOR)?;
     put_both(alloc, &mut db)?;
     db.flush(alloc, store, FlushType::Wal)?;
+    follow(alloc, store)
+}
 
+/// What a reader that is opened now finds under one of the keys.
+fn follow<S: Store>(alloc: Global, store: &mut S) -> Result<Option<KeyValue>, SlateError> {
     let (mode, options) = (DbReaderMode::FollowLatest, DbReaderOptions::default());
     let (mut reader, _) = FollowerState::open(alloc, store, mode, &options, NO_EXTRACTOR, 1)?;
     reader.poll(alloc, store, NO_EXTRACTOR, 2)?;

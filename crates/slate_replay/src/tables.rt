@@ -33,7 +33,7 @@ pub fn read_tables<S: Store>(
     ensures untouched { ids.now ≡ [] → store.new ≡ store.old }
     ensures some { ids.now ≡ [] → result ≡ Err (SlateError.ObjectStoreError NotFound) → ⊥ }
 {
-    let mut tables = Vec::new(alloc);
+    let mut tables = Vec::with_capacity(alloc, ids.len()).map_err(NoMemory::from)?;
     for id in ids {
         let table = store.read_table(alloc, *id)?;
         tables.push(table).map_err(NoMemory::from)?;

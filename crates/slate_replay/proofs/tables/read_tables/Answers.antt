@@ -9,12 +9,12 @@ returns-clause-joined g c = joined-by _ c.args.ids.now c.loop-id.id-index _ (ome
 
 pub returns-in_err-table-clause-missing : goal.returns-in_err-table-clause-missing
 returns-in_err-table-clause-missing g c is =
-    let p = err_from_is_err_and c.from_residual.result c.from_residual.ensures.1 in
+    let p = err_from_is_err_and c.from_residual-in_err-table.result c.from_residual-in_err-table.ensures.1 in
     unread-by _ _ c.args.ids.now c.loop-id.id-index _ _ c.in_err-table.field-0.0 c.loop-id.invariant.kept (omega arith) refl c.in_err-table.ensures.found (let same = p.1 in let from = p.2 in cc)
 
 pub returns-in_err-table-clause-refused : goal.returns-in_err-table-clause-refused
 returns-in_err-table-clause-refused g c =
-    let p = err_from_is_err_and c.from_residual.result c.from_residual.ensures.1 in
+    let p = err_from_is_err_and c.from_residual-in_err-table.result c.from_residual-in_err-table.ensures.1 in
     rw (p.1, p.2) (of-tables c.in_err-table.field-0.0 c.in_err-table.ensures.refusals)
 
 pub loop-id-preserved : goal.loop-id-preserved

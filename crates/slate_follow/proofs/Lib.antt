@@ -1,5 +1,13 @@
 pub mod Above
+pub mod Closing
 pub mod Continued
+pub mod Counted
 pub mod Cutting
+pub mod Informed
 pub mod Joining
+pub mod Keeping
+pub mod Leased
+pub mod Planned
 pub mod Rebuilt
+pub mod Taken
+pub mod Trying

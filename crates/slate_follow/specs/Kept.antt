@@ -1,7 +1,7 @@
 -- What a reader keeps in memory, and the follower that it represents.
-use Rattle.std.specs.Prelude.{◌≡◌, ◌+◌, ◌<◌, ◌^◌, [], length}
+use Rattle.std.specs.Prelude.{◌≡◌, ◌+◌, ◌<◌, ◌^◌, [], is_some, length}
 use Rattle.slate_types.specs.Line.{AreNumberedFrom}
-use Rattle.slate_model.specs.Follower.{Follower, rebuilt}
+use Rattle.slate_model.specs.Follower.{Follower, is_managed, rebuilt}
 use Rattle.slate_follow.specs.Joined.{AreFilled, joined}
 use Rattle.slate_follow.specs.declared.rebuilds.Rebuilt.TheInside.{Inside as Rebuilt}
 use Rattle.slate_follow.specs.declared.states.FollowerState.TheInside.{Inside}
@@ -15,17 +15,20 @@ follower_of a =
       view = a.status.manifest;
       line = record { floor = a.status.manifest.manifest.last_l0_seq; batches = joined a.kept.items };
       mark = a.mark;
+      lease = a.lease;
       result = a.status.result;
     }
 
 -- each table in memory has a batch; their batches are numbered from the last number in tables on, its number is that of the
--- last one, and none is in a segment
+-- last one, and none is in a segment. It has a
+-- lease exactly where it keeps a checkpoint of its own.
 pub record IsKept (a : Inside) : Type 0 where
   pub filled : AreFilled a.kept.items
   pub numbered : AreNumberedFrom a.status.manifest.manifest.last_l0_seq (joined a.kept.items)
   pub fits : a.status.manifest.manifest.last_l0_seq + length (joined a.kept.items) < 2 ^ 64
   pub number : a.status.durable ≡ a.status.manifest.manifest.last_l0_seq + length (joined a.kept.items)
   pub unsegmented : a.status.segments ≡ []
+  pub leased : is_some a.lease ≡ is_managed a.following.mode
 
 -- the follower that what was built makes
 abbrev pub rebuilt_follower : Rebuilt → Follower

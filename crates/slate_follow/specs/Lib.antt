@@ -1,4 +1,5 @@
 pub mod Joined
+pub mod Keeping
 pub mod Kept
 pub mod Rebuilding
 pub mod Scanned

@@ -1,30 +1,63 @@
 // Closing a reader that follows a database.
-ghost use Rattle.std.specs.Prelude.{◌≡◌};
+ghost use Rattle.std.specs.Prelude.{◌≡◌, ◌≢◌, ◌+◌, ◌≤◌, ℕ, None, IfSome, true, false};
 ghost use Rattle.slate_model.specs.Close.{closed_follower, ended, recorded_fault};
+ghost use Rattle.slate_model.specs.Follower.{is_managed};
+ghost use Rattle.slate_model.specs.Known.{known};
+ghost use Rattle.slate_model.specs.Managed.{ClosesManaged, EndsLease};
+ghost use Rattle.slate_model.specs.Stores.{by_objects};
 
 use crate::FollowerState;
 use slate_errors::{Ended, Ending, SlateError};
-use slate_store::Store;
+use slate_model::error_of_refusal;
+use slate_store::{Store, delete_checkpoint};
+use std::alloc::Global;
 
 impl FollowerState {
-    /// Closes the reader. From then on its gets and polls answer `Closed`. It doesn't touch the store.
+    /// Closes the reader. From then on its gets and polls answer `Closed`.
     ///
-    /// A reader that was closed before answers the error that was recorded, and none where it closed cleanly; what was
-    /// recorded first stays. It takes constant time. Until readers run a task, it ends none. SlateDB's
-    /// `DbReader::close`.
-    pub fn close<S: Store>(&mut self, store: &mut S) -> Ended
-        ensures answer { result ≡ ended (recorded_fault self.old.result) }
+    /// One that keeps a checkpoint of its own takes it out of the latest manifest, where it is there, so that a sweep may
+    /// remove what only it kept. It is closed before, and stays so: the answer has the fault where that failed, and then
+    /// the checkpoint lapses when its lease ends. The fault is `ObjectStoreError` for a fault of the store,
+    /// `LatestTransactionalObjectVersionMissing` where there is no manifest, `InvalidDBState` where no id is left for
+    /// another, `TransactionalObjectTimeout` where eight times another manifest was put first, and `NoMemory`. A reader
+    /// in another mode doesn't touch the store.
+    ///
+    /// A reader that was closed before answers the error that was recorded, and none where it closed cleanly, and doesn't
+    /// touch the store; what was recorded first stays. It calls the store at most twice for each of eight tries, and takes
+    /// time linear in the manifest; without a checkpoint it takes constant time. Until readers run a task, it ends none.
+    /// SlateDB's `DbReader::close`.
+    pub fn close<S: Store>(&mut self, alloc: Global, store: &mut S) -> Ended
         ensures closed { self.new ≡ closed_follower self.old }
-        ensures store { store.new ≡ store.old }
+        ensures answer { is_managed self.old.mode ≡ false → result ≡ ended (recorded_fault self.old.result) }
+        ensures store { is_managed self.old.mode ≡ false → store.new ≡ store.old }
+        ensures managed { is_managed self.old.mode ≡ true → (made : ℕ) × ClosesManaged (by_objects (S.objects store.old)) made self.old (known S.objects S.faults store.old) result self.new (known S.objects S.faults store.new) }
+        ensures untouched { self.old.result ≢ None → store.new ≡ store.old }
+        ensures faults { S.faults store.old ≤ S.faults store.new }
+        ensures calls { S.calls store.new ≤ S.calls store.old + 16 }
     {
         let fault = match self.closed() {
             Some(Err(fault)) => Some(SlateError::from(fault)),
-            _ => None,
+            Some(Ok(())) => None,
+            None => self.end_lease(alloc, store),
         };
         self.status.report_closed(Ok(()));
         Ended {
             fault,
             tasks: Ending::new(),
+        }
+    }
+
+    /// Takes its checkpoint out, where it keeps one of its own, and answers why that failed.
+    fn end_lease<S: Store>(&self, alloc: Global, store: &mut S) -> Option<SlateError>
+        ensures unleased { self.now.lease ≡ None → (result ≡ None) × (store.new ≡ store.old) }
+        ensures ends { IfSome self.now.lease (λ lease. (made : ℕ) × EndsLease (by_objects (S.objects store.old)) made lease (known S.objects S.faults store.old) (ended result) (known S.objects S.faults store.new)) }
+        ensures faults { S.faults store.old ≤ S.faults store.new }
+        ensures calls { S.calls store.new ≤ S.calls store.old + 16 }
+    {
+        let lease = self.lease?;
+        match delete_checkpoint(alloc, store, lease.id) {
+            Ok(()) => None,
+            Err(refusal) => Some(error_of_refusal(refusal)),
         }
     }
 }

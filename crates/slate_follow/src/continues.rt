@@ -36,13 +36,14 @@ impl FollowerState {
         last: u64,
     ) -> Result<PollAnswer, SlateError>
         requires open_ { self.old.result ≡ None }
+        requires unleased { self.old.lease ≡ None }
         requires reaches { Reaches self.old view }
         ensures faults { CountsFaults (S.faults store.old) (S.faults store.new) result }
         ensures calls { S.calls store.new ≤ S.calls store.old + (last - max self.old.mark view.manifest.replay_after_wal_id) }
         ensures kept { S.objects store.new ≡ S.objects store.old }
         ensures gone { IfOk result (λ answer. IfSome (S.objects store.old) (λ o. GoesOn o view last self.old self.new answer)) }
         ensures asked { IfOk result (λ _. (self.new.mode ≡ self.old.mode) × (self.new.skips ≡ self.old.skips)) }
-        ensures answer { IfOk result (λ answer. (self.new.result ≡ None) × AnswersAt (number self.new) answer) }
+        ensures answer { IfOk result (λ answer. (self.new.lease ≡ None) × (self.new.result ≡ None) × AnswersAt (number self.new) answer) }
         ensures failed { OnErr result (self.new ≡ self.old) }
         ensures refusals { IfErr result IsOfReplay }
     {
@@ -66,7 +67,7 @@ impl FollowerState {
         requires reaches { Reaches self.old view }
         requires numbered { AreNumberedFrom (number self.old) added }
         requires fits { number self.old + length added < 2 ^ 64 }
-        ensures ok { OnOk result (self.new ≡ followed self.old view added mark) }
+        ensures ok { OnOk result (self.new ≡ record (followed self.old view added mark) { lease = self.old.lease }) }
         ensures err { OnErr result (self.new ≡ self.old) }
     {
         let number = self.number() + added.batches().len() as u64;

@@ -1,10 +1,13 @@
 //! A reader that follows a database: it goes by the latest manifest, whose tables it reads and whose log files it has in
 //! memory. A poll takes the manifest anew, and of the log files those that it hasn't replayed yet. A reader of a checkpoint
-//! goes by the manifest that it keeps, and stays at that.
+//! goes by the manifest that it keeps, and stays at that. One may keep a checkpoint of its own under a lease, so that what
+//! it goes by isn't removed while it polls.
 #![tactic(auto)]
 
 mod closes;
 mod continues;
+mod keeps;
+mod leases;
 mod options;
 mod polls;
 mod reads;

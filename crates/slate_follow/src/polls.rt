@@ -1,12 +1,17 @@
 // Opening a reader that follows a database, and polling it.
-ghost use Rattle.std.specs.Prelude.{◌≡◌, ◌≢◌, ◌≤◌, ◌⊎◌, true, false, None, IfOk, IfSome, OnErr};
+ghost use Rattle.std.specs.Prelude.{◌≡◌, ◌≢◌, ◌+◌, ◌*◌, ◌≤◌, ◌⊎◌, ℕ, true, false, None, IfOk, IfSome, OnErr};
+ghost use Rattle.slate_store.specs.declared.reader_modes.DbReaderMode.TheVariants.{ManagedCheckpoint};
 ghost use Rattle.slate_model.specs.Follow.{Polls, Rebuilds, built, unseen};
-ghost use Rattle.slate_model.specs.Follower.{is_pinned};
+ghost use Rattle.slate_model.specs.Followed.{followed_logs};
+ghost use Rattle.slate_model.specs.Follower.{is_managed, is_pinned};
 ghost use Rattle.slate_model.specs.Known.{known};
+ghost use Rattle.slate_model.specs.Managed.{OpensManaged, PollsManaged, TakesLease};
+ghost use Rattle.slate_model.specs.Open.{replayed_logs};
 ghost use Rattle.slate_model.specs.Stores.{by_objects, kept_seen};
 ghost use Rattle.slate_follow.specs.Rebuilding.{CallsContinuing, CallsOpening, CallsRebuilding, Continues, ReplaysView};
 
-use crate::rebuilds::{find_view, rebuild};
+use crate::leases::{lease_refusal, take_lease};
+use crate::rebuilds::{find_view, last_read, rebuild};
 use crate::states::Following;
 use crate::{DbReaderMode, DbReaderOptions, FollowerState, PollAnswer};
 use slate_errors::SlateError;
@@ -20,20 +25,30 @@ impl FollowerState {
     /// In the mode `FollowLatest` it goes by the latest manifest, and sees the batches in its tables and those that all log
     /// files above its replay mark have above the last number in tables. In the mode `Checkpoint` it goes by the manifest
     /// that this checkpoint of the latest one keeps, and sees what that manifest named when it was put: the batches in its
-    /// tables, and those of the log files below the id that it says is next. With `skip_wal_replay` it reads no log file,
-    /// and sees the batches in the tables alone.
+    /// tables, and those of the log files below the id that it says is next. In the mode `ManagedCheckpoint` it puts a
+    /// manifest after the latest one, with a checkpoint of its own whose lease begins at `moment` and lasts
+    /// `checkpoint_lifetime_ms`, to the greatest moment at most, and goes by that manifest; it sees what one that follows
+    /// the latest does, and no sweep removes a table of it before the lease ends. With `skip_wal_replay` a reader reads no
+    /// log file, and sees the batches in the tables alone.
     ///
-    /// It puts nothing, and reads no table: each read of the reader does. `ManagedCheckpoint` can't be opened yet, nor can
-    /// a database with an extractor, and in the other modes `moment` isn't looked at. It calls the store twice at most, and
-    /// once for each log file that it replays. It takes time linear in the operations of the log files, and for each key a
-    /// logarithm of the keys; and as much once more, where they have `max_memtable_bytes` or more, since it cuts its tables
-    /// in memory there. SlateDB's `DbReader::open`.
+    /// In the other modes it puts nothing, and `moment` isn't looked at. It reads no table: each read of the reader does. A
+    /// database with an extractor can't be opened yet. It calls the store twice at most, or three times where it puts a
+    /// manifest, and once for each log file that it replays; and twice more for each time that another manifest was put
+    /// first, of eight. It takes time linear in the operations of the log files, and for each key a logarithm of the keys;
+    /// and as much once more, where they have `max_memtable_bytes` or more, since it cuts its tables in memory there.
+    /// SlateDB's `DbReader::open`.
+    ///
+    /// In the mode `ManagedCheckpoint` it answers first, without a call of the store, `InvalidCheckpointLifetime` for a
+    /// lifetime under 1000 milliseconds, then `InvalidManifestPollInterval` where twice the interval of polls passes a
+    /// `u64`, then `CheckpointLifetimeTooShort` for a lifetime under twice the interval.
     ///
     /// It answers `Truncated` where a log file or a batch is missing, and the reader has the batches before it; that
     /// never comes over a store that only handles wrote. It answers `LatestTransactionalObjectVersionMissing` where
-    /// there is no manifest, `InvalidDBState` where the latest one isn't initialised, and `CheckpointMissing` where the
-    /// latest one has no such checkpoint. It answers `ObjectStoreError` for a fault of the store, and where the manifest
-    /// isn't stored that the checkpoint keeps, which no sweep removes; and `NoMemory`.
+    /// there is no manifest, `InvalidDBState` where the latest one isn't initialised or no id is left for another that is
+    /// put, `CheckpointMissing` where the latest one has no such checkpoint, and `TransactionalObjectTimeout` where eight
+    /// times another manifest was put first. It answers `ObjectStoreError` for a fault of the store, and where the
+    /// manifest isn't stored that the checkpoint keeps, which no sweep removes; and `NoMemory`. After a fault or want of
+    /// memory the manifest with the new checkpoint may have been put, which lapses then.
     pub fn open<S: Store, E: PrefixExtractor>(
         alloc: Global,
         store: &mut S,
@@ -42,12 +57,18 @@ impl FollowerState {
         extractor: Option<&E>,
         moment: i64,
     ) -> Result<(FollowerState, PollAnswer), SlateError>
-        requires mode { mode ≢ DbReaderMode.ManagedCheckpoint }
         requires extractor { extractor ≡ None }
-        ensures rebuilds { Rebuilds (by_objects (S.objects store.old)) mode options.now.skip_wal_replay true unseen (known S.objects S.faults store.old) result (known S.objects S.faults store.new) }
-        ensures replays { IfOk result (λ p. IfSome (S.objects store.old) (λ o. ReplaysView true o p.0 p.1)) }
-        ensures calls { IfSome (S.objects store.old) (λ o. CallsOpening mode options.now.skip_wal_replay o (S.calls store.old) (S.calls store.new)) }
+        ensures rebuilds { is_managed mode ≡ false → Rebuilds (by_objects (S.objects store.old)) mode options.now.skip_wal_replay true unseen (known S.objects S.faults store.old) result (known S.objects S.faults store.new) }
+        ensures replays { is_managed mode ≡ false → IfOk result (λ p. IfSome (S.objects store.old) (λ o. ReplaysView true o p.0 p.1)) }
+        ensures calls { is_managed mode ≡ false → IfSome (S.objects store.old) (λ o. CallsOpening mode options.now.skip_wal_replay o (S.calls store.old) (S.calls store.new)) }
+        ensures managed { is_managed mode ≡ true → (made : ℕ) × OpensManaged (by_objects (S.objects store.old)) made options.now.checkpoint_lifetime_ms options.now.manifest_poll_interval_ms
+            options.now.skip_wal_replay moment (known S.objects S.faults store.old) result (known S.objects S.faults store.new) }
+        ensures managed_calls { is_managed mode ≡ true → IfSome (S.objects store.old) (λ o. S.calls store.new ≤ S.calls store.old + (followed_logs mode options.now.skip_wal_replay o + 17)) }
+        ensures faults { S.faults store.old ≤ S.faults store.new }
     {
+        if mode == DbReaderMode::ManagedCheckpoint {
+            return FollowerState::open_managed(alloc, store, options, moment);
+        }
         let following = Following {
             mode,
             skips: options.skip_wal_replay,
@@ -55,28 +76,89 @@ impl FollowerState {
         let (view, last) = find_view(alloc, store, following, true)?;
         let (rebuilt, answer) = rebuild(alloc, store, following, view, last)?;
         let limit = options.max_memtable_bytes;
-        Ok((FollowerState::new(alloc, rebuilt, limit)?, answer))
+        Ok((FollowerState::new(alloc, rebuilt, None, limit)?, answer))
     }
 
-    /// Takes what is new since the last poll: from then on the reader goes by the latest manifest until the next poll,
-    /// and sees the batches in its tables and those that the log files above its replay mark have above the last number in
-    /// tables. One that was opened with `skip_wal_replay` sees those in the tables. It reads no table. `moment` isn't
-    /// looked at. A reader of a checkpoint stays as it is, and answers `Whole` without a call of the store.
+    /// Opens a reader that keeps a checkpoint of its own.
+    fn open_managed<S: Store>(
+        alloc: Global,
+        store: &mut S,
+        options: &DbReaderOptions,
+        moment: i64,
+    ) -> Result<(FollowerState, PollAnswer), SlateError>
+        ensures opens { (made : ℕ) × OpensManaged (by_objects (S.objects store.old)) made options.now.checkpoint_lifetime_ms options.now.manifest_poll_interval_ms
+            options.now.skip_wal_replay moment (known S.objects S.faults store.old) result (known S.objects S.faults store.new) }
+        ensures calls { IfSome (S.objects store.old) (λ o. S.calls store.new ≤ S.calls store.old + (followed_logs ManagedCheckpoint options.now.skip_wal_replay o + 17)) }
+        ensures faults { S.faults store.old ≤ S.faults store.new }
+    {
+        if let Some(refusal) = lease_refusal(options) {
+            return Err(refusal);
+        }
+        FollowerState::open_leased(alloc, store, options, moment)
+    }
+
+    /// Opens one whose options pass.
+    fn open_leased<S: Store>(
+        alloc: Global,
+        store: &mut S,
+        options: &DbReaderOptions,
+        moment: i64,
+    ) -> Result<(FollowerState, PollAnswer), SlateError>
+        ensures takes { (made : ℕ) × TakesLease (by_objects (S.objects store.old)) made options.now.checkpoint_lifetime_ms
+            options.now.skip_wal_replay moment (known S.objects S.faults store.old) result (known S.objects S.faults store.new) }
+        ensures calls { IfSome (S.objects store.old) (λ o. S.calls store.new ≤ S.calls store.old + (followed_logs ManagedCheckpoint options.now.skip_wal_replay o + 17)) }
+        ensures faults { S.faults store.old ≤ S.faults store.new }
+    {
+        let following = Following {
+            mode: DbReaderMode::ManagedCheckpoint,
+            skips: options.skip_wal_replay,
+        };
+        let lifetime = options.checkpoint_lifetime_ms;
+        let (view, lease) = take_lease(alloc, store, lifetime, moment)?;
+        let last = last_read(alloc, store, following, &view)?;
+        let (rebuilt, answer) = rebuild(alloc, store, following, view, last)?;
+        let limit = options.max_memtable_bytes;
+        Ok((
+            FollowerState::new(alloc, rebuilt, Some(lease), limit)?,
+            answer,
+        ))
+    }
+
+    /// Takes what is new since the last poll: from then on the reader sees, until the next poll, the batches in the tables
+    /// of the latest manifest and those that the log files above its replay mark have above the last number in tables.
+    /// One that was opened with `skip_wal_replay` sees those in the tables. It reads no table. A reader of a checkpoint
+    /// stays as it is, and answers `Whole` without a call of the store.
     ///
-    /// It calls the store twice, and once for each log file that it reads: those above both the replay mark and its own
-    /// mark, up to which it has what the log files have. It takes time linear in the operations of these, for each new
-    /// key a logarithm of the keys, and time for each batch that it drops, since it is in the tables of the manifest.
-    /// Where it joins its last tables in memory, so that they stay few, or cuts what is new, since it has
-    /// `max_memtable_bytes` or more, that takes time linear in the operations of these, too; and each poll looks at each
-    /// table in memory.
-    /// Only where its batches don't reach the manifest's tables, so that log files between may be gone, it reads all log
+    /// One that follows the latest goes by the latest manifest then, and `moment` isn't looked at. One that keeps a
+    /// checkpoint of its own goes by the same manifest as before while the latest one has the same tables, last number in
+    /// them and segments, and takes what log files have that are new. Where one of these differs, it puts a manifest after
+    /// the latest one with a new checkpoint in place of the old one, whose lease begins at `moment`, and goes by that. Else
+    /// it renews its lease, so that it ends a lifetime after `moment`, where `moment` is after its end less half the
+    /// lifetime, rounded down. Where the lease is over and a sweep took its checkpoint out, the renewal puts a new one,
+    /// and the reader goes by that manifest. So a reader whose polls are less than half the lifetime apart keeps its
+    /// checkpoint, and no sweep removes a table that it reads.
+    ///
+    /// It calls the store twice, once more where it puts a manifest, and once for each log file that it reads: those above
+    /// both the replay mark and its own mark, up to which it has what the log files have. Where a lease is due whose
+    /// checkpoint isn't there any more, it has read these before it finds so: after it has put the new one it asks for the
+    /// last log file again, and reads all above the replay mark. A managed reader does all that again each time that
+    /// another manifest was put first, of eight: so it calls the store at most nine times for each log file above the
+    /// replay mark, and 27 times besides.
+    ///
+    /// It takes time linear in the operations of the log files that it reads, for each new key a logarithm of the keys,
+    /// and time for each batch that it drops, since it is in the tables of the manifest. Where it joins its last tables in
+    /// memory, so that they stay few, or cuts what is new, since it has `max_memtable_bytes` or more, that takes time
+    /// linear in the operations of these, too; and each poll looks at each table in memory. Where its batches don't reach
+    /// the manifest's tables, so that log files between may be gone, and where it replaced its checkpoint, it reads all log
     /// files above the replay mark, as an opening does.
     ///
     /// It answers `Truncated` where a log file or a batch is missing, and the reader has the batches before it then;
-    /// that never comes over a store that only handles wrote. A poll that answers an error leaves the reader as it was,
-    /// and closes nothing: the next one may go on. On a closed reader it answers `Closed` or the error that closed it,
-    /// and doesn't touch the store. Else it answers `LatestTransactionalObjectVersionMissing` where there is no
-    /// manifest, `ObjectStoreError` for a fault of the store, and `NoMemory`.
+    /// that never comes over a store that only handles wrote. A poll that answers an error leaves what the reader saw. Of
+    /// one that keeps a checkpoint each error but `NoMemory` is recorded, and closes it; its checkpoint is left to lapse.
+    /// In the other modes it closes nothing: the next one may go on. On a closed reader it answers `Closed` or the error
+    /// that closed it, and doesn't touch the store. Else it answers `LatestTransactionalObjectVersionMissing` where there
+    /// is no manifest, `InvalidDBState` where no id is left for another that is put, `TransactionalObjectTimeout` where
+    /// eight times another manifest was put first, `ObjectStoreError` for a fault of the store, and `NoMemory`.
     pub fn poll<S: Store, E: PrefixExtractor>(
         &mut self,
         alloc: Global,
@@ -85,16 +167,21 @@ impl FollowerState {
         moment: i64,
     ) -> Result<PollAnswer, SlateError>
         requires { extractor ≡ None }
-        ensures polls { Polls (by_objects (S.objects store.old)) self.old (known S.objects S.faults store.old) result self.new (known S.objects S.faults store.new) }
-        ensures replays { IfOk result (λ a. is_pinned self.old.mode ≡ false → IfSome (S.objects store.old) (λ o. ReplaysView false o self.new a ⊎ Continues o self.old self.new a)) }
-        ensures calls { IfSome (S.objects store.old) (λ o. CallsRebuilding o (S.calls store.old) (S.calls store.new)) }
-        ensures costs { IfOk result (λ _. self.new.view ≡ self.old.view → IfSome (S.objects store.old) (λ o. CallsContinuing o self.old (S.calls store.old) (S.calls store.new))) }
+        ensures polls { is_managed self.old.mode ≡ false → Polls (by_objects (S.objects store.old)) self.old (known S.objects S.faults store.old) result self.new (known S.objects S.faults store.new) }
+        ensures replays { is_managed self.old.mode ≡ false → IfOk result (λ a. is_pinned self.old.mode ≡ false → IfSome (S.objects store.old) (λ o. ReplaysView false o self.new a ⊎ Continues o self.old self.new a)) }
+        ensures calls { is_managed self.old.mode ≡ false → IfSome (S.objects store.old) (λ o. CallsRebuilding o (S.calls store.old) (S.calls store.new)) }
+        ensures costs { is_managed self.old.mode ≡ false → IfOk result (λ _. self.new.view ≡ self.old.view → IfSome (S.objects store.old) (λ o. CallsContinuing o self.old (S.calls store.old) (S.calls store.new))) }
+        ensures managed { is_managed self.old.mode ≡ true → (made : ℕ) × PollsManaged (by_objects (S.objects store.old)) made moment self.old (known S.objects S.faults store.old) result self.new (known S.objects S.faults store.new) }
+        ensures managed_calls { is_managed self.old.mode ≡ true → IfSome (S.objects store.old) (λ o. S.calls store.new ≤ S.calls store.old + 9 * (replayed_logs o + 3)) }
         ensures count { S.faults store.old ≤ S.faults store.new }
         ensures untouched { self.old.result ≢ None → (self.new ≡ self.old) × (store.new ≡ store.old) }
         ensures stays { is_pinned self.old.mode ≡ true → (self.new ≡ self.old) × (store.new ≡ store.old) }
     {
         if let Some(result) = self.closed() {
             return Err(SlateError::of_closed(result));
+        }
+        if let Some(lease) = self.lease {
+            return self.poll_leased(alloc, store, &lease, moment);
         }
         if self.is_pinned() {
             return Ok(PollAnswer::Whole { at: self.number() });
@@ -105,6 +192,7 @@ impl FollowerState {
     /// Goes by the latest manifest, and takes what is new.
     fn take_new<S: Store>(&mut self, alloc: Global, store: &mut S) -> Result<PollAnswer, SlateError>
         requires open_ { self.old.result ≡ None }
+        requires unleased { self.old.lease ≡ None }
         requires free { is_pinned self.old.mode ≡ false }
         ensures rebuilds { Rebuilds (by_objects (S.objects store.old)) self.old.mode self.old.skips false (kept_seen self.old)
             (known S.objects S.faults store.old) (built self.new result) (known S.objects S.faults store.new) }

@@ -100,7 +100,7 @@ fn view_under<S: Store>(
 }
 
 /// The last log file that a reader reads that goes by a manifest.
-fn last_read<S: Store>(
+pub(crate) fn last_read<S: Store>(
     alloc: Global,
     store: &mut S,
     following: Following,
@@ -122,7 +122,7 @@ fn last_read<S: Store>(
 }
 
 /// The checkpoint of a manifest that has this id.
-fn find_checkpoint(latest: &VersionedManifest, id: Uuid) -> Option<Checkpoint>
+pub(crate) fn find_checkpoint(latest: &VersionedManifest, id: Uuid) -> Option<Checkpoint>
     ensures { result ≡ found id latest.now }
 {
     latest
@@ -161,7 +161,7 @@ pub(crate) fn rebuild<S: Store>(
     ensures kept { S.objects store.new ≡ S.objects store.old }
     ensures built { IfOk result (λ p. IfSome (S.objects store.old) (λ o. Builds o following.mode following.skips view last p.0 p.1)) }
     ensures asked { IfOk result (λ p. (p.0.mode ≡ following.mode) × (p.0.skips ≡ following.skips)) }
-    ensures answer { IfOk result (λ p. (p.0.result ≡ None) × AnswersAt (number p.0) p.1) }
+    ensures answer { IfOk result (λ p. (p.0.lease ≡ None) × (p.0.result ≡ None) × AnswersAt (number p.0) p.1) }
     ensures refusals { IfErr result IsOfReplay }
 {
     let (memory, replayed) = recover(alloc, store, &view.manifest, last)?;

@@ -1,11 +1,12 @@
 // What a reader that follows a database keeps.
-ghost use Rattle.std.specs.Prelude.{◌≡◌, ◌≤◌, [], length, None, IfOk, OnOk, OnErr};
-ghost use Rattle.slate_model.specs.Follower.{is_pinned, number};
+ghost use Rattle.std.specs.Prelude.{◌≡◌, ◌≤◌, [], is_some, length, None, IfOk, OnOk, OnErr};
+ghost use Rattle.slate_model.specs.Follower.{is_managed, is_pinned, number};
 ghost use Rattle.slate_status.specs.Records.{status_by};
 
 use crate::rebuilds::Rebuilt;
 use crate::tables::list_of;
 use slate_errors::CloseFault;
+use slate_model::Lease;
 use slate_reads::IndexedTable;
 use slate_status::{DbStatus, StatusRecord};
 use slate_store::{DbReaderMode, TableId};
@@ -33,6 +34,8 @@ pub struct FollowerState {
     pub(crate) kept: Vec<IndexedTable>,
     /// The log files up to this id are replayed.
     pub(crate) mark: u64,
+    /// Of the checkpoint that it keeps of its own, where it does.
+    pub(crate) lease: Option<Lease>,
     pub(crate) status: StatusRecord,
 }
 
@@ -49,13 +52,16 @@ impl Model for FollowerState {
 }
 
 impl FollowerState {
-    /// A reader that was opened with what was built, and cuts its tables in memory at `limit` bytes.
+    /// A reader that was opened with what was built, under a lease where it keeps a checkpoint of its own, and cuts its
+    /// tables in memory at `limit` bytes.
     pub(crate) fn new(
         alloc: Global,
         rebuilt: Rebuilt,
+        lease: Option<Lease>,
         limit: u64,
     ) -> Result<FollowerState, NoMemory>
-        ensures { IfOk result (λ new. new ≡ rebuilt) }
+        requires leased { is_some lease ≡ is_managed rebuilt.mode }
+        ensures { IfOk result (λ new. new ≡ record rebuilt { lease = lease }) }
     {
         let number = rebuilt.number();
         Ok(FollowerState {
@@ -63,13 +69,16 @@ impl FollowerState {
             limit,
             kept: list_of(alloc, rebuilt.memory, limit)?,
             mark: rebuilt.mark,
+            lease,
             status: StatusRecord::new(alloc, number, rebuilt.view),
         })
     }
 
-    /// Takes what was built in place of what it saw. A reader that is open becomes what was built.
+    /// Takes what was built in its mode in place of what it saw. A reader that is open becomes what was built, under its
+    /// lease.
     pub(crate) fn take(&mut self, alloc: Global, rebuilt: Rebuilt) -> Result<(), NoMemory>
-        ensures ok { OnOk result (self.old.result ≡ None → self.new ≡ rebuilt) }
+        requires leased { is_managed rebuilt.mode ≡ is_managed self.old.mode }
+        ensures ok { OnOk result (self.old.result ≡ None → self.new ≡ record rebuilt { lease = self.old.lease }) }
         ensures err { OnErr result (self.new ≡ self.old) }
     {
         let number = rebuilt.number();

@@ -23,6 +23,7 @@ use Rattle.slate_live.specs.Steps.{Chain, Step, last_world}
 use Rattle.slate_live.specs.Valid.{Link}
 use Rattle.slate_live.specs.World.{World, start}
 use Rattle.slate_live.proofs.Prefixes.{prefix-same, prefix-then}
+use Rattle.slate_live.proofs.Lasting.{leases_hold}
 use Rattle.slate_live.proofs.Snapshots.{snapshots_stay}
 use Rattle.slate_live.proofs.Staying.{stay_confirmed}
 
@@ -62,9 +63,7 @@ pub record Done (settings : Settings) (first : World) (commands : List Command) 
 
 -- a world that is represented may be reached
 pub reached : (live : Live) (store : Known (List Batch)) (w : World) → Represents live store w → IsReached w
-reached live store w stands =
-    let held = stands.held in
-    (stands.valid, subst (λ (c : Catalogue). AreRising (map (λ entry. entry.0) c.manifests)) (held.3).catalogue (held.2).manifests)
+reached live store w stands = (stands.valid, (stands.held).0, (stands.held).2, (stands.held).3)
 
 -- no command, done
 pub done_none : (settings : Settings) (first : World) (replies : List Reply) → replies ≡ [] → Done settings first [] replies []
@@ -99,9 +98,14 @@ chain-grows settings first [] chain = prefix-same first.stored
 chain-grows settings first (s ∷ steps) chain =
     prefix-then first.stored (s.world).stored (last_world s.world steps).stored (chain.0).grows (chain-grows settings s.world steps chain.1)
 
+-- the world of sound objects, before any command, may be reached
+start-reached : (options : Options) (o : Objects) (faults : ℕ) → IsSound o → IsReached (start o faults)
+start-reached options o faults sound =
+    reached (record { options = options; objects = []; writes = [] }) (record { objects = Some o; faults = faults }) (start o faults) (stands_start o (record { objects = Some o; faults = faults }) (record { options = options; objects = []; writes = [] }) refl refl refl sound)
+
 -- where all of the commands are done
-pub leads_all : (settings : Settings) (commands : List Command) (i : ℕ) (replies : List Reply) (o : Objects) (faults : ℕ) (live : Live) (store : Known (List Batch)) (steps : List Step) → length commands ≤ i → Done settings (start o faults) (take i commands) replies steps → Represents live store (last_world (start o faults) steps) → LeadsTo settings commands replies o faults store
-leads_all settings commands i replies o faults live store steps all done stands =
+pub leads_all : (settings : Settings) (commands : List Command) (i : ℕ) (replies : List Reply) (o : Objects) (faults : ℕ) (live : Live) (store : Known (List Batch)) (steps : List Step) → IsSound o → length commands ≤ i → Done settings (start o faults) (take i commands) replies steps → Represents live store (last_world (start o faults) steps) → LeadsTo settings commands replies o faults store
+leads_all settings commands i replies o faults live store steps sound all done stands =
     let held = stands.held in
     record {
       steps = steps;
@@ -113,6 +117,7 @@ leads_all settings commands i replies o faults live store steps all done stands 
       is_last = refl;
       grows = chain-grows settings (start o faults) steps done.chain;
       confirmed = stay_confirmed settings (start o faults) steps refl done.chain;
+      leases = leases_hold settings (start o faults) steps refl (start-reached settings.options o faults sound) done.chain done.reached;
       snapshots = snapshots_stay settings (start o faults) steps refl done.chain done.reached;
       after = held.0;
       modelled = held.1;

@@ -1,5 +1,5 @@
 -- A valid command that meets no fault is refused nothing.
-use Rattle.std.proofs.Common.{◌≡◌, ◌≢◌, ◌⊎◌, inl, inr, ℕ, ℤ, ◌<◌, ◌≤◌, Bool, true, false, if◌then◌else◌, List, [], ◌∷◌, length, Option, Some, None, Result, Ok, Err, refl, sym, subst, ap, ◌∙◌, arith}
+use Rattle.std.proofs.Common.{◌≡◌, ◌≢◌, ◌⊎◌, inl, inr, ℕ, ℤ, ◌<◌, ◌≤◌, Bool, true, false, if◌then◌else◌, List, [], ◌∷◌, length, Option, Some, None, Result, Ok, Err, IfErr, refl, sym, subst, ap, ◌∙◌, arith}
 use Rattle.std.specs.List.{slice_get}
 use Rattle.std.proofs.lemmas.Bool.{le-leb, lt-ltb}
 use Rattle.slate_types.specs.Counts.{HasRisen}
@@ -21,6 +21,11 @@ use Rattle.slate_model.specs.Catalogue.{Catalogue}
 use Rattle.slate_model.specs.Maintain.{CheckpointAnswer, SweepsAnswer}
 use Rattle.slate_store.specs.Objects.{latest_manifest, last_log}
 use Rattle.slate_errors.specs.declared.endings.Ended.{Ended}
+use Rattle.slate_errors.specs.declared.endings.TaskName.{TaskName}
+use Rattle.slate_model.specs.declared.leases.Lease.{Lease}
+use Rattle.slate_model.specs.Lease.{lease_refusal, to_keep, to_take}
+use Rattle.slate_model.specs.Managed.{KeepsLease, OpensManaged, PlanCause}
+use Rattle.slate_store.specs.declared.refusals.StoreRefusal.TheVariants as refusals
 use Rattle.slate_errors.specs.declared.errors.SlateError.{SlateError}
 use Rattle.slate_errors.specs.declared.errors.SlateError.TheVariants as errors
 use Rattle.slate_model.specs.Close.{Closes, closing_flush, ended, fault_again, recorded_fault}
@@ -29,12 +34,12 @@ use Rattle.slate_model.specs.declared.answers.Written.{Written}
 use Rattle.slate_model.specs.Flush.{FlushCause, Flushes, ManifestCause, Stores, has_ids}
 use Rattle.slate_model.specs.Follow.{unseen, FollowCause, Polls, Rebuilds, built}
 use Rattle.slate_model.specs.Followed.{can_follow, kept_by, view_under}
-use Rattle.slate_model.specs.Follower.{Follower, is_pinned}
-use Rattle.slate_store.specs.Checkpoints.{found}
+use Rattle.slate_model.specs.Follower.{Follower, is_managed, is_pinned}
+use Rattle.slate_store.specs.Checkpoints.{Plan, found, to_delete}
 use Rattle.slate_store.specs.declared.reader_modes.DbReaderMode.{DbReaderMode}
 use Rattle.slate_store.specs.declared.reader_modes.DbReaderMode.TheVariants as modes
 use Rattle.slate_model.specs.Handle.{CloseResult, Handle, accepted}
-use Rattle.slate_model.specs.Known.{CountsFaults, FaultsRise}
+use Rattle.slate_model.specs.Known.{CountsFaults, FaultsRise, Untouched}
 use Rattle.slate_model.specs.Catalogue.{Span}
 use Rattle.slate_model.specs.Knowledge.{Knowledge}
 use Rattle.slate_model.specs.Known.{Known}
@@ -56,16 +61,16 @@ use Rattle.slate_script.specs.declared.replies.Reply.{Reply}
 use Rattle.slate_script.specs.declared.replies.Reply.TheVariants as replies
 use Rattle.slate_live.specs.declared.states.Write.{Write}
 use Rattle.slate_live.specs.Calls.{Call, Write as WriteCall, Merge as MergeCall, Flush, Refresh, Compact, Get, Scan, Seek, Close, Poll, Status, FindTime, FindNumber, Nothing, call_of, Target, NewHandle, NewSnapshot, NewFollower, NewCheckpoint, WholeStore, OfWrite, OfObject, at_snapshot, target_of}
-use Rattle.slate_live.specs.Commands.{ActsAt, ActsOn, DoesBy, OpensSnapshot, ReadsSnapshot, asked_reply, write_reply}
-use Rattle.slate_live.specs.Followers.{FollowerActs}
+use Rattle.slate_live.specs.Commands.{ActsAt, ActsOn, DoesBy, OpensSnapshot, ReadsSnapshot, asked_reply, interval_of, lifetime_of, write_reply}
+use Rattle.slate_live.specs.Followers.{ClosesAs, FollowerActs, PollsAs}
 use Rattle.slate_live.specs.Handles.{HandleActs, MergesTo, WritesTo, flush_type_by, pending_reply}
-use Rattle.slate_live.specs.Replies.{AnswersStatus, IsRead, closed_reply, ended_reply, follower_ended_reply, followed_reply, found_reply, polled_reply, refusal, reply_to}
-use Rattle.slate_live.specs.Represents.{IsValid}
+use Rattle.slate_live.specs.Replies.{AnswersStatus, IsRead, closed_reply, ended_reply, follower_closed_reply, follower_ended_reply, followed_reply, found_reply, polled_reply, refusal, reply_to}
+use Rattle.slate_live.specs.Represents.{IsLeased, IsValid}
 use Rattle.slate_live.specs.Scans.{IsTaken, Takes, scanned, sought}
 use Rattle.slate_live.specs.Settings.{Settings}
-use Rattle.slate_live.specs.Valid.{AtHandle, AtObject, CanAsk, CanAskFollower, CanAskSnapshot, CanCheckpoint, CanClose, CanCompact, CanFollow, CanOpen, CanRead, CanRefresh, CanStore, CanSweep, CanTake, CanWrite, IsDurable, IsOkOrNoMemory, IsValidAt, IsValidCommand}
+use Rattle.slate_live.specs.Valid.{AtHandle, AtObject, CanAsk, CanAskFollower, CanAskSnapshot, CanCheckpoint, CanClose, CanCompact, CanEnd, CanFollow, CanOpen, CanPoll, CanPut, CanRead, CanRefresh, CanStore, CanSweep, CanTake, CanWrite, IsDurable, IsOkOrNoMemory, IsValidAt, IsValidCommand}
 use Rattle.slate_live.specs.World.{Next, World, state_of}
-use Rattle.slate_live.proofs.Cases.{some-of}
+use Rattle.slate_live.proofs.Cases.{by-option, some-of}
 use Rattle.slate_live.proofs.Naming.{follower-did, handle-acted}
 use Rattle.slate_live.proofs.Writing.{accepts}
 
@@ -334,9 +339,71 @@ polled-completes : (w w' : World) (f f' : Follower) (r : Result PollAnswer Slate
 polled-completes w w' f f' r p live can calm true stays = subst (λ x. IsOkOrNoMemory (reply_to polled_reply x)) (sym (p.pinned live stays).0) tt
 polled-completes w w' f f' r p live can calm false free = poll-reply w w' f.mode f.skips f' r (p.rebuilds live free) (can free) calm
 
-closed-follower-reply : (fault : Option SlateError) (reply : Reply) → fault ≡ None → reply ≡ follower_ended_reply (ended fault) → IsOkOrNoMemory reply
-closed-follower-reply None reply none is = subst IsOkOrNoMemory (sym is) tt
-closed-follower-reply (Some error) reply none is = absurd (cc)
+-- a call with a plan for a checkpoint that can be put
+plan-free : {A B : Type 0} (plan : VersionedManifest → Plan A) (w : World) (faults : ℕ) (r : Result B SlateError) → IfErr r (PlanCause ⊥ plan w.catalogue) → CountsFaults w.faults faults r → CanPut plan w → (HasRisen w.faults faults → ⊥) → IsFree r
+plan-free plan w faults (Ok x) cause counts can calm = tt
+plan-free plan w faults (Err errors.LatestTransactionalObjectVersionMissing) cause counts can calm = absurd (none-some (latest_manifest w.catalogue) can.0 cause can.1)
+plan-free plan w faults (Err errors.InvalidDBState) cause counts can calm =
+    let same = same-manifest (latest_manifest w.catalogue) cause.0 can.0 cause.1 can.1 in
+    absurd (let no : ◌≡◌ (Ok can.2) (Err refusals.InvalidDBState) = sym can.3 ∙ (ap plan (sym same) ∙ cause.2) in cc)
+plan-free plan w faults (Err (errors.TransactionalObjectTimeout tries)) cause counts can calm = absurd cause.1
+plan-free plan w faults (Err (errors.ObjectStoreError Unavailable)) cause counts can calm = absurd (calm (counts.unavailable refl))
+plan-free plan w faults (Err errors.NoMemory) cause counts can calm = refl
+plan-free plan w faults (Err error) cause counts can calm = absurd cause
+
+-- an opening of a reader that keeps a checkpoint
+take-reply : (w w' : World) (made lifetime interval : ℕ) (skips : Bool) (moment : ℤ) (n : ℕ) (r : Result (Follower × PollAnswer) SlateError) → OpensManaged (by_catalogue w.stored w.catalogue) made lifetime interval skips moment (state_of w).store r (state_of w').store →
+    (lease_refusal lifetime interval ≡ None) × CanPut (to_take lifetime moment) w → (HasRisen w.faults w'.faults → ⊥) → IsOkOrNoMemory (reply_to (λ (b : Follower × PollAnswer). followed_reply n b.1) r)
+take-reply w w' made lifetime interval skips moment n (Ok b) d can calm =
+    let t = modelled w.catalogue w'.catalogue (d.takes can.0).takes in
+    let all = (t.sees).sees w.stored refl tt in
+    subst (λ a. IsOkOrNoMemory (followed_reply n a)) (sym all.3) tt
+take-reply w w' made lifetime interval skips moment n (Err e) d can calm =
+    let t = d.takes can.0 in
+    let puts = modelled w.catalogue w'.catalogue t.puts in
+    subst (λ x. IsOkOrNoMemory (refusal x)) (sym (plan-free {B = Follower × PollAnswer} (to_take lifetime moment) w w'.faults (Err e) puts.cause t.faults can.1 calm)) tt
+
+-- a poll of one
+keep-reply : (w w' : World) (made : ℕ) (lease : Lease) (moment : ℤ) (f f' : Follower) (r : Result PollAnswer SlateError) → KeepsLease (by_catalogue w.stored w.catalogue) made lease moment f (state_of w).store r f' (state_of w').store → CanPut (to_keep f.view lease moment) w → (HasRisen w.faults w'.faults → ⊥) → IsOkOrNoMemory (reply_to polled_reply r)
+keep-reply w w' made lease moment f f' (Ok answer) d can calm =
+    let t = modelled w.catalogue w'.catalogue d.keeps in
+    let all = (t.sees).sees w.stored refl tt in
+    subst (λ a. IsOkOrNoMemory (polled_reply a)) (sym all.3) tt
+keep-reply w w' made lease moment f f' (Err e) d can calm =
+    let puts = modelled w.catalogue w'.catalogue d.puts in
+    subst (λ x. IsOkOrNoMemory (refusal x)) (sym (plan-free {B = PollAnswer} (to_keep f.view lease moment) w w'.faults (Err e) puts.cause d.faults can calm)) tt
+
+-- a lease that an open reader has which keeps a checkpoint
+lease-of : {G : Type 0} (f : Follower) → IsLeased f → is_managed f.mode ≡ true → f.result ≡ None → ((lease : Lease) → f.lease ≡ Some lease → G) → G
+lease-of f leased managed live g = by-option f.lease (λ none. absurd (let there = leased managed live in cc)) g
+
+polls-complete : (w w' : World) (made : ℕ) (moment : ℤ) (f f' : Follower) (r : Result PollAnswer SlateError) (managed : Bool) → is_managed f.mode ≡ managed → PollsAs (by_catalogue w.stored w.catalogue) managed made moment f (state_of w).store r f' (state_of w').store → IsLeased f → f.result ≡ None → CanPoll w moment f → (HasRisen w.faults w'.faults → ⊥) → IsOkOrNoMemory (reply_to polled_reply r)
+polls-complete w w' made moment f f' r true managed p leased live can calm =
+    lease-of f leased managed live (λ lease is. keep-reply w w' made lease moment f f' r (p.keeps lease live is) (some-of (λ lease. CanPut (to_keep f.view lease moment) w) f.lease lease is (can.1 managed)) calm)
+polls-complete w w' made moment f f' r false unmanaged p leased live can calm = polled-completes w w' f f' r p.0 live (can.0 unmanaged) calm (is_pinned f.mode) refl
+
+-- a close of an open one, and of one that was closed without an error
+ended-free : (fault : Option SlateError) (tasks : List TaskName) → IsFree (closing_flush fault) → IsOkOrNoMemory (replies.Ended fault tasks)
+ended-free None tasks free = tt
+ended-free (Some e) tasks free = subst (λ x. IsOkOrNoMemory (replies.Ended (Some x) tasks)) (sym free) tt
+
+again-reply : (fault : Option SlateError) (tasks : List TaskName) → fault ≡ None → IsOkOrNoMemory (follower_closed_reply fault tasks)
+again-reply None tasks none = tt
+again-reply (Some error) tasks none = absurd (cc)
+
+closes-complete : (w w' : World) (made : ℕ) (f f' : Follower) (answer : Ended) (managed : Bool) → is_managed f.mode ≡ managed → ClosesAs (by_catalogue w.stored w.catalogue) managed made f (state_of w).store answer f' (state_of w').store → IsLeased f → CanEnd w f → (HasRisen w.faults w'.faults → ⊥) → (was : CloseResult) → f.result ≡ was → IsOkOrNoMemory (follower_ended_reply was answer)
+closes-complete w w' made f f' answer true managed c leased can calm None live =
+    lease-of f leased managed live (λ lease is.
+    let e = c.ends lease live is in
+    let puts = modelled w.catalogue w'.catalogue e.puts in
+    ended-free answer.fault answer.tasks (plan-free (to_delete lease.id) w w'.faults (closing_flush answer.fault) puts.cause e.faults (some-of (λ (lease : Lease). CanPut (to_delete lease.id) w) f.lease lease is (can.1 managed live)) calm))
+closes-complete w w' made f f' answer true managed c leased can calm (Some q) is =
+    let again = some-of (λ _. (answer ≡ ended (recorded_fault f.result)) × Untouched made (state_of w).store (state_of w').store) f.result q is c.again in
+    again-reply answer.fault answer.tasks (ap (λ (e : Ended). e.fault) again.0 ∙ can.0)
+closes-complete w w' made f f' answer false unmanaged c leased can calm None live =
+    subst (λ (e : Ended). IsOkOrNoMemory (replies.Ended e.fault e.tasks)) (sym (c.0 ∙ ap ended can.0)) tt
+closes-complete w w' made f f' answer false unmanaged c leased can calm (Some q) is =
+    again-reply answer.fault answer.tasks (ap (λ (e : Ended). e.fault) c.0 ∙ can.0)
 
 -- a status is refused nothing
 status-completes : (status : DbStatus) (reply : Reply) → AnswersStatus status reply → IsOkOrNoMemory reply
@@ -386,7 +453,7 @@ module _ (settings : Settings) (w w' : World) (valid : IsValid w) (command : Com
   handle-completes n Nothing h h' can a = absurd can
 
   -- a follower that may be asked this
-  follower-completes : (n : ℕ) (call : Call) (f f' : Follower) → slice_get w.objects n ≡ Some (AFollower f) → CanAskFollower settings.merge w call f → FollowerActs (by_catalogue w.stored w.catalogue) settings.merge call made f (state_of w).store w.writes reply f' (state_of w').store w'.writes → IsOkOrNoMemory reply
+  follower-completes : (n : ℕ) (call : Call) (f f' : Follower) → slice_get w.objects n ≡ Some (AFollower f) → CanAskFollower settings.merge w command.moment call f → FollowerActs (by_catalogue w.stored w.catalogue) settings.merge command.moment call made f (state_of w).store w.writes reply f' (state_of w').store w'.writes → IsOkOrNoMemory reply
   follower-completes n (WriteCall ops) f f' at can a = absurd can
   follower-completes n (MergeCall op) f f' at can a = absurd can
   follower-completes n (Flush t) f f' at can a = absurd can
@@ -400,9 +467,10 @@ module _ (settings : Settings) (w w' : World) (valid : IsValid w) (command : Com
       take-completes _ w w' f.result f.view.manifest.tables scanned w.stored.batches reply can.0 (λ others has. has.1) can.1 a.0 calm
   follower-completes n (Seek range take key order remote snapshot) f f' at can a =
       take-completes _ w w' f.result f.view.manifest.tables (sought range take key) w.stored.batches reply can.0 (λ others has. has.1) can.1 a.0 calm
-  follower-completes n (Close t) f f' at can a = closed-follower-reply (recorded_fault f.result) reply can a.0
+  follower-completes n (Close t) f f' at can a =
+      subst IsOkOrNoMemory (sym (a.0).replied) (closes-complete w w' made f f' (a.0).answer (is_managed f.mode) refl (a.0).does (valid.followers n f at).2 can calm f.result refl)
   follower-completes n Poll f f' at can a =
-      subst IsOkOrNoMemory (sym (a.0).replied) (polled-completes w w' f f' (a.0).result (a.0).does can.0 can.1 calm (is_pinned f.mode) refl)
+      subst IsOkOrNoMemory (sym (a.0).replied) (polls-complete w w' made command.moment f f' (a.0).result (is_managed f.mode) refl (a.0).does (valid.followers n f at).2 can.0 can.1 calm)
   follower-completes n Status f f' at can a = status-completes _ reply a.0
   follower-completes n Nothing f f' at can a = absurd can
 
@@ -417,7 +485,7 @@ module _ (settings : Settings) (w w' : World) (valid : IsValid w) (command : Com
       by-handle w x.handle _ can
       (λ h at can_ask. handle-acts x.handle (at_snapshot x.number call) h can_ask (subst (λ found. ReadsSnapshot k settings.merge x command call made found (state_of w) reply (state_of w')) at d))
 
-  object-completes : (n : ℕ) (call : Call) → AtObject (slice_get w.objects n) (CanAsk settings.merge w command.moment command.second call) (CanAskSnapshot settings.merge w command.moment command.second call) (CanAskFollower settings.merge w call) → ActsOn k settings.merge n command call made (slice_get w.objects n) (state_of w) reply (state_of w') → IsOkOrNoMemory reply
+  object-completes : (n : ℕ) (call : Call) → AtObject (slice_get w.objects n) (CanAsk settings.merge w command.moment command.second call) (CanAskSnapshot settings.merge w command.moment command.second call) (CanAskFollower settings.merge w command.moment call) → ActsOn k settings.merge n command call made (slice_get w.objects n) (state_of w) reply (state_of w') → IsOkOrNoMemory reply
   object-completes n call can d =
       by-object (slice_get w.objects n) _ _ _ can
       (λ h at can_ask. handle-acts n call h can_ask (subst (λ found. ActsOn k settings.merge n command call made found (state_of w) reply (state_of w')) at d))
@@ -443,7 +511,10 @@ module _ (settings : Settings) (w w' : World) (valid : IsValid w) (command : Com
       let o = modelled w.catalogue w'.catalogue (d.does).opens in
       subst IsOkOrNoMemory (sym d.replied) (free-reply _ d.result (λ x at. tt) (open-free w w'.faults d.result o.answer (d.does).faults can calm))
   completes-at (NewSnapshot n) d can = opens-snapshot n can d
-  completes-at (NewFollower mode skips) d can = subst IsOkOrNoMemory (sym (d.0).replied) (follow-reply w w' mode skips (length w.objects) (d.0).result (d.0).does can calm)
+  completes-at (NewFollower modes.FollowLatest managed skips) d can = subst IsOkOrNoMemory (sym (d.0).replied) (follow-reply w w' modes.FollowLatest skips (length w.objects) (d.0).result (d.0).does can calm)
+  completes-at (NewFollower (modes.Checkpoint id) managed skips) d can = subst IsOkOrNoMemory (sym (d.0).replied) (follow-reply w w' (modes.Checkpoint id) skips (length w.objects) (d.0).result (d.0).does can calm)
+  completes-at (NewFollower modes.ManagedCheckpoint managed skips) d can =
+      subst IsOkOrNoMemory (sym d.replied) (take-reply w w' made (lifetime_of managed) (interval_of managed) skips command.moment (length w.objects) d.result d.does can calm)
   completes-at (NewCheckpoint lifetime) d can =
       let c = d.does in
       let o = modelled w.catalogue w'.catalogue (c.does).objects in

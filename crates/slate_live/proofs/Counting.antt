@@ -1,13 +1,19 @@
--- An opening that answers an error calls the store no more often than a command may.
-use Rattle.std.proofs.Common.{ℕ, ◌+◌, ◌≤◌, Option, Some, None, Err, refl, arith}
+-- Openings, polls and closes call the store no more often than a command may.
+use Rattle.std.proofs.Common.{◌≡◌, ℕ, ◌+◌, ◌*◌, ◌≤◌, Bool, true, false, Option, Some, None, Err, refl, subst, arith}
 use Rattle.std.specs.Option.{IfSome}
 use Rattle.slate_store.specs.Objects.{Objects}
 use Rattle.slate_store.specs.Calls.{WhereModelled}
+use Rattle.slate_store.specs.declared.reader_modes.DbReaderMode.{DbReaderMode}
+use Rattle.slate_store.specs.declared.reader_modes.DbReaderMode.TheVariants as modes
 use Rattle.slate_errors.specs.declared.errors.SlateError.{SlateError}
 use Rattle.slate_errors.specs.declared.errors.SlateError.TheVariants as errors
+use Rattle.slate_follow.specs.Rebuilding.{CallsOpening as CallsFollowing, CallsRebuilding}
+use Rattle.slate_model.specs.Followed.{followed_logs}
+use Rattle.slate_model.specs.Follower.{is_managed}
 use Rattle.slate_model.specs.Handle.{Handle}
 use Rattle.slate_model.specs.Open.{OpenCause, OpenFault, Opens, replayed_logs}
 use Rattle.slate_writer.specs.Opening.{CallsOpening}
+use Rattle.slate_live.specs.Calls.{end_calls, follow_calls, poll_calls}
 
 most-at : (o : Objects) (e : SlateError) (calls calls' : ℕ) → OpenCause (OpenFault o) o e → CallsOpening {A = Handle} o calls calls' (Err e) → calls' ≤ calls + (replayed_logs o + 5)
 most-at o (errors.WalTruncated id) calls calls' cause counted = let within = cause.1.within in omega (arith, within, counted)
@@ -17,3 +23,29 @@ most-at o e calls calls' cause counted = omega (arith, counted)
 pub opening-calls : {t t' : Option Objects} (e : SlateError) (made calls calls' : ℕ) → WhereModelled (λ o o'. Opens {A = Handle} (λ batches. batches) (OpenFault o) o (Err e) made o') t t' → IfSome t (λ o. CallsOpening {A = Handle} o calls calls' (Err e)) → IfSome t (λ o. calls' ≤ calls + (replayed_logs o + 5))
 opening-calls {t = None} e made calls calls' opens counted = tt
 opening-calls {t = Some o} e made calls calls' opens counted = let opened = opens.some o refl in most-at o e calls calls' opened.2.answer counted
+
+-- an opening of a reader, by its mode
+follows-at : (mode : DbReaderMode) (skips : Bool) (o : Objects) (calls calls' : ℕ) → (is_managed mode ≡ false → CallsFollowing mode skips o calls calls') → (is_managed mode ≡ true → calls' ≤ calls + (followed_logs mode skips o + 17)) → calls' ≤ calls + follow_calls mode skips o
+follows-at (modes.Checkpoint id) skips o calls calls' other managed = let counted = other refl in omega (arith, counted)
+follows-at modes.FollowLatest skips o calls calls' other managed = let counted = other refl in omega (arith, counted)
+follows-at modes.ManagedCheckpoint skips o calls calls' other managed = managed refl
+
+pub follow-calls : (t : Option Objects) (mode : DbReaderMode) (skips : Bool) (calls calls' : ℕ) → (is_managed mode ≡ false → IfSome t (λ o. CallsFollowing mode skips o calls calls')) →
+    (is_managed mode ≡ true → IfSome t (λ o. calls' ≤ calls + (followed_logs mode skips o + 17))) → IfSome t (λ o. calls' ≤ calls + follow_calls mode skips o)
+follow-calls None mode skips calls calls' other managed = tt
+follow-calls (Some o) mode skips calls calls' other managed = follows-at mode skips o calls calls' other managed
+
+-- a poll, by whether the reader keeps a checkpoint
+polls-at : (keeps : Bool) (o : Objects) (calls calls' : ℕ) → (keeps ≡ false → CallsRebuilding o calls calls') → (keeps ≡ true → calls' ≤ calls + 9 * (replayed_logs o + 3)) → calls' ≤ calls + poll_calls keeps o
+polls-at true o calls calls' other managed = managed refl
+polls-at false o calls calls' other managed = let counted = other refl in omega (arith, counted)
+
+pub polling-calls : (t : Option Objects) (keeps : Bool) (calls calls' : ℕ) → (keeps ≡ false → IfSome t (λ o. CallsRebuilding o calls calls')) → (keeps ≡ true → IfSome t (λ o. calls' ≤ calls + 9 * (replayed_logs o + 3))) →
+    IfSome t (λ o. calls' ≤ calls + poll_calls keeps o)
+polling-calls None keeps calls calls' other managed = tt
+polling-calls (Some o) keeps calls calls' other managed = polls-at keeps o calls calls' other managed
+
+-- and a close
+pub ending-calls : (keeps : Bool) (calls calls' : ℕ) → (keeps ≡ false → calls' ≡ calls) → calls' ≤ calls + 16 → calls' ≤ calls + end_calls keeps
+ending-calls true calls calls' other counted = counted
+ending-calls false calls calls' other counted = let same = other refl in omega (arith, same)

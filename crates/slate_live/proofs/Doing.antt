@@ -1,5 +1,5 @@
 -- What the live state's calls do, by what the calls of its objects do.
-use Rattle.std.proofs.Common.{◌≡◌, ◌∙◌, inl, inr, ℕ, ℤ, Bool, List, set, true, Option, Some, None, Result, Ok, Err, refl, sym, subst, ap, arith}
+use Rattle.std.proofs.Common.{◌≡◌, ◌∙◌, inl, inr, ℕ, ℤ, Bool, List, [], ◌∷◌, ◌++◌, length, set, true, false, Option, Some, None, Result, Ok, Err, refl, sym, subst, ap, arith}
 use Rattle.std.specs.Option.{IfSome, UnwrapsOrElse}
 use Rattle.slate_types.specs.declared.batches.Batch.{Batch}
 use Rattle.slate_types.specs.declared.options.CloseOptions.{CloseOptions}
@@ -11,26 +11,33 @@ use Rattle.slate_store.specs.declared.objects.Checkpoint.{Checkpoint}
 use Rattle.slate_store.specs.declared.refusals.StoreRefusal.{StoreRefusal}
 use Rattle.slate_store.specs.declared.refusals.StoreRefusal.TheVariants as refusals
 use Rattle.slate_store.specs.Checkpoints.{to_write}
-use Rattle.slate_store.specs.Objects.{Objects}
+use Rattle.slate_store.specs.Objects.{Objects, ObjectsOf}
 use Rattle.slate_store.specs.Refusals.{CountsFaults as StoreFaults, CountsTries, FollowsPlan}
 use Rattle.slate_store.specs.Sweeps.{Sweeps}
 use Rattle.slate_model.specs.Maintain.{CommitsCheckpoint, SweepsObjects}
 use Rattle.slate_model.specs.Stores.{by_objects}
 use Rattle.slate_model.proofs.Maintained.{answered, commits-by, sweeps-by}
 use Rattle.slate_live.specs.Maintenance.{CommitsTo, SweepsTo}
-use Rattle.slate_live.specs.Replies.{refusal, reply_to}
+use Rattle.slate_live.specs.Followers.{PollsAs, PollsFollower}
+use Rattle.slate_live.specs.Replies.{followed_reply, polled_reply, refusal, reply_to}
 use Rattle.slate_script.specs.declared.replies.Reply.TheVariants as replies
 use Rattle.slate_store.specs.declared.reader_modes.DbReaderMode.{DbReaderMode}
+use Rattle.slate_store.specs.declared.reader_modes.DbReaderMode.TheVariants as modes
 use Rattle.slate_errors.specs.declared.errors.SlateError.TheVariants as errors
-use Rattle.slate_model.specs.Follow.{FollowCause, Rebuilds, unseen}
+use Rattle.slate_model.specs.Follow.{FollowCause, Polls, Rebuilds, unseen}
+use Rattle.slate_model.specs.Follower.{Follower, is_managed}
+use Rattle.slate_model.specs.Lease.{lease_refusal, to_take}
+use Rattle.slate_model.specs.Managed.{OpensManaged, PollsManaged, PutsPlanned, TakesLease}
+use Rattle.slate_model.specs.declared.answers.PollAnswer.{PollAnswer}
 use Rattle.slate_model.specs.Knowledge.{Knowledge}
-use Rattle.slate_model.specs.Known.{Known}
+use Rattle.slate_model.specs.Known.{Known, Untouched}
 use Rattle.slate_model.specs.Object.{Object, Handle as AHandle, Snapshot as ASnapshot, Follower as AFollower}
 use Rattle.slate_model.specs.Open.{OpensHandle}
 use Rattle.slate_script.specs.declared.commands.Command.{Command}
 use Rattle.slate_script.specs.declared.replies.Reply.{Reply}
-use Rattle.slate_live.specs.Calls.{Call, at_snapshot, flush_of_close, read_by, table_count}
-use Rattle.slate_live.specs.Commands.{Acts, ActsOn, OpensSnapshot, ReadsSnapshot}
+use Rattle.slate_live.specs.Calls.{Call, at_snapshot, flush_of_close, read_by}
+use Rattle.slate_live.specs.Commands.{Acts, ActsOn, OpensFollowerIn, OpensSnapshot, ReadsSnapshot, added, interval_of, lifetime_of}
+use Rattle.slate_live.specs.Settings.{Settings}
 use Rattle.slate_live.specs.Sampling.{ActsAsOf, Pushes, snapshot_of, taken_of}
 use Rattle.slate_live.specs.declared.states.Write.{Write}
 use Rattle.slate_live.proofs.Places.{set-same}
@@ -58,17 +65,90 @@ caused : (k : Knowledge (List Batch)) (mode : DbReaderMode) (objects : Option Ob
 caused k mode None = tt
 caused k mode (Some o) = tt
 
-pub follows-nothing : (k : Knowledge (List Batch)) (mode : DbReaderMode) (skips : Bool) (store : Known (List Batch)) → Rebuilds k mode skips true unseen store (Err errors.NoMemory) store
-follows-nothing k mode skips store = record {
-  kept = refl;
-  faults = record { count = omega arith; unavailable = λ h. absurd (cc) };
+-- an opening of a reader that was opened and finds no room
+pub follows-in_vain : (k : Knowledge (List Batch)) (mode : DbReaderMode) (skips : Bool) (b : Follower × PollAnswer) (before after : Known (List Batch)) → Rebuilds k mode skips true unseen before (Ok b) after → Rebuilds k mode skips true unseen before (Err errors.NoMemory) after
+follows-in_vain k mode skips b before after did = record {
+  kept = did.kept;
+  faults = record { count = did.faults.count; unavailable = λ h. absurd (cc) };
   missing = λ h. absurd (cc);
-  cause = caused k mode store.objects;
+  cause = caused k mode before.objects;
   answer = tt;
   can = tt;
   logs = tt;
   sees = tt;
 }
+
+-- and of one that keeps a checkpoint, which is left to lapse
+module _ {L : Type 0} (k : Knowledge L) (made lifetime interval : ℕ) (skips : Bool) (moment : ℤ) (b : Follower × PollAnswer) (before after : Known L) where
+  refused-not : (refusal : Option SlateError) → IfSome refusal (λ error. (◌≡◌ {A = Result (Follower × PollAnswer) SlateError} (Ok b) (Err error)) × Untouched made before after) → IfSome refusal (λ error. (◌≡◌ {A = Result (Follower × PollAnswer) SlateError} (Err errors.NoMemory) (Err error)) × Untouched made before after)
+  refused-not None is = tt
+  refused-not (Some error) is = absurd (let e = is.0 in cc)
+
+  puts-in_vain : (o o' : ObjectsOf L) → PutsPlanned k.stands (to_take lifetime moment) o (Ok b) made o' → PutsPlanned {B = Follower × PollAnswer} k.stands (to_take lifetime moment) o (Err errors.NoMemory) made o'
+  puts-in_vain o o' puts = record { cause = tt; part = let whole = puts.part in omega (arith, whole); after = puts.after }
+
+  takes-in_vain : TakesLease k made lifetime skips moment before (Ok b) after → TakesLease k made lifetime skips moment before (Err errors.NoMemory) after
+  takes-in_vain takes = record {
+    faults = record { count = takes.faults.count; unavailable = λ h. absurd (cc); none_missing = λ h. absurd (cc) };
+    puts = record { none = takes.puts.none; some = λ o is. let t = takes.puts.some o is in (t.0, t.1, puts-in_vain o t.0 t.2) };
+    answers = tt;
+    takes = tt;
+  }
+
+  pub opens-in_vain : OpensManaged k made lifetime interval skips moment before (Ok b) after → OpensManaged k made lifetime interval skips moment before (Err errors.NoMemory) after
+  opens-in_vain did = record { refused = refused-not (lease_refusal lifetime interval) did.refused; takes = λ passes. takes-in_vain (did.takes passes) }
+
+-- An opening of a reader that answered this, over the options that a command gives: what it did, by its mode, is what the command does.
+module _ {L : Type 0} (k : Knowledge L) (settings : Settings) where
+  opens-by : (mode : DbReaderMode) (managed : Option (ℕ × ℕ)) (skips : Bool) (moment : ℤ) (r : Result (Follower × PollAnswer) SlateError) (s : State L) (reply : Reply) (s' : State L) →
+      reply ≡ reply_to (λ b. followed_reply (length s.objects) b.1) r → s'.objects ≡ s.objects ++ added (λ b. AFollower b.0) r → s'.writes ≡ s.writes → (lifetime interval : ℕ) → lifetime ≡ lifetime_of managed → interval ≡ interval_of managed →
+      (is_managed mode ≡ false → Rebuilds k mode skips true unseen s.store r s'.store) → (is_managed mode ≡ true → (made : ℕ) × OpensManaged k made lifetime interval skips moment s.store r s'.store) →
+      (made : ℕ) × OpensFollowerIn k settings mode managed skips moment made s reply s'
+  opens-by (modes.Checkpoint id) managed skips moment r s reply s' replied objects writes lifetime interval is is' other keeps = (0, (record { result = r; replied = replied; does = other refl; objects = objects; writes = writes }, refl))
+  opens-by modes.FollowLatest managed skips moment r s reply s' replied objects writes lifetime interval is is' other keeps = (0, (record { result = r; replied = replied; does = other refl; objects = objects; writes = writes }, refl))
+  opens-by modes.ManagedCheckpoint managed skips moment r s reply s' replied objects writes lifetime interval is is' other keeps =
+      let d = keeps refl in
+      let did : OpensManaged k d.0 (lifetime_of managed) (interval_of managed) skips moment s.store r s'.store =
+      subst (λ i. OpensManaged k d.0 (lifetime_of managed) i skips moment s.store r s'.store) is' (subst (λ l. OpensManaged k d.0 l interval skips moment s.store r s'.store) is d.1) in
+      (d.0, record { result = r; replied = replied; does = did; objects = objects; writes = writes })
+
+module _ (k : Knowledge (List Batch)) (settings : Settings) (mode : DbReaderMode) (managed : Option (ℕ × ℕ)) (skips : Bool) (moment : ℤ) where
+  -- it is added
+  pub opens-follower : (b : Follower × PollAnswer) (objects objects' : List Object) (writes : List Write) (before after : Known (List Batch)) (reply : Reply) → reply ≡ followed_reply (length objects) b.1 → objects' ≡ objects ++ AFollower b.0 ∷ [] →
+      (lifetime interval : ℕ) → lifetime ≡ lifetime_of managed → interval ≡ interval_of managed → (at : ℤ) → at ≡ moment →
+      (is_managed mode ≡ false → Rebuilds k mode skips true unseen before (Ok b) after) → (is_managed mode ≡ true → (made : ℕ) × OpensManaged k made lifetime interval skips at before (Ok b) after) →
+      (made : ℕ) × OpensFollowerIn k settings mode managed skips moment made (record { objects = objects; writes = writes; store = before }) reply (record { objects = objects'; writes = writes; store = after })
+  opens-follower b objects objects' writes before after reply replied added lifetime interval is is' at same_at other keeps =
+      opens-by k settings mode managed skips moment (Ok b) (record { objects = objects; writes = writes; store = before }) reply (record { objects = objects'; writes = writes; store = after }) replied added refl lifetime interval is is' other (λ keep. let d = keeps keep in (d.0, subst (λ m. OpensManaged k d.0 lifetime interval skips m before (Ok b) after) same_at d.1))
+
+  -- no room is left for it
+  pub follower-in_vain : (b : Follower × PollAnswer) (objects objects' : List Object) (writes : List Write) (before after : Known (List Batch)) → objects' ≡ objects →
+      (lifetime interval : ℕ) → lifetime ≡ lifetime_of managed → interval ≡ interval_of managed → (at : ℤ) → at ≡ moment →
+      (is_managed mode ≡ false → Rebuilds k mode skips true unseen before (Ok b) after) → (is_managed mode ≡ true → (made : ℕ) × OpensManaged k made lifetime interval skips at before (Ok b) after) →
+      (made : ℕ) × OpensFollowerIn k settings mode managed skips moment made (record { objects = objects; writes = writes; store = before }) replies.NoMemory (record { objects = objects'; writes = writes; store = after })
+  follower-in_vain b objects objects' writes before after same lifetime interval is is' at same_at other keeps =
+      opens-by k settings mode managed skips moment (Err errors.NoMemory) (record { objects = objects; writes = writes; store = before }) replies.NoMemory (record { objects = objects'; writes = writes; store = after }) refl (same ∙ sym (append-nil objects)) refl
+      lifetime interval is is' (λ free. follows-in_vain k mode skips b before after (other free)) (λ keep. let d = keeps keep in (d.0, opens-in_vain k d.0 lifetime interval skips moment b before after (subst (λ m. OpensManaged k d.0 lifetime interval skips m before (Ok b) after) same_at d.1)))
+
+  -- or it was refused
+  pub refuses-follower : (error : SlateError) (objects : List Object) (writes : List Write) (before after : Known (List Batch)) (reply : Reply) → reply ≡ refusal error →
+      (lifetime interval : ℕ) → lifetime ≡ lifetime_of managed → interval ≡ interval_of managed → (at : ℤ) → at ≡ moment →
+      (is_managed mode ≡ false → Rebuilds k mode skips true unseen before (Err error) after) → (is_managed mode ≡ true → (made : ℕ) × OpensManaged k made lifetime interval skips at before (Err error) after) →
+      (made : ℕ) × OpensFollowerIn k settings mode managed skips moment made (record { objects = objects; writes = writes; store = before }) reply (record { objects = objects; writes = writes; store = after })
+  refuses-follower error objects writes before after reply replied lifetime interval is is' at same_at other keeps =
+      opens-by k settings mode managed skips moment (Err error) (record { objects = objects; writes = writes; store = before }) reply (record { objects = objects; writes = writes; store = after }) replied (sym (append-nil objects)) refl lifetime interval is is' other (λ keep. let d = keeps keep in (d.0, subst (λ m. OpensManaged k d.0 lifetime interval skips m before (Err error) after) same_at d.1))
+
+-- a poll, by whether the reader keeps a checkpoint
+polls-as : {L : Type 0} (k : Knowledge L) (keeps : Bool) (moment : ℤ) (old new : Follower) (before after : Known L) (result : Result PollAnswer SlateError) → (keeps ≡ false → Polls k old before result new after) →
+    (keeps ≡ true → (made : ℕ) × PollsManaged k made moment old before result new after) → (made : ℕ) × PollsAs k keeps made moment old before result new after
+polls-as k true moment old new before after result other managed = managed refl
+polls-as k false moment old new before after result other managed = (0, (other refl, refl))
+
+pub polls-follower : {L : Type 0} (k : Knowledge L) (moment : ℤ) (old new : Follower) (before after : Known L) (result : Result PollAnswer SlateError) (reply : Reply) → reply ≡ reply_to polled_reply result → (at : ℤ) → at ≡ moment →
+    (is_managed old.mode ≡ false → Polls k old before result new after) → (is_managed old.mode ≡ true → (made : ℕ) × PollsManaged k made at old before result new after) → (made : ℕ) × PollsFollower k made moment old before reply new after
+polls-follower k moment old new before after result reply replied at same other managed =
+    let d = subst (λ m. (made : ℕ) × PollsAs k (is_managed old.mode) made m old before result new after) same (polls-as k (is_managed old.mode) at old new before after result other managed) in
+    (d.0, record { result = result; replied = replied; does = d.1 })
 
 -- a close without options flushes to a table
 pub close-type : (options : Option CloseOptions) (found : CloseOptions) → UnwrapsOrElse options (λ o. o ≡ record { flush_type = Some MemTable }) found → found.flush_type ≡ flush_of_close options
@@ -157,9 +237,9 @@ sweeps moment given same a b faults faults' r reply swept counts replied =
 
 -- ---- snapshots
 -- an object that is no snapshot is read by itself
-pub read-itself : (objects : List Object) (found : Option Object) (old : Object) → found ≡ Some old → snapshot_of old ≡ None → table_count (read_by objects found) ≡ table_count (Some old)
-read-itself objects found old is itself = ap (λ x. table_count (read_by objects x)) is ∙ by old itself where
-  by : (old : Object) → snapshot_of old ≡ None → table_count (read_by objects (Some old)) ≡ table_count (Some old)
+pub read-itself : (objects : List Object) (found : Option Object) (old : Object) → found ≡ Some old → snapshot_of old ≡ None → read_by objects found ≡ Some old
+read-itself objects found old is itself = ap (read_by objects) is ∙ by old itself where
+  by : (old : Object) → snapshot_of old ≡ None → read_by objects (Some old) ≡ Some old
   by (AHandle h) itself = refl
   by (ASnapshot x) itself = absurd (cc)
   by (AFollower f) itself = refl

@@ -11,7 +11,7 @@ use Rattle.slate_model.specs.Catalogue.{Catalogue, Span, catalogue_of}
 use Rattle.slate_model.specs.declared.answers.PollAnswer.{PollAnswer}
 use Rattle.slate_model.specs.Follow.{IsOwed, SeesOwed}
 use Rattle.slate_model.specs.Followed.{IsView, last_read}
-use Rattle.slate_model.specs.Follower.{Follower, is_pinned, kept_follower, number, rebuilt}
+use Rattle.slate_model.specs.Follower.{Follower, is_managed, is_pinned, kept_follower, number, rebuilt}
 use Rattle.slate_model.specs.Handle.{up_to}
 use Rattle.slate_model.specs.Object.{Follower as AFollower}
 use Rattle.slate_model.specs.Seen.{HasSeen}
@@ -22,7 +22,7 @@ use Rattle.slate_model.proofs.Moving.{Follows}
 use Rattle.slate_model.proofs.Owing.{are-stored, ends, latest-view, owed-is, owed-reads, owed-seen, owed_line, view-tables}
 use Rattle.slate_model.proofs.Reduced.{its, its-line, owed-begins}
 use Rattle.slate_live.specs.Confirmed.{follows_all}
-use Rattle.slate_live.specs.Represents.{IsValidFollower}
+use Rattle.slate_live.specs.Represents.{IsTabled, IsValidFollower}
 use Rattle.slate_live.proofs.Prefixes.{prefix-end, prefix-then}
 
 -- what such a one is owed is all that is stored, or what is in tables
@@ -48,15 +48,19 @@ front-end n k line low within floor = let count = length-take (n - line.floor) l
 prefix-floor : (a b : Line) → IsPrefix a b → a.floor ≡ b.floor
 prefix-floor a b p = sym (ap (λ (l : Line). l.floor) p.1)
 
--- what a follower is owed doesn't end below its number
-pub owed-above : (stored : Line) (c : Catalogue) (f : Follower) (view : VersionedManifest) (owed : Line) → IsValidFollower stored c f → is_pinned f.mode ≡ false → IsView f.mode false c view → IsOwed (by_catalogue stored c) f.mode f.skips c view stored owed → number f ≤ end owed
-owed-above stored c f view owed v free goes is = elim (owed-by c c f.mode f.skips view stored owed free is) [
-  | inl all ↦ subst (λ l. number f ≤ end l) (sym all) (prefix-end f.line stored v.0)
+-- what a follower is owed under a manifest doesn't end below its number, where one that skips isn't above the tables of that
+pub owed-not_below : (stored : Line) (c : Catalogue) (o : ObjectsOf Span) (f : Follower) (mode : DbReaderMode) (view : VersionedManifest) (owed : Line) → IsPrefix f.line stored → is_pinned mode ≡ false → (f.skips ≡ true → number f ≤ view.manifest.last_l0_seq) →
+    IsOwed (by_catalogue stored c) mode f.skips o view stored owed → number f ≤ end owed
+owed-not_below stored c o f mode view owed begins free tabled is = elim (owed-by c o mode f.skips view stored owed free is) [
+  | inl all ↦ subst (λ l. number f ≤ end l) (sym all) (prefix-end f.line stored begins)
   | inr few ↦
-      let low = v.1 few.0 free view (latest-view f.mode false c view free goes) in
-      let floor = prefix-floor f.line stored v.0 in
-      subst (λ l. number f ≤ end l) (sym few.1) (front-end view.manifest.last_l0_seq (number f) stored low (prefix-end f.line stored v.0) (omega (arith, floor)))
+      let low = tabled few.0 in
+      let floor = prefix-floor f.line stored begins in
+      subst (λ l. number f ≤ end l) (sym few.1) (front-end view.manifest.last_l0_seq (number f) stored low (prefix-end f.line stored begins) (omega (arith, floor)))
 ]
+
+pub owed-above : (stored : Line) (c : Catalogue) (f : Follower) (view : VersionedManifest) (owed : Line) → IsValidFollower stored c f → is_pinned f.mode ≡ false → IsView f.mode false c view → IsOwed (by_catalogue stored c) f.mode f.skips c view stored owed → number f ≤ end owed
+owed-above stored c f view owed v free goes is = owed-not_below stored c c f f.mode view owed v.0 free (λ few. v.1 few free view (latest-view f.mode false c view free goes)) is
 
 -- a follower that was valid is valid over objects that follow
 pub follower-follows : (stored stored' : Line) (o o' : Objects) (latest latest' : VersionedManifest) → latest_manifest o ≡ Some latest → Follows stored stored' o o' latest latest' → (g : Follower) → IsValidFollower stored (catalogue_of o) g → IsValidFollower stored' (catalogue_of o') g
@@ -68,6 +72,7 @@ follower-follows stored stored' o o' latest latest' is f g v = (
       let before = v.1 skips free latest is in
       let up = f.tabled in
       omega (arith, e, before, up),
+  v.2,
 )
 
 -- the follower that sees what it is owed under a manifest
@@ -88,16 +93,19 @@ module _ (stored : Line) (mode : DbReaderMode) (skips opening : Bool) (o : Objec
       let count = length-take (view.manifest.last_l0_seq - stored.floor) stored.batches in
       omega (arith, floor, count)
 
-  pub new-valid : IsValidFollower stored (catalogue_of o) new
-  new-valid = (
-    owed-begins stored mode skips opening o view sound holds v,
-    λ few free found at.
-        let is = latest-view mode opening o view free v in
-        let same : view ≡ found = (let b = at in cc) in
-        let e = ap (λ (m : VersionedManifest). m.manifest.last_l0_seq) same in
-        let low = low-end mode skips few in
-        omega (arith, e, low),
-  )
+  pub new-begins : IsPrefix new.line stored
+  new-begins = owed-begins stored mode skips opening o view sound holds v
+
+  pub new-tabled : IsTabled (catalogue_of o) new
+  new-tabled few free found at =
+      let is = latest-view mode opening o view free v in
+      let same : view ≡ found = (let b = at in cc) in
+      let e = ap (λ (m : VersionedManifest). m.manifest.last_l0_seq) same in
+      let low = low-end mode skips few in
+      omega (arith, e, low)
+
+  pub new-valid : is_managed mode ≡ false → IsValidFollower stored (catalogue_of o) new
+  new-valid unmanaged = (new-begins, new-tabled, λ managed live. absurd (cc))
 
   pub new-stored : AreStored o view.manifest.tables
   new-stored = are-stored o view.manifest (content o) (view-tables o mode opening view sound v) sound.line

@@ -7,7 +7,9 @@ use Rattle.slate_types.specs.declared.batches.KeyOp.{KeyOp}
 use Rattle.slate_types.specs.declared.batches.KeyValue.{KeyValue}
 use Rattle.slate_types.specs.Line.{IsPrefix, Line}
 use Rattle.slate_types.specs.Operator.{Merge}
+use Rattle.slate_errors.specs.declared.endings.Ended.{Ended}
 use Rattle.slate_errors.specs.declared.endings.TaskName.{TaskName}
+use Rattle.slate_store.specs.declared.reader_modes.DbReaderMode.TheVariants as modes
 use Rattle.slate_errors.specs.declared.errors.SlateError.{SlateError}
 use Rattle.slate_errors.specs.declared.errors.SlateError.TheVariants as errors
 use Rattle.slate_model.specs.Catalogue.{Catalogue, Span}
@@ -29,11 +31,11 @@ use Rattle.slate_script.specs.declared.replies.Reply.TheVariants as replies
 use Rattle.slate_live.specs.declared.states.Write.{Write}
 use Rattle.slate_live.proofs.Naming.{follower-did, handle-acted}
 use Rattle.slate_live.specs.Calls.{Call, Write as WriteCall, Merge as MergeCall, Flush, Refresh, Compact, Get, Scan, Seek, Close, Poll, Status, FindTime, FindNumber, Nothing, call_of, Target, NewHandle, NewSnapshot, NewFollower, NewCheckpoint, WholeStore, OfWrite, OfObject, at_snapshot, target_of}
-use Rattle.slate_live.specs.Commands.{ActsAt, ActsOn, DoesBy, OnlyAnswers, OpensSnapshot, ReadsSnapshot, asked_reply, write_reply}
+use Rattle.slate_live.specs.Commands.{ActsAt, ActsOn, Adds, DoesBy, OnlyAnswers, OpensSnapshot, ReadsSnapshot, asked_reply, write_reply}
 use Rattle.slate_live.specs.Confirmed.{StandsIn}
 use Rattle.slate_live.specs.Followers.{FollowerActs}
 use Rattle.slate_live.specs.Handles.{HandleActs, MergesTo, noted, pending_reply}
-use Rattle.slate_live.specs.Replies.{AnswersStatus, closed_reply, followed_reply, follower_closed_reply, found_reply, polled_reply, refusal, reply_to}
+use Rattle.slate_live.specs.Replies.{AnswersStatus, closed_reply, followed_reply, follower_closed_reply, follower_ended_reply, found_reply, polled_reply, refusal, reply_to}
 use Rattle.slate_live.specs.Represents.{IsHandleAt}
 use Rattle.slate_live.specs.Rising.{Rise, Rises}
 use Rattle.slate_live.specs.Settings.{Settings}
@@ -157,6 +159,10 @@ numbers-follower-closed : (vs : List Write) (fault : Option SlateError) (tasks :
 numbers-follower-closed vs None tasks = tt
 numbers-follower-closed vs (Some e) tasks = tt
 
+numbers-follower-ended : (vs : List Write) (was : CloseResult) (ended : Ended) → Numbers vs (follower_ended_reply was ended)
+numbers-follower-ended vs None ended = tt
+numbers-follower-ended vs (Some result) ended = numbers-follower-closed vs ended.fault ended.tasks
+
 numbers-pending : (vs : List Write) (b : Bool) (r : CloseResult) → Numbers vs (if b then replies.Durable else pending_reply r)
 numbers-pending vs true r = tt
 numbers-pending vs false None = tt
@@ -207,25 +213,25 @@ module _ (xs ys : List Object) (rise : Rise xs ys) (ws vs : List Write) where
   handle-keeps stored catalogue merge n moment second (FindNumber seconds find) made h h' before after reply at set_is a = keeps-by xs ys rise ws vs reply a.3 (numbers-by vs a.0.2 tt)
   handle-keeps stored catalogue merge n moment second Nothing made h h' before after reply at set_is a = keeps-by xs ys rise ws vs reply a.3 (numbers-by vs a.0 tt)
 
-  follower-keeps : (stored : Line) (catalogue : Catalogue) (merge : Option Merge) (call : Call) (made : ℕ) (f f' : Follower) (before after : Known Span) (reply : Reply) → FollowerActs (by_catalogue stored catalogue) merge call made f before ws reply f' after vs → Keeps xs ws reply ys vs
-  follower-keeps stored catalogue merge Poll made f f' before after reply a =
-      keeps-by xs ys rise ws vs reply a.2 (numbers-by vs (a.0).replied (numbers-to vs _ (a.0).result (numbers-polled vs)))
-  follower-keeps stored catalogue merge (Get key remote snapshot) made f f' before after reply a =
+  follower-keeps : (stored : Line) (catalogue : Catalogue) (merge : Option Merge) (moment : ℤ) (call : Call) (made : ℕ) (f f' : Follower) (before after : Known Span) (reply : Reply) → FollowerActs (by_catalogue stored catalogue) merge moment call made f before ws reply f' after vs → Keeps xs ws reply ys vs
+  follower-keeps stored catalogue merge moment Poll made f f' before after reply a =
+      keeps-by xs ys rise ws vs reply a.1 (numbers-by vs (a.0).replied (numbers-to vs _ (a.0).result (numbers-polled vs)))
+  follower-keeps stored catalogue merge moment (Get key remote snapshot) made f f' before after reply a =
       keeps-by xs ys rise ws vs reply a.3 (numbers-by vs (a.0).replied (numbers-to vs _ (a.0).result (numbers-found vs)))
-  follower-keeps stored catalogue merge (Close t) made f f' before after reply a = keeps-by xs ys rise ws vs reply a.3 (numbers-by vs a.0 (numbers-follower-closed vs _ _))
-  follower-keeps stored catalogue merge (Scan range order remote snapshot) made f f' before after reply a =
+  follower-keeps stored catalogue merge moment (Close t) made f f' before after reply a = keeps-by xs ys rise ws vs reply a.1 (numbers-by vs (a.0).replied (numbers-follower-ended vs f.result _))
+  follower-keeps stored catalogue merge moment (Scan range order remote snapshot) made f f' before after reply a =
       keeps-by xs ys rise ws vs reply a.3 (numbers-by vs (a.0).replied (numbers-to vs _ (a.0).result (λ x. tt)))
-  follower-keeps stored catalogue merge (Seek range take key order remote snapshot) made f f' before after reply a =
+  follower-keeps stored catalogue merge moment (Seek range take key order remote snapshot) made f f' before after reply a =
       keeps-by xs ys rise ws vs reply a.3 (numbers-by vs (a.0).replied (numbers-to vs _ (a.0).result (λ x. tt)))
-  follower-keeps stored catalogue merge (WriteCall ops) made f f' before after reply a = keeps-by xs ys rise ws vs reply a.3 (numbers-by vs a.0 tt)
-  follower-keeps stored catalogue merge (MergeCall op) made f f' before after reply a = keeps-by xs ys rise ws vs reply a.3 (numbers-by vs a.0 tt)
-  follower-keeps stored catalogue merge (Flush t) made f f' before after reply a = keeps-by xs ys rise ws vs reply a.3 (numbers-by vs a.0 tt)
-  follower-keeps stored catalogue merge Refresh made f f' before after reply a = keeps-by xs ys rise ws vs reply a.3 (numbers-by vs a.0 tt)
-  follower-keeps stored catalogue merge Compact made f f' before after reply a = keeps-by xs ys rise ws vs reply a.3 (numbers-by vs a.0 tt)
-  follower-keeps stored catalogue merge (FindTime number find) made f f' before after reply a = keeps-by xs ys rise ws vs reply a.3 (numbers-by vs a.0 tt)
-  follower-keeps stored catalogue merge (FindNumber seconds find) made f f' before after reply a = keeps-by xs ys rise ws vs reply a.3 (numbers-by vs a.0 tt)
-  follower-keeps stored catalogue merge Status made f f' before after reply a = keeps-by xs ys rise ws vs reply a.3 (numbers-status vs _ a.0)
-  follower-keeps stored catalogue merge Nothing made f f' before after reply a = keeps-by xs ys rise ws vs reply a.3 (numbers-by vs a.0 tt)
+  follower-keeps stored catalogue merge moment (WriteCall ops) made f f' before after reply a = keeps-by xs ys rise ws vs reply a.3 (numbers-by vs a.0 tt)
+  follower-keeps stored catalogue merge moment (MergeCall op) made f f' before after reply a = keeps-by xs ys rise ws vs reply a.3 (numbers-by vs a.0 tt)
+  follower-keeps stored catalogue merge moment (Flush t) made f f' before after reply a = keeps-by xs ys rise ws vs reply a.3 (numbers-by vs a.0 tt)
+  follower-keeps stored catalogue merge moment Refresh made f f' before after reply a = keeps-by xs ys rise ws vs reply a.3 (numbers-by vs a.0 tt)
+  follower-keeps stored catalogue merge moment Compact made f f' before after reply a = keeps-by xs ys rise ws vs reply a.3 (numbers-by vs a.0 tt)
+  follower-keeps stored catalogue merge moment (FindTime number find) made f f' before after reply a = keeps-by xs ys rise ws vs reply a.3 (numbers-by vs a.0 tt)
+  follower-keeps stored catalogue merge moment (FindNumber seconds find) made f f' before after reply a = keeps-by xs ys rise ws vs reply a.3 (numbers-by vs a.0 tt)
+  follower-keeps stored catalogue merge moment Status made f f' before after reply a = keeps-by xs ys rise ws vs reply a.3 (numbers-status vs _ a.0)
+  follower-keeps stored catalogue merge moment Nothing made f f' before after reply a = keeps-by xs ys rise ws vs reply a.3 (numbers-by vs a.0 tt)
 
 module _ (settings : Settings) (w w' : World) (command : Command) (made : ℕ) (reply : Reply) (rise : Rise w.objects w'.objects) where
   abbrev k : Knowledge Span
@@ -251,7 +257,7 @@ module _ (settings : Settings) (w w' : World) (command : Command) (made : ℕ) (
   on-keeps n call (Some (ASnapshot x)) at d = snapshot-keeps x call (slice_get w.objects x.handle) refl d
   on-keeps n call (Some (AFollower f)) at d =
       let a = follower-did k settings.merge n command call made (state_of w) reply (state_of w') (Some (AFollower f)) f refl d in
-      follower-keeps w.objects w'.objects rise w.writes w'.writes w.stored w.catalogue settings.merge call made f a.new _ _ reply a.acts
+      follower-keeps w.objects w'.objects rise w.writes w'.writes w.stored w.catalogue settings.merge command.moment call made f a.new _ _ reply a.acts
 
   opened-keeps : (n : ℕ) (found : Option Object) → OpensSnapshot n made found (state_of w) reply (state_of w') → Keeps w.objects w.writes reply w'.objects w'.writes
   opened-keeps n (Some (AHandle h)) d =
@@ -260,12 +266,17 @@ module _ (settings : Settings) (w w' : World) (command : Command) (made : ℕ) (
   opened-keeps n (Some (AFollower f)) d = only-keeps _ tt d
   opened-keeps n None d = only-keeps _ tt d
 
+  followed-keeps : (did : Known Span → Result (Follower × PollAnswer) SlateError → Known Span → Type 0) → Adds did (λ (b : Follower × PollAnswer). AFollower b.0) (λ n (b : Follower × PollAnswer). followed_reply n b.1) (state_of w) reply (state_of w') → Keeps w.objects w.writes reply w'.objects w'.writes
+  followed-keeps did d =
+      keeps-by w.objects w'.objects rise w.writes w'.writes reply d.writes (numbers-by w'.writes d.replied (numbers-to w'.writes _ d.result (λ (b : Follower × PollAnswer). numbers-followed w'.writes (length w.objects) b.1)))
+
   keeps-target : (target : Target) → DoesBy (by_catalogue w.stored w.catalogue) settings command target made (state_of w) reply (state_of w') → Keeps w.objects w.writes reply w'.objects w'.writes
   keeps-target (NewHandle keeps_log) d =
       keeps-by w.objects w'.objects rise w.writes w'.writes reply d.writes (numbers-by w'.writes d.replied (numbers-to w'.writes _ d.result (λ x. tt)))
   keeps-target (NewSnapshot n) d = opened-keeps n (slice_get w.objects n) d
-  keeps-target (NewFollower mode skips) d =
-      keeps-by w.objects w'.objects rise w.writes w'.writes reply (d.0).writes (numbers-by w'.writes (d.0).replied (numbers-to w'.writes _ (d.0).result (λ (b : Follower × PollAnswer). numbers-followed w'.writes (length w.objects) b.1)))
+  keeps-target (NewFollower modes.FollowLatest managed skips) d = followed-keeps _ d.0
+  keeps-target (NewFollower (modes.Checkpoint id) managed skips) d = followed-keeps _ d.0
+  keeps-target (NewFollower modes.ManagedCheckpoint managed skips) d = followed-keeps _ d
   keeps-target (NewCheckpoint lifetime) d =
       keeps-by w.objects w'.objects rise w.writes w'.writes reply d.writes (numbers-by w'.writes (d.does).replied (numbers-to w'.writes _ (d.does).result (λ x. tt)))
   keeps-target WholeStore d =

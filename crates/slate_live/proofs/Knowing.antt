@@ -1,5 +1,5 @@
 -- What a command does to an honest store by what the code keeps of a handle, it does to what the world knows of both.
-use Rattle.std.proofs.Common.{◌≡◌, ℕ, ℤ, List, [], Option, Some, None, Result, Ok, Err, inl, inr, refl, sym, subst, ap, ◌∙◌, ◌≤◌, ◌++◌, arith, ◌∷◌, ◌⊎◌, Bool, true, false}
+use Rattle.std.proofs.Common.{◌≡◌, ℕ, ℤ, List, [], Option, Some, None, Result, Ok, Err, inl, inr, refl, sym, subst, ap, ◌∙◌, ◌≤◌, ◌++◌, arith, ◌∷◌, ◌⊎◌, Bool, true, false, not, ◌||◌}
 use Rattle.slate_types.specs.declared.batches.Batch.{Batch}
 use Rattle.slate_types.specs.declared.batches.KeyOp.{KeyOp}
 use Rattle.slate_types.specs.declared.batches.KeyValue.{KeyValue}
@@ -18,11 +18,22 @@ use Rattle.slate_store.specs.Objects.{Objects, latest_manifest, table_at}
 use Rattle.slate_store.specs.declared.objects.TableId.{TableId}
 use Rattle.slate_store.specs.declared.objects.VersionedManifest.{VersionedManifest}
 use Rattle.slate_errors.specs.declared.errors.SlateError.{SlateError}
-use Rattle.slate_model.specs.Catalogue.{catalogue_of}
-use Rattle.slate_model.specs.Close.{closed, closed_follower, closing_flush, Closes}
+use Rattle.slate_model.specs.Catalogue.{Span, catalogue_of}
+use Rattle.slate_model.specs.Close.{closed, closed_follower, closing_flush, ended, recorded_fault, Closes}
+use Rattle.slate_model.specs.declared.leases.Lease.{Lease}
+use Rattle.slate_model.specs.Followed.{can_follow}
+use Rattle.slate_model.specs.Knowledge.{Knowledge}
+use Rattle.slate_model.specs.Lease.{to_keep}
+use Rattle.slate_model.specs.Managed.{EndsLease, KeepsLease, PollsManaged, PutsPlanned, poll_result}
+use Rattle.slate_model.proofs.Leased.{its-manifest, planned-latest, view-alike}
+use Rattle.slate_model.proofs.Maintained.{Maintained, delete-recheckpoints}
+use Rattle.slate_model.proofs.Planned.{end-maintains, keep-maintains, keep-recheckpoints, puts-known}
+use Rattle.slate_store.specs.Calls.{WhereModelled}
+use Rattle.slate_store.specs.Checkpoints.{to_delete}
+use Rattle.std.specs.Option.{IfSome, is_some, unwrap_or}
 use Rattle.slate_model.specs.Flush.{flush_result, grown, CanFlush, Flushes, IsFlushed, Stores}
 use Rattle.slate_model.specs.Follow.{Polls}
-use Rattle.slate_model.specs.Follower.{Follower, is_pinned, kept_follower, number, rebuilt}
+use Rattle.slate_model.specs.Follower.{Follower, is_managed, is_pinned, kept_follower, number, rebuilt}
 use Rattle.slate_model.specs.Handle.{CloseResult, Handle, accepted, kept_handle, next_table}
 use Rattle.slate_model.specs.Known.{Known, Untouched}
 use Rattle.slate_model.specs.Object.{Handle as AHandle, Follower as AFollower}
@@ -35,18 +46,18 @@ use Rattle.slate_model.proofs.Flushing.{flush-moved, grown-zero}
 use Rattle.slate_model.proofs.Free.{flush-unset, joins}
 use Rattle.slate_model.proofs.Keeping.{accepted-kept, line_above-end, log_for-kept}
 use Rattle.slate_model.proofs.Moving.{Moved, known-stored, none-known, unmoved}
-use Rattle.slate_model.proofs.Reduced.{catalogued, closes-reduced, compacts-reduced, flushed-whole, flushes-reduced, holding, kept-whole, modelled, polled-whole, polls-reduced, reads-reduced, refreshes-reduced, some-same, stores-rises, untouched-known, whole}
+use Rattle.slate_model.proofs.Reduced.{as_modelled, catalogued, closes-reduced, compacts-reduced, flushed-whole, flushes-reduced, holding, kept-whole, modelled, polled-whole, polls-reduced, reads-reduced, refreshes-reduced, some-same, stores-rises, untouched-known, whole}
 use Rattle.slate_model.proofs.Writing.{rewritten, writes-whole, written-reads, written-valid}
 use Rattle.slate_script.specs.declared.replies.Reply.{Reply}
 use Rattle.slate_live.specs.declared.states.Write.{Write}
 use Rattle.slate_live.specs.Calls.{Call, Write as WriteCall, Merge as MergeCall, Flush, Refresh, Compact, Get, Scan, Seek, Close, Poll, Status, FindTime, FindNumber, Nothing}
-use Rattle.slate_live.specs.Followers.{FollowerActs, IsPlainReadAt, IsPlainScanAt, TakesFromFollower}
+use Rattle.slate_live.specs.Followers.{ClosesAs, FollowerActs, PollsAs, IsPlainReadAt, IsPlainScanAt, TakesFromFollower}
 use Rattle.slate_live.specs.Handles.{HandleActs, IsPlainRead, IsPlainScan, MergesTo, cut, flush_type_by, WritesTo, TakesFrom, level_of}
-use Rattle.slate_live.specs.Replies.{AnswersStatus, polled_reply, reply_to}
+use Rattle.slate_live.specs.Replies.{AnswersStatus, follower_ended_reply, polled_reply, reply_to}
 use Rattle.slate_status.specs.Records.{status_by}
 use Rattle.slate_live.specs.Scans.{scanned, sought}
 use Rattle.slate_live.specs.World.{grown_by}
-use Rattle.slate_live.proofs.Cases.{by-option, close-by, compact-by, flush-by, refresh-by, some-of}
+use Rattle.slate_live.proofs.Cases.{by-option, close-by, compact-by, flush-by, is-none, refresh-by, some-of}
 use Rattle.slate_live.proofs.Reading.{front-read, front-scan}
 use Rattle.slate_errors.specs.Errors.{closed_error}
 use Rattle.slate_model.specs.declared.answers.Written.{Written}
@@ -54,8 +65,10 @@ use Rattle.slate_errors.specs.declared.endings.Ended.{Ended}
 use Rattle.slate_model.specs.Refresh.{Compacts, Refreshes, fenced_result}
 use Rattle.slate_model.specs.declared.answers.PollAnswer.{PollAnswer}
 use Rattle.slate_model.specs.Write.{written}
+use Rattle.slate_live.proofs.Leasing.{leased-answers, leased-held, leased-kept, leased-sees, leased-stored, leased-valid, leased_whole}
+use Rattle.slate_live.proofs.Rising.{managed-free}
 use Rattle.slate_live.proofs.Following.{new-held, new-stored, new-valid, seen-kept, seen-mark}
-use Rattle.slate_live.specs.Represents.{IsValidFollower}
+use Rattle.slate_live.specs.Represents.{IsLeased, IsValidFollower}
 use Rattle.slate_model.proofs.Owing.{owed_line}
 use Rattle.slate_errors.specs.declared.closing.CloseFault.{CloseFault}
 
@@ -89,7 +102,7 @@ objects-read closed tables r o o' f f' s =
     (λ live. some-same o' o (s.read live).kept)
     (λ q is. some-same o' o (ap (λ (k : Known (List Batch)). k.objects) (some-of (λ q. (r ≡ Err (closed_error q)) × (holding o' f' ≡ holding o f)) closed q is s.closed).1))
 
-objects-same : (o o' : Objects) (f f' : ℕ) → holding o' f' ≡ holding o f → o' ≡ o
+pub objects-same : (o o' : Objects) (f f' : ℕ) → holding o' f' ≡ holding o f → o' ≡ o
 objects-same o o' f f' same = some-same o' o (ap (λ (k : Known (List Batch)). k.objects) same)
 
 -- a valid handle is one after its close
@@ -303,6 +316,10 @@ module _ (stored : Line) (o o' : Objects) (f f' : ℕ) (made : ℕ) (writes writ
   handle-led Nothing a = record { new = h; kept = a.1; moved = still-same (objects-same o o' f f' a.2.1); known = (a.0, refl, untouched-known made o o' f f' a.2, a.3) }
 
 -- ---- the objects afterwards
+-- the lease of an open reader that keeps a checkpoint
+leased-by : {G : Type 0} (g : Follower) → IsLeased g → is_managed g.mode ≡ true → g.result ≡ None → ((lease : Lease) → g.lease ≡ Some lease → G) → G
+leased-by g leased managed live done = by-option g.lease (λ none. absurd (let there = leased managed live in cc)) done
+
 abbrev pub AfterOf : Known (List Batch) → Type 0
 AfterOf store' = (o' : Objects) × (store'.objects ≡ Some o')
 
@@ -349,40 +366,70 @@ module _ (o : Objects) (f : ℕ) (made : ℕ) (writes writes' : List Write) (rep
         by live true stays = as-before o f store' (p.pinned live stays).2
         by live false free = (o, (p.rebuilds live free).kept)
 
-  pub follower-after : (call : Call) (g g' : Follower) → FollowerActs (by_objects (Some o)) merge call made g (holding o f) writes reply g' store' writes' → AfterOf store'
-  follower-after Poll g g' a = polled-after (a.0).result g g' (a.0).does
-  follower-after (Get key remote snapshot) g g' a = read-after g.result g.view.manifest.tables (a.0).result o f store' (a.0).does
-  follower-after (Scan range order remote snapshot) g g' a = read-after g.result g.view.manifest.tables (a.0).scan o f store' (a.0).scans
-  follower-after (Seek range take key order remote snapshot) g g' a = read-after g.result g.view.manifest.tables (a.0).scan o f store' (a.0).scans
-  follower-after (Close t) g g' a = as-before o f store' a.2.1
-  follower-after (WriteCall ops) g g' a = as-before o f store' a.2.1
-  follower-after (MergeCall op) g g' a = as-before o f store' a.2.1
-  follower-after (Flush t) g g' a = as-before o f store' a.2.1
-  follower-after Refresh g g' a = as-before o f store' a.2.1
-  follower-after Compact g g' a = as-before o f store' a.2.1
-  follower-after Status g g' a = as-before o f store' a.2.1
-  follower-after (FindTime number find) g g' a = as-before o f store' a.2.1
-  follower-after (FindNumber seconds find) g g' a = as-before o f store' a.2.1
-  follower-after Nothing g g' a = as-before o f store' a.2.1
+  -- what a poll of a reader that keeps a checkpoint leaves, and a close
+  managed-after : (moment : ℤ) (r : Result PollAnswer SlateError) (g g' : Follower) → is_managed g.mode ≡ true → IsLeased g → PollsManaged (by_objects (Some o)) made moment g (holding o f) r g' store' → AfterOf store'
+  managed-after moment r g g' managed leased p =
+      by-option g.result
+      (λ live. leased-by g leased managed live (λ lease is. let t = ((p.keeps lease live is).puts).some o refl in (t.0, t.1)))
+      (λ q is. as-before o f store' (some-of (λ q. (r ≡ Err (closed_error q)) × (g' ≡ g) × Untouched made (holding o f) store') g.result q is p.closed).2.1)
+
+  polls-after : (moment : ℤ) (r : Result PollAnswer SlateError) (g g' : Follower) (managed : Bool) → is_managed g.mode ≡ managed → IsLeased g → PollsAs (by_objects (Some o)) managed made moment g (holding o f) r g' store' → AfterOf store'
+  polls-after moment r g g' true managed leased p = managed-after moment r g g' managed leased p
+  polls-after moment r g g' false managed leased p = polled-after r g g' p.0
+
+  closes-after : (answer : Ended) (g g' : Follower) (managed : Bool) → is_managed g.mode ≡ managed → IsLeased g → ClosesAs (by_objects (Some o)) managed made g (holding o f) answer g' store' → AfterOf store'
+  closes-after answer g g' true managed leased c =
+      by-option g.result
+      (λ live. leased-by g leased managed live (λ lease is. let t = ((c.ends lease live is).puts).some o refl in (t.0, t.1)))
+      (λ q is. as-before o f store' (some-of (λ _. (answer ≡ ended (recorded_fault g.result)) × Untouched made (holding o f) store') g.result q is c.again).1.1)
+  closes-after answer g g' false managed leased c = as-before o f store' c.2.1
+
+  pub follower-after : (moment : ℤ) (call : Call) (g g' : Follower) → IsLeased g → FollowerActs (by_objects (Some o)) merge moment call made g (holding o f) writes reply g' store' writes' → AfterOf store'
+  follower-after moment Poll g g' leased a = polls-after moment (a.0).result g g' (is_managed g.mode) refl leased (a.0).does
+  follower-after moment (Get key remote snapshot) g g' leased a = read-after g.result g.view.manifest.tables (a.0).result o f store' (a.0).does
+  follower-after moment (Scan range order remote snapshot) g g' leased a = read-after g.result g.view.manifest.tables (a.0).scan o f store' (a.0).scans
+  follower-after moment (Seek range take key order remote snapshot) g g' leased a = read-after g.result g.view.manifest.tables (a.0).scan o f store' (a.0).scans
+  follower-after moment (Close t) g g' leased a = closes-after (a.0).answer g g' (is_managed g.mode) refl leased (a.0).does
+  follower-after moment (WriteCall ops) g g' leased a = as-before o f store' a.2.1
+  follower-after moment (MergeCall op) g g' leased a = as-before o f store' a.2.1
+  follower-after moment (Flush t) g g' leased a = as-before o f store' a.2.1
+  follower-after moment Refresh g g' leased a = as-before o f store' a.2.1
+  follower-after moment Compact g g' leased a = as-before o f store' a.2.1
+  follower-after moment Status g g' leased a = as-before o f store' a.2.1
+  follower-after moment (FindTime number find) g g' leased a = as-before o f store' a.2.1
+  follower-after moment (FindNumber seconds find) g g' leased a = as-before o f store' a.2.1
+  follower-after moment Nothing g g' leased a = as-before o f store' a.2.1
 
 -- ---- followers
+-- objects that stay as they are
+pub unchanged-objects : (o o' : Objects) → IsSound o → o' ≡ o → Maintained o o'
+unchanged-objects o o' sound same = subst (Maintained o) (sym same) (end-maintains [] 0 o sound)
+
+or-true : (b : Bool) → (b || not false) ≡ true
+or-true true = refl
+or-true false = refl
+
 kept-number : (g : Follower) → number (kept_follower g) ≡ number g
 kept-number g = line_above-end g.view.manifest.last_l0_seq g.line
 
 module _ (stored : Line) (o o' : Objects) (f f' : ℕ) (made : ℕ) (writes writes' : List Write) (reply : Reply) (sound : IsSound o) (holds : content o ≡ stored) (numbered : IsLine stored)
-    (merge : Option Merge) (g k : Follower) (mine : IsValidFollower stored (catalogue_of o) g) (held : IsHeld o (AFollower g)) where
+    (merge : Option Merge) (moment : ℤ) (g k : Follower) (mine : IsValidFollower stored (catalogue_of o) g) (held : IsHeld o (AFollower g)) where
   front : IsPrefix g.line stored
   front = mine.0
 
-  -- what the command leaves of the whole follower, of which the code keeps a part, and that it makes no change
+  -- What the command leaves of the whole follower, of which the code keeps a part. It keeps the content. The follower is valid,
+  -- and what it is to the objects, where the one before is.
   pub record LedFollower (call : Call) : Type 0 where
     pub new : Follower
     pub kept : k ≡ kept_follower new
-    pub same : o' ≡ o
-    pub valid : IsValidFollower stored (catalogue_of o) new
-    pub view : (new.view ≡ g.view) ⊎ AreStored o new.view.manifest.tables
-    pub holds_it : IsHeld o (AFollower new)
-    pub acts : FollowerActs (by_catalogue stored (catalogue_of o)) merge call made g (catalogued o f) writes reply new (catalogued o' f') writes'
+    pub maintained : Maintained o o'
+    pub valid : IsValidFollower stored (catalogue_of o') g → IsValidFollower stored (catalogue_of o') new
+    pub view : (new.view ≡ g.view) ⊎ AreStored o' new.view.manifest.tables
+    pub holds_it : IsHeld o' (AFollower g) → IsHeld o' (AFollower new)
+    pub acts : FollowerActs (by_catalogue stored (catalogue_of o)) merge moment call made g (catalogued o f) writes reply new (catalogued o' f') writes'
+
+  unchanged : o' ≡ o → Maintained o o'
+  unchanged same = unchanged-objects o o' sound same
 
   rows-line : (rows : List Batch) → kept_rows (Some o) (AFollower (kept_follower g)) rows → AreStored (catalogue_of o) g.view.manifest.tables × (rows ≡ g.line.batches)
   rows-line rows r =
@@ -420,19 +467,27 @@ module _ (stored : Line) (o o' : Objects) (f f' : ℕ) (made : ℕ) (writes writ
   }
 
   -- a follower that is as before
-  unled : (call : Call) → o' ≡ o → k ≡ kept_follower g → FollowerActs (by_catalogue stored (catalogue_of o)) merge call made g (catalogued o f) writes reply g (catalogued o' f') writes' → LedFollower call
-  unled call same kept known = record { new = g; kept = kept; same = same; valid = mine; view = inl refl; holds_it = held; acts = known }
+  unled : (call : Call) → o' ≡ o → k ≡ kept_follower g → FollowerActs (by_catalogue stored (catalogue_of o)) merge moment call made g (catalogued o f) writes reply g (catalogued o' f') writes' → LedFollower call
+  unled call same kept known = record { new = g; kept = kept; maintained = unchanged same; valid = λ v. v; view = inl refl; holds_it = λ h. h; acts = known }
 
-  abbrev PollsAs : (r : Result PollAnswer SlateError) → Follower → Type 0
-  PollsAs r new = Polls (by_catalogue stored (catalogue_of o)) g (catalogued o f) r new (catalogued o' f')
+  abbrev PollsPlainly : (r : Result PollAnswer SlateError) → Follower → Type 0
+  PollsPlainly r new = Polls (by_catalogue stored (catalogue_of o)) g (catalogued o f) r new (catalogued o' f')
 
-  -- a poll that changed nothing of it
-  unpolled : (r : Result PollAnswer SlateError) → reply ≡ reply_to polled_reply r → made ≡ 0 → writes' ≡ writes → o' ≡ o → k ≡ kept_follower g → PollsAs r g → LedFollower Poll
-  unpolled r replied none same_writes same kept known = unled Poll same kept (record { result = r; replied = replied; does = known }, none, same_writes)
+  -- the poll of a world, by how the follower is polled
+  acts-by : (r : Result PollAnswer SlateError) (new : Follower) (managed : Bool) → is_managed g.mode ≡ managed → reply ≡ reply_to polled_reply r → writes' ≡ writes → PollsAs (by_catalogue stored (catalogue_of o)) managed made moment g (catalogued o f) r new (catalogued o' f') →
+      FollowerActs (by_catalogue stored (catalogue_of o)) merge moment Poll made g (catalogued o f) writes reply new (catalogued o' f') writes'
+  acts-by r new managed is replied same_writes p = (
+    record { result = r; replied = replied; does = subst (λ b. PollsAs (by_catalogue stored (catalogue_of o)) b made moment g (catalogued o f) r new (catalogued o' f')) (sym is) p },
+    same_writes,
+  )
+
+  -- a poll that changed nothing of one that keeps no checkpoint
+  unpolled : (r : Result PollAnswer SlateError) → is_managed g.mode ≡ false → reply ≡ reply_to polled_reply r → made ≡ 0 → writes' ≡ writes → o' ≡ o → k ≡ kept_follower g → PollsPlainly r g → LedFollower Poll
+  unpolled r unmanaged replied none same_writes same kept known = unled Poll same kept (acts-by r g false unmanaged replied same_writes (known, none))
 
   -- one that is open and doesn't stay at a checkpoint
-  free-led : (r : Result PollAnswer SlateError) → reply ≡ reply_to polled_reply r → made ≡ 0 → writes' ≡ writes → g.result ≡ None → is_pinned g.mode ≡ false → Polls (by_objects (Some o)) (kept_follower g) (holding o f) r k (holding o' f') → PollsAs r (polled-whole o stored None false g k r) → LedFollower Poll
-  free-led (Ok answer) replied none same_writes live free p known =
+  free-led : (r : Result PollAnswer SlateError) → is_managed g.mode ≡ false → reply ≡ reply_to polled_reply r → made ≡ 0 → writes' ≡ writes → g.result ≡ None → is_pinned g.mode ≡ false → Polls (by_objects (Some o)) (kept_follower g) (holding o f) r k (holding o' f') → PollsPlainly r (polled-whole o stored None false g k r) → LedFollower Poll
+  free-led (Ok answer) unmanaged replied none same_writes live free p known =
       let b = p.rebuilds live free in
       let v = b.can o refl in
       let all = b.sees o stored refl (o, refl, sound, sym holds) (g, refl, front, held.1 free) in
@@ -440,38 +495,187 @@ module _ (stored : Line) (o o' : Objects) (f f' : ℕ) (made : ℕ) (writes writ
       record {
         new = rebuilt g.mode g.skips k.view (owed_line g.mode g.skips o k.view stored) k.mark;
         kept = seen-kept (Some o) stored g.mode g.skips o k answer all;
-        same = some-same o' o b.kept;
-        valid = new-valid stored g.mode g.skips false o k.view sound holds v k.mark mark;
-        view = inr (new-stored stored g.mode g.skips false o k.view sound holds v k.mark mark);
-        holds_it = new-held stored g.mode g.skips false o k.view sound holds v k.mark mark;
-        acts = (record { result = Ok answer; replied = replied; does = known }, none, same_writes);
+        maintained = unchanged (some-same o' o b.kept);
+        valid = λ _. subst (λ (x : Objects). IsValidFollower stored (catalogue_of x) (rebuilt g.mode g.skips k.view (owed_line g.mode g.skips o k.view stored) k.mark)) (sym (some-same o' o b.kept)) (new-valid stored g.mode g.skips false o k.view sound holds v k.mark mark unmanaged);
+        view = inr (subst (λ (x : Objects). AreStored x k.view.manifest.tables) (sym (some-same o' o b.kept)) (new-stored stored g.mode g.skips false o k.view sound holds v k.mark mark));
+        holds_it = λ _. subst (λ (x : Objects). IsHeld x (AFollower (rebuilt g.mode g.skips k.view (owed_line g.mode g.skips o k.view stored) k.mark))) (sym (some-same o' o b.kept)) (new-held stored g.mode g.skips false o k.view sound holds v k.mark mark);
+        acts = acts-by (Ok answer) _ false unmanaged replied same_writes (known, none);
       }
-  free-led (Err e) replied none same_writes live free p known = unpolled (Err e) replied none same_writes (some-same o' o (p.rebuilds live free).kept) p.failed known
+  free-led (Err e) unmanaged replied none same_writes live free p known = unpolled (Err e) unmanaged replied none same_writes (some-same o' o (p.rebuilds live free).kept) p.failed known
 
-  open-led : (r : Result PollAnswer SlateError) → reply ≡ reply_to polled_reply r → made ≡ 0 → writes' ≡ writes → g.result ≡ None → (pinned : Bool) → is_pinned g.mode ≡ pinned → Polls (by_objects (Some o)) (kept_follower g) (holding o f) r k (holding o' f') → PollsAs r (polled-whole o stored None pinned g k r) → LedFollower Poll
-  open-led (Ok answer) replied none same_writes live true stays p known =
-      let q = p.pinned live stays in unpolled (Ok answer) replied none same_writes (objects-same o o' f f' q.2) q.1 known
-  open-led (Err e) replied none same_writes live true stays p known =
-      let q = p.pinned live stays in unpolled (Err e) replied none same_writes (objects-same o o' f f' q.2) q.1 known
-  open-led r replied none same_writes live false free p known = free-led r replied none same_writes live free p known
+  open-led : (r : Result PollAnswer SlateError) → is_managed g.mode ≡ false → reply ≡ reply_to polled_reply r → made ≡ 0 → writes' ≡ writes → g.result ≡ None → (pinned : Bool) → is_pinned g.mode ≡ pinned → Polls (by_objects (Some o)) (kept_follower g) (holding o f) r k (holding o' f') → PollsPlainly r (polled-whole o stored None pinned g k r) → LedFollower Poll
+  open-led (Ok answer) unmanaged replied none same_writes live true stays p known =
+      let q = p.pinned live stays in unpolled (Ok answer) unmanaged replied none same_writes (objects-same o o' f f' q.2) q.1 known
+  open-led (Err e) unmanaged replied none same_writes live true stays p known =
+      let q = p.pinned live stays in unpolled (Err e) unmanaged replied none same_writes (objects-same o o' f f' q.2) q.1 known
+  open-led r unmanaged replied none same_writes live false free p known = free-led r unmanaged replied none same_writes live free p known
 
-  closed-led : (r : Result PollAnswer SlateError) (q : Result (Unit {0}) CloseFault) → reply ≡ reply_to polled_reply r → made ≡ 0 → writes' ≡ writes → g.result ≡ Some q → Polls (by_objects (Some o)) (kept_follower g) (holding o f) r k (holding o' f') → PollsAs r (polled-whole o stored (Some q) (is_pinned g.mode) g k r) → LedFollower Poll
-  closed-led (Ok answer) q replied none same_writes is p known =
+  closed-led : (r : Result PollAnswer SlateError) (q : Result (Unit {0}) CloseFault) → is_managed g.mode ≡ false → reply ≡ reply_to polled_reply r → made ≡ 0 → writes' ≡ writes → g.result ≡ Some q → Polls (by_objects (Some o)) (kept_follower g) (holding o f) r k (holding o' f') → PollsPlainly r (polled-whole o stored (Some q) (is_pinned g.mode) g k r) → LedFollower Poll
+  closed-led (Ok answer) q unmanaged replied none same_writes is p known =
       let c = some-of (λ q. (Ok answer ≡ Err (closed_error q)) × (holding o' f' ≡ holding o f)) g.result q is p.closed in absurd (let e = c.0 in cc)
-  closed-led (Err e) q replied none same_writes is p known =
-      unpolled (Err e) replied none same_writes (objects-same o o' f f' (some-of (λ q. (Err e ≡ Err (closed_error q)) × (holding o' f' ≡ holding o f)) g.result q is p.closed).1) p.failed known
+  closed-led (Err e) q unmanaged replied none same_writes is p known =
+      unpolled (Err e) unmanaged replied none same_writes (objects-same o o' f f' (some-of (λ q. (Err e ≡ Err (closed_error q)) × (holding o' f' ≡ holding o f)) g.result q is p.closed).1) p.failed known
 
-  polled-led : (r : Result PollAnswer SlateError) → reply ≡ reply_to polled_reply r → Polls (by_objects (Some o)) (kept_follower g) (holding o f) r k (holding o' f') → made ≡ 0 → writes' ≡ writes → LedFollower Poll
-  polled-led r replied p none same_writes = by (g.result) refl where
-    known : PollsAs r (polled-whole o stored g.result (is_pinned g.mode) g k r)
+  polled-led : (r : Result PollAnswer SlateError) → is_managed g.mode ≡ false → reply ≡ reply_to polled_reply r → Polls (by_objects (Some o)) (kept_follower g) (holding o f) r k (holding o' f') → made ≡ 0 → writes' ≡ writes → LedFollower Poll
+  polled-led r unmanaged replied p none same_writes = by (g.result) refl where
+    known : PollsPlainly r (polled-whole o stored g.result (is_pinned g.mode) g k r)
     known = polls-reduced stored r g k o o' f f' sound holds front held.1 p
 
     by : (closed : CloseResult) → g.result ≡ closed → LedFollower Poll
-    by None live = open-led r replied none same_writes live (is_pinned g.mode) refl p (subst (λ c. PollsAs r (polled-whole o stored c (is_pinned g.mode) g k r)) live known)
-    by (Some q) is = closed-led r q replied none same_writes is p (subst (λ c. PollsAs r (polled-whole o stored c (is_pinned g.mode) g k r)) is known)
+    by None live = open-led r unmanaged replied none same_writes live (is_pinned g.mode) refl p (subst (λ c. PollsPlainly r (polled-whole o stored c (is_pinned g.mode) g k r)) live known)
+    by (Some q) is = closed-led r q unmanaged replied none same_writes is p (subst (λ c. PollsPlainly r (polled-whole o stored c (is_pinned g.mode) g k r)) is known)
 
-  pub follower-led : (call : Call) → FollowerActs (by_objects (Some o)) merge call made (kept_follower g) (holding o f) writes reply k (holding o' f') writes' → LedFollower call
-  follower-led Poll a = polled-led (a.0).result (a.0).replied (a.0).does a.1 a.2
+  -- ---- one that keeps a checkpoint
+  abbrev world : Knowledge Span
+  world = by_catalogue stored (catalogue_of o)
+
+  -- what a poll puts, and what that leaves
+  keep-puts : (lease : Lease) (r : Result PollAnswer SlateError) → KeepsLease (by_objects (Some o)) made lease moment (kept_follower g) (holding o f) r k (holding o' f') → WhereModelled (λ c c'. PutsPlanned world.stands (to_keep g.view lease moment) c r made c') (Some (catalogue_of o)) (Some (catalogue_of o'))
+  keep-puts lease r p = as_modelled (catalogue_of o) (catalogue_of o') (puts-known (to_keep g.view lease moment) (keep-recheckpoints g.view lease moment) o sound stored r made o' (modelled o o' p.puts))
+
+  keep-maintained : (lease : Lease) (r : Result PollAnswer SlateError) → KeepsLease (by_objects (Some o)) made lease moment (kept_follower g) (holding o f) r k (holding o' f') → Maintained o o'
+  keep-maintained lease r p = subst (Maintained o) (sym (modelled o o' p.puts).after) (keep-maintains g.view lease moment made o sound)
+
+  -- the poll of the world, where it is open under this lease
+  keeps-known : (lease : Lease) (r : Result PollAnswer SlateError) (new : Follower) → g.result ≡ None → g.lease ≡ Some lease → KeepsLease world made lease moment g (catalogued o f) r new (catalogued o' f') → PollsManaged world made moment g (catalogued o f) r new (catalogued o' f')
+  keeps-known lease r new live is p = record {
+    closed = is-none _ g.result live;
+    keeps = λ other live' is'. let same : lease ≡ other = cc in subst (λ l. KeepsLease world made l moment g (catalogued o f) r new (catalogued o' f')) same p;
+  }
+
+  -- a poll that answers an error: the lease is the old one, or the one that it committed
+  failed-led : (lease : Lease) (e : SlateError) → is_managed g.mode ≡ true → reply ≡ reply_to polled_reply (Err e) → writes' ≡ writes → g.result ≡ None → g.lease ≡ Some lease → KeepsLease (by_objects (Some o)) made lease moment (kept_follower g) (holding o f) (Err e) k (holding o' f') → LedFollower Poll
+  failed-led lease e managed replied same_writes live is p =
+      let new : Follower = record g { lease = k.lease; result = poll_result e } in
+      let lapses = p.lapses in
+      record {
+        new = new;
+        kept = p.failed;
+        maintained = keep-maintained lease (Err e) p;
+        valid = λ v. (
+          v.0,
+          v.1,
+          λ _ still.
+              elim lapses [
+                | inl old ↦ subst (λ l. is_some l ≡ true) (sym (old ∙ is)) refl
+                | inr given ↦ subst (λ l. is_some l ≡ true) (sym given.4) refl
+              ],
+        );
+        view = inl refl;
+        holds_it = λ h. (h.0, λ free. let seen = h.1 free in record { mark = seen.mark; logs = seen.logs });
+        acts = acts-by (Err e) new true managed replied same_writes (keeps-known lease (Err e) new live is (record {
+          faults = p.faults;
+          puts = keep-puts lease (Err e) p;
+          answers = tt;
+          keeps = tt;
+          failed = refl;
+          lapses = lapses;
+        }));
+      }
+
+  -- one that answers
+  answered-led : (lease : Lease) (answer : PollAnswer) → is_managed g.mode ≡ true → reply ≡ reply_to polled_reply (Ok answer) → writes' ≡ writes → g.result ≡ None → g.lease ≡ Some lease → KeepsLease (by_objects (Some o)) made lease moment (kept_follower g) (holding o f) (Ok answer) k (holding o' f') → LedFollower Poll
+  answered-led lease answer managed replied same_writes live is p =
+      let q = modelled o o' p.keeps in
+      let puts = modelled o o' p.puts in
+      let m = keep-maintained lease (Ok answer) p in
+      let latest = unwrap_or q.next q.latest in
+      let puts_it = keep-recheckpoints g.view lease moment q.latest in
+      let its = its-manifest q.latest q.next q.given (to_keep g.view lease moment q.latest) q.plan puts_it in
+      let found : latest_manifest o' ≡ Some latest = subst (λ x. latest_manifest x ≡ Some latest) (sym puts.after) (planned-latest (to_keep g.view lease moment) made o q.latest q.next q.given sound.manifests q.is_latest q.plan puts_it puts.part) in
+      let here = m.content ∙ holds in
+      let can : can_follow false latest ≡ true = or-true latest.manifest.initialized in
+      let alike = view-alike g.view k.view lease moment q.latest q.next its q.view in
+      let all = (q.sees).sees stored (o, refl, sound, sym holds) (g, refl, front, held.1 (managed-free g.mode managed)) in
+      let new = leased_whole o' stored g.skips latest k in
+      record {
+        new = new;
+        kept = leased-kept stored g.skips false o' latest m.sound here found can k (Some o) answer all alike;
+        maintained = m;
+        valid = λ _. leased-valid stored g.skips false o' latest m.sound here found can k (Some o) answer all alike (subst (λ l. is_some l ≡ true) (sym q.leased) refl);
+        view = inr (leased-stored stored g.skips false o' latest m.sound here found can k (Some o) answer all alike);
+        holds_it = λ _. leased-held stored g.skips false o' latest m.sound here found can k (Some o) answer all alike;
+        acts = acts-by (Ok answer) new true managed replied same_writes (keeps-known lease (Ok answer) new live is (record {
+          faults = record { count = p.faults.count; unavailable = λ no. absurd (cc); none_missing = λ no. absurd (cc) };
+          puts = keep-puts lease (Ok answer) p;
+          answers = (refl, refl, refl, leased-answers stored g.skips false o' latest m.sound here found can k (Some o) answer all alike);
+          keeps = as_modelled (catalogue_of o) (catalogue_of o') (record {
+            latest = q.latest;
+            is_latest = q.is_latest;
+            next = q.next;
+            given = q.given;
+            plan = q.plan;
+            leased = q.leased;
+            view = q.view;
+            sees = leased-sees stored g.skips false o' latest m.sound here found can k (Some o) answer all alike (catalogue_of o) _ (q.sees).logs;
+          });
+          failed = tt;
+          lapses = tt;
+        }));
+      }
+
+  keeps-led : (lease : Lease) (r : Result PollAnswer SlateError) → is_managed g.mode ≡ true → reply ≡ reply_to polled_reply r → writes' ≡ writes → g.result ≡ None → g.lease ≡ Some lease → KeepsLease (by_objects (Some o)) made lease moment (kept_follower g) (holding o f) r k (holding o' f') → LedFollower Poll
+  keeps-led lease (Ok answer) managed replied same_writes live is p = answered-led lease answer managed replied same_writes live is p
+  keeps-led lease (Err e) managed replied same_writes live is p = failed-led lease e managed replied same_writes live is p
+
+  managed-led : (r : Result PollAnswer SlateError) → is_managed g.mode ≡ true → reply ≡ reply_to polled_reply r → writes' ≡ writes → PollsManaged (by_objects (Some o)) made moment (kept_follower g) (holding o f) r k (holding o' f') → LedFollower Poll
+  managed-led r managed replied same_writes p =
+      by-option g.result
+      (λ live. leased-by g mine.2 managed live (λ lease is. keeps-led lease r managed replied same_writes live is (p.keeps lease live is)))
+      (λ q is.
+      let c = some-of (λ q. (r ≡ Err (closed_error q)) × (k ≡ kept_follower g) × Untouched made (holding o f) (holding o' f')) g.result q is p.closed in
+      unled Poll (objects-same o o' f f' c.2.1) c.1 (acts-by r g true managed replied same_writes (record {
+        closed = subst (λ x. IfSome x (λ q. (r ≡ Err (closed_error q)) × (g ≡ g) × Untouched made (catalogued o f) (catalogued o' f'))) (sym is) (c.0, refl, untouched-known made o o' f f' c.2);
+        keeps = λ lease live _. absurd (let no = sym is ∙ live in cc);
+      })))
+
+  polls-led : (r : Result PollAnswer SlateError) (managed : Bool) → is_managed g.mode ≡ managed → reply ≡ reply_to polled_reply r → writes' ≡ writes → PollsAs (by_objects (Some o)) managed made moment (kept_follower g) (holding o f) r k (holding o' f') → LedFollower Poll
+  polls-led r true is replied same_writes p = managed-led r is replied same_writes p
+  polls-led r false is replied same_writes p = polled-led r is replied p.0 p.1 same_writes
+
+  -- ---- a close
+  closed-it : (flush_type : Option FlushType) (answer : Ended) → Maintained o o' → k ≡ closed_follower (kept_follower g) → reply ≡ follower_ended_reply g.result answer → writes' ≡ writes → ClosesAs world (is_managed g.mode) made g (catalogued o f) answer (closed_follower g) (catalogued o' f') → LedFollower (Close flush_type)
+  closed-it flush_type answer m kept replied same_writes c = record {
+    new = closed_follower g;
+    kept = kept;
+    maintained = m;
+    valid = λ v. (v.0, v.1, λ _ still. absurd (cc));
+    view = inl refl;
+    holds_it = λ h. (h.0, λ free. let seen = h.1 free in record { mark = seen.mark; logs = seen.logs });
+    acts = (record { answer = answer; replied = replied; does = c }, same_writes);
+  }
+
+  closes-as : (answer : Ended) (managed : Bool) → is_managed g.mode ≡ managed → ClosesAs world managed made g (catalogued o f) answer (closed_follower g) (catalogued o' f') → ClosesAs world (is_managed g.mode) made g (catalogued o f) answer (closed_follower g) (catalogued o' f')
+  closes-as answer managed is c = subst (λ b. ClosesAs world b made g (catalogued o f) answer (closed_follower g) (catalogued o' f')) (sym is) c
+
+  closes-led : (flush_type : Option FlushType) (answer : Ended) (managed : Bool) → is_managed g.mode ≡ managed → reply ≡ follower_ended_reply g.result answer → writes' ≡ writes → ClosesAs (by_objects (Some o)) managed made (kept_follower g) (holding o f) answer k (holding o' f') → LedFollower (Close flush_type)
+  closes-led flush_type answer true managed replied same_writes c =
+      by-option g.result
+      (λ live. leased-by g mine.2 managed live (λ lease is.
+      let e = c.ends lease live is in
+      let puts = modelled o o' e.puts in
+      closed-it flush_type answer (subst (Maintained o) (sym puts.after) (end-maintains lease.id made o sound)) c.closed replied same_writes (closes-as answer true managed (record {
+        closed = refl;
+        tasks = c.tasks;
+        again = is-none _ g.result live;
+        ends = λ other live' is'.
+            let same : lease ≡ other = cc in
+            subst (λ (l : Lease). EndsLease world made l (catalogued o f) answer (catalogued o' f')) same
+            (record { faults = e.faults; puts = as_modelled (catalogue_of o) (catalogue_of o') (puts-known (to_delete lease.id) (delete-recheckpoints lease.id) o sound stored (closing_flush answer.fault) made o' puts) });
+      }))))
+      (λ q is.
+      let a = some-of (λ _. (answer ≡ ended (recorded_fault g.result)) × Untouched made (holding o f) (holding o' f')) g.result q is c.again in
+      closed-it flush_type answer (unchanged (objects-same o o' f f' a.1.1)) c.closed replied same_writes (closes-as answer true managed (record {
+        closed = refl;
+        tasks = c.tasks;
+        again = subst (λ x. IfSome x (λ _. (answer ≡ ended (recorded_fault g.result)) × Untouched made (catalogued o f) (catalogued o' f'))) (sym is) (a.0, untouched-known made o o' f f' a.1);
+        ends = λ lease live _. absurd (let no = sym is ∙ live in cc);
+      })))
+  closes-led flush_type answer false managed replied same_writes c =
+      closed-it flush_type answer (unchanged (objects-same o o' f f' c.2.1)) c.1 replied same_writes (closes-as answer false managed (c.0, refl, untouched-known made o o' f f' c.2))
+
+  pub follower-led : (call : Call) → FollowerActs (by_objects (Some o)) merge moment call made (kept_follower g) (holding o f) writes reply k (holding o' f') writes' → LedFollower call
+  follower-led Poll a = polls-led (a.0).result (is_managed g.mode) refl (a.0).replied a.1 (a.0).does
   follower-led (Get key remote snapshot) a = unled (Get key remote snapshot) (objects-read g.result g.view.manifest.tables (a.0).result o o' f f' (a.0).does) a.1 (
     record {
       result = (a.0).result;
@@ -485,15 +689,7 @@ module _ (stored : Line) (o o' : Objects) (f f' : ℕ) (made : ℕ) (writes writ
   )
   follower-led (Scan range order remote snapshot) a = unled (Scan range order remote snapshot) (objects-read g.result g.view.manifest.tables (a.0).scan o o' f f' (a.0).scans) a.1 (taken-follower range order scanned a.0, refl, a.2, a.3)
   follower-led (Seek range take key order remote snapshot) a = unled (Seek range take key order remote snapshot) (objects-read g.result g.view.manifest.tables (a.0).scan o o' f f' (a.0).scans) a.1 (taken-follower range order (sought range take key) a.0, refl, a.2, a.3)
-  follower-led (Close t) a = record {
-    new = closed_follower g;
-    kept = a.1;
-    same = objects-same o o' f f' a.2.1;
-    valid = mine;
-    view = inl refl;
-    holds_it = (held.0, λ free. let seen = held.1 free in record { mark = seen.mark; logs = seen.logs });
-    acts = (a.0, refl, untouched-known made o o' f f' a.2, a.3);
-  }
+  follower-led (Close t) a = closes-led t (a.0).answer (is_managed g.mode) refl (a.0).replied a.1 (a.0).does
   follower-led Status a = unled Status (objects-same o o' f f' a.2.1) a.1 (subst (λ n. AnswersStatus (status_by n g.view g.result) reply) (kept-number g) a.0, refl, untouched-known made o o' f f' a.2, a.3)
   follower-led (WriteCall ops) a = unled (WriteCall ops) (objects-same o o' f f' a.2.1) a.1 (a.0, refl, untouched-known made o o' f f' a.2, a.3)
   follower-led (MergeCall op) a = unled (MergeCall op) (objects-same o o' f f' a.2.1) a.1 (a.0, refl, untouched-known made o o' f f' a.2, a.3)

@@ -1,5 +1,5 @@
 -- What a command on an object leaves of an honest store and of the handles and followers of a world.
-use Rattle.std.proofs.Common.{◌≡◌, ◌≢◌, ℕ, List, set, Some, None, inl, inr, sym, subst, ap, ◌∙◌, ◌≤◌, ◌⊎◌, get_or, arith, All}
+use Rattle.std.proofs.Common.{◌≡◌, ◌≢◌, ℕ, List, [], ◌∷◌, ◌++◌, set, Some, None, inl, inr, sym, subst, ap, ◌∙◌, ◌≤◌, ◌⊎◌, get_or, arith, All}
 use Rattle.std.proofs.lemmas.Bool.{cases_lt}
 use Rattle.std.specs.List.{slice_get}
 use Rattle.slate_types.specs.Line.{Line, extended}
@@ -20,7 +20,7 @@ use Rattle.slate_store.proofs.Latest.{its-objects}
 use Rattle.slate_live.specs.Represents.{AreBefore, AreOfPast, IsHeld, Holds, IsFollowerAt, IsHandleAt, IsValid, IsValidFollower, IsValidHandle}
 use Rattle.slate_live.specs.World.{World}
 use Rattle.slate_live.proofs.Changing.{distinct-set, followers-set, followers-set-handle, handles-set-follower, valid-set}
-use Rattle.slate_live.proofs.Places.{get-set}
+use Rattle.slate_live.proofs.Places.{get-push, get-set}
 use Rattle.slate_live.proofs.Following.{follower-follows}
 
 -- the tables that are stored come before the next one of a valid handle
@@ -225,3 +225,43 @@ module _ (w : World) (o : Objects) (is_sound : IsSound o) (holds : Holds o w) (v
       distinct = λ i j a b at_i at_j epochs. valid.distinct i j a b (follower-before i a at_i) (follower-before j b at_j) epochs;
       reads = λ j x at. follower-reads its j x (get-set w.objects n j (AFollower g') x (AFollower g) there at);
     }
+
+  -- the objects with one more, which is no handle and goes by tables that are stored
+  module _ (object : Object) (no_handle : (a : Handle) → object ≡ AHandle a → ⊥) (latest : VersionedManifest) (is : latest_manifest o ≡ Some latest) (tables-stored : AreStored o (tables_of object)) where
+    before-push : (m : ℕ) (a : Handle) → IsHandleAt (w.objects ++ object ∷ []) m a → IsHandleAt w.objects m a
+    before-push m a at =
+        elim (get-push w.objects object (AHandle a) m at) [
+          | inl old ↦ old
+          | inr last_one ↦ absurd (no_handle a last_one.1)
+        ]
+
+    pushed : (P : Object → Type 0) → P object → ((m : ℕ) (x : Object) → slice_get w.objects m ≡ Some x → P x) → (m : ℕ) (x : Object) → slice_get (w.objects ++ object ∷ []) m ≡ Some x → P x
+    pushed P mine before m x at =
+        elim (get-push w.objects object x m at) [
+          | inl old ↦ before m x old
+          | inr last_one ↦ subst P last_one.1 mine
+        ]
+
+    pub pushed-leads : ((f : Follower) → object ≡ AFollower f → IsValidFollower w.stored (catalogue_of o) f) → IsHeld o object → Leads w.stored o (w.objects ++ object ∷ [])
+    pushed-leads mine its = record {
+      sound = is_sound;
+      content = holds.stored;
+      handles = λ m a at. valid-over m a (before-push m a at);
+      followers = λ m f at.
+          elim (get-push w.objects object (AFollower f) m at) [
+            | inl old ↦ followers-over m f old
+            | inr last_one ↦ mine f last_one.1
+          ];
+      named = λ i j a x at_i at_j.
+          let at_before = before-push i a at_i in
+          pushed (λ y. AreBefore a (tables_of y)) (stored-before w.stored o a (valid-over i a at_before) (tables_of object) tables-stored)
+          (λ m y at. valid.named i m a y at_before at) j x at_j;
+      past = pushed (λ y. AreOfPast (catalogue_of o) (tables_of y)) (stored-past o latest is_sound is (tables_of object) tables-stored) past-over;
+      distinct = λ i j a b at_i at_j epochs. valid.distinct i j a b (before-push i a at_i) (before-push j b at_j) epochs;
+      reads = pushed (IsHeld o) its reads;
+    }
+
+  pub followed-leads : (g : Follower) (latest : VersionedManifest) → latest_manifest o ≡ Some latest → AreStored o g.view.manifest.tables → IsValidFollower w.stored (catalogue_of o) g → IsHeld o (AFollower g) → Leads w.stored o (w.objects ++ AFollower g ∷ [])
+  followed-leads g latest is there mine its =
+      pushed-leads (AFollower g) (λ a same. absurd (cc)) latest is there
+      (λ f same. let is_it : g ≡ f = cc in subst (IsValidFollower w.stored (catalogue_of o)) is_it mine) its

@@ -56,7 +56,7 @@ linked settings command live live' store store' made reply does w r =
         durable = λ n handle at. (l.2.valid.handles n handle at).confirmed;
         rises = rises settings w command reply l.0 r.valid l.1;
         confirms = confirms settings w command reply l.0 r.valid l.1;
-        sees = sees settings w command reply l.0 l.1;
+        sees = sees settings w command reply l.0 r.valid l.1;
       },
       l.2,
     )

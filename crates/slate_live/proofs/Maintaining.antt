@@ -1,5 +1,5 @@
 -- What a checkpoint and a sweep leave of a world: the store goes on, and no object changes.
-use Rattle.std.proofs.Common.{◌≡◌, ℕ, Some, sym, ap, ◌∙◌, arith}
+use Rattle.std.proofs.Common.{◌≡◌, ℕ, Some, refl, sym, ap, ◌∙◌, arith}
 use Rattle.std.specs.List.{slice_get}
 use Rattle.slate_store.specs.Objects.{Objects, latest_manifest}
 use Rattle.slate_store.specs.Content.{IsSound, content}
@@ -68,4 +68,22 @@ module _ (w : World) (o : Objects) (is_sound : IsSound o) (holds : Holds o w) (v
         let p = past-over w o is_sound holds valid reads n x at in
         let next = m.latest p.0 p.1 in
         still-held o o' p.0 next.0 p.1 next.1 (follows p.0 p.1).logs x (λ k d less. m.lasts _) (reads n x at);
+  }
+
+  -- the world in which the catalogue alone is another
+  abbrev pub after : World
+  after = record w { catalogue = catalogue_of o' }
+
+  pub after-holds : Holds o' after
+  after-holds = record { stored = content-is; catalogue = refl }
+
+  pub after-valid : IsValid after
+  after-valid = let l = maintained-leads in record {
+    line = valid.line;
+    followers = l.followers;
+    handles = l.handles;
+    snapshots = valid.snapshots;
+    named = l.named;
+    past = l.past;
+    distinct = l.distinct;
   }

@@ -21,7 +21,7 @@ module _ {L : Type 0} (k : Knowledge L) (merge : Option Merge) (n : ℕ) (comman
 
   pub record FollowerDid (f : Follower) : Type 0 where
     pub new : Follower
-    pub acts : FollowerActs k merge call made f s.store s.writes reply new s'.store s'.writes
+    pub acts : FollowerActs k merge command.moment call made f s.store s.writes reply new s'.store s'.writes
     pub objects : s'.objects ≡ set s.objects n (AFollower new)
 
   handle-by : (h : Handle) (new : Object) → Acts k merge n command call made (AHandle h) s.store s.writes reply new s'.store s'.writes → s'.objects ≡ set s.objects n new → HandleDid h

@@ -1,5 +1,5 @@
 -- A command over an honest store leads to a world that the live state and the store represent.
-use Rattle.std.proofs.Common.{◌≡◌, ◌≢◌, ℕ, ◌≤◌, Bool, true, length, List, [], ◌∷◌, ◌++◌, set, map, option_map, Option, Some, None, Result, Ok, Err, refl, sym, subst, ap, ◌∙◌, arith, zero, suc, inl, inr, ◌<◌}
+use Rattle.std.proofs.Common.{◌≡◌, ◌≢◌, ℕ, ◌≤◌, Bool, true, false, length, List, [], ◌∷◌, ◌++◌, set, map, option_map, Option, Some, None, Result, Ok, Err, refl, sym, subst, ap, ◌∙◌, arith, zero, suc, inl, inr, ◌<◌}
 use Rattle.std.proofs.lemmas.List.{append-nil, length-map, map-append}
 use Rattle.std.proofs.lemmas.List.Elements.{All-nil}
 use Rattle.std.specs.List.{slice_get}
@@ -12,7 +12,7 @@ use Rattle.slate_errors.specs.declared.errors.SlateError.{SlateError}
 use Rattle.slate_model.specs.Catalogue.{catalogue_of}
 use Rattle.slate_model.specs.declared.answers.PollAnswer.{PollAnswer}
 use Rattle.slate_model.specs.Follow.{Rebuilds, unseen}
-use Rattle.slate_model.specs.Follower.{Follower, kept_follower, rebuilt}
+use Rattle.slate_model.specs.Follower.{Follower, is_managed, kept_follower, rebuilt}
 use Rattle.slate_model.specs.Handle.{Handle, kept_handle}
 use Rattle.slate_model.specs.Known.{Known}
 use Rattle.slate_model.specs.Maintain.{Checkpoints, Sweeps}
@@ -33,7 +33,7 @@ use Rattle.slate_script.specs.declared.replies.Reply.{Reply}
 use Rattle.slate_script.specs.declared.replies.Reply.TheVariants as replies
 use Rattle.slate_live.specs.declared.states.Write.{Write}
 use Rattle.slate_live.specs.Calls.{Call, Write as WriteCall, Merge as MergeCall, Flush, Refresh, Compact, Get, Scan, Seek, Close, Poll, Status, FindTime, FindNumber, Nothing, call_of, named, Target, NewHandle, NewSnapshot, NewFollower, NewCheckpoint, WholeStore, OfWrite, OfObject, at_snapshot, target_of}
-use Rattle.slate_live.specs.Commands.{Acts, ActsAt, ActsOn, Does, DoesBy, DoesToStore, OpensSnapshot, ReadsSnapshot, added, asked_reply, write_reply}
+use Rattle.slate_live.specs.Commands.{Acts, ActsAt, ActsOn, Adds, Does, DoesBy, DoesToStore, OpensSnapshot, ReadsSnapshot, added, asked_reply, interval_of, lifetime_of, write_reply}
 use Rattle.slate_live.specs.Maintenance.{CommitsTo, SweepsTo}
 use Rattle.slate_live.specs.Replies.{followed_reply, reply_to}
 use Rattle.slate_live.specs.Represents.{AreBefore, AreOfPast, IsHeld, Holds, IsHandleAt, IsValid, IsValidFollower, Represents}
@@ -41,11 +41,15 @@ use Rattle.slate_live.specs.Settings.{Settings}
 use Rattle.slate_live.specs.State.{Live, State, running}
 use Rattle.slate_live.specs.World.{Next, World, grown_by, state_of, stored_after}
 use Rattle.slate_live.proofs.Following.{new-held, new-stored, new-valid, seen-kept, seen-mark}
-use Rattle.slate_live.proofs.Knowing.{follower-after, follower-led, handle-after, handle-led}
+use Rattle.slate_live.proofs.Knowing.{AfterOf, follower-after, follower-led, handle-after, handle-led}
 use Rattle.slate_model.proofs.Owing.{owed_line}
 use Rattle.slate_store.specs.declared.reader_modes.DbReaderMode.{DbReaderMode}
-use Rattle.slate_live.proofs.Leading.{followers-over, Leads, follower-leads, is_latest, leads-same, moved-leads, past-over, stored-before, stored-past, the_latest, valid-over}
-use Rattle.slate_live.proofs.Maintaining.{maintained-leads}
+use Rattle.slate_store.specs.declared.reader_modes.DbReaderMode.TheVariants as modes
+use Rattle.slate_model.specs.Managed.{OpensManaged}
+use Rattle.slate_live.proofs.Leading.{followed-leads, followers-over, Leads, follower-leads, pushed-leads, is_latest, leads-same, moved-leads, past-over, stored-before, stored-past, the_latest, valid-over}
+use Rattle.slate_live.proofs.Leasing.{leased_whole}
+use Rattle.slate_live.proofs.Maintaining.{after, after-holds, after-valid, maintained-leads}
+use Rattle.slate_live.proofs.Taking.{Taken, taken, taken-after}
 use Rattle.slate_live.proofs.Opening.{opened-leads, unopened-leads}
 use Rattle.slate_live.proofs.Places.{get-map, get-push}
 use Rattle.slate_live.proofs.Snapshots.{snapshots-kept}
@@ -235,18 +239,21 @@ module _ (settings : Settings) (w : World) (o : Objects) (is_sound : IsSound o) 
   led-follower : (n : ℕ) (g k : Follower) → target_of command.action ≡ OfObject n → slice_get w.objects n ≡ Some (AFollower g) →
       Acts (by_objects (Some o)) settings.merge n command (call_of command.action) made (AFollower (kept_follower g)) (holding o w.faults) w.writes reply (AFollower k) store writes → live_objects ≡ set (map kept w.objects) n (AFollower k) → Led
   led-follower n g k is at a objects =
-      let o' = follower-after o w.faults made w.writes writes reply settings.merge store (call_of command.action) (kept_follower g) k a in
       let mine = followers-over w o is_sound holds valid reads n g at in
+      let o' = follower-after o w.faults made w.writes writes reply settings.merge store command.moment (call_of command.action) (kept_follower g) k mine.2 a in
       let by_held = subst (λ x. Acts (by_objects (Some o)) settings.merge n command (call_of command.action) made (AFollower (kept_follower g)) (holding o w.faults) w.writes reply (AFollower k) x writes) (store-is o'.0 o'.1) a in
-      let l = follower-led w.stored o o'.0 w.faults store.faults made w.writes writes reply is_sound holds.stored valid.line settings.merge g k mine (reads n (AFollower g) at) (call_of command.action) by_held in
+      let l = follower-led w.stored o o'.0 w.faults store.faults made w.writes writes reply is_sound holds.stored valid.line settings.merge command.moment g k mine (reads n (AFollower g) at) (call_of command.action) by_held in
       let grows = named-is (OfObject n) is (Some (AFollower g)) at ∙ follower-growth (call_of command.action) made w.stored g in
       let objects' = set w.objects n (AFollower l.new) in
+      let m = maintained-leads w o is_sound holds valid reads o'.0 l.maintained in
+      let leads = follower-leads (after w o is_sound holds valid reads o'.0 l.maintained) o'.0 m.sound (after-holds w o is_sound holds valid reads o'.0 l.maintained) (after-valid w o is_sound holds valid reads o'.0 l.maintained) m.reads
+      n g l.new at l.view (l.valid (m.followers n g at)) (l.holds_it (m.reads n (AFollower g) at)) in
       record {
         after = o'.0;
         objects = objects';
         modelled = o'.1;
         kept = objects ∙ (ap (λ x. set (map kept w.objects) n (AFollower x)) l.kept ∙ sym (map-set kept w.objects n (AFollower l.new)));
-        leads = subst (λ x. Leads stored' x objects') (sym l.same) (over grows (follower-leads w o is_sound holds valid reads n g l.new at l.view l.valid l.holds_it));
+        leads = over grows leads;
         does = does-at (OfObject n) is o'.0 objects'
             (subst (λ found. ActsOn (by_catalogue w.stored w.catalogue) settings.merge n command (call_of command.action) made found (state_of w) reply (state_of (world o'.0 objects'))) (sym at)
             (record {
@@ -344,46 +351,6 @@ module _ (settings : Settings) (w : World) (o : Objects) (is_sound : IsSound o) 
         });
       }
 
-  -- the objects with one more, which is no handle and goes by tables that are stored
-  module _ (object : Object) (no_handle : (a : Handle) → object ≡ AHandle a → ⊥) (latest : VersionedManifest) (is : latest_manifest o ≡ Some latest) (tables-stored : AreStored o (tables_of object)) where
-    before-push : (m : ℕ) (a : Handle) → IsHandleAt (w.objects ++ object ∷ []) m a → IsHandleAt w.objects m a
-    before-push m a at =
-        elim (get-push w.objects object (AHandle a) m at) [
-          | inl old ↦ old
-          | inr last_one ↦ absurd (no_handle a last_one.1)
-        ]
-
-    pushed : (P : Object → Type 0) → P object → ((m : ℕ) (x : Object) → slice_get w.objects m ≡ Some x → P x) → (m : ℕ) (x : Object) → slice_get (w.objects ++ object ∷ []) m ≡ Some x → P x
-    pushed P mine before m x at =
-        elim (get-push w.objects object x m at) [
-          | inl old ↦ before m x old
-          | inr last_one ↦ subst P last_one.1 mine
-        ]
-
-    pushed-leads : ((f : Follower) → object ≡ AFollower f → IsValidFollower w.stored (catalogue_of o) f) → IsHeld o object → Leads w.stored o (w.objects ++ object ∷ [])
-    pushed-leads mine its = record {
-      sound = is_sound;
-      content = holds.stored;
-      handles = λ m a at. valid-over w o is_sound holds valid reads m a (before-push m a at);
-      followers = λ m f at.
-          elim (get-push w.objects object (AFollower f) m at) [
-            | inl old ↦ followers-over w o is_sound holds valid reads m f old
-            | inr last_one ↦ mine f last_one.1
-          ];
-      named = λ i j a x at_i at_j.
-          let at_before = before-push i a at_i in
-          pushed (λ y. AreBefore a (tables_of y)) (stored-before w.stored o a (valid-over w o is_sound holds valid reads i a at_before) (tables_of object) tables-stored)
-          (λ m y at. valid.named i m a y at_before at) j x at_j;
-      past = pushed (λ y. AreOfPast (catalogue_of o) (tables_of y)) (stored-past o latest is_sound is (tables_of object) tables-stored) (past-over w o is_sound holds valid reads);
-      distinct = λ i j a b at_i at_j epochs. valid.distinct i j a b (before-push i a at_i) (before-push j b at_j) epochs;
-      reads = pushed (IsHeld o) its reads;
-    }
-
-  followed-leads : (g : Follower) (latest : VersionedManifest) → latest_manifest o ≡ Some latest → AreStored o g.view.manifest.tables → IsValidFollower w.stored (catalogue_of o) g → IsHeld o (AFollower g) → Leads w.stored o (w.objects ++ AFollower g ∷ [])
-  followed-leads g latest is there mine its =
-      pushed-leads (AFollower g) (λ a same. absurd (cc)) latest is there
-      (λ f same. let is_it : g ≡ f = cc in subst (IsValidFollower w.stored (catalogue_of o)) is_it mine) its
-
   -- a snapshot of a handle
   led-taken : (n : ℕ) (h : Handle) → target_of command.action ≡ NewSnapshot n → slice_get w.objects n ≡ Some (AHandle h) → (r : Result ℕ SlateError) → TakesSnapshot (kept_handle h) (holding o w.faults) r store → made ≡ 0 →
       reply ≡ reply_to (λ number. replies.Snapshot (length (map kept w.objects)) number) r → live_objects ≡ map kept w.objects ++ added (λ number. ASnapshot (record { handle = n; number = number })) r → writes ≡ w.writes → Led
@@ -414,7 +381,7 @@ module _ (settings : Settings) (w : World) (o : Objects) (is_sound : IsSound o) 
           objects = objects';
           modelled = ap (λ (k : Known (List Batch)). k.objects) known;
           kept = objects ∙ sym (map-append kept w.objects (new ∷ []));
-          leads = over same (pushed-leads new (λ a same. absurd (cc)) (the_latest w o is_sound holds valid reads n h at) (is_latest w o is_sound holds valid reads n h at) (All-nil (λ id. table_at id o ≢ None)) (λ f same. absurd (cc)) (tt, tt));
+          leads = over same (pushed-leads w o is_sound holds valid reads new (λ a same. absurd (cc)) (the_latest w o is_sound holds valid reads n h at) (is_latest w o is_sound holds valid reads n h at) (All-nil (λ id. table_at id o ≢ None)) (λ f same. absurd (cc)) (tt, tt));
           does = does o objects' (
             record { result = Ok number; replied = replied ∙ ap (λ m. replies.Snapshot m number) (length-map w.objects kept); does = took (Ok number) d; objects = refl; writes = same_writes },
             none,
@@ -444,10 +411,12 @@ module _ (settings : Settings) (w : World) (o : Objects) (is_sound : IsSound o) 
     by (Some (AFollower g)) at d = led-only _ (unnamed (NewSnapshot n) is refl) d (λ a. only (Some (AFollower g)) at a)
     by None at d = led-only _ (unnamed (NewSnapshot n) is refl) d (λ a. only None at a)
 
-  -- an opening of a follower
-  led-followed : (mode : DbReaderMode) (skips : Bool) → target_of command.action ≡ NewFollower mode skips → (r : Result (Follower × PollAnswer) SlateError) → Rebuilds (by_objects (Some o)) mode skips true unseen (holding o w.faults) r store → made ≡ 0 →
+  -- an opening of a follower that keeps no checkpoint
+  led-followed : (mode : DbReaderMode) (managed : Option (ℕ × ℕ)) (skips : Bool) → is_managed mode ≡ false → target_of command.action ≡ NewFollower mode managed skips →
+      ((after : Objects) (objects : List Object) → Adds (Rebuilds (by_catalogue w.stored w.catalogue) mode skips true unseen) (λ (b : Follower × PollAnswer). AFollower b.0) (λ n (b : Follower × PollAnswer). followed_reply n b.1) (state_of w) reply (state_of (world after objects)) × (made ≡ 0) →
+      Does (by_catalogue w.stored w.catalogue) settings made (state_of w) command reply (state_of (world after objects))) → (r : Result (Follower × PollAnswer) SlateError) → Rebuilds (by_objects (Some o)) mode skips true unseen (holding o w.faults) r store → made ≡ 0 →
       reply ≡ reply_to (λ (b : Follower × PollAnswer). followed_reply (length (map kept w.objects)) b.1) r → live_objects ≡ map kept w.objects ++ added (λ (b : Follower × PollAnswer). AFollower b.0) r → writes ≡ w.writes → Led
-  led-followed mode skips is (Ok b) d none replied objects same_writes =
+  led-followed mode managed skips unmanaged is does (Ok b) d none replied objects same_writes =
       let by_held = subst (λ x. Rebuilds (by_objects (Some o)) mode skips true unseen (holding o w.faults) (Ok b) x) (store-is o d.kept) d in
       let known = rebuilds-reduced w.stored mode skips true unseen unseen o o w.faults store.faults is_sound holds.stored tt (Ok b) by_held in
       let all = d.sees o w.stored refl (o, refl, is_sound, sym holds.stored) tt in
@@ -461,8 +430,8 @@ module _ (settings : Settings) (w : World) (o : Objects) (is_sound : IsSound o) 
         objects = objects';
         modelled = d.kept;
         kept = objects ∙ (ap (λ x. map kept w.objects ++ AFollower x ∷ []) (seen-kept (Some o) w.stored mode skips o b.0 b.1 all) ∙ sym (map-append kept w.objects (AFollower new ∷ [])));
-        leads = over (unnamed (NewFollower mode skips) is refl) (followed-leads new v.0 v.1 there (new-valid w.stored mode skips true o (b.0).view is_sound holds.stored v (b.0).mark mark) (new-held w.stored mode skips true o (b.0).view is_sound holds.stored v (b.0).mark mark));
-        does = does-at (NewFollower mode skips) is o objects' (
+        leads = over (unnamed (NewFollower mode managed skips) is refl) (followed-leads w o is_sound holds valid reads new v.0 v.1 there (new-valid w.stored mode skips true o (b.0).view is_sound holds.stored v (b.0).mark mark unmanaged) (new-held w.stored mode skips true o (b.0).view is_sound holds.stored v (b.0).mark mark));
+        does = does o objects' (
           record {
             result = Ok (new, b.1);
             replied = replied ∙ ap (λ n. followed_reply n b.1) (length-map w.objects kept);
@@ -473,7 +442,7 @@ module _ (settings : Settings) (w : World) (o : Objects) (is_sound : IsSound o) 
           none,
         );
       }
-  led-followed mode skips is (Err e) d none replied objects same_writes =
+  led-followed mode managed skips unmanaged is does (Err e) d none replied objects same_writes =
       let by_held = subst (λ x. Rebuilds (by_objects (Some o)) mode skips true unseen (holding o w.faults) (Err e) x) (store-is o d.kept) d in
       let known = rebuilds-reduced w.stored mode skips true unseen unseen o o w.faults store.faults is_sound holds.stored tt (Err e) by_held in
       record {
@@ -481,8 +450,8 @@ module _ (settings : Settings) (w : World) (o : Objects) (is_sound : IsSound o) 
         objects = w.objects;
         modelled = d.kept;
         kept = objects ∙ append-nil (map kept w.objects);
-        leads = over (unnamed (NewFollower mode skips) is refl) (leads-same w o is_sound holds valid reads);
-        does = does-at (NewFollower mode skips) is o w.objects (
+        leads = over (unnamed (NewFollower mode managed skips) is refl) (leads-same w o is_sound holds valid reads);
+        does = does o w.objects (
           record {
             result = Err e;
             replied = replied;
@@ -493,6 +462,68 @@ module _ (settings : Settings) (w : World) (o : Objects) (is_sound : IsSound o) 
           none,
         );
       }
+
+  -- an opening of one that does
+  led-leased : (managed : Option (ℕ × ℕ)) (skips : Bool) → target_of command.action ≡ NewFollower modes.ManagedCheckpoint managed skips → (r : Result (Follower × PollAnswer) SlateError) →
+      OpensManaged (by_objects (Some o)) made (lifetime_of managed) (interval_of managed) skips command.moment (holding o w.faults) r store →
+      reply ≡ reply_to (λ (b : Follower × PollAnswer). followed_reply (length (map kept w.objects)) b.1) r → live_objects ≡ map kept w.objects ++ added (λ (b : Follower × PollAnswer). AFollower b.0) r → writes ≡ w.writes → Led
+  led-leased managed skips is r d replied objects same_writes = by r d replied objects where
+    lifetime : ℕ
+    lifetime = lifetime_of managed
+
+    interval : ℕ
+    interval = interval_of managed
+
+    o' : AfterOf store
+    o' = taken-after w.stored o w.faults made lifetime interval skips command.moment r store d
+
+    took : (r : Result (Follower × PollAnswer) SlateError) → OpensManaged (by_objects (Some o)) made lifetime interval skips command.moment (holding o w.faults) r store → Taken w.stored o w.faults made lifetime interval skips command.moment o'.0 store.faults is_sound holds.stored r
+    took r d = taken w.stored o w.faults made lifetime interval skips command.moment o'.0 store.faults is_sound holds.stored r
+        (subst (λ x. OpensManaged (by_objects (Some o)) made lifetime interval skips command.moment (holding o w.faults) r x) (store-is o'.0 o'.1) d)
+
+    opens : (r : Result (Follower × PollAnswer) SlateError) → OpensManaged (by_catalogue w.stored (catalogue_of o)) made lifetime interval skips command.moment (catalogued o w.faults) r (catalogued o'.0 store.faults) →
+        OpensManaged (by_catalogue w.stored w.catalogue) made lifetime interval skips command.moment (state_of w).store r (catalogued o'.0 store.faults)
+    opens r known = subst (λ c. OpensManaged (by_catalogue w.stored c) made lifetime interval skips command.moment (record { objects = Some c; faults = w.faults }) r (catalogued o'.0 store.faults)) holds.catalogue known
+
+    by : (r : Result (Follower × PollAnswer) SlateError) → OpensManaged (by_objects (Some o)) made lifetime interval skips command.moment (holding o w.faults) r store →
+        reply ≡ reply_to (λ (b : Follower × PollAnswer). followed_reply (length (map kept w.objects)) b.1) r → live_objects ≡ map kept w.objects ++ added (λ (b : Follower × PollAnswer). AFollower b.0) r → Led
+    by (Ok b) d replied objects =
+        let l = took (Ok b) d in
+        let m = maintained-leads w o is_sound holds valid reads o'.0 l.maintained in
+        let new = leased_whole o'.0 w.stored skips (b.0).view b.0 in
+        let objects' = w.objects ++ AFollower new ∷ [] in
+        record {
+          after = o'.0;
+          objects = objects';
+          modelled = o'.1;
+          kept = objects ∙ (ap (λ x. map kept w.objects ++ AFollower x ∷ []) (l.new).kept ∙ sym (map-append kept w.objects (AFollower new ∷ [])));
+          leads = over (unnamed (NewFollower modes.ManagedCheckpoint managed skips) is refl)
+              (followed-leads (after w o is_sound holds valid reads o'.0 l.maintained) o'.0 m.sound (after-holds w o is_sound holds valid reads o'.0 l.maintained) (after-valid w o is_sound holds valid reads o'.0 l.maintained) m.reads
+              new (b.0).view (l.new).found (l.new).tables (l.new).valid (l.new).held);
+          does = does-at (NewFollower modes.ManagedCheckpoint managed skips) is o'.0 objects' (record {
+            result = Ok (new, b.1);
+            replied = replied ∙ ap (λ n. followed_reply n b.1) (length-map w.objects kept);
+            does = opens (Ok (new, b.1)) l.known;
+            objects = refl;
+            writes = same_writes;
+          });
+        }
+    by (Err e) d replied objects =
+        let l = took (Err e) d in
+        record {
+          after = o'.0;
+          objects = w.objects;
+          modelled = o'.1;
+          kept = objects ∙ append-nil (map kept w.objects);
+          leads = over (unnamed (NewFollower modes.ManagedCheckpoint managed skips) is refl) (maintained-leads w o is_sound holds valid reads o'.0 l.maintained);
+          does = does-at (NewFollower modes.ManagedCheckpoint managed skips) is o'.0 w.objects (record {
+            result = Err e;
+            replied = replied;
+            does = opens (Err e) l.known;
+            objects = sym (append-nil w.objects);
+            writes = same_writes;
+          });
+        }
 
   -- a command that goes to the store alone
   led-store : (target : Target) → target_of command.action ≡ target → named w.objects target ≡ None → (o' : Objects) → store.objects ≡ Some o' → Maintained o o' → live_objects ≡ map kept w.objects →
@@ -544,7 +575,11 @@ module _ (settings : Settings) (w : World) (o : Objects) (is_sound : IsSound o) 
   led-by (NewHandle keeps_log) is d = led-opened keeps_log is d.result d.does d.replied d.objects d.writes
   led-by (NewSnapshot n) is d =
       led-sampled n (slice_get w.objects n) is refl (subst (λ found. OpensSnapshot n made found s reply s') (get-map kept w.objects n) d)
-  led-by (NewFollower mode skips) is d = led-followed mode skips is (d.0).result (d.0).does d.1 (d.0).replied (d.0).objects (d.0).writes
+  led-by (NewFollower modes.FollowLatest managed skips) is d =
+      led-followed modes.FollowLatest managed skips refl is (does-at (NewFollower modes.FollowLatest managed skips) is) (d.0).result (d.0).does d.1 (d.0).replied (d.0).objects (d.0).writes
+  led-by (NewFollower (modes.Checkpoint id) managed skips) is d =
+      led-followed (modes.Checkpoint id) managed skips refl is (does-at (NewFollower (modes.Checkpoint id) managed skips) is) (d.0).result (d.0).does d.1 (d.0).replied (d.0).objects (d.0).writes
+  led-by (NewFollower modes.ManagedCheckpoint managed skips) is d = led-leased managed skips is d.result d.does d.replied d.objects d.writes
   led-by (NewCheckpoint lifetime) is d = led-checkpoint lifetime is d
   led-by WholeStore is d = led-swept is d
   led-by (OfWrite n) is d =

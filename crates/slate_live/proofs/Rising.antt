@@ -17,10 +17,19 @@ use Rattle.slate_model.specs.declared.answers.PollAnswer.{PollAnswer}
 use Rattle.slate_model.specs.declared.answers.Written.{Written}
 use Rattle.slate_model.specs.Flush.{DurableAfter, IsFlushed}
 use Rattle.slate_model.specs.Follow.{Polls}
-use Rattle.slate_model.specs.Follower.{Follower, is_pinned, number}
+use Rattle.slate_model.specs.Follower.{Follower, is_managed, is_pinned, number}
 use Rattle.slate_model.specs.Handle.{CloseResult, Handle, accepted}
 use Rattle.slate_model.specs.Knowledge.{Knowledge}
-use Rattle.slate_model.specs.Known.{Known}
+use Rattle.slate_model.specs.Known.{Known, Untouched}
+use Rattle.slate_model.specs.Lease.{to_keep}
+use Rattle.slate_model.specs.Managed.{KeepsLease, PollsManaged, poll_result}
+use Rattle.slate_model.specs.declared.leases.Lease.{Lease}
+use Rattle.slate_model.proofs.Leased.{its-manifest}
+use Rattle.slate_model.proofs.Planned.{keep-recheckpoints}
+use Rattle.slate_store.specs.declared.objects.Manifest.{Manifest}
+use Rattle.slate_store.specs.declared.reader_modes.DbReaderMode.{DbReaderMode}
+use Rattle.slate_store.specs.declared.reader_modes.DbReaderMode.TheVariants as modes
+use Rattle.slate_errors.specs.declared.endings.Ended.{Ended}
 use Rattle.slate_model.specs.declared.snapshots.HandleSnapshot.{HandleSnapshot}
 use Rattle.slate_model.specs.Object.{Object, Handle as AHandle, Snapshot as ASnapshot, Follower as AFollower}
 use Rattle.slate_model.specs.Stores.{by_catalogue}
@@ -31,16 +40,15 @@ use Rattle.slate_live.specs.declared.states.Write.{Write}
 use Rattle.slate_live.proofs.Naming.{follower-did, handle-acted}
 use Rattle.slate_live.specs.Calls.{Call, Write as WriteCall, Merge as MergeCall, Flush, Refresh, Compact, Get, Scan, Seek, Close, Poll, Status, FindTime, FindNumber, Nothing, call_of, Target, NewHandle, NewSnapshot, NewFollower, NewCheckpoint, WholeStore, OfWrite, OfObject, at_snapshot, target_of}
 use Rattle.slate_live.specs.Commands.{ActsAt, ActsOn, DoesBy, OnlyAnswers, OpensSnapshot, ReadsSnapshot}
-use Rattle.slate_live.specs.Followers.{FollowerActs}
+use Rattle.slate_live.specs.Followers.{ClosesAs, FollowerActs, PollsAs}
 use Rattle.slate_live.specs.Handles.{HandleActs, MergesTo}
 use Rattle.slate_live.specs.Represents.{IsValidFollower, IsValid}
 use Rattle.slate_live.specs.Rising.{FollowerRises, HandleRises, Rise, Rises, StaysClosed}
 use Rattle.slate_live.specs.Settings.{Settings}
 use Rattle.slate_live.specs.State.{State}
 use Rattle.slate_live.specs.World.{World, Next, state_of}
-use Rattle.slate_live.proofs.Following.{owed-above}
-use Rattle.slate_live.proofs.Cases.{by-option, is-none, some-of}
-use Rattle.slate_live.proofs.Choices.{close-cases, compact-cases, flush-cases, refresh-cases}
+use Rattle.slate_live.proofs.Following.{owed-above, owed-not_below}
+use Rattle.slate_live.proofs.Cases.{by-option, close-by, compact-by, flush-by, is-none, refresh-by, some-of}
 use Rattle.slate_live.proofs.Places.{get-before, get-set_other, get-set_same}
 use Rattle.slate_live.proofs.Prefixes.{prefix-same}
 
@@ -119,22 +127,22 @@ pub handle-rises : (stored : Line) (catalogue : Catalogue) (merge : Option Merge
 handle-rises stored catalogue merge n moment second (WriteCall ops) made h before writes reply h' after writes' low a = write-rises h h' _ moment second (a.0).result (a.0).does
 handle-rises stored catalogue merge n moment second (MergeCall op) made h before writes reply h' after writes' low a = merge-rises merge n op moment second h writes reply h' writes' a.0
 handle-rises stored catalogue merge n moment second (Flush t) made h before writes reply h' after writes' low a =
-    flush-cases (by_catalogue stored catalogue) made h before h' after (HandleRises h h') _ (a.0).result (a.0).does
+    flush-by (by_catalogue stored catalogue) made h before h' after (HandleRises h h') _ (a.0).result (a.0).does
     (λ q is error same store. rises-same h h' same)
     (λ live without error same store. rises-same h h' same)
     (λ can is stores. flushed-rises made _ _ h h' can.0 low is)
 handle-rises stored catalogue merge n moment second (Close t) made h before writes reply h' after writes' low a =
-    close-cases (by_catalogue stored catalogue) made h before h' after (HandleRises h h') _ (a.0).ended (a.0).does
+    close-by (by_catalogue stored catalogue) made h before h' after (HandleRises h h') _ (a.0).ended (a.0).does
     (λ q is error same store. rises-same h h' same)
     (λ live none error is store. subst (HandleRises h) (sym is) (closed-rises h h live (rises-same h h refl)))
-    (λ t some live without error is store. subst (HandleRises h) (sym is) (closed-rises h h live (rises-same h h refl)))
-    (λ t some can tasks is stores. flushed-rises made _ _ h h' can.0 low is)
+    (λ t live some without error is store. subst (HandleRises h) (sym is) (closed-rises h h live (rises-same h h refl)))
+    (λ t can some tasks is stores. flushed-rises made _ _ h h' can.0 low is)
 handle-rises stored catalogue merge n moment second Refresh made h before writes reply h' after writes' low a =
-    refresh-cases (by_catalogue stored catalogue) 0 h before h' after (HandleRises h h') (a.0).result (a.0).does
+    refresh-by (by_catalogue stored catalogue) 0 h before h' after (HandleRises h h') (a.0).result (a.0).does
     (λ q is error same store. rises-same h h' same)
     (λ live reads. moved-rises h h' h.counter _ live reads.same)
 handle-rises stored catalogue merge n moment second Compact made h before writes reply h' after writes' low a =
-    compact-cases (by_catalogue stored catalogue) made h before h' after (HandleRises h h') (a.0).result (a.0).does
+    compact-by (by_catalogue stored catalogue) made h before h' after (HandleRises h h') (a.0).result (a.0).does
     (λ q is error same store. rises-same h h' same)
     (λ live joins. moved-rises h h' h'.counter _ live joins.same)
 handle-rises stored catalogue merge n moment second (Get key remote snapshot) made h before writes reply h' after writes' low a = rises-same h h' a.1
@@ -176,21 +184,66 @@ closed-follower-rises : (f : Follower) (r : CloseResult) → f.result ≡ r → 
 closed-follower-rises f None is = record { mode = refl; skips = refl; number = omega arith; result = is-none (λ q. (closed_follower f).result ≡ Some q) f.result is }
 closed-follower-rises f (Some q) is = record { mode = refl; skips = refl; number = omega arith; result = subst (λ x. StaysClosed x (Some (unwrap_or x (Ok tt)))) (sym is) refl }
 
-pub follower-rises : (stored : Line) (catalogue : Catalogue) (merge : Option Merge) (call : Call) (made : ℕ) (f : Follower) (before : Known Span) (writes : List Write) (reply : Reply) (f' : Follower) (after : Known Span) (writes' : List Write) → before.objects ≡ Some catalogue → IsValidFollower stored catalogue f → FollowerActs (by_catalogue stored catalogue) merge call made f before writes reply f' after writes' → FollowerRises f f'
-follower-rises stored catalogue merge Poll made f before writes reply f' after writes' at front a = poll-rises stored catalogue f f' before after (a.0).result at front (a.0).does
-follower-rises stored catalogue merge (Close t) made f before writes reply f' after writes' at front a = subst (FollowerRises f) (sym a.1) (closed-follower-rises f f.result refl)
-follower-rises stored catalogue merge (Get key remote snapshot) made f before writes reply f' after writes' at front a = follower-same f f' a.1
-follower-rises stored catalogue merge (Scan range order remote snapshot) made f before writes reply f' after writes' at front a = follower-same f f' a.1
-follower-rises stored catalogue merge (Seek range take key order remote snapshot) made f before writes reply f' after writes' at front a = follower-same f f' a.1
-follower-rises stored catalogue merge (WriteCall ops) made f before writes reply f' after writes' at front a = follower-same f f' a.1
-follower-rises stored catalogue merge (MergeCall op) made f before writes reply f' after writes' at front a = follower-same f f' a.1
-follower-rises stored catalogue merge (Flush t) made f before writes reply f' after writes' at front a = follower-same f f' a.1
-follower-rises stored catalogue merge Refresh made f before writes reply f' after writes' at front a = follower-same f f' a.1
-follower-rises stored catalogue merge Compact made f before writes reply f' after writes' at front a = follower-same f f' a.1
-follower-rises stored catalogue merge Status made f before writes reply f' after writes' at front a = follower-same f f' a.1
-follower-rises stored catalogue merge (FindTime number find) made f before writes reply f' after writes' at front a = follower-same f f' a.1
-follower-rises stored catalogue merge (FindNumber seconds find) made f before writes reply f' after writes' at front a = follower-same f f' a.1
-follower-rises stored catalogue merge Nothing made f before writes reply f' after writes' at front a = follower-same f f' a.1
+pub managed-mode : (mode : DbReaderMode) → is_managed mode ≡ true → mode ≡ modes.ManagedCheckpoint
+managed-mode (modes.Checkpoint id) managed = absurd (cc)
+managed-mode modes.FollowLatest managed = absurd (cc)
+managed-mode modes.ManagedCheckpoint managed = refl
+
+pub managed-free : (mode : DbReaderMode) → is_managed mode ≡ true → is_pinned mode ≡ false
+managed-free (modes.Checkpoint id) managed = absurd (cc)
+managed-free modes.FollowLatest managed = refl
+managed-free modes.ManagedCheckpoint managed = refl
+
+module _ (stored : Line) (catalogue : Catalogue) (made : ℕ) (moment : ℤ) (f f' : Follower) (before after : Known Span) (at : before.objects ≡ Some catalogue) (mine : IsValidFollower stored catalogue f) where
+  -- what a poll leaves of one that keeps a checkpoint
+  leased-rises : (lease : Lease) (r : Result PollAnswer SlateError) → is_managed f.mode ≡ true → f.result ≡ None → KeepsLease (by_catalogue stored catalogue) made lease moment f before r f' after → FollowerRises f f'
+  leased-rises lease (Err e) managed live p = subst (FollowerRises f) (sym p.failed) (record { mode = refl; skips = refl; number = omega arith; result = is-none (λ q. poll_result e ≡ Some q) f.result live })
+  leased-rises lease (Ok answer) managed live p =
+      let t = (p.keeps).some catalogue at in
+      let keeps = t.2 in
+      let all = (keeps.sees).sees stored refl tt in
+      let latest = unwrap_or keeps.next keeps.latest in
+      let its = its-manifest keeps.latest keeps.next keeps.given (to_keep f.view lease moment keeps.latest) keeps.plan (keep-recheckpoints f.view lease moment keeps.latest) in
+      let same = ap (λ (m : Manifest). m.last_l0_seq) its.1 in
+      let tabled : f.skips ≡ true → number f ≤ latest.manifest.last_l0_seq = λ few. let low = mine.1 few (managed-free f.mode managed) keeps.latest keeps.is_latest in omega (arith, low, same) in
+      record {
+        mode = (p.answers).0 ∙ sym (managed-mode f.mode managed);
+        skips = (p.answers).1;
+        number = subst (λ (g : Follower). number f ≤ number g) (sym all.2) (owed-not_below stored catalogue t.0 f modes.ManagedCheckpoint latest all.0 mine.0 refl tabled all.1);
+        result = is-none (λ q. f'.result ≡ Some q) f.result live;
+      }
+
+  managed-rises : (r : Result PollAnswer SlateError) → is_managed f.mode ≡ true → PollsManaged (by_catalogue stored catalogue) made moment f before r f' after → FollowerRises f f'
+  managed-rises r managed p =
+      by-option f.result
+      (λ live. by-option f.lease
+      (λ none. absurd (let there = mine.2 managed live in cc))
+      (λ lease is. leased-rises lease r managed live (p.keeps lease live is)))
+      (λ q is. follower-same f f' (some-of (λ q. (r ≡ Err (closed_error q)) × (f' ≡ f) × Untouched made before after) f.result q is p.closed).1)
+
+  polls-rises : (r : Result PollAnswer SlateError) (managed : Bool) → is_managed f.mode ≡ managed → PollsAs (by_catalogue stored catalogue) managed made moment f before r f' after → FollowerRises f f'
+  polls-rises r true is p = managed-rises r is p
+  polls-rises r false is p = poll-rises stored catalogue f f' before after r at mine p.0
+
+  closes-rises : (managed : Bool) (answer : Ended) → ClosesAs (by_catalogue stored catalogue) managed made f before answer f' after → FollowerRises f f'
+  closes-rises true answer c = subst (FollowerRises f) (sym c.closed) (closed-follower-rises f f.result refl)
+  closes-rises false answer c = subst (FollowerRises f) (sym c.1) (closed-follower-rises f f.result refl)
+
+pub follower-rises : (stored : Line) (catalogue : Catalogue) (merge : Option Merge) (moment : ℤ) (call : Call) (made : ℕ) (f : Follower) (before : Known Span) (writes : List Write) (reply : Reply) (f' : Follower) (after : Known Span) (writes' : List Write) → before.objects ≡ Some catalogue → IsValidFollower stored catalogue f → FollowerActs (by_catalogue stored catalogue) merge moment call made f before writes reply f' after writes' → FollowerRises f f'
+follower-rises stored catalogue merge moment Poll made f before writes reply f' after writes' at front a = polls-rises stored catalogue made moment f f' before after at front (a.0).result (is_managed f.mode) refl (a.0).does
+follower-rises stored catalogue merge moment (Close t) made f before writes reply f' after writes' at front a = closes-rises stored catalogue made moment f f' before after at front (is_managed f.mode) (a.0).answer (a.0).does
+follower-rises stored catalogue merge moment (Get key remote snapshot) made f before writes reply f' after writes' at front a = follower-same f f' a.1
+follower-rises stored catalogue merge moment (Scan range order remote snapshot) made f before writes reply f' after writes' at front a = follower-same f f' a.1
+follower-rises stored catalogue merge moment (Seek range take key order remote snapshot) made f before writes reply f' after writes' at front a = follower-same f f' a.1
+follower-rises stored catalogue merge moment (WriteCall ops) made f before writes reply f' after writes' at front a = follower-same f f' a.1
+follower-rises stored catalogue merge moment (MergeCall op) made f before writes reply f' after writes' at front a = follower-same f f' a.1
+follower-rises stored catalogue merge moment (Flush t) made f before writes reply f' after writes' at front a = follower-same f f' a.1
+follower-rises stored catalogue merge moment Refresh made f before writes reply f' after writes' at front a = follower-same f f' a.1
+follower-rises stored catalogue merge moment Compact made f before writes reply f' after writes' at front a = follower-same f f' a.1
+follower-rises stored catalogue merge moment Status made f before writes reply f' after writes' at front a = follower-same f f' a.1
+follower-rises stored catalogue merge moment (FindTime number find) made f before writes reply f' after writes' at front a = follower-same f f' a.1
+follower-rises stored catalogue merge moment (FindNumber seconds find) made f before writes reply f' after writes' at front a = follower-same f f' a.1
+follower-rises stored catalogue merge moment Nothing made f before writes reply f' after writes' at front a = follower-same f f' a.1
 
 rises-refl : (x : Object) → Rises x x
 rises-refl (AHandle h) = rises-same h h refl
@@ -239,7 +292,7 @@ module _ (settings : Settings) (w : World) (valid : IsValid w) (command : Comman
   on-rises n call (Some (ASnapshot x)) at a = snapshot-rises x call (slice_get w.objects x.handle) refl a
   on-rises n call (Some (AFollower f)) at a =
       let d = follower-did k settings.merge n command call made (state_of w) reply s' (Some (AFollower f)) f refl a in
-      rise-set w.objects s'.objects n (AFollower f) (AFollower d.new) at (follower-rises w.stored w.catalogue settings.merge call made f _ w.writes reply d.new _ _ refl (valid.followers n f at) d.acts) d.objects
+      rise-set w.objects s'.objects n (AFollower f) (AFollower d.new) at (follower-rises w.stored w.catalogue settings.merge command.moment call made f _ w.writes reply d.new _ _ refl (valid.followers n f at) d.acts) d.objects
 
   opened-rises : (n : ℕ) (found : Option Object) → OpensSnapshot n made found (state_of w) reply s' → Rise w.objects s'.objects
   opened-rises n (Some (AHandle h)) d = rise-push w.objects s'.objects _ (d.0).objects
@@ -250,7 +303,9 @@ module _ (settings : Settings) (w : World) (valid : IsValid w) (command : Comman
   does-rises : (target : Target) → DoesBy k settings command target made (state_of w) reply s' → Rise w.objects s'.objects
   does-rises (NewHandle keeps_log) d = rise-push w.objects s'.objects _ d.objects
   does-rises (NewSnapshot n) d = opened-rises n (slice_get w.objects n) d
-  does-rises (NewFollower mode skips) d = rise-push w.objects s'.objects _ (d.0).objects
+  does-rises (NewFollower modes.FollowLatest managed skips) d = rise-push w.objects s'.objects _ (d.0).objects
+  does-rises (NewFollower (modes.Checkpoint id) managed skips) d = rise-push w.objects s'.objects _ (d.0).objects
+  does-rises (NewFollower modes.ManagedCheckpoint managed skips) d = rise-push w.objects s'.objects _ d.objects
   does-rises (NewCheckpoint lifetime) d = rise-same w.objects s'.objects d.objects
   does-rises WholeStore d = rise-same w.objects s'.objects d.objects
   does-rises (OfWrite n) d = rise-same w.objects s'.objects (ap (λ (s : State Span). s.objects) d.2)

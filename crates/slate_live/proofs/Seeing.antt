@@ -1,5 +1,5 @@
 -- What is stored is seen by each opening and each poll.
-use Rattle.std.proofs.Common.{◌≡◌, ℕ, ◌≤◌, Bool, true, false, not, ◌&&◌, set, ◌++◌, ◌∙◌, length, Option, Some, None, Result, Ok, Err, refl, sym, subst, arith, ap}
+use Rattle.std.proofs.Common.{◌≡◌, ℕ, ℤ, ◌≤◌, Bool, true, false, not, ◌&&◌, set, ◌++◌, ◌∙◌, length, Option, Some, None, Result, Ok, Err, refl, sym, subst, arith, ap}
 use Rattle.std.specs.List.{slice_get}
 use Rattle.std.proofs.lemmas.Option.{slice_get_within}
 use Rattle.slate_types.specs.declared.batches.Batch.{Batch}
@@ -9,8 +9,15 @@ use Rattle.slate_errors.specs.declared.errors.SlateError.TheVariants as errors
 use Rattle.slate_errors.specs.Errors.{closed_error}
 use Rattle.slate_model.specs.declared.answers.PollAnswer.{PollAnswer}
 use Rattle.slate_model.specs.Follow.{unseen, Polls, Rebuilds, built}
-use Rattle.slate_model.specs.Follower.{Follower, is_pinned, number}
+use Rattle.slate_model.specs.Follower.{Follower, is_managed, is_pinned, number}
 use Rattle.slate_store.specs.declared.reader_modes.DbReaderMode.{DbReaderMode}
+use Rattle.slate_store.specs.declared.reader_modes.DbReaderMode.TheVariants as modes
+use Rattle.slate_model.specs.declared.leases.Lease.{Lease}
+use Rattle.slate_model.specs.Lease.{lease_refusal}
+use Rattle.slate_model.specs.Managed.{KeepsLease, OpensManaged, PollsManaged, TakesLease}
+use Rattle.slate_model.proofs.Reduced.{modelled}
+use Rattle.slate_model.specs.Known.{Untouched}
+use Rattle.std.specs.Option.{unwrap_or}
 use Rattle.slate_model.specs.Handle.{Handle}
 use Rattle.slate_model.specs.declared.snapshots.HandleSnapshot.{HandleSnapshot}
 use Rattle.slate_model.specs.Object.{Object, Handle as AHandle, Snapshot as ASnapshot, Follower as AFollower}
@@ -22,9 +29,11 @@ use Rattle.slate_script.specs.declared.commands.Command.{Command}
 use Rattle.slate_script.specs.declared.replies.Reply.{Reply}
 use Rattle.slate_script.specs.declared.replies.Reply.TheVariants as replies
 use Rattle.slate_live.specs.Calls.{Poll, at_snapshot, call_of, target_of}
-use Rattle.slate_live.specs.Commands.{ActsOn, DoesBy, ReadsSnapshot, added}
+use Rattle.slate_live.specs.Commands.{ActsOn, DoesBy, OpensFollowerIn, ReadsSnapshot, added, interval_of, lifetime_of}
+use Rattle.slate_live.specs.Followers.{PollsAs}
+use Rattle.slate_live.proofs.Rising.{managed-mode}
 use Rattle.slate_live.specs.Confirmed.{Sees, StandsIn, follows_all}
-use Rattle.slate_live.specs.Represents.{IsFollowerAt}
+use Rattle.slate_live.specs.Represents.{IsFollowerAt, IsLeased, IsValid}
 use Rattle.slate_live.proofs.Following.{owed-all}
 use Rattle.slate_live.specs.Replies.{followed_reply, polled_reply, refusal, reply_to}
 use Rattle.slate_live.specs.Settings.{Settings}
@@ -87,6 +96,25 @@ follow-sees batch w w' n mode managed skips (Ok b) built stands =
     (λ whole. let same = owed-all w.catalogue w.catalogue mode skips (b.0).view w.stored all.0 whole all.1 in subst (λ l. batch.number ≤ end l) (sym same) low)
 follow-sees batch w w' n mode managed skips (Err e) built stands = sees-refusal batch (actions.Follow mode managed skips) e w'
 
+-- so does one that keeps a checkpoint
+taken-sees : (batch : Batch) (w w' : World) (n made lifetime : ℕ) (managed : Option (ℕ × ℕ)) (skips : Bool) (moment : ℤ) (r : Result (Follower × PollAnswer) SlateError) → TakesLease (by_catalogue w.stored w.catalogue) made lifetime skips moment (state_of w).store r (state_of w').store → StandsIn batch w.stored →
+    Sees batch (actions.Follow modes.ManagedCheckpoint managed skips) (reply_to (λ (b : Follower × PollAnswer). followed_reply n b.1) r) w'
+taken-sees batch w w' n made lifetime managed skips moment (Ok b) taken stands =
+    let all = ((modelled w.catalogue w'.catalogue taken.takes).sees).sees w.stored refl tt in
+    let low = stands-end batch w.stored stands in
+    subst (λ a. Sees batch (actions.Follow modes.ManagedCheckpoint managed skips) (followed_reply n a) w') (sym all.3)
+    (λ whole. let same = owed-all w.catalogue w'.catalogue modes.ManagedCheckpoint skips (b.0).view w.stored all.0 whole all.1 in subst (λ l. batch.number ≤ end l) (sym same) low)
+taken-sees batch w w' n made lifetime managed skips moment (Err e) taken stands = sees-refusal batch (actions.Follow modes.ManagedCheckpoint managed skips) e w'
+
+take-sees : (batch : Batch) (w w' : World) (n made lifetime interval : ℕ) (managed : Option (ℕ × ℕ)) (skips : Bool) (moment : ℤ) (r : Result (Follower × PollAnswer) SlateError) → OpensManaged (by_catalogue w.stored w.catalogue) made lifetime interval skips moment (state_of w).store r (state_of w').store → StandsIn batch w.stored →
+    Sees batch (actions.Follow modes.ManagedCheckpoint managed skips) (reply_to (λ (b : Follower × PollAnswer). followed_reply n b.1) r) w'
+take-sees batch w w' n made lifetime interval managed skips moment r d stands =
+    by-option (lease_refusal lifetime interval)
+    (λ none. taken-sees batch w w' n made lifetime managed skips moment r (d.takes none) stands)
+    (λ error is.
+    let c = some-of (λ error. (r ≡ Err error) × Untouched made (state_of w).store (state_of w').store) (lease_refusal lifetime interval) error is d.refused in
+    subst (λ x. Sees batch (actions.Follow modes.ManagedCheckpoint managed skips) (reply_to (λ (b : Follower × PollAnswer). followed_reply n b.1) x) w') (sym c.0) (sees-refusal batch (actions.Follow modes.ManagedCheckpoint managed skips) error w'))
+
 -- the follower that a poll left stands where it was
 polled-at : (w w' : World) (n : ℕ) (f f' : Follower) → IsFollowerAt w.objects n f → w'.objects ≡ set w.objects n (AFollower f') → (g : Follower) → IsFollowerAt w'.objects n g → f' ≡ g
 polled-at w w' n f f' at is g there =
@@ -132,6 +160,36 @@ module _ (n : ℕ) (batch : Batch) (w w' : World) (f f' : Follower) (at : IsFoll
             subst (λ x. Sees batch (actions.Poll n) (reply_to polled_reply x) w') (sym q.0) (stayed-sees (number f) q.1 stays)
         by live false free = polled-sees r free (p.rebuilds live free)
 
+  -- and one that keeps a checkpoint
+  keep-sees : (made : ℕ) (lease : Lease) (moment : ℤ) (r : Result PollAnswer SlateError) → f.mode ≡ modes.ManagedCheckpoint → KeepsLease (by_catalogue w.stored w.catalogue) made lease moment f (state_of w).store r f' (state_of w').store → Sees batch (actions.Poll n) (reply_to polled_reply r) w'
+  keep-sees made lease moment (Ok answer) managed p =
+      let keeps = modelled w.catalogue w'.catalogue p.keeps in
+      let all = (keeps.sees).sees w.stored refl tt in
+      let low = stands-end batch w.stored stands in
+      subst (λ a. Sees batch (actions.Poll n) (polled_reply a) w') (sym all.3)
+      (λ g there whole.
+      let same = polled-at w w' n f f' at is g there in
+      let mode : g.mode ≡ modes.ManagedCheckpoint = ap (λ (x : Follower). x.mode) (sym same) ∙ p.answers.0 in
+      let skips : g.skips ≡ f.skips = ap (λ (x : Follower). x.skips) (sym same) ∙ p.answers.1 in
+      let follows : follows_all modes.ManagedCheckpoint f.skips ≡ true = sym (ap (λ m. follows_all m g.skips) mode ∙ ap (follows_all modes.ManagedCheckpoint) skips) ∙ whole in
+      let line = owed-all w.catalogue w'.catalogue modes.ManagedCheckpoint f.skips (unwrap_or keeps.next keeps.latest) w.stored all.0 follows all.1 in
+      subst (λ l. batch.number ≤ end l) (sym line) low)
+  keep-sees made lease moment (Err e) managed p = sees-refusal batch (actions.Poll n) e w'
+
+  managed-sees : (made : ℕ) (moment : ℤ) (r : Result PollAnswer SlateError) → is_managed f.mode ≡ true → IsLeased f → PollsManaged (by_catalogue w.stored w.catalogue) made moment f (state_of w).store r f' (state_of w').store → Sees batch (actions.Poll n) (reply_to polled_reply r) w'
+  managed-sees made moment r managed leased p =
+      by-option f.result
+      (λ live. by-option f.lease
+      (λ none. absurd (let there = leased managed live in cc))
+      (λ lease leased_is. keep-sees made lease moment r (managed-mode f.mode managed) (p.keeps lease live leased_is)))
+      (λ q closed_is.
+      let c = some-of (λ q. (r ≡ Err (closed_error q)) × (f' ≡ f) × Untouched made (state_of w).store (state_of w').store) f.result q closed_is p.closed in
+      subst (λ x. Sees batch (actions.Poll n) (reply_to polled_reply x) w') (sym c.0) (sees-refusal batch (actions.Poll n) (closed_error q) w'))
+
+  polls-see : (made : ℕ) (moment : ℤ) (r : Result PollAnswer SlateError) (managed : Bool) → is_managed f.mode ≡ managed → IsLeased f → PollsAs (by_catalogue w.stored w.catalogue) managed made moment f (state_of w).store r f' (state_of w').store → Sees batch (actions.Poll n) (reply_to polled_reply r) w'
+  polls-see made moment r true managed leased p = managed-sees made moment r managed leased p
+  polls-see made moment r false managed leased p = poll-sees r p.0
+
 snapshot-sees : (settings : Settings) (batch : Batch) (w w' : World) (command : Command) (made n : ℕ) (reply : Reply) (x : HandleSnapshot) (found : Option Object) → ReadsSnapshot (by_catalogue w.stored w.catalogue) settings.merge x command Poll made found (state_of w) reply (state_of w') → Sees batch (actions.Poll n) reply w'
 snapshot-sees settings batch w w' command made n reply x (Some (AHandle h)) d =
     let a = handle-acted (by_catalogue w.stored w.catalogue) settings.merge x.handle command (at_snapshot x.number Poll) made (state_of w) reply (state_of w') h d in
@@ -140,44 +198,51 @@ snapshot-sees settings batch w w' command made n reply x (Some (ASnapshot y)) d 
 snapshot-sees settings batch w w' command made n reply x (Some (AFollower f)) d = sees-by batch (actions.Poll n) w' d.1 tt
 snapshot-sees settings batch w w' command made n reply x None d = sees-by batch (actions.Poll n) w' d.1 tt
 
-sees-on : (settings : Settings) (batch : Batch) (w w' : World) (command : Command) (made n : ℕ) (reply : Reply) (found : Option Object) → StandsIn batch w.stored → slice_get w.objects n ≡ found → ActsOn (by_catalogue w.stored w.catalogue) settings.merge n command Poll made found (state_of w) reply (state_of w') → Sees batch (actions.Poll n) reply w'
-sees-on settings batch w w' command made n reply None stands at d = sees-by batch (actions.Poll n) w' d.1 tt
-sees-on settings batch w w' command made n reply (Some (AHandle h)) stands at d =
+sees-on : (settings : Settings) (batch : Batch) (w w' : World) (valid : IsValid w) (command : Command) (made n : ℕ) (reply : Reply) (found : Option Object) → StandsIn batch w.stored → slice_get w.objects n ≡ found → ActsOn (by_catalogue w.stored w.catalogue) settings.merge n command Poll made found (state_of w) reply (state_of w') → Sees batch (actions.Poll n) reply w'
+sees-on settings batch w w' valid command made n reply None stands at d = sees-by batch (actions.Poll n) w' d.1 tt
+sees-on settings batch w w' valid command made n reply (Some (AHandle h)) stands at d =
     let a = handle-acted (by_catalogue w.stored w.catalogue) settings.merge n command Poll made (state_of w) reply (state_of w') h d in
     sees-by batch (actions.Poll n) w' (a.acts).0 tt
-sees-on settings batch w w' command made n reply (Some (ASnapshot x)) stands at d = snapshot-sees settings batch w w' command made n reply x (slice_get w.objects x.handle) d
-sees-on settings batch w w' command made n reply (Some (AFollower f)) stands at d =
+sees-on settings batch w w' valid command made n reply (Some (ASnapshot x)) stands at d = snapshot-sees settings batch w w' command made n reply x (slice_get w.objects x.handle) d
+sees-on settings batch w w' valid command made n reply (Some (AFollower f)) stands at d =
     let a = follower-did (by_catalogue w.stored w.catalogue) settings.merge n command Poll made (state_of w) reply (state_of w') (Some (AFollower f)) f refl d in
-    sees-by batch (actions.Poll n) w' (a.acts).0.replied (poll-sees n batch w w' f a.new at a.objects stands (a.acts).0.result (a.acts).0.does)
+    sees-by batch (actions.Poll n) w' (a.acts).0.replied (polls-see n batch w w' f a.new at a.objects stands made command.moment (a.acts).0.result (is_managed f.mode) refl (valid.followers n f at).2 (a.acts).0.does)
 
-sees-action : (settings : Settings) (batch : Batch) (w w' : World) (command : Command) (made : ℕ) (action : Action) (reply : Reply) → command.action ≡ action → StandsIn batch w.stored → DoesBy (by_catalogue w.stored w.catalogue) settings command (target_of action) made (state_of w) reply (state_of w') → Sees batch action reply w'
-sees-action settings batch w w' command made (actions.Open wal) reply is stands d =
+follows-see : (settings : Settings) (batch : Batch) (w w' : World) (command : Command) (made : ℕ) (mode : DbReaderMode) (managed : Option (ℕ × ℕ)) (skips : Bool) (reply : Reply) → StandsIn batch w.stored → OpensFollowerIn (by_catalogue w.stored w.catalogue) settings mode managed skips command.moment made (state_of w) reply (state_of w') → Sees batch (actions.Follow mode managed skips) reply w'
+follows-see settings batch w w' command made modes.FollowLatest managed skips reply stands d =
+    sees-by batch (actions.Follow modes.FollowLatest managed skips) w' (d.0).replied (follow-sees batch w w' (length w.objects) modes.FollowLatest managed skips (d.0).result (d.0).does stands)
+follows-see settings batch w w' command made (modes.Checkpoint id) managed skips reply stands d =
+    sees-by batch (actions.Follow (modes.Checkpoint id) managed skips) w' (d.0).replied (follow-sees batch w w' (length w.objects) (modes.Checkpoint id) managed skips (d.0).result (d.0).does stands)
+follows-see settings batch w w' command made modes.ManagedCheckpoint managed skips reply stands d =
+    sees-by batch (actions.Follow modes.ManagedCheckpoint managed skips) w' d.replied (take-sees batch w w' (length w.objects) made (lifetime_of managed) (interval_of managed) managed skips command.moment d.result d.does stands)
+
+sees-action : (settings : Settings) (batch : Batch) (w w' : World) (valid : IsValid w) (command : Command) (made : ℕ) (action : Action) (reply : Reply) → command.action ≡ action → StandsIn batch w.stored → DoesBy (by_catalogue w.stored w.catalogue) settings command (target_of action) made (state_of w) reply (state_of w') → Sees batch action reply w'
+sees-action settings batch w w' valid command made (actions.Open wal) reply is stands d =
     sees-by batch (actions.Open wal) w' d.replied (open-sees batch w w' wal made settings.options.max_unflushed_bytes d.result d.does d.objects stands)
-sees-action settings batch w w' command made (actions.Follow mode managed skip) reply is stands d =
-    sees-by batch (actions.Follow mode managed skip) w' (d.0).replied
-    (follow-sees batch w w' (length w.objects) mode managed skip (d.0).result (d.0).does stands)
-sees-action settings batch w w' command made (actions.Poll n) reply is stands d =
-    sees-on settings batch w w' command made n reply (slice_get w.objects n) stands refl
+sees-action settings batch w w' valid command made (actions.Follow mode managed skip) reply is stands d =
+    follows-see settings batch w w' command made mode managed skip reply stands d
+sees-action settings batch w w' valid command made (actions.Poll n) reply is stands d =
+    sees-on settings batch w w' valid command made n reply (slice_get w.objects n) stands refl
     (subst (λ a. ActsOn (by_catalogue w.stored w.catalogue) settings.merge n command (call_of a) made (slice_get w.objects n) (state_of w) reply (state_of w')) is d)
-sees-action settings batch w w' command made (actions.Put n key value expire) reply is stands d = tt
-sees-action settings batch w w' command made (actions.Merge n key value expire) reply is stands d = tt
-sees-action settings batch w w' command made (actions.Delete n key) reply is stands d = tt
-sees-action settings batch w w' command made (actions.Batch n ops) reply is stands d = tt
-sees-action settings batch w w' command made (actions.Flush n flush_type) reply is stands d = tt
-sees-action settings batch w w' command made (actions.Refresh n) reply is stands d = tt
-sees-action settings batch w w' command made (actions.Compact n) reply is stands d = tt
-sees-action settings batch w w' command made (actions.Get n key remote) reply is stands d = tt
-sees-action settings batch w w' command made (actions.Scan n range order remote) reply is stands d = tt
-sees-action settings batch w w' command made (actions.Seek n range take key order remote) reply is stands d = tt
-sees-action settings batch w w' command made (actions.Close n options) reply is stands d = tt
-sees-action settings batch w w' command made (actions.Status n) reply is stands d = tt
-sees-action settings batch w w' command made (actions.Ts n number find) reply is stands d = tt
-sees-action settings batch w w' command made (actions.Seq n seconds find) reply is stands d = tt
-sees-action settings batch w w' command made (actions.Snapshot n) reply is stands d = tt
-sees-action settings batch w w' command made (actions.Await n) reply is stands d = tt
-sees-action settings batch w w' command made (actions.Checkpoint lifetime) reply is stands d = tt
-sees-action settings batch w w' command made actions.Sweep reply is stands d = tt
+sees-action settings batch w w' valid command made (actions.Put n key value expire) reply is stands d = tt
+sees-action settings batch w w' valid command made (actions.Merge n key value expire) reply is stands d = tt
+sees-action settings batch w w' valid command made (actions.Delete n key) reply is stands d = tt
+sees-action settings batch w w' valid command made (actions.Batch n ops) reply is stands d = tt
+sees-action settings batch w w' valid command made (actions.Flush n flush_type) reply is stands d = tt
+sees-action settings batch w w' valid command made (actions.Refresh n) reply is stands d = tt
+sees-action settings batch w w' valid command made (actions.Compact n) reply is stands d = tt
+sees-action settings batch w w' valid command made (actions.Get n key remote) reply is stands d = tt
+sees-action settings batch w w' valid command made (actions.Scan n range order remote) reply is stands d = tt
+sees-action settings batch w w' valid command made (actions.Seek n range take key order remote) reply is stands d = tt
+sees-action settings batch w w' valid command made (actions.Close n options) reply is stands d = tt
+sees-action settings batch w w' valid command made (actions.Status n) reply is stands d = tt
+sees-action settings batch w w' valid command made (actions.Ts n number find) reply is stands d = tt
+sees-action settings batch w w' valid command made (actions.Seq n seconds find) reply is stands d = tt
+sees-action settings batch w w' valid command made (actions.Snapshot n) reply is stands d = tt
+sees-action settings batch w w' valid command made (actions.Await n) reply is stands d = tt
+sees-action settings batch w w' valid command made (actions.Checkpoint lifetime) reply is stands d = tt
+sees-action settings batch w w' valid command made actions.Sweep reply is stands d = tt
 
 -- what is stored is seen by each opening and each poll
-pub sees : (settings : Settings) (w : World) (command : Command) (reply : Reply) (w' : World) → Next settings w command reply w' → (batch : Batch) → StandsIn batch w.stored → Sees batch command.action reply w'
-sees settings w command reply w' next batch stands = sees-action settings batch w w' command next.made command.action reply refl stands next.does
+pub sees : (settings : Settings) (w : World) (command : Command) (reply : Reply) (w' : World) → IsValid w → Next settings w command reply w' → (batch : Batch) → StandsIn batch w.stored → Sees batch command.action reply w'
+sees settings w command reply w' valid next batch stands = sees-action settings batch w w' valid command next.made command.action reply refl stands next.does

@@ -21,6 +21,7 @@ use Rattle.slate_store.specs.declared.objects.TableId.{TableId}
 use Rattle.slate_types.specs.declared.read_faults.ReadFault.{ReadFault}
 use Rattle.slate_model.specs.Catalogue.{Catalogue, Span}
 use Rattle.slate_model.specs.Known.{Known}
+use Rattle.slate_store.specs.declared.reader_modes.DbReaderMode.TheVariants as modes
 use Rattle.slate_model.specs.Read.{AnswersRead, Reads}
 use Rattle.slate_model.specs.Follower.{Follower}
 use Rattle.slate_model.specs.Handle.{CloseResult, Handle, accepted, up_to}
@@ -125,7 +126,9 @@ module _ (settings : Settings) (w : World) (valid : IsValid w) (command : Comman
   were : (target : Target) → DoesBy k settings command target made (state_of w) reply s' → Were
   were (NewHandle keeps_log) d = were-added AHandle d.result d.objects (λ h x is same. absurd (cc))
   were (NewSnapshot n) d = were-taken n (slice_get w.objects n) refl d
-  were (NewFollower mode skips) d = were-added _ (d.0).result (d.0).objects (λ b x is same. absurd (cc))
+  were (NewFollower modes.FollowLatest managed skips) d = were-added _ (d.0).result (d.0).objects (λ b x is same. absurd (cc))
+  were (NewFollower (modes.Checkpoint id) managed skips) d = were-added _ (d.0).result (d.0).objects (λ b x is same. absurd (cc))
+  were (NewFollower modes.ManagedCheckpoint managed skips) d = were-added _ d.result d.objects (λ b x is same. absurd (cc))
   were (NewCheckpoint lifetime) d = were-same d.objects
   were WholeStore d = were-same d.objects
   were (OfWrite n) d = were-same (ap (λ (s : State Span). s.objects) d.2)

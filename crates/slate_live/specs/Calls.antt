@@ -1,5 +1,5 @@
 -- Where a command goes, what it asks of the object that it names, and how often it may call the store.
-use Rattle.std.specs.Prelude.{ℕ, ℤ, ◌+◌, Bool, List, [], ◌∷◌, length, slice_get, Option, Some, None}
+use Rattle.std.specs.Prelude.{ℕ, ℤ, ◌+◌, ◌*◌, Bool, true, false, List, [], ◌∷◌, length, slice_get, Option, Some, None}
 use Rattle.slate_types.specs.declared.batches.KeyOp.{KeyOp}
 use Rattle.slate_types.specs.declared.batches.Op.TheVariants.{Put, Delete, Merge as MergeOperand}
 use Rattle.slate_types.specs.declared.options.CloseOptions.{CloseOptions}
@@ -11,8 +11,10 @@ use Rattle.slate_seqtrack.specs.declared.pairs.FindOption.{FindOption}
 use Rattle.slate_store.specs.Compaction.{compact_calls}
 use Rattle.slate_store.specs.Objects.{Objects}
 use Rattle.slate_store.specs.declared.reader_modes.DbReaderMode.{DbReaderMode}
+use Rattle.slate_store.specs.declared.reader_modes.DbReaderMode.TheVariants.{ManagedCheckpoint}
 use Rattle.slate_store.specs.Sweeps.{sweep_calls}
 use Rattle.slate_model.specs.Followed.{followed_logs}
+use Rattle.slate_model.specs.Follower.{is_managed}
 use Rattle.slate_model.specs.Object.{Object, Handle, Snapshot, Follower, tables_of}
 use Rattle.slate_model.specs.Open.{replayed_logs}
 use Rattle.slate_script.specs.declared.commands.Action.{Action}
@@ -20,12 +22,12 @@ use Rattle.slate_script.specs.declared.commands.Action.TheVariants as actions
 use Rattle.slate_script.specs.declared.commands.Command.{Command}
 
 -- Where a command goes: it opens a handle, which keeps a log or not, a snapshot of the handle with a number, or a follower in
--- a mode, which skips log files or not; it commits a checkpoint of the store, with a lifetime or without an end, sweeps the
+-- a mode, which skips log files or not, and has a lifetime and an interval where it keeps a checkpoint; it commits a checkpoint of the store, with a lifetime or without an end, sweeps the
 -- store, asks for the write with a number, or names the object with one.
 pub data Target : Type 0 where
   NewHandle : (keeps_log : Bool) → Target
   NewSnapshot : (handle : ℕ) → Target
-  NewFollower : (mode : DbReaderMode) → (skips : Bool) → Target
+  NewFollower : (mode : DbReaderMode) → (managed : Option (ℕ × ℕ)) → (skips : Bool) → Target
   NewCheckpoint : (lifetime : Option ℕ) → Target
   WholeStore : Target
   OfWrite : (n : ℕ) → Target
@@ -34,7 +36,7 @@ pub data Target : Type 0 where
 abbrev pub target_of : Action → Target
 target_of (actions.Open wal) = NewHandle wal
 target_of (actions.Snapshot n) = NewSnapshot n
-target_of (actions.Follow mode managed skip) = NewFollower mode skip
+target_of (actions.Follow mode managed skip) = NewFollower mode managed skip
 target_of (actions.Checkpoint lifetime) = NewCheckpoint lifetime
 target_of actions.Sweep = WholeStore
 target_of (actions.Await n) = OfWrite n
@@ -130,28 +132,52 @@ abbrev pub table_count : Option Object → ℕ
 table_count None = 0
 table_count (Some object) = length (tables_of object)
 
--- how often what is asked of an object calls a store at most that holds these objects, where the object's view names so many
--- tables
-abbrev pub most_asked : Objects → (tables : ℕ) → Call → ℕ
-most_asked objects tables (Flush flush_type) = 5
-most_asked objects tables Refresh = 1
-most_asked objects tables Compact = compact_calls objects
-most_asked objects tables (Get key remote snapshot) = tables
-most_asked objects tables (Scan range order remote snapshot) = tables
-most_asked objects tables (Seek range take key order remote snapshot) = tables
-most_asked objects tables (Close flush_type) = 5
-most_asked objects tables Poll = replayed_logs objects + 2
-most_asked objects tables call = 0
+-- how often a poll of a reader calls a store at most that holds these objects: one that keeps a checkpoint puts a manifest, too,
+-- in eight tries at most, of which the last one may read the log files twice
+abbrev pub poll_calls : (managed : Bool) → Objects → ℕ
+poll_calls true objects = 9 * (replayed_logs objects + 3)
+poll_calls false objects = replayed_logs objects + 2
+
+-- and a close: that of a handle flushes, and that of a reader takes out the checkpoint that it keeps, in eight tries at most
+abbrev pub end_calls : (managed : Bool) → ℕ
+end_calls true = 16
+end_calls false = 0
+
+abbrev pub polled_calls : Objects → Option Object → ℕ
+polled_calls objects (Some (Follower follower)) = poll_calls (is_managed follower.mode) objects
+polled_calls objects object = 0
+
+abbrev pub closed_calls : Option Object → ℕ
+closed_calls (Some (Handle handle)) = 5
+closed_calls (Some (Follower follower)) = end_calls (is_managed follower.mode)
+closed_calls object = 0
+
+-- how often what is asked calls a store at most that holds these objects, where this is the object whose tables are read
+abbrev pub most_asked : Objects → Option Object → Call → ℕ
+most_asked objects object (Flush flush_type) = 5
+most_asked objects object Refresh = 1
+most_asked objects object Compact = compact_calls objects
+most_asked objects object (Get key remote snapshot) = table_count object
+most_asked objects object (Scan range order remote snapshot) = table_count object
+most_asked objects object (Seek range take key order remote snapshot) = table_count object
+most_asked objects object (Close flush_type) = closed_calls object
+most_asked objects object Poll = polled_calls objects object
+most_asked objects object call = 0
+
+-- how often an opening of a reader calls it at most: one that keeps a checkpoint puts that, in eight tries at most
+abbrev pub follow_calls : DbReaderMode → (skips : Bool) → Objects → ℕ
+follow_calls ManagedCheckpoint skips objects = followed_logs ManagedCheckpoint skips objects + 17
+follow_calls mode skips objects = followed_logs mode skips objects + 2
 
 -- and how often a command at a moment does; an opening calls it once more where its replay ends early
-abbrev pub most_made : Objects → (tables : ℕ) → ℤ → Target → Call → ℕ
-most_made objects tables moment (NewHandle keeps_log) call = replayed_logs objects + 5
-most_made objects tables moment (NewSnapshot n) call = 0
-most_made objects tables moment (NewFollower mode skips) call = followed_logs mode skips objects + 2
-most_made objects tables moment (NewCheckpoint lifetime) call = 16
-most_made objects tables moment WholeStore call = sweep_calls moment objects
-most_made objects tables moment (OfWrite n) call = 0
-most_made objects tables moment (OfObject n) call = most_asked objects tables call
+abbrev pub most_made : Objects → Option Object → ℤ → Target → Call → ℕ
+most_made objects object moment (NewHandle keeps_log) call = replayed_logs objects + 5
+most_made objects object moment (NewSnapshot n) call = 0
+most_made objects object moment (NewFollower mode managed skips) call = follow_calls mode skips objects
+most_made objects object moment (NewCheckpoint lifetime) call = 16
+most_made objects object moment WholeStore call = sweep_calls moment objects
+most_made objects object moment (OfWrite n) call = 0
+most_made objects object moment (OfObject n) call = most_asked objects object call
 
 -- the object that a command names, where it names one
 abbrev pub named : List Object → Target → Option Object
@@ -161,4 +187,4 @@ named objects target = None
 -- how often a command calls a store at most that holds these objects, in a run with these live ones
 abbrev pub most_calls : Objects → List Object → Command → ℕ
 most_calls objects live command =
-    most_made objects (table_count (read_by live (named live (target_of command.action)))) command.moment (target_of command.action) (call_of command.action)
+    most_made objects (read_by live (named live (target_of command.action))) command.moment (target_of command.action) (call_of command.action)

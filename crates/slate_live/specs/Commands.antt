@@ -1,11 +1,13 @@
 -- What a command does: it opens an object, or it names one, which does what is asked, or it goes to the store alone, or
 -- it asks for a write.
-use Rattle.std.specs.Prelude.{◌≡◌, ℕ, Bool, List, [], ◌∷◌, ◌++◌, length, slice_get, slice_set, Option, Some, None, Result, Ok, Err, true}
+use Rattle.std.specs.Prelude.{◌≡◌, ℕ, ℤ, Bool, List, [], ◌∷◌, ◌++◌, length, slice_get, slice_set, Option, Some, None, Result, Ok, Err, true}
 use Rattle.slate_types.specs.Operator.{Merge}
 use Rattle.slate_store.specs.declared.reader_modes.DbReaderMode.{DbReaderMode}
 use Rattle.slate_errors.specs.declared.errors.SlateError.{SlateError}
 use Rattle.slate_model.specs.Follow.{Rebuilds, unseen}
 use Rattle.slate_model.specs.Knowledge.{Knowledge}
+use Rattle.slate_model.specs.Managed.{OpensManaged}
+use Rattle.slate_store.specs.declared.reader_modes.DbReaderMode.TheVariants.{ManagedCheckpoint}
 use Rattle.slate_model.specs.Known.{Known}
 use Rattle.slate_model.specs.declared.snapshots.HandleSnapshot.{HandleSnapshot}
 use Rattle.slate_model.specs.Object.{Object, Handle, Snapshot, Follower}
@@ -51,7 +53,7 @@ abbrev pub Acts : {L : Type 0} → Knowledge L → Option Merge → ℕ → Comm
 Acts k merge n command call made (Handle old) before writes reply (Handle new) after writes' =
     HandleActs k merge n command.moment command.second call made old before writes reply new after writes'
 Acts k merge n command call made (Follower old) before writes reply (Follower new) after writes' =
-    FollowerActs k merge call made old before writes reply new after writes'
+    FollowerActs k merge command.moment call made old before writes reply new after writes'
 Acts k merge n command call made old before writes reply new after writes' = ⊥
 
 -- The object with number n does what is asked of it. All others are as before.
@@ -88,20 +90,31 @@ abbrev pub write_reply : List Object → Option Write → Reply
 write_reply objects None = replies.Unknown
 write_reply objects (Some write) = asked_reply (slice_get objects write.handle) write.number
 
+-- the lifetime of a checkpoint that a reader keeps and the interval of its polls, in milliseconds, where a command names none
+abbrev pub lifetime_of : Option (ℕ × ℕ) → ℕ
+lifetime_of None = 600000
+lifetime_of (Some given) = given.0
+
+abbrev pub interval_of : Option (ℕ × ℕ) → ℕ
+interval_of None = 10000
+interval_of (Some given) = given.1
+
 module _ {L : Type 0} (k : Knowledge L) (settings : Settings) where
   abbrev pub OpensHandleIn : Bool → ℕ → State L → Reply → State L → Type 0
   OpensHandleIn keeps_log made s reply s' =
       Adds (OpensHandle k made keeps_log settings.options.max_unflushed_bytes) Handle (λ n _. replies.Handle n) s reply s'
 
-  abbrev pub OpensFollowerIn : DbReaderMode → (skips : Bool) → ℕ → State L → Reply → State L → Type 0
-  OpensFollowerIn mode skips made s reply s' =
+  abbrev pub OpensFollowerIn : DbReaderMode → (managed : Option (ℕ × ℕ)) → (skips : Bool) → ℤ → ℕ → State L → Reply → State L → Type 0
+  OpensFollowerIn ManagedCheckpoint managed skips moment made s reply s' =
+      Adds (OpensManaged k made (lifetime_of managed) (interval_of managed) skips moment) (λ b. Follower b.0) (λ n b. followed_reply n b.1) s reply s'
+  OpensFollowerIn mode managed skips moment made s reply s' =
       Adds (Rebuilds k mode skips true unseen) (λ b. Follower b.0) (λ n b. followed_reply n b.1) s reply s' × (made ≡ 0)
 
   -- what a command does, by where it goes; so many of its changes were made
   abbrev pub DoesBy : Command → Target → ℕ → State L → Reply → State L → Type 0
   DoesBy command (NewHandle keeps_log) made s reply s' = OpensHandleIn keeps_log made s reply s'
   DoesBy command (NewSnapshot n) made s reply s' = OpensSnapshot n made (slice_get s.objects n) s reply s'
-  DoesBy command (NewFollower mode skips) made s reply s' = OpensFollowerIn mode skips made s reply s'
+  DoesBy command (NewFollower mode managed skips) made s reply s' = OpensFollowerIn mode managed skips command.moment made s reply s'
   DoesBy command (NewCheckpoint lifetime) made s reply s' = DoesToStore (CommitsTo k made lifetime command.moment) s reply s'
   DoesBy command WholeStore made s reply s' = DoesToStore (SweepsTo k made command.moment) s reply s'
   DoesBy command (OfWrite n) made s reply s' = OnlyAnswers (write_reply s.objects (slice_get s.writes n)) made s reply s'

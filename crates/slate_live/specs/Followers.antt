@@ -1,5 +1,5 @@
 -- What commands do to a follower.
-use Rattle.std.specs.Prelude.{◌≡◌, ℕ, List, Option, Some, Result}
+use Rattle.std.specs.Prelude.{◌≡◌, ℕ, ℤ, Bool, true, false, List, Option, Some, Result}
 use Rattle.slate_types.specs.declared.batches.Batch.{Batch}
 use Rattle.slate_types.specs.declared.batches.KeyValue.{KeyValue}
 use Rattle.slate_types.specs.declared.read_faults.ReadFault.{ReadFault}
@@ -9,11 +9,13 @@ use Rattle.slate_types.specs.Operator.{Merge}
 use Rattle.slate_reads.specs.Read.{read_at}
 use Rattle.slate_rows.specs.Iteration.{Iteration}
 use Rattle.slate_rows.specs.Scan.{BeginsScan}
+use Rattle.slate_errors.specs.declared.endings.Ended.{Ended}
 use Rattle.slate_errors.specs.declared.errors.SlateError.{SlateError}
 use Rattle.slate_model.specs.Close.{closed_follower, ended, recorded_fault}
 use Rattle.slate_model.specs.declared.answers.PollAnswer.{PollAnswer}
 use Rattle.slate_model.specs.Follow.{Polls}
-use Rattle.slate_model.specs.Follower.{Follower, number}
+use Rattle.slate_model.specs.Follower.{Follower, is_managed, number}
+use Rattle.slate_model.specs.Managed.{ClosesManaged, PollsManaged}
 use Rattle.slate_model.specs.Knowledge.{Knowledge}
 use Rattle.slate_model.specs.Known.{Known, Untouched}
 use Rattle.slate_model.specs.Object.{Follower as AFollower}
@@ -47,14 +49,30 @@ module _ {L : Type 0} (k : Knowledge L) (merge : Option Merge) where
 abbrev pub follower_status : Follower → DbStatus
 follower_status follower = status_by (number follower) follower.view follower.result
 
-pub record PollsFollower {L : Type 0} (k : Knowledge L) (old : Follower) (before : Known L) (reply : Reply) (new : Follower) (after : Known L) : Type 0 where
+-- a poll at a moment, by whether the follower keeps a checkpoint of its own
+abbrev pub PollsAs : {L : Type 0} → Knowledge L → (managed : Bool) → ℕ → ℤ → Follower → Known L → Result PollAnswer SlateError → Follower → Known L → Type 0
+PollsAs k true made moment old before result new after = PollsManaged k made moment old before result new after
+PollsAs k false made moment old before result new after = Polls k old before result new after × (made ≡ 0)
+
+pub record PollsFollower {L : Type 0} (k : Knowledge L) (made : ℕ) (moment : ℤ) (old : Follower) (before : Known L) (reply : Reply) (new : Follower) (after : Known L) : Type 0 where
   pub result : Result PollAnswer SlateError
   pub replied : reply ≡ reply_to polled_reply result
-  pub does : Polls k old before result new after
+  pub does : PollsAs k (is_managed old.mode) made moment old before result new after
 
--- What a command that asks this does to a follower; it makes no change to the store. What isn't for a follower is answered
+-- and a close
+abbrev pub ClosesAs : {L : Type 0} → Knowledge L → (managed : Bool) → ℕ → Follower → Known L → Ended → Follower → Known L → Type 0
+ClosesAs k true made old before answer new after = ClosesManaged k made old before answer new after
+ClosesAs k false made old before answer new after =
+    (answer ≡ ended (recorded_fault old.result)) × (new ≡ closed_follower old) × Untouched made before after
+
+pub record ClosesFollower {L : Type 0} (k : Knowledge L) (made : ℕ) (old : Follower) (before : Known L) (reply : Reply) (new : Follower) (after : Known L) : Type 0 where
+  pub answer : Ended
+  pub replied : reply ≡ follower_ended_reply old.result answer
+  pub does : ClosesAs k (is_managed old.mode) made old before answer new after
+
+-- What a command that asks this at a moment does to a follower; one that keeps no checkpoint makes no change to the store. What isn't for a follower is answered
 -- that it is unknown.
-module _ {L : Type 0} (k : Knowledge L) (merge : Option Merge) where
+module _ {L : Type 0} (k : Knowledge L) (merge : Option Merge) (moment : ℤ) where
   abbrev pub FollowerActs : Call → ℕ → Follower → Known L → List Write → Reply → Follower → Known L → List Write → Type 0
   FollowerActs (Get key remote snapshot) made old before writes reply new after writes' =
       GetsFromFollower k merge key old before reply after × (new ≡ old) × (made ≡ 0) × (writes' ≡ writes)
@@ -63,9 +81,9 @@ module _ {L : Type 0} (k : Knowledge L) (merge : Option Merge) where
   FollowerActs (Seek range take key order remote snapshot) made old before writes reply new after writes' =
       TakesFromFollower k merge range order (sought range take key) old before reply after × (new ≡ old) × (made ≡ 0) × (writes' ≡ writes)
   FollowerActs (Close flush_type) made old before writes reply new after writes' =
-      (reply ≡ follower_ended_reply (ended (recorded_fault old.result))) × (new ≡ closed_follower old) × Untouched made before after × (writes' ≡ writes)
+      ClosesFollower k made old before reply new after × (writes' ≡ writes)
   FollowerActs Poll made old before writes reply new after writes' =
-      PollsFollower k old before reply new after × (made ≡ 0) × (writes' ≡ writes)
+      PollsFollower k made moment old before reply new after × (writes' ≡ writes)
   FollowerActs Status made old before writes reply new after writes' =
       AnswersStatus (follower_status old) reply × (new ≡ old) × Untouched made before after × (writes' ≡ writes)
   FollowerActs call made old before writes reply new after writes' =

@@ -3,6 +3,7 @@ pub mod Commands
 pub mod Confirmed
 pub mod Followers
 pub mod Handles
+pub mod Leases
 pub mod Maintenance
 pub mod Replies
 pub mod Represents

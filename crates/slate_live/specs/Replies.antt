@@ -60,10 +60,12 @@ closed_reply fault tasks = replies.Ended fault tasks
 abbrev pub ended_reply : Ended → Reply
 ended_reply ended = closed_reply ended.fault ended.tasks
 
--- the reply to a close of a follower: an error that was recorded is answered again
+-- the reply to a close of a follower that was closed before: an error that was recorded is answered again
 abbrev pub follower_closed_reply : Option SlateError → List TaskName → Reply
 follower_closed_reply None tasks = replies.Ended None tasks
 follower_closed_reply (Some error) tasks = replies.Refused error
 
-abbrev pub follower_ended_reply : Ended → Reply
-follower_ended_reply ended = follower_closed_reply ended.fault ended.tasks
+-- and of one that was open, or closed with this result
+abbrev pub follower_ended_reply : CloseResult → Ended → Reply
+follower_ended_reply None ended = replies.Ended ended.fault ended.tasks
+follower_ended_reply (Some result) ended = follower_closed_reply ended.fault ended.tasks

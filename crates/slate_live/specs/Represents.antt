@@ -1,12 +1,12 @@
 -- When a live state and a store represent a world.
-use Rattle.std.specs.Prelude.{◌≡◌, ℕ, ◌≤◌, List, map, slice_get, true, false, Some}
+use Rattle.std.specs.Prelude.{◌≡◌, ℕ, ◌≤◌, List, map, slice_get, true, false, Some, None, is_some}
 use Rattle.slate_types.specs.declared.batches.Batch.{Batch}
 use Rattle.slate_types.specs.Line.{Line, IsLine, IsPrefix}
 use Rattle.slate_store.specs.declared.objects.VersionedManifest.{VersionedManifest}
 use Rattle.slate_store.specs.Objects.{Objects, latest_manifest}
-use Rattle.slate_store.specs.Content.{AreRising, IsSound, content}
+use Rattle.slate_store.specs.Content.{IsSound, content}
 use Rattle.slate_model.specs.Catalogue.{Catalogue, catalogue_of}
-use Rattle.slate_model.specs.Follower.{Follower, is_pinned, number}
+use Rattle.slate_model.specs.Follower.{Follower, is_managed, is_pinned, number}
 use Rattle.slate_model.specs.Handle.{Handle, accepted}
 use Rattle.slate_model.specs.Known.{Known}
 use Rattle.slate_model.specs.declared.snapshots.HandleSnapshot.{HandleSnapshot}
@@ -29,9 +29,13 @@ abbrev pub IsTabled : Catalogue → Follower → Type 0
 IsTabled catalogue follower =
     follower.skips ≡ true → is_pinned follower.mode ≡ false → (latest : VersionedManifest) → latest_manifest catalogue ≡ Some latest → number follower ≤ latest.manifest.last_l0_seq
 
+-- an open one that keeps a checkpoint of its own has a lease of that
+abbrev pub IsLeased : Follower → Type 0
+IsLeased follower = is_managed follower.mode ≡ true → follower.result ≡ None → is_some follower.lease ≡ true
+
 -- a follower of a world with this catalogue, in which this line is stored: what it sees begins that
 abbrev pub IsValidFollower : Line → Catalogue → Follower → Type 0
-IsValidFollower stored catalogue follower = IsPrefix follower.line stored × IsTabled catalogue follower
+IsValidFollower stored catalogue follower = IsPrefix follower.line stored × IsTabled catalogue follower × IsLeased follower
 
 abbrev pub IsFollowerAt : List Object → ℕ → Follower → Type 0
 IsFollowerAt live n follower = slice_get live n ≡ Some (AFollower follower)
@@ -54,9 +58,9 @@ pub record IsValid (w : World) : Type 0 where
   pub past : (n : ℕ) (object : Object) → slice_get w.objects n ≡ Some object → AreOfPast w.catalogue (tables_of object)
   pub distinct : (m n : ℕ) (a b : Handle) → IsHandleAt w.objects m a → IsHandleAt w.objects n b → a.epoch ≡ b.epoch → m ≡ n
 
--- what holds of every world that a run leads to: it is valid, and its manifests have rising ids
+-- what holds of every world that a run leads to: it is valid, and sound objects hold what it says
 abbrev pub IsReached : World → Type 0
-IsReached w = IsValid w × AreRising (map (λ entry. entry.0) w.catalogue.manifests)
+IsReached w = IsValid w × (objects : Objects) × IsSound objects × Holds objects w
 
 -- a live state, over an honest store that holds these objects and has failed so often, represents a world: its objects
 -- are the world's, each as the code keeps it

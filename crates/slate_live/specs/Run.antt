@@ -14,6 +14,7 @@ use Rattle.slate_live.specs.State.{State}
 use Rattle.slate_live.specs.Steps.{Chain, StayConfirmed, Step, last_world}
 use Rattle.slate_live.specs.Represents.{Holds, IsReached}
 use Rattle.slate_live.specs.Settings.{Settings}
+use Rattle.slate_live.specs.Leases.{LeasesHold}
 use Rattle.slate_live.specs.Snapshots.{SnapshotsStay}
 use Rattle.slate_live.specs.World.{World, start}
 
@@ -25,8 +26,8 @@ DoAll settings s (command ∷ commands) (reply ∷ replies) last =
 DoAll settings s commands replies last = ⊥
 
 -- The commands lead from the world of these objects, by one step each with its reply and each to a valid world, to one
--- that the store holds afterwards. What was stored before is stored afterwards, a write that is reported durable is confirmed for good, and what a
--- snapshot gives stays.
+-- that the store holds afterwards. What was stored before is stored afterwards, a write that is reported durable is confirmed for good, what a
+-- snapshot gives stays, and a reader that is polled in time keeps its checkpoint.
 pub record LeadsTo (settings : Settings) (commands : List Command) (replies : List Reply) (before : Objects) (faults : ℕ) (store : Known (List Batch)) : Type 0 where
   pub steps : List Step
   pub commands_are : map (λ step. step.command) steps ≡ commands
@@ -38,6 +39,7 @@ pub record LeadsTo (settings : Settings) (commands : List Command) (replies : Li
   pub grows : IsPrefix (content before) last.stored
   pub confirmed : StayConfirmed steps
   pub snapshots : SnapshotsStay steps
+  pub leases : LeasesHold steps
   pub after : Objects
   pub modelled : store.objects ≡ Some after
   pub sound : IsSound after

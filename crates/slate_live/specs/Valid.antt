@@ -1,5 +1,5 @@
 -- Commands that nothing in a world stands against, and the link of a command, which such a one answers.
-use Rattle.std.specs.Prelude.{◌≡◌, ◌≢◌, ℕ, ℤ, ◌<◌, ◌≤◌, Bool, true, false, List, [], ◌∷◌, length, slice_get, Option, Some, None, Result, Ok, Err}
+use Rattle.std.specs.Prelude.{◌≡◌, ◌≢◌, ℕ, ℤ, ◌<◌, ◌≤◌, Bool, true, false, List, [], ◌∷◌, length, slice_get, Option, Some, None, Result, Ok, Err, IfSome}
 use Rattle.slate_types.specs.declared.batches.Batch.{Batch}
 use Rattle.slate_types.specs.declared.batches.KeyOp.{KeyOp}
 use Rattle.slate_types.specs.declared.batches.KeyValue.{KeyValue}
@@ -17,7 +17,11 @@ use Rattle.slate_errors.specs.declared.errors.SlateError.TheVariants as errors
 use Rattle.slate_model.specs.Flush.{has_ids, has_log_for}
 use Rattle.slate_model.specs.Handle.{CloseResult, Handle, accepted}
 use Rattle.slate_model.specs.Followed.{IsView}
-use Rattle.slate_model.specs.Follower.{Follower, is_pinned}
+use Rattle.slate_model.specs.Follower.{Follower, is_managed, is_pinned}
+use Rattle.slate_model.specs.Lease.{lease_refusal, to_keep, to_take}
+use Rattle.slate_store.specs.Checkpoints.{Plan, to_delete}
+use Rattle.slate_store.specs.declared.reader_modes.DbReaderMode.TheVariants.{ManagedCheckpoint}
+use Rattle.slate_live.specs.Commands.{interval_of, lifetime_of}
 use Rattle.slate_store.specs.declared.reader_modes.DbReaderMode.{DbReaderMode}
 use Rattle.slate_model.specs.Close.{recorded_fault}
 use Rattle.slate_live.specs.declared.states.Write.{Write}
@@ -108,6 +112,27 @@ CanClose None (Some flush_type) w handle = CanStore w flush_type handle
 abbrev pub CanFollow : DbReaderMode → (opening : Bool) → World → Type 0
 CanFollow mode opening w = (view : VersionedManifest) × IsView mode opening w.catalogue view
 
+-- a plan for a checkpoint gives what it puts, or that there is nothing to put, after the latest manifest
+abbrev pub CanPut : {A : Type 0} → (VersionedManifest → Plan A) → World → Type 0
+CanPut {A} plan w = (latest : VersionedManifest) × (latest_manifest w.catalogue ≡ Some latest) × (given : Option VersionedManifest × A) × (plan latest ≡ Ok given)
+
+-- an opening of a follower, by its mode: one that keeps a checkpoint has options that pass, and can put it
+abbrev pub CanOpenFollower : DbReaderMode → Option (ℕ × ℕ) → World → ℤ → Type 0
+CanOpenFollower ManagedCheckpoint managed w moment =
+    (lease_refusal (lifetime_of managed) (interval_of managed) ≡ None) × CanPut (to_take (lifetime_of managed) moment) w
+CanOpenFollower mode managed w moment = CanFollow mode true w
+
+-- a poll of an open follower: one that keeps a checkpoint can keep its lease
+abbrev pub CanPoll : World → ℤ → Follower → Type 0
+CanPoll w moment follower = (is_managed follower.mode ≡ false → is_pinned follower.mode ≡ false → CanFollow follower.mode false w)
+    × (is_managed follower.mode ≡ true → IfSome follower.lease (λ lease. CanPut (to_keep follower.view lease moment) w))
+
+-- a close of a follower: of one that is closed without an error, or of an open one, which can take its checkpoint out, where it
+-- keeps one
+abbrev pub CanEnd : World → Follower → Type 0
+CanEnd w follower = (recorded_fault follower.result ≡ None)
+    × (is_managed follower.mode ≡ true → follower.result ≡ None → IfSome follower.lease (λ lease. CanPut (to_delete lease.id) w))
+
 -- a checkpoint: there is a manifest, and the id of another is left
 abbrev pub CanCheckpoint : World → Type 0
 CanCheckpoint w = (latest : VersionedManifest) × (latest_manifest w.catalogue ≡ Some latest) × (latest.id < last_number)
@@ -156,16 +181,16 @@ CanAsk merge w moment second (FindNumber seconds find) handle = Unit {0}
 CanAsk merge w moment second call handle = ⊥
 
 -- what a follower may be asked; its status always
-abbrev pub CanAskFollower : Option MergeFunction → World → Call → Follower → Type 0
-CanAskFollower merge w (Get key remote snapshot) follower = ByStored w follower (CanRead follower.result (IsPlainReadAt merge key follower))
-CanAskFollower merge w (Scan range order remote snapshot) follower =
+abbrev pub CanAskFollower : Option MergeFunction → World → ℤ → Call → Follower → Type 0
+CanAskFollower merge w moment (Get key remote snapshot) follower = ByStored w follower (CanRead follower.result (IsPlainReadAt merge key follower))
+CanAskFollower merge w moment (Scan range order remote snapshot) follower =
     ByStored w follower (CanTake follower.result (IsPlainScanAt merge range order follower) scanned)
-CanAskFollower merge w (Seek range take key order remote snapshot) follower =
+CanAskFollower merge w moment (Seek range take key order remote snapshot) follower =
     ByStored w follower (CanTake follower.result (IsPlainScanAt merge range order follower) (sought range take key))
-CanAskFollower merge w (Close flush_type) follower = recorded_fault follower.result ≡ None
-CanAskFollower merge w Poll follower = (follower.result ≡ None) × (is_pinned follower.mode ≡ false → CanFollow follower.mode false w)
-CanAskFollower merge w Status follower = Unit {0}
-CanAskFollower merge w call follower = ⊥
+CanAskFollower merge w moment (Close flush_type) follower = CanEnd w follower
+CanAskFollower merge w moment Poll follower = (follower.result ≡ None) × CanPoll w moment follower
+CanAskFollower merge w moment Status follower = Unit {0}
+CanAskFollower merge w moment call follower = ⊥
 
 -- what a snapshot may be asked: what its handle may be, up to the snapshot's number
 abbrev pub CanAskSnapshot : Option MergeFunction → World → ℤ → Option ℤ → Call → HandleSnapshot → Type 0
@@ -180,12 +205,12 @@ IsDurable w (Some write) = AtHandle w write.handle (λ handle. write.number ≤ 
 abbrev pub IsValidAt : Option MergeFunction → World → ℤ → Option ℤ → Call → Target → Type 0
 IsValidAt merge w moment second call (NewHandle keeps_log) = CanOpen w
 IsValidAt merge w moment second call (NewSnapshot n) = AtHandle w n (λ handle. handle.result ≡ None)
-IsValidAt merge w moment second call (NewFollower mode skips) = CanFollow mode true w
+IsValidAt merge w moment second call (NewFollower mode managed skips) = CanOpenFollower mode managed w moment
 IsValidAt merge w moment second call (NewCheckpoint lifetime) = CanCheckpoint w
 IsValidAt merge w moment second call WholeStore = CanSweep w moment
 IsValidAt merge w moment second call (OfWrite n) = IsDurable w (slice_get w.writes n)
 IsValidAt merge w moment second call (OfObject n) =
-    AtObject (slice_get w.objects n) (CanAsk merge w moment second call) (CanAskSnapshot merge w moment second call) (CanAskFollower merge w call)
+    AtObject (slice_get w.objects n) (CanAsk merge w moment second call) (CanAskSnapshot merge w moment second call) (CanAskFollower merge w moment call)
 
 -- nothing in this world stands against the command
 abbrev pub IsValidCommand : Option MergeFunction → World → Command → Type 0

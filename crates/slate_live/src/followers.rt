@@ -1,15 +1,16 @@
 // What commands do to a reader that follows a database.
-ghost use Rattle.std.specs.Prelude.{◌≡◌, ◌≤◌, ◌+◌, ℕ, None, length, List, Option, IfSome};
+ghost use Rattle.std.specs.Prelude.{◌≡◌, ◌≤◌, ◌+◌, ℕ, None, Some, length, List, Option, IfSome};
 ghost use Rattle.std.specs.Option.{option_copied};
 ghost use Rattle.slate_types.specs.Operator.{Merge};
 ghost use Rattle.slate_reads.specs.Read.{IsOperator};
 ghost use Rattle.slate_model.specs.Known.{known};
-ghost use Rattle.slate_model.specs.Open.{replayed_logs};
+ghost use Rattle.slate_model.specs.Follower.{is_managed};
+ghost use Rattle.slate_model.specs.Object.{Follower as AFollower};
 ghost use Rattle.slate_model.specs.Stores.{by_objects};
 ghost use Rattle.slate_live.specs.declared.states.Write.{Write};
-ghost use Rattle.slate_live.specs.Calls.{call_of, most_asked};
-ghost use Rattle.slate_live.specs.Followers.{FollowerActs, GetsFromFollower, PollsFollower, TakesFromFollower, follower_status};
-ghost use Rattle.slate_live.specs.Replies.{AnswersStatus, follower_ended_reply};
+ghost use Rattle.slate_live.specs.Calls.{call_of, end_calls, most_asked, poll_calls};
+ghost use Rattle.slate_live.specs.Followers.{ClosesFollower, FollowerActs, GetsFromFollower, PollsFollower, TakesFromFollower, follower_status};
+ghost use Rattle.slate_live.specs.Replies.{AnswersStatus, follower_closed_reply};
 ghost use Rattle.slate_live.specs.Scans.{scanned, sought};
 
 use crate::handles::{read_reply, refusal, status_reply};
@@ -33,9 +34,9 @@ pub(crate) fn act<S: Store, M: MergeOperator, E: PrefixExtractor>(
 ) -> Reply
     requires { extractor ≡ None }
     ensures faults { S.faults store.old ≤ S.faults store.new }
-    ensures calls { IfSome (S.objects store.old) (λ o. S.calls store.new ≤ S.calls store.old + most_asked o (length follower.old.view.manifest.tables) (call_of command.now.action)) }
+    ensures calls { IfSome (S.objects store.old) (λ o. S.calls store.new ≤ S.calls store.old + most_asked o (Some (AFollower follower.old)) (call_of command.now.action)) }
     ensures does { (merge : Option Merge) (writes : List Write) → IsOperator M.may_answer (option_copied operator.entry) merge →
-        (made : ℕ) × FollowerActs (by_objects (S.objects store.old)) merge (call_of command.now.action) made
+        (made : ℕ) × FollowerActs (by_objects (S.objects store.old)) merge command.now.moment (call_of command.now.action) made
         follower.old (known S.objects S.faults store.old) writes result follower.new (known S.objects S.faults store.new) writes }
 {
     match &command.action {
@@ -59,7 +60,7 @@ pub(crate) fn act<S: Store, M: MergeOperator, E: PrefixExtractor>(
             operator,
         ),
         Action::Poll { .. } => poll(follower, alloc, store, extractor, command.moment),
-        Action::Close { .. } => ended_reply(follower.close(store)),
+        Action::Close { .. } => close(follower, alloc, store),
         Action::Status { .. } => status(follower, alloc),
         _ => Reply::Unknown,
     }
@@ -131,8 +132,8 @@ fn poll<S: Store, E: PrefixExtractor>(
 ) -> Reply
     requires { extractor ≡ None }
     ensures faults { S.faults store.old ≤ S.faults store.new }
-    ensures calls { IfSome (S.objects store.old) (λ o. S.calls store.new ≤ S.calls store.old + (replayed_logs o + 2)) }
-    ensures does { PollsFollower (by_objects (S.objects store.old)) follower.old (known S.objects S.faults store.old) result follower.new (known S.objects S.faults store.new) }
+    ensures calls { IfSome (S.objects store.old) (λ o. S.calls store.new ≤ S.calls store.old + poll_calls (is_managed follower.old.mode) o) }
+    ensures does { (made : ℕ) × PollsFollower (by_objects (S.objects store.old)) made moment follower.old (known S.objects S.faults store.old) result follower.new (known S.objects S.faults store.new) }
 {
     match follower.poll(alloc, store, extractor, moment) {
         Ok(PollAnswer::Whole { at }) => Reply::Polled { whole: true, at },
@@ -148,9 +149,25 @@ fn status(follower: &FollowerState, alloc: Global) -> Reply
     status_reply(follower.status(alloc))
 }
 
-/// The reply to a close of a reader: an error that was recorded is answered again.
-fn ended_reply(ended: Ended) -> Reply
-    ensures { result ≡ follower_ended_reply ended }
+/// Closes a reader; one that keeps a checkpoint takes that out.
+fn close<S: Store>(follower: &mut FollowerState, alloc: Global, store: &mut S) -> Reply
+    ensures faults { S.faults store.old ≤ S.faults store.new }
+    ensures calls { S.calls store.new ≤ S.calls store.old + end_calls (is_managed follower.old.mode) }
+    ensures does { (made : ℕ) × ClosesFollower (by_objects (S.objects store.old)) made follower.old (known S.objects S.faults store.old) result follower.new (known S.objects S.faults store.new) }
+{
+    if follower.closed().is_some() {
+        return closed_reply(follower.close(alloc, store));
+    }
+    let ended = follower.close(alloc, store);
+    Reply::Ended {
+        fault: ended.fault,
+        tasks: ended.tasks,
+    }
+}
+
+/// The reply to a close of a reader that was closed before: an error that was recorded is answered again.
+fn closed_reply(ended: Ended) -> Reply
+    ensures { result ≡ follower_closed_reply ended.fault ended.tasks }
 {
     match ended.fault {
         None => Reply::Ended {

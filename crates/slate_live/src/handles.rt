@@ -1,11 +1,11 @@
 // What commands do to a handle that writes.
-ghost use Rattle.std.specs.Prelude.{◌≡◌, ◌≤◌, ℕ, List, ◌+◌, [], ◌∷◌, ◌++◌, false, length, None, Option, IfErr, IfOk, IfSome, IsTrue, ◌↔◌};
+ghost use Rattle.std.specs.Prelude.{◌≡◌, ◌≤◌, ℕ, List, ◌+◌, [], ◌∷◌, ◌++◌, false, length, None, Some, Option, IfErr, IfOk, IfSome, IsTrue, ◌↔◌};
 ghost use Rattle.std.specs.Option.{option_copied};
 ghost use Rattle.slate_types.specs.Operator.{Merge};
 ghost use Rattle.slate_reads.specs.Read.{IsOperator};
 ghost use Rattle.slate_store.specs.Compaction.{compact_calls};
 ghost use Rattle.slate_model.specs.Known.{known};
-ghost use Rattle.slate_model.specs.Object.{Handle};
+ghost use Rattle.slate_model.specs.Object.{Handle as AHandle};
 ghost use Rattle.slate_model.specs.Read.{Gives, Reads};
 ghost use Rattle.slate_model.specs.Stores.{by_objects, kept_rows};
 ghost use Rattle.slate_model.specs.Write.{Writes};
@@ -45,7 +45,7 @@ pub(crate) fn act<S: Store, M: MergeOperator, E: PrefixExtractor>(
     requires { extractor ≡ None }
     ensures faults { S.faults store.old ≤ S.faults store.new }
     ensures calls { IfSome (S.objects store.old) (λ o.
-        S.calls store.new ≤ S.calls store.old + most_asked o (length writer.old.view.manifest.tables) (call_of command.now.action)) }
+        S.calls store.new ≤ S.calls store.old + most_asked o (Some (AHandle writer.old)) (call_of command.now.action)) }
     ensures does { (merge : Option Merge) → IsOperator M.may_answer (option_copied operator.entry) merge →
         (made : ℕ) × HandleActs (by_objects (S.objects store.old)) merge number command.now.moment command.now.second (call_of command.now.action) made
         writer.old (known S.objects S.faults store.old) writes.old.items result writer.new (known S.objects S.faults store.new) writes.new.items }
@@ -105,7 +105,7 @@ pub(crate) fn act_at<S: Store, M: MergeOperator>(
 ) -> Reply
     ensures faults { S.faults store.old ≤ S.faults store.new }
     ensures calls { IfSome (S.objects store.old) (λ o.
-        S.calls store.new ≤ S.calls store.old + most_asked o (length writer.now.view.manifest.tables) (call_of command.now.action)) }
+        S.calls store.new ≤ S.calls store.old + most_asked o (Some (AHandle writer.now)) (call_of command.now.action)) }
     ensures does { (merge : Option Merge) (handle : ℕ) (writes : List AWrite) → IsOperator M.may_answer (option_copied operator.entry) merge →
         HandleActs (by_objects (S.objects store.old)) merge handle command.now.moment command.now.second (at_snapshot snapshot (call_of command.now.action)) 0
         writer.now (known S.objects S.faults store.old) writes result writer.now (known S.objects S.faults store.new) writes }
@@ -415,7 +415,7 @@ fn begin_scan<S: Store, M: MergeOperator>(
     ensures faults { S.faults store.old ≤ S.faults store.new }
     ensures calls { S.calls store.new ≤ S.calls store.old + length writer.now.view.manifest.tables }
     ensures scans { (merge : Option Merge) → IsOperator M.may_answer (option_copied operator.entry) merge →
-        Reads writer.now.result writer.now.view.manifest.tables (kept_rows (S.objects store.old) (Handle writer.now))
+        Reads writer.now.result writer.now.view.manifest.tables (kept_rows (S.objects store.old) (AHandle writer.now))
         (Gives (IsPlainScan merge range.now order remote snapshot writer.now)) (known S.objects S.faults store.old) result (known S.objects S.faults store.new) }
 {
     let options = scan_options(order, remote);

@@ -17,6 +17,7 @@ pub use slate_script::{
     Action, Command, LineAnswer, MAX_SCRIPT, Options, Reply, RunOptions, ScriptFault,
     print_replies, read_line, read_script, script_fields,
 };
+pub use slate_seqtrack::FindOption;
 pub use slate_streams::{
     InputFault, ReadAnswer, Sink, SliceSource, Source, VecSink, WriteAnswer, read_whole,
     write_whole,

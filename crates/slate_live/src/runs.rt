@@ -4,7 +4,6 @@ ghost use Rattle.std.specs.Option.{option_copied};
 ghost use Rattle.slate_types.specs.Operator.{Merge};
 ghost use Rattle.slate_reads.specs.Read.{IsOperator};
 ghost use Rattle.slate_model.specs.Known.{known};
-ghost use Rattle.slate_script.specs.Built.{IsBuilt};
 ghost use Rattle.slate_types.specs.declared.batches.Batch.{Batch};
 ghost use Rattle.slate_live.specs.Run.{DoAll, IsRun};
 ghost use Rattle.slate_live.specs.State.{State};
@@ -32,7 +31,6 @@ pub fn run<S: Store, M: MergeOperator, E: PrefixExtractor>(
     commands: &[Command],
 ) -> Result<Vec<Reply>, NoMemory>
     requires extractor { extractor ≡ None }
-    requires built { All (λ command. IsBuilt command.action) commands.now }
     ensures faults { S.faults store.old ≤ S.faults store.new }
     ensures nothing { OnErr result (store.new ≡ store.old) }
     // Over any store each command is done as `apply` says, with its reply, from a state without an object on.

@@ -1,6 +1,5 @@
 // A whole session: a script is read from a source and run, and its replies are written to a sink.
 ghost use Rattle.std.specs.Prelude.{All, IfOk, ◌≡◌, ◌≤◌, ◌⊎◌, map, string_bytes};
-ghost use Rattle.slate_script.specs.Built.{IsBuilt};
 ghost use Rattle.slate_script.specs.Options.{options_of};
 ghost use Rattle.slate_script.specs.Replies.{replies_text};
 ghost use Rattle.slate_live.specs.Session.{Ends, EndsWriting, IsGiven, ReadsScript, input_ending, refused_line, script_ending, sides, status_of};
@@ -135,7 +134,6 @@ impl Finished {
 /// Reads the commands of a script from a source, to its end.
 fn read_commands<I: Source>(alloc: Global, source: &mut I) -> Result<Vec<Command>, Outcome>
     ensures faults { I.faults source.old ≤ I.faults source.new }
-    ensures built { IfOk result (λ commands. All (λ command. IsBuilt command.action) commands.items) }
     ensures reads { ReadsScript result (I.left source.old) (I.left source.new) (I.faults source.old) (I.faults source.new) }
 {
     let bytes = read_whole(alloc, source, MAX_SCRIPT)?;

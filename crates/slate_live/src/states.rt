@@ -4,13 +4,11 @@ ghost use Rattle.slate_types.specs.declared.batches.Batch.{Batch as AnyBatch};
 ghost use Rattle.std.specs.Option.{option_copied};
 ghost use Rattle.slate_types.specs.Operator.{Merge};
 ghost use Rattle.slate_reads.specs.Read.{IsOperator};
-ghost use Rattle.slate_model.specs.Followed.{followed_logs};
 ghost use Rattle.slate_model.specs.Known.{Known, known};
 ghost use Rattle.slate_model.specs.Open.{replayed_logs};
 ghost use Rattle.slate_model.specs.Stores.{by_objects};
-ghost use Rattle.slate_script.specs.Built.{IsBuilt, is_unmanaged};
-ghost use Rattle.slate_live.specs.Calls.{call_of, most_asked, most_calls, read_by, table_count};
-ghost use Rattle.slate_live.specs.Commands.{ActsOn, Does, OpensFollowerIn, OpensHandleIn, OpensSnapshot, ReadsSnapshot, write_reply};
+ghost use Rattle.slate_live.specs.Calls.{call_of, follow_calls, most_asked, most_calls, read_by};
+ghost use Rattle.slate_live.specs.Commands.{ActsOn, Does, interval_of, lifetime_of, OpensFollowerIn, OpensHandleIn, OpensSnapshot, ReadsSnapshot, write_reply};
 ghost use Rattle.slate_live.specs.Sampling.{Pushes};
 ghost use Rattle.slate_live.specs.Replies.{followed_reply};
 ghost use Rattle.slate_live.specs.Represents.{Links};
@@ -83,7 +81,6 @@ impl LiveState {
         command: &Command,
     ) -> Reply
         requires extractor { extractor ≡ None }
-        requires built { IsBuilt command.now.action }
         ensures options { self.new.options ≡ self.old.options }
         ensures faults { S.faults store.old ≤ S.faults store.new }
         ensures calls { IfSome (S.objects store.old) (λ o. S.calls store.new ≤ S.calls store.old + most_calls o self.old.objects command.now) }
@@ -97,14 +94,14 @@ impl LiveState {
         match &command.action {
             Action::Open { wal } => self.open(alloc, store, *wal, extractor),
             Action::Snapshot { handle } => self.snapshot(*handle),
-            Action::Follow { mode, skip, .. } => self.follow(
-                alloc,
-                store,
-                *mode,
-                *skip,
-                command.moment,
-                extractor,
-            ),
+            Action::Follow {
+                mode,
+                managed,
+                skip,
+            } => {
+                let options = reader_options(*managed, *skip);
+                self.follow(alloc, store, *mode, &options, command.moment, extractor)
+            }
             Action::Checkpoint { lifetime } => checkpoint(alloc, store, *lifetime, command.moment),
             Action::Sweep => sweep(alloc, store, command.moment),
             Action::Await { write } => self.write_reply(*write),
@@ -205,34 +202,30 @@ impl LiveState {
         }
     }
 
-    /// Opens a reader, of the latest manifest or of a checkpoint, which skips the log files or not.
+    /// Opens a reader in a mode, with these options.
     fn follow<S: Store, E: PrefixExtractor>(
         &mut self,
         alloc: Global,
         store: &mut S,
         mode: DbReaderMode,
-        skip: bool,
+        options: &DbReaderOptions,
         moment: i64,
         extractor: Option<&E>,
     ) -> Reply
         requires extractor { extractor ≡ None }
-        requires built { is_unmanaged mode ≡ true }
         ensures options { self.new.options ≡ self.old.options }
         ensures faults { S.faults store.old ≤ S.faults store.new }
-        ensures calls { IfSome (S.objects store.old) (λ o. S.calls store.new ≤ S.calls store.old + (followed_logs mode skip o + 2)) }
-        ensures does { (merge : Option Merge) → OpensFollowerIn (by_objects (S.objects store.old)) (record { merge = merge; options = self.old.options }) mode skip 0
+        ensures calls { IfSome (S.objects store.old) (λ o. S.calls store.new ≤ S.calls store.old + follow_calls mode options.now.skip_wal_replay o) }
+        ensures does { (merge : Option Merge) → (managed : Option (ℕ × ℕ)) → options.now.checkpoint_lifetime_ms ≡ lifetime_of managed → options.now.manifest_poll_interval_ms ≡ interval_of managed →
+            (made : ℕ) × OpensFollowerIn (by_objects (S.objects store.old)) (record { merge = merge; options = self.old.options }) mode managed options.now.skip_wal_replay moment made
             (running self.old (known S.objects S.faults store.old)) result (running self.new (known S.objects S.faults store.new)) }
     {
-        if self.objects.reserve(1).is_err() {
-            return Reply::NoMemory;
-        }
         let object = self.objects.len() as u64;
-        let options = DbReaderOptions {
-            skip_wal_replay: skip,
-            ..DbReaderOptions::default()
-        };
-        match FollowerState::open(alloc, store, mode, &options, extractor, moment) {
+        match FollowerState::open(alloc, store, mode, options, extractor, moment) {
             Ok((follower, answer)) => {
+                if self.objects.reserve(1).is_err() {
+                    return Reply::NoMemory;
+                }
                 self.objects.push_reserved(Object::Follower(follower));
                 followed_reply(object, answer)
             }
@@ -254,7 +247,7 @@ impl LiveState {
         ensures options { self.new.options ≡ self.old.options }
         ensures faults { S.faults store.old ≤ S.faults store.new }
         ensures calls { IfSome (S.objects store.old) (λ o.
-            S.calls store.new ≤ S.calls store.old + most_asked o (table_count (read_by self.old.objects (slice_get self.old.objects number))) (call_of command.now.action)) }
+            S.calls store.new ≤ S.calls store.old + most_asked o (read_by self.old.objects (slice_get self.old.objects number)) (call_of command.now.action)) }
         ensures does { (merge : Option Merge) → IsOperator M.may_answer (option_copied operator.entry) merge →
             (made : ℕ) × ActsOn (by_objects (S.objects store.old)) merge number command.now (call_of command.now.action) made (slice_get self.old.objects number)
             (running self.old (known S.objects S.faults store.old)) result (running self.new (known S.objects S.faults store.new)) }
@@ -289,7 +282,7 @@ impl LiveState {
     ) -> Reply
         ensures faults { S.faults store.old ≤ S.faults store.new }
         ensures calls { IfSome (S.objects store.old) (λ o.
-            S.calls store.new ≤ S.calls store.old + most_asked o (table_count (slice_get self.now.objects snapshot.handle)) (call_of command.now.action)) }
+            S.calls store.new ≤ S.calls store.old + most_asked o (slice_get self.now.objects snapshot.handle) (call_of command.now.action)) }
         ensures does { (merge : Option Merge) → IsOperator M.may_answer (option_copied operator.entry) merge →
             ReadsSnapshot (by_objects (S.objects store.old)) merge snapshot command.now (call_of command.now.action) 0 (slice_get self.now.objects snapshot.handle)
             (running self.now (known S.objects S.faults store.old)) result (running self.now (known S.objects S.faults store.new)) }
@@ -318,7 +311,27 @@ impl LiveState {
     }
 }
 
-/// The reply to an opening of a reader.
+/// The options of a reader: the lifetime of its checkpoint and the interval of its polls, where they are given.
+fn reader_options(managed: Option<(u64, u64)>, skip: bool) -> DbReaderOptions
+    ensures lifetime { result.checkpoint_lifetime_ms ≡ lifetime_of managed }
+    ensures interval { result.manifest_poll_interval_ms ≡ interval_of managed }
+    ensures skips { result.skip_wal_replay ≡ skip }
+{
+    let options = DbReaderOptions::default();
+    let given = (
+        options.checkpoint_lifetime_ms,
+        options.manifest_poll_interval_ms,
+    );
+    let (lifetime, interval) = managed.unwrap_or(given);
+    DbReaderOptions {
+        checkpoint_lifetime_ms: lifetime,
+        manifest_poll_interval_ms: interval,
+        skip_wal_replay: skip,
+        ..options
+    }
+}
+
+/// The reply to an opening of a reader that was answered.
 fn followed_reply(object: u64, answer: PollAnswer) -> Reply
     ensures { result ≡ followed_reply object answer }
 {

@@ -17,11 +17,11 @@ use Rattle.slate_store.proofs.Latest.{all-greatest, ids-within, its-objects}
 use Rattle.slate_store.proofs.Parts.{part-more, part-none, part-one}
 use Rattle.slate_store.proofs.Removed.{IsSpare, removed-part}
 use Rattle.slate_store.proofs.Swept.{fails, sweep-keeps}
-use Rattle.slate_store.specs.Checkpoints.{Plan, is_expired, new_checkpoint, to_write, with_checkpoints}
+use Rattle.slate_store.specs.Checkpoints.{Plan, found, is_expired, lease_end, new_checkpoint, puts_next, to_delete, to_end, to_refresh, to_take_out, to_write, with_checkpoints}
 use Rattle.slate_store.specs.Content.{IsPinned, IsSound, content}
 use Rattle.slate_store.specs.Objects.{last_log, Change, ChangeOf, Objects, PutLog, PutManifest, PutTable, RemoveLog, RemoveManifest, RemoveTable, changed, changed_all, entry_at, is_present, last, latest_manifest, table_at, table_cmp, versioned}
 use Rattle.slate_store.specs.Refusals as calls
-use Rattle.slate_store.specs.Refusals.{FollowsPlan, planned, planned_after}
+use Rattle.slate_store.specs.Refusals.{FollowsPlan, KeepsContent, checkpoint_changes, planned, planned_after}
 use Rattle.slate_store.specs.Sweeps as sweeps
 use Rattle.slate_store.specs.Sweeps.{expiries, has_expired, keeps_log, keeps_manifest, keeps_table, protecting, removals, sweep_changes, sweep_changes_by, without_expired}
 use Rattle.slate_store.specs.declared.objects.Checkpoint.{Checkpoint}
@@ -122,12 +122,18 @@ maintained o o' sound same next logs leaves = record {
 }
 
 -- a manifest that is put after the latest one is the latest
-put-latest : (o : Objects) (latest : VersionedManifest) → IsSound o → latest_manifest o ≡ Some latest → (m : Manifest) → latest_manifest (changed (PutManifest (latest.id + 1) m) o) ≡ Some (record { id = latest.id + 1; manifest = m })
+pub put-latest : (o : Objects) (latest : VersionedManifest) → IsSound o → latest_manifest o ≡ Some latest → (m : Manifest) → latest_manifest (changed (PutManifest (latest.id + 1) m) o) ≡ Some (record { id = latest.id + 1; manifest = m })
 put-latest o latest sound is m =
     let top = all-greatest latest.id 0 (map (λ e. e.0) o.manifests) (ids-within o latest sound is) in
     ap (option_map versioned) (ap last (insert-last (latest.id + 1) 0 m o.manifests (omega (arith, top))) ∙ last-push o.manifests (latest.id + 1, m))
 
--- ---- a checkpoint
+-- ---- a plan for a checkpoint
+-- a plan puts the latest manifest with other checkpoints, or nothing
+abbrev pub Recheckpoints : {A : Type 0} → VersionedManifest → Plan A → Type 0
+Recheckpoints latest (Ok (Some next, answer)) = (checkpoints : List Checkpoint) × (next ≡ with_checkpoints checkpoints latest)
+Recheckpoints latest (Ok (None, answer)) = Unit {0}
+Recheckpoints latest (Err refusal) = Unit {0}
+
 -- the manifest that commits a checkpoint, after the latest one
 abbrev committing : Option ℕ → ℤ → VersionedManifest → VersionedManifest
 committing lifetime moment latest = with_checkpoints (latest.manifest.checkpoints ++ new_checkpoint latest lifetime moment ∷ []) latest
@@ -136,38 +142,66 @@ committing lifetime moment latest = with_checkpoints (latest.manifest.checkpoint
 abbrev plan_by : Option ℕ → ℤ → VersionedManifest → Bool → Plan Checkpoint
 plan_by lifetime moment latest b = cond b (Ok (Some (committing lifetime moment latest), new_checkpoint latest lifetime moment)) (Err refusals.InvalidDBState)
 
-module _ (lifetime : Option ℕ) (moment : ℤ) (made : ℕ) (o : Objects) where
-  commit-next : (latest : VersionedManifest) → IsSound o → latest_manifest o ≡ Some latest → (b : Bool) → HasNext latest (after_part made (planned (plan_by lifetime moment latest b)) o)
-  commit-next latest sound is true =
-      let next = committing lifetime moment latest in
-      part-one (HasNext latest) (PutManifest next.id next.manifest) o made (latest, is, refl, refl, refl) (next, put-latest o latest sound is next.manifest, refl, refl, refl)
-  commit-next latest sound is false = subst (HasNext latest) (sym (part-none made o)) (latest, is, refl, refl, refl)
+puts-recheckpoints : {A : Type 0} (checkpoints : List Checkpoint) (latest : VersionedManifest) (answer : A) → Recheckpoints latest (puts_next latest (with_checkpoints checkpoints latest) answer)
+puts-recheckpoints {A} checkpoints latest answer = by (nat_lt latest.id last_number) where
+  by : (b : Bool) → Recheckpoints {A = A} latest (cond b (Ok (Some (with_checkpoints checkpoints latest), answer)) (Err refusals.InvalidDBState))
+  by true = (checkpoints, refl)
+  by false = tt
 
-  plan-no_table : (latest : VersionedManifest) (b : Bool) → All PutsNoTable (planned (plan_by lifetime moment latest b))
-  plan-no_table latest true =
-      let next = committing lifetime moment latest in
-      All-cons PutsNoTable (PutManifest next.id next.manifest) [] tt (All-nil PutsNoTable)
-  plan-no_table latest false = All-nil PutsNoTable
+pub write-recheckpoints : (replaced : Option (List ℕ)) (lifetime : Option ℕ) (moment : ℤ) (latest : VersionedManifest) → Recheckpoints latest (to_write replaced lifetime moment latest)
+write-recheckpoints replaced lifetime moment latest = puts-recheckpoints _ latest _
 
-  commit-no_table : (found : Option VersionedManifest) → All PutsNoTable (planned_after (to_write None lifetime moment) found)
-  commit-no_table None = All-nil PutsNoTable
-  commit-no_table (Some latest) = plan-no_table latest (nat_lt latest.id last_number)
+pub refresh-recheckpoints : (id : List ℕ) (lifetime : ℕ) (moment : ℤ) (latest : VersionedManifest) → Recheckpoints latest (to_refresh id lifetime moment latest)
+refresh-recheckpoints id lifetime moment latest = by (found id latest) where
+  by : (checkpoint : Option Checkpoint) → Recheckpoints latest (to_end id (lease_end moment lifetime) latest checkpoint)
+  by None = tt
+  by (Some checkpoint) = puts-recheckpoints _ latest _
 
-  commit-keeps : (mark last : ℕ) (found : Option VersionedManifest) → KeepLogs mark last (planned_after (to_write None lifetime moment) found)
-  commit-keeps mark last None = tt
-  commit-keeps mark last (Some latest) = by (nat_lt latest.id last_number) where
-    by : (b : Bool) → KeepLogs mark last (planned (plan_by lifetime moment latest b))
-    by true = tt
-    by false = tt
+pub delete-recheckpoints : (id : List ℕ) (latest : VersionedManifest) → Recheckpoints latest (to_delete id latest)
+delete-recheckpoints id latest = by (found id latest) where
+  by : (checkpoint : Option Checkpoint) → Recheckpoints latest (to_take_out id latest checkpoint)
+  by None = tt
+  by (Some checkpoint) = puts-recheckpoints _ latest tt
 
-  -- a checkpoint that is committed, or not yet
-  pub checkpoint-maintains : IsSound o → Maintained o (after_part made (commit_changes lifetime moment o) o)
-  checkpoint-maintains sound =
-      let stays = write-keeps None lifetime moment made o sound in
-      maintained o (after_part made (commit_changes lifetime moment o) o) stays.0 stays.1
-      (λ latest is. subst (λ found. HasNext latest (after_part made (planned_after (to_write None lifetime moment) found) o)) (sym is) (commit-next latest sound is (nat_lt latest.id last_number)))
-      (λ latest is. part-logs latest.manifest.replay_after_wal_id (last_log latest.manifest.replay_after_wal_id o) made (commit_changes lifetime moment o) o (commit-keeps _ _ (latest_manifest o)))
-      (part-leaves made (commit_changes lifetime moment o) o (commit-no_table (latest_manifest o)))
+module _ {A : Type 0} (plan : VersionedManifest → Plan A) (made : ℕ) (o : Objects) where
+  planned-next : (latest : VersionedManifest) → IsSound o → latest_manifest o ≡ Some latest → (p : Plan A) → Recheckpoints latest p → HasNext latest (after_part made (planned p) o)
+  planned-next latest sound is (Ok (Some next, answer)) (checkpoints, same) =
+      part-one (HasNext latest) (PutManifest next.id next.manifest) o made (latest, is, refl, refl, refl)
+      (subst (λ (n : VersionedManifest). HasNext latest (changed (PutManifest n.id n.manifest) o)) (sym same)
+      (with_checkpoints checkpoints latest, put-latest o latest sound is (with_checkpoints checkpoints latest).manifest, refl, refl, refl))
+  planned-next latest sound is (Ok (None, answer)) puts = subst (HasNext latest) (sym (part-none made o)) (latest, is, refl, refl, refl)
+  planned-next latest sound is (Err refusal) puts = subst (HasNext latest) (sym (part-none made o)) (latest, is, refl, refl, refl)
+
+  planned-no_table : (p : Plan A) → All PutsNoTable (planned p)
+  planned-no_table (Ok (Some next, answer)) = All-cons PutsNoTable (PutManifest next.id next.manifest) [] tt (All-nil PutsNoTable)
+  planned-no_table (Ok (None, answer)) = All-nil PutsNoTable
+  planned-no_table (Err refusal) = All-nil PutsNoTable
+
+  after-no_table : (found : Option VersionedManifest) → All PutsNoTable (planned_after plan found)
+  after-no_table None = All-nil PutsNoTable
+  after-no_table (Some latest) = planned-no_table (plan latest)
+
+  planned-logs : (mark last : ℕ) (p : Plan A) → KeepLogs mark last (planned p)
+  planned-logs mark last (Ok (Some next, answer)) = tt
+  planned-logs mark last (Ok (None, answer)) = tt
+  planned-logs mark last (Err refusal) = tt
+
+  after-logs : (mark last : ℕ) (found : Option VersionedManifest) → KeepLogs mark last (planned_after plan found)
+  after-logs mark last None = tt
+  after-logs mark last (Some latest) = planned-logs mark last (plan latest)
+
+  -- what a plan puts that keeps sound objects sound
+  pub planned-maintains : ((latest : VersionedManifest) → Recheckpoints latest (plan latest)) → KeepsContent o (after_part made (checkpoint_changes plan o) o) → IsSound o → Maintained o (after_part made (checkpoint_changes plan o) o)
+  planned-maintains puts keeps sound =
+      let stays = keeps sound in
+      maintained o (after_part made (checkpoint_changes plan o) o) stays.0 stays.1
+      (λ latest is. subst (λ found. HasNext latest (after_part made (planned_after plan found) o)) (sym is) (planned-next latest sound is (plan latest) (puts latest)))
+      (λ latest is. part-logs latest.manifest.replay_after_wal_id (last_log latest.manifest.replay_after_wal_id o) made (checkpoint_changes plan o) o (after-logs _ _ (latest_manifest o)))
+      (part-leaves made (checkpoint_changes plan o) o (after-no_table (latest_manifest o)))
+
+-- a checkpoint that is committed, or not yet
+pub checkpoint-maintains : (lifetime : Option ℕ) (moment : ℤ) (made : ℕ) (o : Objects) → IsSound o → Maintained o (after_part made (commit_changes lifetime moment o) o)
+checkpoint-maintains lifetime moment made o = planned-maintains (to_write None lifetime moment) made o (write-recheckpoints None lifetime moment) (write-keeps None lifetime moment made o)
 
 -- ---- a sweep
 -- the removals of a sweep remove nothing that is protected
@@ -428,19 +462,19 @@ planned-known (Ok (Some next, answer)) = refl
 planned-known (Ok (None, answer)) = refl
 planned-known (Err refusal) = refl
 
-commit_by-known : (lifetime : Option ℕ) (moment : ℤ) (found : Option VersionedManifest) → map reduced (planned_after (to_write None lifetime moment) found) ≡ planned_after (to_write None lifetime moment) found
-commit_by-known lifetime moment None = refl
-commit_by-known lifetime moment (Some latest) = planned-known (to_write None lifetime moment latest)
+planned_after-known : {A : Type 0} (plan : VersionedManifest → Plan A) (found : Option VersionedManifest) → map reduced (planned_after plan found) ≡ planned_after plan found
+planned_after-known plan None = refl
+planned_after-known plan (Some latest) = planned-known (plan latest)
 
--- and the change that commits a checkpoint
-pub commit_changes-known : (lifetime : Option ℕ) (moment : ℤ) (o : Objects) → map reduced (commit_changes lifetime moment o) ≡ commit_changes lifetime moment (catalogue_of o)
-commit_changes-known lifetime moment o = commit_by-known lifetime moment (latest_manifest o)
+-- the changes of a plan, as they are known
+pub checkpoint_changes-known : {A : Type 0} (plan : VersionedManifest → Plan A) (o : Objects) → map reduced (checkpoint_changes plan o) ≡ checkpoint_changes plan (catalogue_of o)
+checkpoint_changes-known plan o = planned_after-known plan (latest_manifest o)
 
 -- as many changes are made of what is known
-part-known : {A : Type 0} (r : Result A SlateError) (cs : List Change) (ds : List (ChangeOf Span)) (made : ℕ) → map reduced cs ≡ ds → PartMade r (length cs) made → PartMade r (length ds) made
+pub part-known : {A : Type 0} (r : Result A SlateError) (cs : List Change) (ds : List (ChangeOf Span)) (made : ℕ) → map reduced cs ≡ ds → PartMade r (length cs) made → PartMade r (length ds) made
 part-known r cs ds made same part = subst (λ n. PartMade r n made) (sym (length-map cs reduced) ∙ ap length same) part
 
-after-known : (cs : List Change) (ds : List (ChangeOf Span)) (made : ℕ) (o o' : Objects) → map reduced cs ≡ ds → o' ≡ after_part made cs o → catalogue_of o' ≡ after_part made ds (catalogue_of o)
+pub after-known : (cs : List Change) (ds : List (ChangeOf Span)) (made : ℕ) (o o' : Objects) → map reduced cs ≡ ds → o' ≡ after_part made cs o → catalogue_of o' ≡ after_part made ds (catalogue_of o)
 after-known cs ds made o o' same after = ap catalogue_of after ∙ (catalogue-after made cs o ∙ ap (λ ds. after_part made ds (catalogue_of o)) same)
 
 -- ---- over sound objects none stands under the id after the latest manifest's
@@ -457,27 +491,30 @@ module _ (o : Objects) (sound : IsSound o) where
       let top = all-greatest latest.id 0 (map (λ e. e.0) o.manifests) (ids-within o latest sound is) in
       rw (absent (latest.id + 1) 0 o.manifests (omega (arith, top))) refl
 
+  planned-free : {A : Type 0} (latest : VersionedManifest) → latest_manifest o ≡ Some latest → (p : Plan A) → Recheckpoints latest p → All (IsFree o) (planned p)
+  planned-free latest is (Ok (Some next, answer)) (checkpoints, same) =
+      let m = (with_checkpoints checkpoints latest).manifest in
+      let free = subst (λ (n : VersionedManifest). IsFree o (PutManifest n.id n.manifest)) (sym same) (manifest-free latest m is) in
+      All-cons (IsFree o) (PutManifest next.id next.manifest) [] free (All-nil (IsFree o))
+  planned-free latest is (Ok (None, answer)) puts = All-nil (IsFree o)
+  planned-free latest is (Err refusal) puts = All-nil (IsFree o)
+
+  after-free : {A : Type 0} (plan : VersionedManifest → Plan A) → ((latest : VersionedManifest) → Recheckpoints latest (plan latest)) → (found : Option VersionedManifest) → latest_manifest o ≡ found → All (IsFree o) (planned_after plan found)
+  after-free plan puts None is = All-nil (IsFree o)
+  after-free plan puts (Some latest) is = planned-free latest is (plan latest) (puts latest)
+
+  -- what a plan puts isn't there already
+  pub none-stands : {A : Type 0} (plan : VersionedManifest → Plan A) → ((latest : VersionedManifest) → Recheckpoints latest (plan latest)) → Stands (checkpoint_changes plan o) o → ⊥
+  none-stands plan puts s =
+      let free = contained (IsFree o) (checkpoint_changes plan o) s.0 (after-free plan puts (latest_manifest o) refl) s.1 in
+      let present = s.2 in
+      absurd (cc (free, present))
+
   module _ (lifetime : Option ℕ) (moment : ℤ) where
-    plan-free : (latest : VersionedManifest) (b : Bool) → latest_manifest o ≡ Some latest → All (IsFree o) (planned (plan_by lifetime moment latest b))
-    plan-free latest true is =
-        let next = committing lifetime moment latest in
-        All-cons (IsFree o) (PutManifest next.id next.manifest) [] (manifest-free latest next.manifest is) (All-nil (IsFree o))
-    plan-free latest false is = All-nil (IsFree o)
-
-    commit-free : (found : Option VersionedManifest) → latest_manifest o ≡ found → All (IsFree o) (planned_after (to_write None lifetime moment) found)
-    commit-free None is = All-nil (IsFree o)
-    commit-free (Some latest) is = plan-free latest (nat_lt latest.id last_number) is
-
-    none-stands : Stands (commit_changes lifetime moment o) o → ⊥
-    none-stands s =
-        let free = contained (IsFree o) (commit_changes lifetime moment o) s.0 (commit-free (latest_manifest o) refl) s.1 in
-        let present = s.2 in
-        absurd (cc (free, present))
-
     cause-known : (e : SlateError) → CheckpointCause (Stands (commit_changes lifetime moment o) o) o e → CheckpointCause ⊥ (catalogue_of o) e
     cause-known errors.LatestTransactionalObjectVersionMissing c = c
     cause-known errors.InvalidDBState c = c
-    cause-known (errors.TransactionalObjectTimeout tries) c = absurd (none-stands c.1)
+    cause-known (errors.TransactionalObjectTimeout tries) c = absurd (none-stands (to_write None lifetime moment) (write-recheckpoints None lifetime moment) c.1)
     cause-known (errors.ObjectStoreError Unavailable) c = tt
     cause-known errors.NoMemory c = tt
     cause-known e c = absurd c
@@ -525,7 +562,7 @@ module _ (o : Objects) (sound : IsSound o) where
 pub checkpoints-reduced : (stored : Line) (made : ℕ) (lifetime : Option ℕ) (moment : ℤ) (r : Result Checkpoint SlateError) (o o' : Objects) (f f' : ℕ) → IsSound o → Checkpoints (by_objects (Some o)) made lifetime moment (holding o f) r (holding o' f') → Checkpoints (by_catalogue stored (catalogue_of o)) made lifetime moment (catalogued o f) r (catalogued o' f')
 checkpoints-reduced stored made lifetime moment r o o' f f' sound s =
     let d = modelled o o' s.objects in
-    let same = commit_changes-known lifetime moment o in
+    let same = checkpoint_changes-known (to_write None lifetime moment) o in
     record {
       faults = s.faults;
       objects = as_modelled (catalogue_of o) (catalogue_of o') (record {

@@ -387,19 +387,19 @@ module _ (stored : Line) (mode : DbReaderMode) (skips opening : Bool) (o : Objec
   owed-begins = subst (λ l. IsPrefix l stored) its-line its.begins
 
 -- that all log files are read of objects is known by their catalogue
-logs-known : (o : Objects) (f g : Follower) (answer : PollAnswer) → f.mark ≡ g.mark → HasAllLogs o f answer → HasAllLogs (catalogue_of o) g answer
+pub logs-known : (o : Objects) (f g : Follower) (answer : PollAnswer) → f.mark ≡ g.mark → HasAllLogs o f answer → HasAllLogs (catalogue_of o) g answer
 logs-known o f g (Whole at) same all = let last = last_log-catalogue 0 o in omega (arith, same, all, last)
 logs-known o f g (Truncated at) same all = tt
 
 -- what is seen of objects is seen of their catalogue
-sees-known : (stored : Line) (mode : DbReaderMode) (skips opening : Bool) (o : Objects) (b : Follower) (answer : PollAnswer) → IsSound o → content o ≡ stored → IsView mode opening o b.view → SeesOwed (by_objects (Some o)) mode skips o stored b answer →
-    SeesOwed (by_catalogue stored (catalogue_of o)) mode skips (catalogue_of o) stored (rebuilt mode skips b.view (owed_line mode skips o b.view stored) b.mark) answer
-sees-known stored mode skips opening o b answer sound is v all =
+pub sees-known : (stored : Line) (c : Catalogue) (t : Option Objects) (mode : DbReaderMode) (skips opening : Bool) (o : Objects) (b : Follower) (answer : PollAnswer) → IsSound o → content o ≡ stored → IsView mode opening o b.view → SeesOwed (by_objects t) mode skips o stored b answer →
+    SeesOwed (by_catalogue stored c) mode skips (catalogue_of o) stored (rebuilt mode skips b.view (owed_line mode skips o b.view stored) b.mark) answer
+sees-known stored c t mode skips opening o b answer sound is v all =
     let owed = owed_line mode skips o b.view stored in
-    let line = owed-is (Some o) o mode skips b.view stored all.0 all.1 in
+    let line = owed-is t o mode skips b.view stored all.0 all.1 in
     let mark : b.mark ≡ last_read mode skips b.view (catalogue_of o) = ap (λ (x : Follower). x.mark) all.2 ∙ sym (last_read-known mode skips b.view o) in (
       owed,
-      owed-known stored (catalogue_of o) (Some o) o mode skips opening b.view owed sound is v (subst (IsOwed (by_objects (Some o)) mode skips o b.view stored) line all.1),
+      owed-known stored c t o mode skips opening b.view owed sound is v (subst (IsOwed (by_objects t) mode skips o b.view stored) line all.1),
       ap (rebuilt mode skips b.view owed) mark,
       all.3 ∙ ap (λ l. Whole (end l)) line,
     )
@@ -412,13 +412,13 @@ module _ (stored : Line) (mode : DbReaderMode) (skips opening : Bool) (seen : Ob
       let v = s.can o refl in
       let k = by_catalogue stored (catalogue_of o) in
       let whole = rebuilt mode skips b.0.view (owed_line mode skips o b.0.view stored) b.0.mark in
-      let known = sees-known stored mode skips opening o b.0 b.1 sound is v all in
+      let known = sees-known stored (catalogue_of o) (Some o) mode skips opening o b.0 b.1 sound is v all in
       record {
         kept = kept-known o o' f f' s.kept;
         faults = record { count = s.faults.count; unavailable = λ no. absurd (cc) };
         missing = λ no. absurd (cc);
         cause = tt;
-        answer = (refl, refl, refl, inl (all.3 ∙ ap (λ l. Whole (end l)) (owed-is (Some o) o mode skips b.0.view stored all.0 all.1)));
+        answer = (refl, refl, refl, refl, inl (all.3 ∙ ap (λ l. Whole (end l)) (owed-is (Some o) o mode skips b.0.view stored all.0 all.1)));
         can = λ c at. subst (λ x. IsView mode opening x b.0.view) (some-same (catalogue_of o) c at) (view-known mode opening o b.0.view v);
         logs = λ c at free reads_logs. subst (λ x. HasAllLogs x whole b.1) (some-same (catalogue_of o) c at) (logs-known o b.0 whole b.1 refl (s.logs o refl free reads_logs));
         sees = λ c line at stored_is seen_before.

@@ -62,7 +62,7 @@ pub record Rebuilds {L : Type 0} (k : Knowledge L) (mode : DbReaderMode) (skips 
   pub faults : FaultsRise before.faults after.faults result
   pub missing : result ≡ Err (errors.ObjectStoreError NotFound) → is_pinned mode ≡ true
   pub cause : IfErr result (λ error. IfSome before.objects (λ o. FollowCause mode opening (k.unpinned mode o) o error))
-  pub answer : IfOk result (λ b. (b.0.mode ≡ mode) × (b.0.skips ≡ skips) × (b.0.result ≡ None) × AnswersAt (number b.0) b.1)
+  pub answer : IfOk result (λ b. (b.0.mode ≡ mode) × (b.0.skips ≡ skips) × (b.0.lease ≡ None) × (b.0.result ≡ None) × AnswersAt (number b.0) b.1)
   pub can : IfOk result (λ b. (o : ObjectsOf L) → before.objects ≡ Some o → IsView mode opening o b.0.view)
   pub logs : IfOk result (λ b. (o : ObjectsOf L) → before.objects ≡ Some o → is_pinned mode ≡ false → skips ≡ false → HasAllLogs o b.0 b.1)
   pub sees : IfOk result (λ b. (o : ObjectsOf L) (line : Line) → before.objects ≡ Some o → k.is_stored line → seen o line → SeesOwed k mode skips o line b.0 b.1)

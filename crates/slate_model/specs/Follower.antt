@@ -1,9 +1,10 @@
 -- What a follower sees, and what the code keeps of it.
-use Rattle.std.specs.Prelude.{ℕ, Bool, true, false, None}
+use Rattle.std.specs.Prelude.{ℕ, Bool, true, false, Option, None}
 use Rattle.slate_types.specs.Line.{Line, end}
 use Rattle.slate_store.specs.declared.objects.VersionedManifest.{VersionedManifest}
 use Rattle.slate_store.specs.declared.reader_modes.DbReaderMode.{DbReaderMode}
-use Rattle.slate_store.specs.declared.reader_modes.DbReaderMode.TheVariants.{Checkpoint}
+use Rattle.slate_store.specs.declared.reader_modes.DbReaderMode.TheVariants.{Checkpoint, ManagedCheckpoint}
+use Rattle.slate_model.specs.declared.leases.Lease.{Lease}
 use Rattle.slate_model.specs.Handle.{CloseResult, line_above}
 
 -- A reader that follows a database. What it sees begins the line that is stored.
@@ -13,6 +14,7 @@ pub record Follower : Type 0 where
   pub view : VersionedManifest  -- the manifest that it goes by
   pub line : Line  -- the batches that it sees
   pub mark : ℕ  -- up to this id it has what the log files have
+  pub lease : Option Lease  -- of the checkpoint that it keeps of its own, where it does
   pub result : CloseResult
 
 -- the number of the last batch that it sees
@@ -24,9 +26,14 @@ abbrev pub is_pinned : DbReaderMode → Bool
 is_pinned (Checkpoint id) = true
 is_pinned mode = false
 
--- the follower that goes by a manifest, sees this line, and has what the log files up to a mark have
+-- whether it keeps a checkpoint of its own
+abbrev pub is_managed : DbReaderMode → Bool
+is_managed ManagedCheckpoint = true
+is_managed mode = false
+
+-- the follower that goes by a manifest, sees this line, has what the log files up to a mark have, and keeps no checkpoint
 abbrev pub rebuilt : (mode : DbReaderMode) → (skips : Bool) → VersionedManifest → Line → ℕ → Follower
-rebuilt mode skips view line mark = record { mode = mode; skips = skips; view = view; line = line; mark = mark; result = None }
+rebuilt mode skips view line mark = record { mode = mode; skips = skips; view = view; line = line; mark = mark; lease = None; result = None }
 
 -- What the code keeps of a follower: of its line, the batches that aren't in the tables of its view.
 abbrev pub kept_follower : Follower → Follower

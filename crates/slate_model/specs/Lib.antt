@@ -8,7 +8,9 @@ pub mod Follower
 pub mod Handle
 pub mod Known
 pub mod Knowledge
+pub mod Lease
 pub mod Maintain
+pub mod Managed
 pub mod Object
 pub mod Open
 pub mod Read

@@ -3,9 +3,11 @@
 #![tactic(auto)]
 
 mod answers;
+mod leases;
 mod refusals;
 mod snapshots;
 
 pub use answers::{PollAnswer, Written};
+pub use leases::Lease;
 pub use refusals::error_of_refusal;
 pub use snapshots::HandleSnapshot;

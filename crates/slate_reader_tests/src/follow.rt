@@ -12,12 +12,12 @@ use slate_types::{
 use std::alloc::Global;
 use std::test::Fail;
 
-const NO_EXTRACTOR: Option<&FixedPrefix> = None;
+pub(crate) const NO_EXTRACTOR: Option<&FixedPrefix> = None;
 
-const NO_OPERATOR: Option<&ConcatOperator> = None;
+pub(crate) const NO_OPERATOR: Option<&ConcatOperator> = None;
 
 // The manifest of a database without tables.
-fn first_manifest(alloc: Global) -> Manifest {
+pub(crate) fn first_manifest(alloc: Global) -> Manifest {
     Manifest {
         writer_epoch: 1,
         initialized: true,
@@ -33,7 +33,7 @@ fn first_manifest(alloc: Global) -> Manifest {
 }
 
 // A database with these log files, without tables.
-fn database(alloc: Global, logs: Logs) -> Result<MemoryStore, Fail> {
+pub(crate) fn database(alloc: Global, logs: Logs) -> Result<MemoryStore, Fail> {
     let mut store = store_of(alloc, logs)?;
     store.put_manifest(alloc, 1, &first_manifest(alloc))?;
     Ok(store)
@@ -100,7 +100,7 @@ fn batch_of(alloc: Global, number: u64, keys: &[u8], value: &[u8]) -> Result<Bat
 }
 
 // Puts a log file of one such batch, whose number is its id.
-fn put_log(
+pub(crate) fn put_log(
     alloc: Global,
     store: &mut MemoryStore,
     number: u64,
@@ -266,7 +266,7 @@ fn polled(
 }
 
 // Puts the first two of those batches into a table, and sweeps their log files.
-fn flush_two(alloc: Global, store: &mut MemoryStore) -> Result<(), Fail> {
+pub(crate) fn flush_two(alloc: Global, store: &mut MemoryStore) -> Result<(), Fail> {
     let batches = [
         batch_of(alloc, 1, b"a", b"x")?,
         batch_of(alloc, 2, b"b", b"x")?,
@@ -349,7 +349,7 @@ fn is_closed<A: Drop>(answer: Result<A, SlateError>) -> bool {
 
 // Whether a reader that is closed answers so to a get, to a scan and to a poll.
 fn closes(alloc: Global, store: &mut MemoryStore, mut follower: FollowerState) -> [bool; 3] {
-    follower.close(store);
+    follower.close(alloc, store);
     let order = IterationOrder::Ascending;
     [
         is_closed(follower.get(alloc, store, b"a", NO_OPERATOR)),

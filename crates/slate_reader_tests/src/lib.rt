@@ -4,4 +4,6 @@
 #[cfg(test)]
 mod follow;
 #[cfg(test)]
+mod managed;
+#[cfg(test)]
 mod replay;

@@ -6,7 +6,7 @@ use Rattle.slate_types.specs.declared.options.CloseOptions.{CloseOptions}
 use Rattle.slate_types.specs.declared.options.FlushType.{FlushType}
 use Rattle.slate_types.specs.declared.options.FlushType.TheVariants.{Wal, MemTable}
 use Rattle.slate_store.specs.Checkpoints.{checkpoint_id}
-use Rattle.slate_store.specs.declared.reader_modes.DbReaderMode.TheVariants.{Checkpoint, FollowLatest}
+use Rattle.slate_store.specs.declared.reader_modes.DbReaderMode.TheVariants.{Checkpoint, FollowLatest, ManagedCheckpoint}
 use Rattle.slate_text.specs.Numbers.{number_of, moment_of}
 use Rattle.slate_script.specs.Lines.{fields_of}
 use Rattle.slate_script.specs.declared.commands.Action.{Action}
@@ -96,12 +96,22 @@ pinned_form (i ∷ fields) = do
   skip ← skip_of fields
   Some (actions.Follow (Checkpoint (checkpoint_id id)) None skip)
 
--- follow latest, follow latest skip, or one of the forms of a pinned reader
+-- follow managed LIFETIME INTERVAL, follow managed LIFETIME INTERVAL skip: of a checkpoint of its own, in milliseconds
+abbrev pub managed_form : List (List ℕ) → Option Action
+managed_form (l ∷ i ∷ fields) = do
+  lifetime ← number_of l
+  interval ← number_of i
+  skip ← skip_of fields
+  Some (actions.Follow ManagedCheckpoint (Some (lifetime, interval)) skip)
+managed_form fields = None
+
+-- follow latest, follow latest skip, or one of the forms of a pinned reader and of one that keeps a checkpoint of its own
 abbrev pub follow_form : List (List ℕ) → Option Action
 follow_form [] = None
 follow_form (m ∷ fields) =
     if bytes_eq m (codes "latest") then option_map (λ skip. actions.Follow FollowLatest None skip) (skip_of fields)
-    else (if bytes_eq m (codes "pinned") then pinned_form fields else None)
+    else (if bytes_eq m (codes "pinned") then pinned_form fields
+    else (if bytes_eq m (codes "managed") then managed_form fields else None))
 
 -- the command of a name and the fields behind it, where that follows, polls, or asks for a write, a status, a time or a number
 abbrev pub reader_of : List ℕ → List (List ℕ) → Option Action

@@ -1,5 +1,4 @@
 pub mod Lines
-pub mod Built
 pub mod Values
 pub mod Writes
 pub mod Queries

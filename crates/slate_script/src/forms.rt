@@ -1,9 +1,8 @@
 // Reading a script line as the command that its fields spell.
 ghost use Rattle.std.specs.Prelude.{◌≡◌, IfOk, IfSome};
-ghost use Rattle.slate_script.specs.Built.{IsBuilt};
 ghost use Rattle.slate_script.specs.declared.commands.Command.{Command};
 ghost use Rattle.slate_script.specs.Forms.{wal_of, open_form, flush_type_of, flush_form, one_number, checkpoint_form, sweep_form, close_options_of, close_form};
-ghost use Rattle.slate_script.specs.Forms.{skip_of, pinned_form, follow_form, reader_of, other_of, action_of, command_of, line_of};
+ghost use Rattle.slate_script.specs.Forms.{skip_of, pinned_form, managed_form, follow_form, reader_of, other_of, action_of, command_of, line_of};
 
 use crate::fields::cut_fields;
 use crate::lookups::read_lookup;
@@ -32,7 +31,6 @@ fn read_wal(word: &[u8]) -> Option<bool>
 
 fn read_open(fields: &[Bytes]) -> Option<Action>
     ensures form { result ≡ open_form fields.now }
-    ensures built { IfSome result IsBuilt }
 {
     match fields {
         [] => Some(Action::Open { wal: true }),
@@ -59,7 +57,6 @@ fn read_flush_type(word: &[u8]) -> Option<FlushType>
 
 fn read_flush(fields: &[Bytes]) -> Option<Action>
     ensures form { result ≡ flush_form fields.now }
-    ensures built { IfSome result IsBuilt }
 {
     match fields {
         [handle] => {
@@ -93,7 +90,6 @@ fn read_one_number(fields: &[Bytes]) -> Option<u64>
 
 fn read_checkpoint(fields: &[Bytes]) -> Option<Action>
     ensures form { result ≡ checkpoint_form fields.now }
-    ensures built { IfSome result IsBuilt }
 {
     match fields {
         [] => Some(Action::Checkpoint { lifetime: None }),
@@ -109,7 +105,6 @@ fn read_checkpoint(fields: &[Bytes]) -> Option<Action>
 
 fn read_sweep(fields: &[Bytes]) -> Option<Action>
     ensures form { result ≡ sweep_form fields.now }
-    ensures built { IfSome result IsBuilt }
 {
     if fields.is_empty() {
         Some(Action::Sweep)
@@ -133,7 +128,6 @@ fn read_close_options(word: &[u8]) -> Option<CloseOptions>
 
 fn read_close(fields: &[Bytes]) -> Option<Action>
     ensures form { result ≡ close_form fields.now }
-    ensures built { IfSome result IsBuilt }
 {
     match fields {
         [object] => {
@@ -170,7 +164,6 @@ fn read_skip(fields: &[Bytes]) -> Option<bool>
 /// manifest's.
 fn read_pinned(fields: &[Bytes]) -> Option<Action>
     ensures form { result ≡ pinned_form fields.now }
-    ensures built { IfSome result IsBuilt }
 {
     let [id, behind @ ..] = fields else {
         return None;
@@ -184,9 +177,25 @@ fn read_pinned(fields: &[Bytes]) -> Option<Action>
     })
 }
 
+/// A reader that keeps a checkpoint of its own: its lifetime and the interval of its polls, in milliseconds.
+fn read_managed(fields: &[Bytes]) -> Option<Action>
+    ensures { result ≡ managed_form fields.now }
+{
+    let [lifetime, interval, behind @ ..] = fields else {
+        return None;
+    };
+    let lifetime = read_number(lifetime.as_slice())?;
+    let interval = read_number(interval.as_slice())?;
+    let skip = read_skip(behind)?;
+    Some(Action::Follow {
+        mode: DbReaderMode::ManagedCheckpoint,
+        managed: Some((lifetime, interval)),
+        skip,
+    })
+}
+
 fn read_follow(fields: &[Bytes]) -> Option<Action>
     ensures form { result ≡ follow_form fields.now }
-    ensures built { IfSome result IsBuilt }
 {
     let [mode, behind @ ..] = fields else {
         return None;
@@ -200,6 +209,8 @@ fn read_follow(fields: &[Bytes]) -> Option<Action>
         })
     } else if mode.as_slice() == b"pinned".as_slice() {
         read_pinned(behind)
+    } else if mode.as_slice() == b"managed".as_slice() {
+        read_managed(behind)
     } else {
         None
     }
@@ -209,7 +220,6 @@ fn read_follow(fields: &[Bytes]) -> Option<Action>
 // number.
 fn read_reader(name: &[u8], fields: &[Bytes]) -> Option<Action>
     ensures form { result ≡ reader_of name.now fields.now }
-    ensures built { IfSome result IsBuilt }
 {
     if name == b"follow".as_slice() {
         read_follow(fields)
@@ -230,7 +240,6 @@ fn read_reader(name: &[u8], fields: &[Bytes]) -> Option<Action>
 // The command of a name and the fields behind it, where that neither writes nor reads keys.
 fn read_other(name: &[u8], fields: &[Bytes]) -> Option<Action>
     ensures form { result ≡ other_of name.now fields.now }
-    ensures built { IfSome result IsBuilt }
 {
     if name == b"open".as_slice() {
         read_open(fields)
@@ -259,7 +268,6 @@ fn read_other(name: &[u8], fields: &[Bytes]) -> Option<Action>
 // The action that a name and the fields after it spell.
 fn read_action(alloc: Global, name: &[u8], fields: &[Bytes]) -> Result<Option<Action>, NoMemory>
     ensures form { IfOk result (λ action. action ≡ action_of name.now fields.now) }
-    ensures built { IfOk result (λ action. IfSome action IsBuilt) }
 {
     if let Some(write) = read_write(alloc, name, fields)? {
         return Ok(Some(write));
@@ -272,7 +280,6 @@ fn read_action(alloc: Global, name: &[u8], fields: &[Bytes]) -> Result<Option<Ac
 
 fn read_command(alloc: Global, fields: &[Bytes]) -> Result<Option<Command>, NoMemory>
     ensures form { IfOk result (λ command. command ≡ command_of fields.now) }
-    ensures built { IfOk result (λ command. IfSome command (λ c. IsBuilt c.action)) }
 {
     let [moment, name, fields @ ..] = fields else {
         return Ok(None);
@@ -293,7 +300,6 @@ fn read_command(alloc: Global, fields: &[Bytes]) -> Result<Option<Command>, NoMe
 /// What `read_line` answers of the same bytes. Keys and values share the line's storage.
 pub(crate) fn read_shared_line(alloc: Global, line: Bytes) -> Result<LineAnswer, NoMemory>
     ensures line { IfOk result (λ answer. answer ≡ line_of line) }
-    ensures built { (command : Command) → result ≡ Ok (LineAnswer.Command command) → IsBuilt command.action }
 {
     match line.as_slice() {
         [] | [b'#', ..] => return Ok(LineAnswer::Blank),

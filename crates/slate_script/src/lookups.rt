@@ -1,6 +1,5 @@
 // Reading the lines of commands that ask when a batch was written, and which one was written at a time.
 ghost use Rattle.std.specs.Prelude.{◌≡◌, IfSome};
-ghost use Rattle.slate_script.specs.Built.{IsBuilt};
 ghost use Rattle.slate_script.specs.Lookups.{find_of, ts_form, seq_form, lookup_of};
 
 use crate::Action;
@@ -23,7 +22,6 @@ fn read_find(word: &[u8]) -> Option<FindOption>
 
 fn read_ts(fields: &[Bytes]) -> Option<Action>
     ensures form { result ≡ ts_form fields.now }
-    ensures built { IfSome result IsBuilt }
 {
     let [handle, number, find] = fields else {
         return None;
@@ -40,7 +38,6 @@ fn read_ts(fields: &[Bytes]) -> Option<Action>
 
 fn read_seq(fields: &[Bytes]) -> Option<Action>
     ensures form { result ≡ seq_form fields.now }
-    ensures built { IfSome result IsBuilt }
 {
     let [handle, seconds, find] = fields else {
         return None;
@@ -58,7 +55,6 @@ fn read_seq(fields: &[Bytes]) -> Option<Action>
 /// The command of a name and the fields behind it, where that asks for the time of a number or the number at a time.
 pub(crate) fn read_lookup(name: &[u8], fields: &[Bytes]) -> Option<Action>
     ensures form { result ≡ lookup_of name.now fields.now }
-    ensures built { IfSome result IsBuilt }
 {
     if name == b"ts".as_slice() {
         read_ts(fields)

@@ -1,6 +1,5 @@
 // Reading the lines of commands that read rows.
 ghost use Rattle.std.specs.Prelude.{◌≡◌, IfOk, IfSome};
-ghost use Rattle.slate_script.specs.Built.{IsBuilt};
 ghost use Rattle.slate_script.specs.Queries.{get_form, scan_form, seek_form, query_of};
 
 use crate::Action;
@@ -12,7 +11,6 @@ use std::alloc::Global;
 
 fn read_get(alloc: Global, fields: &[Bytes]) -> Result<Option<Action>, NoMemory>
     ensures form { IfOk result (λ action. action ≡ get_form fields.now) }
-    ensures built { IfOk result (λ action. IfSome action IsBuilt) }
 {
     let [object, key, behind @ ..] = fields else {
         return Ok(None);
@@ -35,7 +33,6 @@ fn read_get(alloc: Global, fields: &[Bytes]) -> Result<Option<Action>, NoMemory>
 
 fn read_scan(alloc: Global, fields: &[Bytes]) -> Result<Option<Action>, NoMemory>
     ensures form { IfOk result (λ action. action ≡ scan_form fields.now) }
-    ensures built { IfOk result (λ action. IfSome action IsBuilt) }
 {
     let [object, low, high, behind @ ..] = fields else {
         return Ok(None);
@@ -60,7 +57,6 @@ fn read_scan(alloc: Global, fields: &[Bytes]) -> Result<Option<Action>, NoMemory
 
 fn read_seek(alloc: Global, fields: &[Bytes]) -> Result<Option<Action>, NoMemory>
     ensures form { IfOk result (λ action. action ≡ seek_form fields.now) }
-    ensures built { IfOk result (λ action. IfSome action IsBuilt) }
 {
     let [object, low, high, take, key, behind @ ..] = fields else {
         return Ok(None);
@@ -98,7 +94,6 @@ pub(crate) fn read_query(
     fields: &[Bytes],
 ) -> Result<Option<Action>, NoMemory>
     ensures form { IfOk result (λ action. action ≡ query_of name.now fields.now) }
-    ensures built { IfOk result (λ action. IfSome action IsBuilt) }
 {
     if name == b"get".as_slice() {
         read_get(alloc, fields)

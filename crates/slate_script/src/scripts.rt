@@ -1,6 +1,5 @@
 // Reading the commands of a whole script.
 ghost use Rattle.std.specs.Prelude.{◌≡◌, All, IfOk};
-ghost use Rattle.slate_script.specs.Built.{IsBuilt};
 ghost use Rattle.slate_script.specs.Scripts.{Reads, script_of};
 
 use crate::fields::take_line;
@@ -17,7 +16,6 @@ pub const MAX_SCRIPT: usize = 67_108_864;
 /// script.
 pub fn read_script(alloc: Global, bytes: &[u8]) -> Result<Vec<Command>, ScriptFault>
     ensures reads { Reads result (script_of bytes.now) }
-    ensures built { IfOk result (λ commands. All (λ command. IsBuilt command.action) commands.items) }
 {
     let mut rest = Bytes::copy_from_slice(alloc, bytes)?;
     let mut commands = Vec::new(alloc);

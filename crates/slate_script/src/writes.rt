@@ -2,7 +2,6 @@
 ghost use Rattle.std.specs.Prelude.{◌≡◌, IfOk, IfSome};
 ghost use Rattle.std.specs.Option.{option_map};
 ghost use Rattle.std.specs.List.{position};
-ghost use Rattle.slate_script.specs.Built.{IsBuilt};
 ghost use Rattle.slate_script.specs.Writes.{put_of, merge_of, delete_of, operation_of, write_action, single_form};
 ghost use Rattle.slate_script.specs.Writes.{is_merge, is_separator, pieces_of, piece_of, operations_of, written, batch_form, write_of};
 
@@ -89,7 +88,6 @@ fn read_operation(alloc: Global, name: &[u8], fields: &[Bytes]) -> Result<Option
 // The command that writes one operation.
 fn write_action(handle: u64, key_op: KeyOp) -> Action
     ensures action { result ≡ write_action handle key_op }
-    ensures built { IsBuilt result }
 {
     let KeyOp { key, op } = key_op;
     match op {
@@ -111,7 +109,6 @@ fn write_action(handle: u64, key_op: KeyOp) -> Action
 
 fn read_single(alloc: Global, name: &[u8], fields: &[Bytes]) -> Result<Option<Action>, NoMemory>
     ensures form { IfOk result (λ action. action ≡ single_form name.now fields.now) }
-    ensures built { IfOk result (λ action. IfSome action IsBuilt) }
 {
     let [handle, fields @ ..] = fields else {
         return Ok(None);
@@ -204,7 +201,6 @@ fn without_removed(alloc: Global, mut ops: Vec<KeyOp>) -> Result<Vec<KeyOp>, NoM
 
 fn read_batch(alloc: Global, fields: &[Bytes]) -> Result<Option<Action>, NoMemory>
     ensures form { IfOk result (λ action. action ≡ batch_form fields.now) }
-    ensures built { IfOk result (λ action. IfSome action IsBuilt) }
 {
     let [handle, fields @ ..] = fields else {
         return Ok(None);
@@ -228,7 +224,6 @@ pub(crate) fn read_write(
     fields: &[Bytes],
 ) -> Result<Option<Action>, NoMemory>
     ensures form { IfOk result (λ action. action ≡ write_of name.now fields.now) }
-    ensures built { IfOk result (λ action. IfSome action IsBuilt) }
 {
     if name == b"batch".as_slice() {
         read_batch(alloc, fields)

@@ -1,6 +1,4 @@
 // Tests of sessions over failing streams, and of commands that are done one by one.
-ghost use Rattle.std.specs.Prelude.{IfOk};
-ghost use Rattle.slate_script.specs.Built.{IsBuilt};
 
 use crate::store::{Left, left_in};
 use crate::streams::{sink, source};
@@ -61,9 +59,7 @@ fn apply_one(
     text: &mut Vec<u8>,
     moment: i64,
     action: Action,
-) -> Result<(), NoMemory>
-    requires { IsBuilt action }
-{
+) -> Result<(), NoMemory> {
     let operator = Some(&ConcatOperator);
     let extractor: Option<&FixedPrefix> = None;
     let command = Command {
@@ -75,9 +71,7 @@ fn apply_one(
     print_replies(text, &[reply])
 }
 
-fn put(alloc: Global, value: &[u8]) -> Result<Action, NoMemory>
-    ensures { IfOk result IsBuilt }
-{
+fn put(alloc: Global, value: &[u8]) -> Result<Action, NoMemory> {
     Ok(Action::Put {
         handle: 0,
         key: Bytes::copy_from_slice(alloc, b"a")?,
@@ -86,9 +80,7 @@ fn put(alloc: Global, value: &[u8]) -> Result<Action, NoMemory>
     })
 }
 
-fn get(alloc: Global) -> Result<Action, NoMemory>
-    ensures { IfOk result IsBuilt }
-{
+fn get(alloc: Global) -> Result<Action, NoMemory> {
     Ok(Action::Get {
         object: 0,
         key: Bytes::copy_from_slice(alloc, b"a")?,

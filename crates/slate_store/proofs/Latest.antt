@@ -30,7 +30,7 @@ pub last-cons : {X : Type 0} (x y : X) (xs : List X) → last (x ∷ y ∷ xs) �
 last-cons x y xs = rw (sub-one, sub-one) refl
 
 -- the last of rising ids is the greatest
-rising-last : {X : Type 0} (e : ℕ × X) (es : List (ℕ × X)) → AreRising (map (λ e. e.0) es) → last es ≡ Some e → AllByRecursion (λ id. id ≤ e.0) (map (λ e. e.0) es)
+pub rising-last : {X : Type 0} (e : ℕ × X) (es : List (ℕ × X)) → AreRising (map (λ e. e.0) es) → last es ≡ Some e → AllByRecursion (λ id. id ≤ e.0) (map (λ e. e.0) es)
 rising-last e [] rising is = absurd (cc)
 rising-last {X} e (x ∷ []) rising is =
     let same : x ≡ e = cc in

@@ -12,6 +12,7 @@ pub mod Committed
 pub mod Logged
 pub mod Spared
 pub mod Removed
+pub mod Carried
 pub mod Parts
 pub mod Making
 pub mod Listed

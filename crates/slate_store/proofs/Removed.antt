@@ -36,7 +36,7 @@ last-more x e [] is = absurd (cc)
 last-more x e (y ∷ xs) is = last-cons x y xs ∙ is
 
 -- a filter that keeps the last element leaves it last
-last-filter : {X : Type 0} (test : X → Bool) (e : X) (xs : List X) → last xs ≡ Some e → test e ≡ true → last (filter test xs) ≡ Some e
+pub last-filter : {X : Type 0} (test : X → Bool) (e : X) (xs : List X) → last xs ≡ Some e → test e ≡ true → last (filter test xs) ≡ Some e
 last-filter test e [] is passes = absurd (cc)
 last-filter test e (x ∷ []) is passes =
     let same : x ≡ e = cc in

@@ -51,4 +51,4 @@ returns-clause-does g c merge lawful =
 pub returns-clause-leads : goal.returns-clause-leads
 returns-clause-leads g c merge lawful before is sound =
     let prev = c.loop-command.invariant.leads merge lawful before is sound in
-    leads_all (record { merge = merge; options = c.args.options.now }) c.args.commands.now c.loop-command.command-index c.loop-command.replies.items before _ c.loop-command.live _ prev.0 c.loop-command-test.false prev.1 prev.2
+    leads_all (record { merge = merge; options = c.args.options.now }) c.args.commands.now c.loop-command.command-index c.loop-command.replies.items before _ c.loop-command.live _ prev.0 sound c.loop-command-test.false prev.1 prev.2

@@ -1,7 +1,4 @@
-use Rattle.std.proofs.Common.{◌+◌, [], ◌∷◌, Ok, ap, sym, ◌∙◌, arith}
-use Rattle.std.proofs.lemmas.List.Elements.{All-append, All-from_recursion}
-use Rattle.slate_script.specs.Built.{IsBuilt}
-use Rattle.slate_script.specs.declared.commands.Command.{Command}
+use Rattle.std.proofs.Common.{◌+◌, sym, ◌∙◌, arith}
 use Rattle.slate_script.specs.Lines.{lines_of}
 use Rattle.slate_script.proofs.ScriptLemmas.{command_taken}
 use Rattle.slate_script.proofs.scripts.read_script.Goals as goal
@@ -9,6 +6,5 @@ use Rattle.slate_script.proofs.scripts.read_script.Goals as goal
 pub loop-alloc-preserved : goal.loop-alloc-preserved
 loop-alloc-preserved c = record {
   commands = command_taken c.loop-alloc.commands.items c.push.new.self.items (c.loop-alloc.number + 1) c.in_ok-line.line (lines_of c.loop-alloc.rest) (lines_of c.take_line.new.rest) c.in-Command.command _ c.in_ok-line.ensures.line (sym c.in_ok-read_shared_line.ensures.line ∙ c.in-Command.is) c.in_ok-push-in-Command.ensures.items c.loop-alloc.invariant.commands;
-  built = rw c.in_ok-push-in-Command.ensures.items (All-append (λ (command : Command). IsBuilt command.action) c.loop-alloc.commands.items (c.in-Command.command ∷ []) c.loop-alloc.invariant.built (All-from_recursion (λ (command : Command). IsBuilt command.action) (c.in-Command.command ∷ []) (c.in_ok-read_shared_line.ensures.built c.in-Command.command (ap (λ a. Ok a) c.in-Command.is), tt)));
   lines = omega (arith, c.in_ok-line.ensures.shorter, c.loop-alloc.invariant.lines);
 }

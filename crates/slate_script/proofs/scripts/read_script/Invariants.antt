@@ -1,7 +1,5 @@
 -- the commands so far and those of the rest are those of the script
-use Rattle.std.proofs.Common.{◌≡◌, ◌+◌, ◌≤◌, length, All}
-use Rattle.slate_script.specs.Built.{IsBuilt}
-use Rattle.slate_script.specs.declared.commands.Command.{Command}
+use Rattle.std.proofs.Common.{◌≡◌, ◌+◌, ◌≤◌, length}
 use Rattle.slate_script.specs.Lines.{lines_of}
 use Rattle.slate_script.specs.Scripts.{with_commands, commands_from, script_of}
 use Rattle.slate_script.proofs.scripts.read_script.Given as goal
@@ -9,7 +7,6 @@ use Rattle.slate_script.proofs.scripts.read_script.Given as goal
 abbrev pub invariant-loop-alloc : goal.invariant-loop-alloc
 invariant-loop-alloc l = record {
   commands : with_commands l.commands.items (commands_from (l.number + 1) (lines_of l.rest)) ≡ script_of l.bytes;
-  built : All (λ (command : Command). IsBuilt command.action) l.commands.items;
   lines : l.number + length l.rest ≤ length l.bytes;
 }
 

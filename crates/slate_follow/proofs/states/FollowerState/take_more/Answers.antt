@@ -32,4 +32,5 @@ invariant_of-self-2 c =
       fits = omega (arith, ends, lengths, fits);
       number = omega (arith, at, ends, lengths, count);
       unsegmented = i.unsegmented;
+      leased = i.leased;
     })

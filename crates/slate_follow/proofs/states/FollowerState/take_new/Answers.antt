@@ -1,4 +1,4 @@
-use Rattle.std.proofs.Common.{rules, ◌≡◌, Ok, false, subst, inl, inr}
+use Rattle.std.proofs.Common.{rules, ◌≡◌, ◌∙◌, Ok, false, ap, subst, sym, inl, inr}
 use Rattle.std.specs.Option.{IfSome}
 use Rattle.slate_model.specs.Follower.{Follower}
 use Rattle.slate_follow.specs.Rebuilding.{Builds, FindsView}
@@ -32,7 +32,7 @@ returns-clause-rebuilds g c =
     let old = c.args.self.now in
     let found = subst (λ (f : Follower). IfSome (g.S.Store.objects c.args.store.now) (λ o. FindsView f.mode f.skips false o (Ok (v.view, v.last)))) c.self.view_is v.ensures.where_modelled in
     let built = subst (λ (f : Follower). IfSome (g.S.Store.objects c.find_view.new.store) (λ o. Builds o f.mode f.skips v.view v.last b.rebuilt b.answer)) c.self.view_is b.ensures.built in
-    rw (c.in_ok-take.ensures.ok c.requires.open_)
+    rw (c.in_ok-take.ensures.ok c.requires.open_ ∙ ap (λ l. record b.rebuilt { lease = l }) (c.requires.unleased ∙ sym b.ensures.answer.0))
     (record {
       kept = search rules;
       faults = search rules;
@@ -60,5 +60,5 @@ returns-clause-replays g c =
     let old = c.args.self.now in
     let found = subst (λ (f : Follower). IfSome (g.S.Store.objects c.args.store.now) (λ o. FindsView f.mode f.skips false o (Ok (v.view, v.last)))) c.self.view_is v.ensures.where_modelled in
     let built = subst (λ (f : Follower). IfSome (g.S.Store.objects c.find_view.new.store) (λ o. Builds o f.mode f.skips v.view v.last b.rebuilt b.answer)) c.self.view_is b.ensures.built in
-    rw (c.in_ok-take.ensures.ok c.requires.open_)
+    rw (c.in_ok-take.ensures.ok c.requires.open_ ∙ ap (λ l. record b.rebuilt { lease = l }) (c.requires.unleased ∙ sym b.ensures.answer.0))
     (if_some _ (λ o at. inl (built-view old.mode old.skips false v.view v.last b.rebuilt b.answer v.ensures.kept found built o at)))

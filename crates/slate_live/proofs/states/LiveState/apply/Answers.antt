@@ -1,17 +1,27 @@
-use Rattle.std.proofs.Common.{rules, ◌≡◌, Option, refl, subst, ap, w64, to_z, of_z}
+use Rattle.std.proofs.Common.{rules, ◌≡◌, ℕ, ℤ, Bool, Option, refl, subst, ap, w64, to_z, of_z}
 use Rattle.slate_types.specs.Operator.{Merge}
 use Rattle.slate_script.specs.declared.options.Options.{Options}
 use Rattle.slate_live.specs.Calls.{NewHandle, NewSnapshot, NewFollower, NewCheckpoint, WholeStore, OfWrite, OfObject, target_of}
 use Rattle.slate_model.specs.Known.{known}
 use Rattle.slate_model.specs.Stores.{by_objects}
+use Rattle.slate_store.specs.declared.reader_modes.DbReaderMode.{DbReaderMode}
+use Rattle.slate_model.specs.Knowledge.{Knowledge}
+use Rattle.slate_script.specs.declared.replies.Reply.{Reply}
+use Rattle.slate_live.specs.Commands.{OpensFollowerIn}
 use Rattle.slate_live.specs.Maintenance.{CommitsTo, SweepsTo}
 use Rattle.slate_live.specs.Settings.{Settings}
-use Rattle.slate_live.specs.State.{running}
+use Rattle.slate_live.specs.State.{State, running}
 use Rattle.slate_live.proofs.Linking.{does-at, linked, names-object}
 use Rattle.slate_live.proofs.states.LiveState.apply.Goals as goal
 
 abbrev with_merge : Option Merge → Options → Settings
 with_merge merge options = record { merge = merge; options = options }
+
+-- an opening of a reader with the moment and the skipping that a command has
+opens_as : {L : Type 0} (k : Knowledge L) (s : Settings) (mode : DbReaderMode) (managed : Option (ℕ × ℕ)) (made : ℕ) (before : State L) (reply : Reply) (after : State L) (moment moment' : ℤ) (skips skips' : Bool) → moment ≡ moment' → skips ≡ skips' →
+    OpensFollowerIn k s mode managed skips moment made before reply after → OpensFollowerIn k s mode managed skips' moment' made before reply after
+opens_as k s mode managed made before reply after moment moment' skips skips' at same opens =
+    subst (λ m. OpensFollowerIn k s mode managed skips' m made before reply after) at (subst (λ x. OpensFollowerIn k s mode managed x moment made before reply after) same opens)
 
 pub returns-in-Open-clause-does : goal.returns-in-Open-clause-does
 returns-in-Open-clause-does g c merge lawful =
@@ -33,19 +43,26 @@ returns-in-Open-clause-link g c merge lawful =
 
 pub returns-in-Follow-clause-does : goal.returns-in-Follow-clause-does
 returns-in-Follow-clause-does g c merge lawful =
+    let o = c.reader_options-options.ensures in
+    let d = c.follow.ensures.does merge c.in-Follow.managed o.lifetime o.interval in
     let s = with_merge merge c.args.self.now.options in
     let k = by_objects (g.S.Store.objects c.args.store.now) in
-    let store = known g.S.Store.objects g.S.Store.faults c.args.store.now in
-    let store' = known g.S.Store.objects g.S.Store.faults c.follow.new.store in
-    (0, does-at k s c.args.command.now 0 (running c.args.self.now store) c.follow.result (running c.follow.new.self store') (NewFollower c.in-Follow.mode c.in-Follow.skip) (ap target_of c.in-Follow.is) (c.follow.ensures.does merge))
+    let before = running c.args.self.now (known g.S.Store.objects g.S.Store.faults c.args.store.now) in
+    let after = running c.follow.new.self (known g.S.Store.objects g.S.Store.faults c.follow.new.store) in
+    let did = opens_as k s c.in-Follow.mode c.in-Follow.managed d.0 before c.follow.result after _ _ _ _ (search rules) o.skips d.1 in
+    (d.0, does-at k s c.args.command.now d.0 before c.follow.result after (NewFollower c.in-Follow.mode c.in-Follow.managed c.in-Follow.skip) (ap target_of c.in-Follow.is) did)
 
 pub returns-in-Follow-clause-link : goal.returns-in-Follow-clause-link
 returns-in-Follow-clause-link g c merge lawful =
+    let o = c.reader_options-options.ensures in
+    let d = c.follow.ensures.does merge c.in-Follow.managed o.lifetime o.interval in
     let s = with_merge merge c.args.self.now.options in
     let k = by_objects (g.S.Store.objects c.args.store.now) in
     let store = known g.S.Store.objects g.S.Store.faults c.args.store.now in
     let store' = known g.S.Store.objects g.S.Store.faults c.follow.new.store in
-    linked s c.args.command.now c.args.self.now c.follow.new.self store store' 0 c.follow.result (does-at k s c.args.command.now 0 (running c.args.self.now store) c.follow.result (running c.follow.new.self store') (NewFollower c.in-Follow.mode c.in-Follow.skip) (ap target_of c.in-Follow.is) (c.follow.ensures.does merge))
+    let did = opens_as k s c.in-Follow.mode c.in-Follow.managed d.0 (running c.args.self.now store) c.follow.result (running c.follow.new.self store') _ _ _ _ (search rules) o.skips d.1 in
+    linked s c.args.command.now c.args.self.now c.follow.new.self store store' d.0 c.follow.result
+    (does-at k s c.args.command.now d.0 (running c.args.self.now store) c.follow.result (running c.follow.new.self store') (NewFollower c.in-Follow.mode c.in-Follow.managed c.in-Follow.skip) (ap target_of c.in-Follow.is) did)
 
 pub returns-in-Checkpoint-clause-does : goal.returns-in-Checkpoint-clause-does
 returns-in-Checkpoint-clause-does g c merge lawful =

@@ -1,0 +1,127 @@
+-- What a reader sees that takes what is new, and stays at the manifest that it goes by.
+use Rattle.std.proofs.Common.{◌≡◌, ℕ, ◌+◌, List, [], ◌++◌, Option, Some, Bool, true, false, Ok, refl, sym, ap, subst, ◌∙◌, arith}
+use Rattle.std.proofs.Math.Bool.{or-true}
+use Rattle.std.proofs.lemmas.Bool.{and_parts, eqb-true, not-false}
+use Rattle.slate_types.specs.Line.{batches_above}
+use Rattle.slate_types.specs.declared.batches.Batch.{Batch}
+use Rattle.slate_store.proofs.Logs.{between-none}
+use Rattle.slate_store.specs.Content.{IsSound, content}
+use Rattle.slate_store.specs.Logs.{HaveNoGap}
+use Rattle.slate_store.specs.Objects.{Objects, latest_manifest}
+use Rattle.slate_store.specs.declared.objects.VersionedManifest.{VersionedManifest}
+use Rattle.slate_store.specs.declared.reader_modes.DbReaderMode.{DbReaderMode}
+use Rattle.slate_store.specs.declared.reader_modes.DbReaderMode.TheVariants.{ManagedCheckpoint}
+use Rattle.slate_replay.specs.Replay.{Replays, line_of}
+use Rattle.slate_replay.specs.declared.replays.Replayed.{Replayed}
+use Rattle.slate_replay.specs.declared.replays.Replayed.TheVariants.{Whole}
+use Rattle.slate_model.proofs.Reduced.{some-same}
+use Rattle.slate_model.specs.Follow.{HasAllLogs, SeesOwed}
+use Rattle.slate_model.specs.Followed.{IsView, last_read}
+use Rattle.slate_model.specs.Follower.{Follower, is_pinned, number, rebuilt}
+use Rattle.slate_model.specs.Lease.{differs}
+use Rattle.slate_model.specs.Managed.{SeesLatest, follower_under}
+use Rattle.slate_model.specs.Stores.{by_objects, kept_seen}
+use Rattle.slate_model.specs.declared.answers.PollAnswer.{PollAnswer}
+use Rattle.slate_model.specs.declared.leases.Lease.{Lease}
+use Rattle.slate_follow.specs.Keeping.{IsNews, informed}
+use Rattle.slate_follow.specs.Rebuilding.{Builds, GoesOn, Reaches, answer_of, followed}
+use Rattle.slate_follow.proofs.Continued.{goes-sees}
+use Rattle.slate_follow.proofs.Leased.{has-on, sees-on}
+use Rattle.slate_follow.proofs.Rebuilt.{builds-sees, has-all}
+
+-- a manifest that doesn't differ from a view ends its tables where the view does
+pub tabled-same : (view latest : VersionedManifest) → differs view latest ≡ false → view.manifest.last_l0_seq ≡ latest.manifest.last_l0_seq
+tabled-same view latest same =
+    let all = not-false _ same in
+    eqb-true view.manifest.last_l0_seq latest.manifest.last_l0_seq ((and_parts _ _ ((and_parts _ _ all).0)).1)
+
+-- nothing is replayed above a mark up to it
+nothing-replayed : (n floor : ℕ) (o : Objects) → Replays n n floor [] [] o (Ok Whole)
+nothing-replayed n floor o = record {
+  begins = λ line front belong. front;
+  ends = record { stored = λ id over within none. absurd (omega (arith, over, within)); no_gap = subst (λ bs. HaveNoGap (floor + 0) (floor + 0) bs) (sym (between-none n n o (omega arith))) refl };
+}
+
+module _ (o : Objects) (latest : VersionedManifest) (is : latest_manifest o ≡ Some latest) (old : Follower) (managed : old.mode ≡ ManagedCheckpoint) (same : differs old.view latest ≡ false)
+    (floor : old.line.floor ≡ old.view.manifest.last_l0_seq) (added : List Batch) (found : Replayed) (mark : ℕ) (lease : Option Lease) (new : Follower) (answer : PollAnswer) (answers : answer ≡ answer_of found (number new)) where
+  tabled : old.view.manifest.last_l0_seq ≡ latest.manifest.last_l0_seq
+  tabled = tabled-same old.view latest same
+
+  free : is_pinned old.mode ≡ false
+  free = ap is_pinned managed
+
+  can : (mode : DbReaderMode) → mode ≡ ManagedCheckpoint → IsView mode false o latest
+  can mode is_managed = subst (λ m. IsView m false o latest) (sym is_managed) (latest, is, or-true latest.manifest.initialized, refl)
+
+  reaches : Reaches old latest
+  reaches = let e = tabled in (omega (arith, e), omega (arith, e, floor))
+
+  -- one that skips log files has the tables alone
+  module _ (skipping : old.skips ≡ true) (news : IsNews o old latest true added found mark) (becomes : new ≡ record (informed old true added mark) { lease = lease }) where
+    built : Builds o ManagedCheckpoint true latest latest.manifest.replay_after_wal_id (follower_under latest new) answer
+    built = record {
+      batches = [];
+      found = Whole;
+      logs = nothing-replayed latest.manifest.replay_after_wal_id latest.manifest.last_l0_seq o;
+      becomes = ap (follower_under latest) becomes
+          ∙ (ap (λ n. rebuilt old.mode old.skips latest (line_of n []) mark) tabled
+          ∙ (ap (λ n. rebuilt old.mode old.skips latest (line_of latest.manifest.last_l0_seq []) n) news.2
+          ∙ (ap (λ m. rebuilt m old.skips latest (line_of latest.manifest.last_l0_seq []) latest.manifest.replay_after_wal_id) managed
+          ∙ ap (λ s. rebuilt ManagedCheckpoint s latest (line_of latest.manifest.last_l0_seq []) latest.manifest.replay_after_wal_id) skipping)));
+      answers = answers ∙ ap (λ f. answer_of f (number new)) news.1;
+    }
+
+    pub skipping-sees : (t : Option Objects) → IsSound o → SeesOwed (by_objects t) ManagedCheckpoint true o (content o) (follower_under latest new) answer
+    skipping-sees t sound = builds-sees ManagedCheckpoint true false o latest latest.manifest.replay_after_wal_id (can ManagedCheckpoint refl, refl) (follower_under latest new) answer t sound built
+
+  -- one that reads them goes on
+  module _ (reading : old.skips ≡ false) (news : IsNews o old latest false added found mark) (becomes : new ≡ record (informed old false added mark) { lease = lease }) where
+    abbrev last : ℕ
+    last = last_read old.mode old.skips latest o
+
+    pub goes : GoesOn o latest last old (follower_under latest new) answer
+    goes = record {
+      added = added;
+      found = found;
+      logs = news.0;
+      becomes = ap (follower_under latest) becomes
+          ∙ (ap (λ n. rebuilt old.mode old.skips latest (line_of n (batches_above n (old.line.batches ++ added))) mark) tabled
+          ∙ ap (followed old latest added) news.1);
+      answers = answers;
+    }
+
+    pub reading-sees : (t : Option Objects) → IsSound o → kept_seen old o (content o) → SeesOwed (by_objects t) ManagedCheckpoint false o (content o) (follower_under latest new) answer
+    reading-sees t sound seen =
+        subst (λ m. SeesOwed (by_objects t) m false o (content o) (follower_under latest new) answer) managed
+        (subst (λ s. SeesOwed (by_objects t) old.mode s o (content o) (follower_under latest new) answer) reading
+        (goes-sees t o latest last old (follower_under latest new) answer reading free sound (can old.mode managed, refl) seen reaches goes))
+
+    pub reading-logs : HasAllLogs o new answer
+    reading-logs = has-all o old.mode old.skips latest found (number new) new answer free reading
+        (ap (λ (f : Follower). f.mark) becomes ∙ news.1) answers
+
+-- what it sees after that, where a manifest with other checkpoints may be put
+module _ (o o' : Objects) (latest latest' : VersionedManifest) (is : latest_manifest o ≡ Some latest) (logs : o'.logs ≡ o.logs) (tables : latest'.manifest.last_l0_seq ≡ latest.manifest.last_l0_seq)
+    (replayed : latest'.manifest.replay_after_wal_id ≡ latest.manifest.replay_after_wal_id) (old : Follower) (managed : old.mode ≡ ManagedCheckpoint) (same : differs old.view latest ≡ false)
+    (floor : old.line.floor ≡ old.view.manifest.last_l0_seq) (added : List Batch) (found : Replayed) (mark : ℕ) (lease : Option Lease) (new : Follower) (answer : PollAnswer) (answers : answer ≡ answer_of found (number new)) (t : Option Objects) (at : t ≡ Some o) where
+  sees-by : (skips : Bool) → old.skips ≡ skips → IsNews o old latest skips added found mark → new ≡ record (informed old skips added mark) { lease = lease } → IsSound o → kept_seen old o (content o) →
+      SeesOwed (by_objects t) ManagedCheckpoint skips o (content o) (follower_under latest new) answer
+  sees-by true is_skips news becomes sound seen = skipping-sees o latest is old managed same floor added found mark lease new answer answers is_skips news becomes t sound
+  sees-by false is_skips news becomes sound seen = reading-sees o latest is old managed same floor added found mark lease new answer answers is_skips news becomes t sound seen
+
+  logs-by : (skips : Bool) → old.skips ≡ skips → IsNews o old latest skips added found mark → new ≡ record (informed old skips added mark) { lease = lease } → skips ≡ false → HasAllLogs o' new answer
+  logs-by true is_skips news becomes reading = absurd (cc)
+  logs-by false is_skips news becomes reading =
+      has-on t o o' latest latest' logs tables replayed new answer answer (reading-logs o latest is old managed same floor added found mark lease new answer answers is_skips news becomes)
+
+  pub informed-sees : IsNews o old latest old.skips added found mark → new ≡ record (informed old old.skips added mark) { lease = lease } → SeesLatest (by_objects t) old.skips (kept_seen old o) latest' o' new answer
+  informed-sees news becomes = record {
+    logs = logs-by old.skips refl news becomes;
+    sees = λ line stored seen.
+        let content_is = stored in
+        let whole : content_is.0 ≡ o = some-same content_is.0 o (sym content_is.1 ∙ at) in
+        let line_is : line ≡ content o = content_is.3 ∙ ap content whole in
+        sees-on t o o' latest latest' logs tables replayed new answer old.skips line
+        (subst (λ l. SeesOwed (by_objects t) ManagedCheckpoint old.skips o l (follower_under latest new) answer) (sym line_is)
+        (sees-by old.skips refl news becomes (subst IsSound whole content_is.2) (subst (kept_seen old o) line_is seen)));
+  }

@@ -1,0 +1,18 @@
+use Rattle.std.proofs.Common.{◌≡◌, ◌+◌, ◌*◌, ◌<◌, ◌≤◌}
+use Rattle.std.specs.Option.{IfSome}
+use Rattle.slate_store.specs.Refusals.{checkpoint_changes}
+use Rattle.slate_errors.specs.declared.errors.SlateError.TheVariants.{TransactionalObjectTimeout}
+use Rattle.slate_model.specs.Lease.{to_take}
+use Rattle.slate_model.specs.Managed.{PlanCause}
+use Rattle.slate_model.specs.Stores.{Stands}
+use Rattle.slate_follow.proofs.leases.take_lease.Given as goal
+
+abbrev pub invariant-loop-earlier : goal.invariant-loop-earlier
+invariant-loop-earlier g l =
+    record {
+      kept : g.S.Store.objects l.store ≡ g.S.Store.objects l.fn.store;
+      faults : g.S.Store.faults l.fn.store ≤ g.S.Store.faults l.store;
+      most : g.S.Store.calls l.store ≤ g.S.Store.calls l.fn.store + 2 * l.earlier;
+      within : l.earlier ≤ 8;
+      met : 0 < l.earlier → IfSome (g.S.Store.objects l.fn.store) (λ o. PlanCause (Stands (checkpoint_changes (to_take l.fn.lifetime l.fn.moment) o) o) (to_take l.fn.lifetime l.fn.moment) o (TransactionalObjectTimeout 8));
+    }

@@ -1,0 +1,97 @@
+use Rattle.std.proofs.Common.{◌≡◌, ◌<◌, ◌∙◌, None, Some, Ok, Err, IfOk, rules, ap, subst, arith, of_z, to_z}
+use Rattle.std.proofs.Math.Facts.{to_z-of_z}
+use Rattle.std.specs.Int.{w64}
+use Rattle.std.specs.Option.{IfSome}
+use Rattle.slate_types.specs.Modelled.{WhereModelled}
+use Rattle.slate_store.specs.Refusals.{checkpoint_changes}
+use Rattle.slate_errors.specs.declared.errors.SlateError.TheVariants.{TransactionalObjectTimeout}
+use Rattle.slate_model.specs.Follower.{Follower}
+use Rattle.slate_model.specs.Lease.{to_keep}
+use Rattle.slate_model.specs.Managed.{Keeps, PlanCause}
+use Rattle.slate_model.specs.Stores.{Stands, by_objects}
+use Rattle.slate_follow.specs.Keeping.{tried}
+use Rattle.slate_follow.proofs.Counted.{all-tries, last-try, tries-on}
+use Rattle.slate_follow.proofs.Keeping.{PutsAndKeeps}
+use Rattle.slate_follow.proofs.Rebuilt.{if_some}
+use Rattle.slate_follow.proofs.Trying.{never-put}
+use Rattle.slate_follow.proofs.states.FollowerState.keep_lease.Goals as goal
+
+pub returns-in_err-answer-clause-puts : goal.returns-in_err-answer-clause-puts
+returns-in_err-answer-clause-puts g c =
+    let e = c.in_err-answer.field-0.0 in
+    let l = c.args.lease.now in
+    let i = c.loop-earlier.invariant in
+    let before = c.loop-earlier.self in
+    let new = c.try_to_keep.new.self in
+    let after = g.S.Store.objects c.try_to_keep.new.store in
+    let puts = subst (λ m. WhereModelled (PutsAndKeeps l m before (Err e) new) (g.S.Store.objects c.loop-earlier.store) after) (to_z-of_z {w = w64} {z = c.args.moment} (search rules)) c.in_err-answer.ensures.puts in
+    let of_self = subst (λ (f : Follower). WhereModelled (PutsAndKeeps l c.args.moment f (Err e) new) (g.S.Store.objects c.loop-earlier.store) after) i.same puts in
+    let all = subst (λ s. WhereModelled (PutsAndKeeps l c.args.moment c.args.self.now (Err e) new) s after) i.kept of_self in
+    let is : c.from_residual.result ≡ Err e = search rules in
+    rw is all
+
+pub returns-in-Some-clause-keeps : goal.returns-in-Some-clause-keeps
+returns-in-Some-clause-keeps g c =
+    let l = c.args.lease.now in
+    let i = c.loop-earlier.invariant in
+    let a = c.in-Some.answer in
+    let before = c.loop-earlier.self in
+    let new = c.try_to_keep.new.self in
+    let was = g.S.Store.objects c.loop-earlier.store in
+    let after = g.S.Store.objects c.try_to_keep.new.store in
+    let found : c.in_ok-answer.field-0 ≡ Some a = search rules in
+    let keeps = subst (λ x. IfOk (tried (Ok x)) (λ answer. WhereModelled (λ o o'. Keeps (by_objects was) l (to_z w64 (of_z w64 c.args.moment)) before o new answer o') was after)) found c.in_ok-answer.ensures.keeps in
+    let at_moment = subst (λ m. WhereModelled (λ o o'. Keeps (by_objects was) l m before o new a o') was after) (to_z-of_z {w = w64} {z = c.args.moment} (search rules)) keeps in
+    let of_self = subst (λ (f : Follower). WhereModelled (λ o o'. Keeps (by_objects was) l c.args.moment f o new a o') was after) i.same at_moment in
+    subst (λ s. WhereModelled (λ o o'. Keeps (by_objects s) l c.args.moment c.args.self.now o new a o') s after) i.kept of_self
+
+pub loop-earlier-preserved : goal.loop-earlier-preserved
+loop-earlier-preserved g c =
+    let l = c.args.lease.now in
+    let m = to_z w64 (of_z w64 c.args.moment) in
+    let i = c.loop-earlier.invariant in
+    let a = c.in_ok-answer in
+    let t = g.S.Store.objects c.args.store.now in
+    let before = c.loop-earlier.self in
+    let new = c.try_to_keep.new.self in
+    let after = g.S.Store.objects c.try_to_keep.new.store in
+    let none : a.field-0 ≡ None = search rules in
+    let again = a.ensures.again (ap Ok none) in
+    let puts = subst (λ x. WhereModelled (PutsAndKeeps l m before (tried (Ok x)) new) (g.S.Store.objects c.loop-earlier.store) after) none a.ensures.puts in
+    let of_self = subst (λ (f : Follower). WhereModelled (PutsAndKeeps l m f (Err (TransactionalObjectTimeout 8)) new) (g.S.Store.objects c.loop-earlier.store) after) i.same puts in
+    let all = subst (λ s. WhereModelled (PutsAndKeeps l m c.args.self.now (Err (TransactionalObjectTimeout 8)) new) s after) i.kept of_self in
+    record {
+      same = again.0 ∙ i.same;
+      kept = again.1 ∙ i.kept;
+      faults = (let up = a.ensures.faults.count in let low = i.faults in omega (arith, up, low));
+      calls = tries-on t (g.S.Store.objects c.loop-earlier.store) i.kept c.loop-earlier.earlier (g.S.Store.calls c.args.store.now) (g.S.Store.calls c.loop-earlier.store) (g.S.Store.calls c.try_to_keep.new.store) i.calls (a.ensures.calls_again (ap Ok none));
+      within = search rules;
+      met = λ more. if_some (g.S.Store.objects c.args.store.now) (λ o at. (all.some o at).2.1.cause);
+    }
+
+pub returns-clause-puts : goal.returns-clause-puts
+returns-clause-puts g c =
+    let l = c.args.lease.now in
+    let t = g.S.Store.objects c.args.store.now in
+    let view = c.args.self.now.view in
+    let i = c.loop-earlier.invariant in
+    let ran : 0 < c.loop-earlier.earlier = search rules in
+    let met = subst (λ m. IfSome t (λ o. PlanCause (Stands (checkpoint_changes (to_keep view l m) o) o) (to_keep view l m) o (TransactionalObjectTimeout 8))) (to_z-of_z {w = w64} {z = c.args.moment} (search rules)) (i.met ran) in
+    never-put t (g.S.Store.objects c.loop-earlier.store) l c.args.moment c.args.self.now c.loop-earlier.self i.kept i.same met
+
+pub returns-in_err-answer-clause-calls : goal.returns-in_err-answer-clause-calls
+returns-in_err-answer-clause-calls g c =
+    let i = c.loop-earlier.invariant in
+    let fewer : c.loop-earlier.earlier < 8 = search rules in
+    last-try (g.S.Store.objects c.args.store.now) (g.S.Store.objects c.loop-earlier.store) i.kept c.loop-earlier.earlier (g.S.Store.calls c.args.store.now) (g.S.Store.calls c.loop-earlier.store) (g.S.Store.calls c.try_to_keep.new.store) i.calls fewer c.in_err-answer.ensures.calls
+
+pub returns-in-Some-clause-calls : goal.returns-in-Some-clause-calls
+returns-in-Some-clause-calls g c =
+    let i = c.loop-earlier.invariant in
+    let fewer : c.loop-earlier.earlier < 8 = search rules in
+    last-try (g.S.Store.objects c.args.store.now) (g.S.Store.objects c.loop-earlier.store) i.kept c.loop-earlier.earlier (g.S.Store.calls c.args.store.now) (g.S.Store.calls c.loop-earlier.store) (g.S.Store.calls c.try_to_keep.new.store) i.calls fewer c.in_ok-answer.ensures.calls
+
+pub returns-clause-calls : goal.returns-clause-calls
+returns-clause-calls g c =
+    let i = c.loop-earlier.invariant in
+    all-tries (g.S.Store.objects c.args.store.now) c.loop-earlier.earlier (g.S.Store.calls c.args.store.now) (g.S.Store.calls c.loop-earlier.store) i.calls i.within

@@ -1,0 +1,432 @@
+use Rattle.std.proofs.Common.{◌≡◌, ◌≤◌, ◌∙◌, false, true, is_none, Some, Ok, Err, IfOk, IfSome, refl, rules, sym, ap, subst, arith, of_z, to_z}
+use Rattle.std.proofs.Math.Facts.{to_z-of_z}
+use Rattle.std.specs.Int.{w64}
+use Rattle.slate_types.specs.Modelled.{WhereModelled}
+use Rattle.slate_store.specs.Checkpoints.{found}
+use Rattle.slate_store.specs.declared.reader_modes.DbReaderMode.TheVariants.{ManagedCheckpoint}
+use Rattle.slate_errors.specs.declared.errors.SlateError.{SlateError}
+use Rattle.slate_errors.specs.declared.errors.SlateError.TheVariants.{NoMemory, TransactionalObjectTimeout}
+use Rattle.slate_model.specs.Follower.{Follower}
+use Rattle.slate_model.specs.Lease.{differs, is_due, replaces, to_keep}
+use Rattle.slate_follow.specs.Keeping.{BuildsLatest, IsNews, PutsBy, informed, put_tried, tried}
+use Rattle.slate_follow.proofs.Counted.{news-once, news-then, news-twice, replaced-first}
+use Rattle.slate_follow.proofs.Keeping.{puts-by, renewal, replacement, replaces-by, to-replace}
+use Rattle.slate_follow.proofs.Leased.{mode-leased}
+use Rattle.slate_follow.proofs.Planned.{modelled-kept, modelled-put, not-replayed}
+use Rattle.slate_follow.proofs.Taken.{all-well, counts-on, counts-then, no-fault}
+use Rattle.slate_follow.proofs.Trying.{informed-open, informed-renewed, renewal-broken, renewal-done, renewal-failed, renewed-kept, renewed-puts, replaced-kept, stays-kept, stays-puts}
+use Rattle.slate_follow.proofs.states.FollowerState.try_to_keep.Goals as goal
+
+pub returns-then-differs-clause-puts : goal.returns-then-differs-clause-puts
+returns-then-differs-clause-puts g c =
+    let v = c.in_ok-latest in
+    let l = c.args.lease.now in
+    let old = c.args.self.now in
+    let r = c.replace_lease in
+    let other : differs old.view v.latest ≡ true = search rules in
+    let puts = subst (λ m. WhereModelled (λ o o'. PutsBy (replacement old.view v.latest l m) old.lease o (tried r.result) r.new.self.lease o') (g.S.Store.objects c.latest_of.new.store) (g.S.Store.objects r.new.store))
+    (to_z-of_z {w = w64} {z = c.args.moment} (search rules)) r.ensures.puts in
+    let replaced : replaces old.view l c.args.moment v.latest ≡ true = replaces-by old.view v.latest l c.args.moment true _ _ other refl refl in
+    let all = modelled-put v.ensures.found v.ensures.kept puts (λ o o' is h. puts-by o v.latest is l c.args.moment old (replacement old.view v.latest l c.args.moment) (to-replace old.view v.latest l c.args.moment replaced) (tried r.result) r.new.self o' h) in
+    search (rules, all)
+
+pub returns-in_err-news-clause-puts : goal.returns-in_err-news-clause-puts
+returns-in_err-news-clause-puts g c =
+    let v = c.in_ok-latest in
+    let l = c.args.lease.now in
+    let old = c.args.self.now in
+    let e = c.in_err-news.field-0.0 in
+    let plan = to_keep old.view l c.args.moment v.latest in
+    let all = modelled-kept v.ensures.found (c.in_err-news.ensures.kept ∙ v.ensures.kept) (λ o is. puts-by o v.latest is l c.args.moment old plan refl (Err e) old o (not-replayed plan old.lease o e c.in_err-news.ensures.refusals)) in
+    let is : c.from_residual-in_err-news.result ≡ Err e = search rules in
+    rw is all
+
+pub returns-in_err-answer-clause-puts : goal.returns-in_err-answer-clause-puts
+returns-in_err-answer-clause-puts g c =
+    let v = c.in_ok-latest in
+    let l = c.args.lease.now in
+    let old = c.args.self.now in
+    let plan = to_keep old.view l c.args.moment v.latest in
+    let all = modelled-kept v.ensures.found (c.in_ok-news.ensures.kept ∙ v.ensures.kept) (λ o is. puts-by o v.latest is l c.args.moment old plan refl (Err NoMemory) old o (not-replayed plan old.lease o NoMemory tt)) in
+    let is : c.from_residual-in_err-answer.result ≡ Err NoMemory = search rules in
+    let same : c.take_news.new.self ≡ old = search rules in
+    rw (is, same) all
+
+pub returns-in_err-answer-clause-faults : goal.returns-in_err-answer-clause-faults
+returns-in_err-answer-clause-faults g c =
+    let low : g.S.Store.faults c.args.store.now ≤ g.S.Store.faults c.news.new.store = (let a = c.in_ok-latest.ensures.faults.count in let b = c.in_ok-news.ensures.faults.count in omega (arith, a, b)) in
+    let is : c.from_residual-in_err-answer.result ≡ Err NoMemory = search rules in
+    rw is (no-fault (g.S.Store.faults c.args.store.now) (g.S.Store.faults c.news.new.store) low)
+
+pub returns-then-is_none-clause-puts : goal.returns-then-is_none-clause-puts
+returns-then-is_none-clause-puts g c =
+    let v = c.in_ok-latest in
+    let l = c.args.lease.now in
+    let old = c.args.self.now in
+    let r = c.replace_lease-then-is_none in
+    let same : differs old.view v.latest ≡ false = search rules in
+    let due : is_due c.args.moment l ≡ true = search rules in
+    let gone : is_none (found l.id v.latest) ≡ true = search rules in
+    let puts = subst (λ m. WhereModelled (λ o o'. PutsBy (replacement old.view v.latest l m) old.lease o (tried r.result) r.new.self.lease o') (g.S.Store.objects c.news.new.store) (g.S.Store.objects r.new.store))
+    (to_z-of_z {w = w64} {z = c.args.moment} (search rules)) r.ensures.puts in
+    let replaced : replaces old.view l c.args.moment v.latest ≡ true = replaces-by old.view v.latest l c.args.moment false true true same due gone in
+    let all = modelled-put v.ensures.found (c.in_ok-news.ensures.kept ∙ v.ensures.kept) puts (λ o o' is h. puts-by o v.latest is l c.args.moment old (replacement old.view v.latest l c.args.moment) (to-replace old.view v.latest l c.args.moment replaced) (tried r.result) r.new.self o' h) in
+    search (rules, all)
+
+pub returns-then-differs-clause-keeps : goal.returns-then-differs-clause-keeps
+returns-then-differs-clause-keeps g c =
+    let v = c.in_ok-latest in
+    let l = c.args.lease.now in
+    let m = c.args.moment in
+    let old = c.args.self.now in
+    let r = c.replace_lease in
+    let other : differs old.view v.latest ≡ true = search rules in
+    let undone = to_z-of_z {w = w64} {z = m} (search rules) in
+    let puts = subst (λ m. WhereModelled (λ o o'. PutsBy (replacement old.view v.latest l m) old.lease o (tried r.result) r.new.self.lease o') (g.S.Store.objects c.latest_of.new.store) (g.S.Store.objects r.new.store)) undone r.ensures.puts in
+    let built = subst (λ m. IfOk (tried r.result) (λ answer. IfSome (g.S.Store.objects r.new.store) (λ o'. BuildsLatest (replacement old.view v.latest l m) old.skips o' r.new.self answer))) undone r.ensures.built in
+    let replaced : replaces old.view l m v.latest ≡ true = replaces-by old.view v.latest l m true _ _ other refl refl in
+    replaced-kept (g.S.Store.objects c.args.store.now) v.latest v.ensures.found l m old r.new.self replaced v.ensures.kept (tried r.result) puts built
+
+pub returns-then-is_none-clause-keeps : goal.returns-then-is_none-clause-keeps
+returns-then-is_none-clause-keeps g c =
+    let v = c.in_ok-latest in
+    let l = c.args.lease.now in
+    let m = c.args.moment in
+    let old = c.args.self.now in
+    let r = c.replace_lease-then-is_none in
+    let same : differs old.view v.latest ≡ false = search rules in
+    let due : is_due m l ≡ true = search rules in
+    let gone : is_none (found l.id v.latest) ≡ true = search rules in
+    let undone = to_z-of_z {w = w64} {z = m} (search rules) in
+    let puts = subst (λ m. WhereModelled (λ o o'. PutsBy (replacement old.view v.latest l m) old.lease o (tried r.result) r.new.self.lease o') (g.S.Store.objects c.news.new.store) (g.S.Store.objects r.new.store)) undone r.ensures.puts in
+    let built = subst (λ m. IfOk (tried r.result) (λ answer. IfSome (g.S.Store.objects r.new.store) (λ o'. BuildsLatest (replacement old.view v.latest l m) old.skips o' r.new.self answer))) undone r.ensures.built in
+    let replaced : replaces old.view l m v.latest ≡ true = replaces-by old.view v.latest l m false true true same due gone in
+    let all = replaced-kept (g.S.Store.objects c.args.store.now) v.latest v.ensures.found l m old r.new.self replaced (c.in_ok-news.ensures.kept ∙ v.ensures.kept) (tried r.result) puts built in
+    search (rules, all)
+
+pub returns-then-is_none-clause-faults : goal.returns-then-is_none-clause-faults
+returns-then-is_none-clause-faults g c =
+    let low : g.S.Store.faults c.args.store.now ≤ g.S.Store.faults c.news.new.store = (let a = c.in_ok-latest.ensures.faults.count in let b = c.in_ok-news.ensures.faults.count in omega (arith, a, b)) in
+    counts-on (g.S.Store.faults c.args.store.now) (g.S.Store.faults c.news.new.store) (g.S.Store.faults c.replace_lease-then-is_none.new.store) c.replace_lease-then-is_none.result low c.replace_lease-then-is_none.ensures.faults
+
+pub returns-then-not-is_due-clause-puts : goal.returns-then-not-is_due-clause-puts
+returns-then-not-is_due-clause-puts g c =
+    let v = c.in_ok-latest in
+    let l = c.args.lease.now in
+    let m = c.args.moment in
+    let old = c.args.self.now in
+    let new = c.take_news.new.self in
+    let same : differs old.view v.latest ≡ false = search rules in
+    let early : is_due m l ≡ false = search rules in
+    let unreplaced : replaces old.view l m v.latest ≡ false = replaces-by old.view v.latest l m false false _ same early refl in
+    let holds : new.lease ≡ Some l = ap (λ (f : Follower). f.lease) c.in_ok-answer.ensures.ok ∙ c.requires.leased in
+    let all = stays-puts (g.S.Store.objects c.args.store.now) v.latest v.ensures.found l m old new unreplaced early c.requires.leased holds c.in_ok-answer.answer (c.in_ok-news.ensures.kept ∙ v.ensures.kept) in
+    search (rules, all)
+
+pub returns-then-not-is_due-clause-answers : goal.returns-then-not-is_due-clause-answers
+returns-then-not-is_due-clause-answers g c =
+    let n = c.in_ok-news.news in
+    let held : c.self.inside.lease ≡ Some c.args.lease.now = ap (λ (f : Follower). f.lease) c.self.view_is ∙ c.requires.leased in
+    let managed : c.args.self.now.mode ≡ ManagedCheckpoint = sym (ap (λ (f : Follower). f.mode) c.self.view_is) ∙ mode-leased c.self.inside.following.mode c.self.inside.lease c.args.lease.now c.self.invariant.leased held in
+    informed-open c.args.self.now c.take_news.new.self n.added n.replayed n.mark c.args.self.now.lease c.in_ok-answer.answer managed c.in_ok-answer.ensures.ok c.in_ok-answer.ensures.answer
+
+pub returns-then-not-is_due-clause-keeps : goal.returns-then-not-is_due-clause-keeps
+returns-then-not-is_due-clause-keeps g c =
+    let v = c.in_ok-latest in
+    let n = c.in_ok-news.news in
+    let l = c.args.lease.now in
+    let m = c.args.moment in
+    let old = c.args.self.now in
+    let new = c.take_news.new.self in
+    let held : c.self.inside.lease ≡ Some l = ap (λ (f : Follower). f.lease) c.self.view_is ∙ c.requires.leased in
+    let managed : old.mode ≡ ManagedCheckpoint = sym (ap (λ (f : Follower). f.mode) c.self.view_is) ∙ mode-leased c.self.inside.following.mode c.self.inside.lease l c.self.invariant.leased held in
+    let floor : old.line.floor ≡ old.view.manifest.last_l0_seq = subst (λ (f : Follower). f.line.floor ≡ f.view.manifest.last_l0_seq) c.self.view_is refl in
+    let same : differs old.view v.latest ≡ false = search rules in
+    let early : is_due m l ≡ false = search rules in
+    let unreplaced : replaces old.view l m v.latest ≡ false = replaces-by old.view v.latest l m false false _ same early refl in
+    let becomes = c.in_ok-answer.ensures.ok in
+    let lease_is : new.lease ≡ old.lease = ap (λ (f : Follower). f.lease) becomes in
+    let all = stays-kept (g.S.Store.objects c.args.store.now) v.latest v.ensures.found l m old new unreplaced managed same floor n.added n.replayed n.mark c.in_ok-answer.answer c.in_ok-answer.ensures.answer
+    (g.S.Store.objects c.news.new.store) (c.in_ok-news.ensures.kept ∙ v.ensures.kept) (subst (λ s. IfSome s (λ o. IsNews o old v.latest old.skips n.added n.replayed n.mark)) (sym c.in_ok-news.ensures.kept) c.in_ok-news.ensures.news)
+    (becomes ∙ ap (λ x. record (informed old old.skips n.added n.mark) { lease = x }) (sym lease_is)) early (lease_is ∙ c.requires.leased) in
+    search (rules, all)
+
+pub returns-in_err-renewed-clause-faults : goal.returns-in_err-renewed-clause-faults
+returns-in_err-renewed-clause-faults g c =
+    let e = c.in_err-renewed.field-0.0 in
+    let low : g.S.Store.faults c.args.store.now ≤ g.S.Store.faults c.news.new.store = (let a = c.in_ok-latest.ensures.faults.count in let b = c.in_ok-news.ensures.faults.count in omega (arith, a, b)) in
+    let is : c.from_residual-in_err-renewed.result ≡ Err e = search rules in
+    rw is (counts-then (g.S.Store.faults c.args.store.now) (g.S.Store.faults c.news.new.store) (g.S.Store.faults c.renew_lease.new.store) e low c.in_err-renewed.ensures.faults)
+
+pub returns-in_err-renewed-clause-puts : goal.returns-in_err-renewed-clause-puts
+returns-in_err-renewed-clause-puts g c =
+    let v = c.in_ok-latest in
+    let e = c.in_err-renewed.field-0.0 in
+    let l = c.args.lease.now in
+    let m = c.args.moment in
+    let old = c.args.self.now in
+    let new = c.renew_lease.new.self in
+    let same : differs old.view v.latest ≡ false = search rules in
+    let due : is_due m l ≡ true = search rules in
+    let there : is_none (found l.id v.latest) ≡ false = search rules in
+    let unreplaced : replaces old.view l m v.latest ≡ false = replaces-by old.view v.latest l m false true false same due there in
+    let puts = subst (λ m. WhereModelled (λ o o'. PutsBy {A = Unit {0}} (renewal old.view v.latest l m) old.lease o (Err e) new.lease o') (g.S.Store.objects c.news.new.store) (g.S.Store.objects c.renew_lease.new.store)) (to_z-of_z {w = w64} {z = m} (search rules)) c.in_err-renewed.ensures.puts in
+    let all = renewed-puts (g.S.Store.objects c.args.store.now) v.latest v.ensures.found l m old new unreplaced due (Err e) (Err e) (c.in_ok-news.ensures.kept ∙ v.ensures.kept) puts (λ o o' h. renewal-failed old.view v.latest l m old.lease new.lease o o' e h) in
+    let is : c.from_residual-in_err-renewed.result ≡ Err e = search rules in
+    rw is all
+
+pub returns-then-not-renewed-clause-puts : goal.returns-then-not-renewed-clause-puts
+returns-then-not-renewed-clause-puts g c =
+    let v = c.in_ok-latest in
+    let e : SlateError = TransactionalObjectTimeout 8 in
+    let l = c.args.lease.now in
+    let m = c.args.moment in
+    let old = c.args.self.now in
+    let new = c.renew_lease.new.self in
+    let same : differs old.view v.latest ≡ false = search rules in
+    let due : is_due m l ≡ true = search rules in
+    let there : is_none (found l.id v.latest) ≡ false = search rules in
+    let unreplaced : replaces old.view l m v.latest ≡ false = replaces-by old.view v.latest l m false true false same due there in
+    let is : c.in_ok-renewed.renewed ≡ false = search rules in
+    let made = subst (λ b. WhereModelled (λ o o'. PutsBy (renewal old.view v.latest l (to_z w64 (of_z w64 m))) old.lease o (put_tried (Ok b)) new.lease o') (g.S.Store.objects c.news.new.store) (g.S.Store.objects c.renew_lease.new.store)) is c.in_ok-renewed.ensures.puts in
+    let puts = subst (λ m. WhereModelled (λ o o'. PutsBy {A = Unit {0}} (renewal old.view v.latest l m) old.lease o (Err e) new.lease o') (g.S.Store.objects c.news.new.store) (g.S.Store.objects c.renew_lease.new.store)) (to_z-of_z {w = w64} {z = m} (search rules)) made in
+    let all = renewed-puts (g.S.Store.objects c.args.store.now) v.latest v.ensures.found l m old new unreplaced due (Err e) (Err e) (c.in_ok-news.ensures.kept ∙ v.ensures.kept) puts (λ o o' h. renewal-failed old.view v.latest l m old.lease new.lease o o' e h) in
+    search (rules, all)
+
+pub returns-then-not-renewed-clause-again : goal.returns-then-not-renewed-clause-again
+returns-then-not-renewed-clause-again g c =
+    let is : c.in_ok-renewed.renewed ≡ false = search rules in
+    let again = c.in_ok-renewed.ensures.again (ap Ok is) in
+    λ answered. (again.0, again.1 ∙ (c.in_ok-news.ensures.kept ∙ c.in_ok-latest.ensures.kept))
+
+pub returns-in_err-answer-2-clause-faults : goal.returns-in_err-answer-2-clause-faults
+returns-in_err-answer-2-clause-faults g c =
+    let low : g.S.Store.faults c.args.store.now ≤ g.S.Store.faults c.renew_lease.new.store = (let a = c.in_ok-latest.ensures.faults.count in let b = c.in_ok-news.ensures.faults.count in let d = c.in_ok-renewed.ensures.faults.count in omega (arith, a, b, d)) in
+    let is : c.from_residual-in_err-answer-2.result ≡ Err NoMemory = search rules in
+    rw is (no-fault (g.S.Store.faults c.args.store.now) (g.S.Store.faults c.renew_lease.new.store) low)
+
+pub returns-in_err-answer-2-clause-puts : goal.returns-in_err-answer-2-clause-puts
+returns-in_err-answer-2-clause-puts g c =
+    let v = c.in_ok-latest in
+    let l = c.args.lease.now in
+    let m = c.args.moment in
+    let old = c.args.self.now in
+    let mid = c.renew_lease.new.self in
+    let same : differs old.view v.latest ≡ false = search rules in
+    let due : is_due m l ≡ true = search rules in
+    let there : is_none (found l.id v.latest) ≡ false = search rules in
+    let unreplaced : replaces old.view l m v.latest ≡ false = replaces-by old.view v.latest l m false true false same due there in
+    let is : c.in_ok-renewed.renewed ≡ true = search rules in
+    let made = subst (λ b. WhereModelled (λ o o'. PutsBy (renewal old.view v.latest l (to_z w64 (of_z w64 m))) old.lease o (put_tried (Ok b)) mid.lease o') (g.S.Store.objects c.news.new.store) (g.S.Store.objects c.renew_lease.new.store)) is c.in_ok-renewed.ensures.puts in
+    let puts = subst (λ m. WhereModelled (λ o o'. PutsBy {A = Unit {0}} (renewal old.view v.latest l m) old.lease o (Ok tt) mid.lease o') (g.S.Store.objects c.news.new.store) (g.S.Store.objects c.renew_lease.new.store)) (to_z-of_z {w = w64} {z = m} (search rules)) made in
+    let all = renewed-puts (g.S.Store.objects c.args.store.now) v.latest v.ensures.found l m old mid unreplaced due (Ok tt) (Err NoMemory) (c.in_ok-news.ensures.kept ∙ v.ensures.kept) puts (λ o o' h. renewal-broken old.view v.latest l m old.lease mid.lease o o' h) in
+    let failed : c.from_residual-in_err-answer-2.result ≡ Err NoMemory = search rules in
+    let unchanged : c.take_news-2.new.self ≡ mid = search rules in
+    rw (failed, unchanged) all
+
+pub returns-clause-faults : goal.returns-clause-faults
+returns-clause-faults g c =
+    let low : g.S.Store.faults c.args.store.now ≤ g.S.Store.faults c.renew_lease.new.store = (let a = c.in_ok-latest.ensures.faults.count in let b = c.in_ok-news.ensures.faults.count in let d = c.in_ok-renewed.ensures.faults.count in omega (arith, a, b, d)) in
+    let all = all-well (g.S.Store.faults c.args.store.now) (g.S.Store.faults c.renew_lease.new.store) (Some c.in_ok-answer-2.answer) low in
+    search (rules, all)
+
+pub returns-clause-puts : goal.returns-clause-puts
+returns-clause-puts g c =
+    let v = c.in_ok-latest in
+    let l = c.args.lease.now in
+    let m = c.args.moment in
+    let old = c.args.self.now in
+    let mid = c.renew_lease.new.self in
+    let same : differs old.view v.latest ≡ false = search rules in
+    let due : is_due m l ≡ true = search rules in
+    let there : is_none (found l.id v.latest) ≡ false = search rules in
+    let unreplaced : replaces old.view l m v.latest ≡ false = replaces-by old.view v.latest l m false true false same due there in
+    let is : c.in_ok-renewed.renewed ≡ true = search rules in
+    let made = subst (λ b. WhereModelled (λ o o'. PutsBy (renewal old.view v.latest l (to_z w64 (of_z w64 m))) old.lease o (put_tried (Ok b)) mid.lease o') (g.S.Store.objects c.news.new.store) (g.S.Store.objects c.renew_lease.new.store)) is c.in_ok-renewed.ensures.puts in
+    let puts = subst (λ m. WhereModelled (λ o o'. PutsBy {A = Unit {0}} (renewal old.view v.latest l m) old.lease o (Ok tt) mid.lease o') (g.S.Store.objects c.news.new.store) (g.S.Store.objects c.renew_lease.new.store)) (to_z-of_z {w = w64} {z = m} (search rules)) made in
+    let a = c.in_ok-answer-2 in
+    let new = c.take_news-2.new.self in
+    let lease_is : new.lease ≡ mid.lease = ap (λ (f : Follower). f.lease) a.ensures.ok in
+    let moved = subst (λ x. WhereModelled (λ o o'. PutsBy {A = Unit {0}} (renewal old.view v.latest l m) old.lease o (Ok tt) x o') (g.S.Store.objects c.news.new.store) (g.S.Store.objects c.renew_lease.new.store)) (sym lease_is) puts in
+    let all = renewed-puts (g.S.Store.objects c.args.store.now) v.latest v.ensures.found l m old new unreplaced due (Ok tt) (Ok a.answer) (c.in_ok-news.ensures.kept ∙ v.ensures.kept) moved (λ o o' h. renewal-done old.view v.latest l m old.lease new.lease o o' a.answer h) in
+    search (rules, all)
+
+pub returns-clause-answers : goal.returns-clause-answers
+returns-clause-answers g c =
+    let n = c.in_ok-news.news in
+    let a = c.in_ok-answer-2 in
+    let old = c.args.self.now in
+    let mid = c.renew_lease.new.self in
+    let held : c.self.inside.lease ≡ Some c.args.lease.now = ap (λ (f : Follower). f.lease) c.self.view_is ∙ c.requires.leased in
+    let managed : old.mode ≡ ManagedCheckpoint = sym (ap (λ (f : Follower). f.mode) c.self.view_is) ∙ mode-leased c.self.inside.following.mode c.self.inside.lease c.args.lease.now c.self.invariant.leased held in
+    informed-open old c.take_news-2.new.self n.added n.replayed n.mark mid.lease a.answer managed (informed-renewed old mid c.take_news-2.new.self n.added n.mark c.in_ok-renewed.ensures.same a.ensures.ok) a.ensures.answer
+
+pub returns-clause-keeps : goal.returns-clause-keeps
+returns-clause-keeps g c =
+    let v = c.in_ok-latest in
+    let l = c.args.lease.now in
+    let m = c.args.moment in
+    let old = c.args.self.now in
+    let mid = c.renew_lease.new.self in
+    let same : differs old.view v.latest ≡ false = search rules in
+    let due : is_due m l ≡ true = search rules in
+    let there : is_none (found l.id v.latest) ≡ false = search rules in
+    let unreplaced : replaces old.view l m v.latest ≡ false = replaces-by old.view v.latest l m false true false same due there in
+    let is : c.in_ok-renewed.renewed ≡ true = search rules in
+    let made = subst (λ b. WhereModelled (λ o o'. PutsBy (renewal old.view v.latest l (to_z w64 (of_z w64 m))) old.lease o (put_tried (Ok b)) mid.lease o') (g.S.Store.objects c.news.new.store) (g.S.Store.objects c.renew_lease.new.store)) is c.in_ok-renewed.ensures.puts in
+    let puts = subst (λ m. WhereModelled (λ o o'. PutsBy {A = Unit {0}} (renewal old.view v.latest l m) old.lease o (Ok tt) mid.lease o') (g.S.Store.objects c.news.new.store) (g.S.Store.objects c.renew_lease.new.store)) (to_z-of_z {w = w64} {z = m} (search rules)) made in
+    let n = c.in_ok-news.news in
+    let a = c.in_ok-answer-2 in
+    let new = c.take_news-2.new.self in
+    let held : c.self.inside.lease ≡ Some l = ap (λ (f : Follower). f.lease) c.self.view_is ∙ c.requires.leased in
+    let managed : old.mode ≡ ManagedCheckpoint = sym (ap (λ (f : Follower). f.mode) c.self.view_is) ∙ mode-leased c.self.inside.following.mode c.self.inside.lease l c.self.invariant.leased held in
+    let floor : old.line.floor ≡ old.view.manifest.last_l0_seq = subst (λ (f : Follower). f.line.floor ≡ f.view.manifest.last_l0_seq) c.self.view_is refl in
+    let lease_is : new.lease ≡ mid.lease = ap (λ (f : Follower). f.lease) a.ensures.ok in
+    let moved = subst (λ x. WhereModelled (λ o o'. PutsBy {A = Unit {0}} (renewal old.view v.latest l m) old.lease o (Ok tt) x o') (g.S.Store.objects c.news.new.store) (g.S.Store.objects c.renew_lease.new.store)) (sym lease_is) puts in
+    let becomes = informed-renewed old mid new n.added n.mark c.in_ok-renewed.ensures.same a.ensures.ok in
+    let all = renewed-kept (g.S.Store.objects c.args.store.now) v.latest v.ensures.found l m old new unreplaced managed same floor n.added n.replayed n.mark a.answer a.ensures.answer
+    (g.S.Store.objects c.news.new.store) (c.in_ok-news.ensures.kept ∙ v.ensures.kept) (subst (λ s. IfSome s (λ o. IsNews o old v.latest old.skips n.added n.replayed n.mark)) (sym c.in_ok-news.ensures.kept) c.in_ok-news.ensures.news)
+    (becomes ∙ ap (λ x. record (informed old old.skips n.added n.mark) { lease = x }) (sym lease_is)) due moved in
+    search (rules, all)
+
+pub returns-then-differs-clause-calls : goal.returns-then-differs-clause-calls
+returns-then-differs-clause-calls g c =
+    let v = c.in_ok-latest in
+    let t = g.S.Store.objects c.args.store.now in
+    let t1 = g.S.Store.objects c.latest_of.new.store in
+    let old = c.args.self.now in
+    let n = g.S.Store.calls c.args.store.now in
+    let n1 = g.S.Store.calls c.latest_of.new.store in
+    let held : c.self.inside.lease ≡ Some c.args.lease.now = ap (λ (f : Follower). f.lease) c.self.view_is ∙ c.requires.leased in
+    let managed : old.mode ≡ ManagedCheckpoint = sym (ap (λ (f : Follower). f.mode) c.self.view_is) ∙ mode-leased c.self.inside.following.mode c.self.inside.lease c.args.lease.now c.self.invariant.leased held in
+    replaced-first v.latest t t1 v.ensures.kept v.ensures.found old.mode old.skips managed n n1 v.ensures.calls (g.S.Store.calls c.replace_lease.new.store) c.replace_lease.ensures.calls
+
+pub returns-in_err-news-clause-calls : goal.returns-in_err-news-clause-calls
+returns-in_err-news-clause-calls g c =
+    let v = c.in_ok-latest in
+    let t = g.S.Store.objects c.args.store.now in
+    let t1 = g.S.Store.objects c.latest_of.new.store in
+    let old = c.args.self.now in
+    let n = g.S.Store.calls c.args.store.now in
+    let n1 = g.S.Store.calls c.latest_of.new.store in
+    let held : c.self.inside.lease ≡ Some c.args.lease.now = ap (λ (f : Follower). f.lease) c.self.view_is ∙ c.requires.leased in
+    let managed : old.mode ≡ ManagedCheckpoint = sym (ap (λ (f : Follower). f.mode) c.self.view_is) ∙ mode-leased c.self.inside.following.mode c.self.inside.lease c.args.lease.now c.self.invariant.leased held in
+    let n2 = g.S.Store.calls c.news.new.store in
+    news-once v.latest t t1 v.ensures.kept v.ensures.found old.mode old.skips managed n n1 v.ensures.calls n2 c.in_err-news.ensures.calls n2 (omega arith)
+
+pub returns-in_err-answer-clause-calls : goal.returns-in_err-answer-clause-calls
+returns-in_err-answer-clause-calls g c =
+    let v = c.in_ok-latest in
+    let t = g.S.Store.objects c.args.store.now in
+    let t1 = g.S.Store.objects c.latest_of.new.store in
+    let old = c.args.self.now in
+    let n = g.S.Store.calls c.args.store.now in
+    let n1 = g.S.Store.calls c.latest_of.new.store in
+    let held : c.self.inside.lease ≡ Some c.args.lease.now = ap (λ (f : Follower). f.lease) c.self.view_is ∙ c.requires.leased in
+    let managed : old.mode ≡ ManagedCheckpoint = sym (ap (λ (f : Follower). f.mode) c.self.view_is) ∙ mode-leased c.self.inside.following.mode c.self.inside.lease c.args.lease.now c.self.invariant.leased held in
+    let n2 = g.S.Store.calls c.news.new.store in
+    news-once v.latest t t1 v.ensures.kept v.ensures.found old.mode old.skips managed n n1 v.ensures.calls n2 c.in_ok-news.ensures.calls n2 (omega arith)
+
+pub returns-then-not-is_due-clause-calls : goal.returns-then-not-is_due-clause-calls
+returns-then-not-is_due-clause-calls g c =
+    let v = c.in_ok-latest in
+    let t = g.S.Store.objects c.args.store.now in
+    let t1 = g.S.Store.objects c.latest_of.new.store in
+    let old = c.args.self.now in
+    let n = g.S.Store.calls c.args.store.now in
+    let n1 = g.S.Store.calls c.latest_of.new.store in
+    let held : c.self.inside.lease ≡ Some c.args.lease.now = ap (λ (f : Follower). f.lease) c.self.view_is ∙ c.requires.leased in
+    let managed : old.mode ≡ ManagedCheckpoint = sym (ap (λ (f : Follower). f.mode) c.self.view_is) ∙ mode-leased c.self.inside.following.mode c.self.inside.lease c.args.lease.now c.self.invariant.leased held in
+    let n2 = g.S.Store.calls c.news.new.store in
+    news-once v.latest t t1 v.ensures.kept v.ensures.found old.mode old.skips managed n n1 v.ensures.calls n2 c.in_ok-news.ensures.calls n2 (omega arith)
+
+pub returns-then-is_none-clause-calls : goal.returns-then-is_none-clause-calls
+returns-then-is_none-clause-calls g c =
+    let v = c.in_ok-latest in
+    let t = g.S.Store.objects c.args.store.now in
+    let t1 = g.S.Store.objects c.latest_of.new.store in
+    let old = c.args.self.now in
+    let n = g.S.Store.calls c.args.store.now in
+    let n1 = g.S.Store.calls c.latest_of.new.store in
+    let held : c.self.inside.lease ≡ Some c.args.lease.now = ap (λ (f : Follower). f.lease) c.self.view_is ∙ c.requires.leased in
+    let managed : old.mode ≡ ManagedCheckpoint = sym (ap (λ (f : Follower). f.mode) c.self.view_is) ∙ mode-leased c.self.inside.following.mode c.self.inside.lease c.args.lease.now c.self.invariant.leased held in
+    let n2 = g.S.Store.calls c.news.new.store in
+    news-twice v.latest t t1 v.ensures.kept v.ensures.found old.mode old.skips managed n n1 v.ensures.calls n2 c.in_ok-news.ensures.calls (g.S.Store.calls c.replace_lease-then-is_none.new.store) (g.S.Store.objects c.news.new.store) (c.in_ok-news.ensures.kept ∙ v.ensures.kept) c.replace_lease-then-is_none.ensures.calls
+
+pub returns-in_err-renewed-clause-calls : goal.returns-in_err-renewed-clause-calls
+returns-in_err-renewed-clause-calls g c =
+    let v = c.in_ok-latest in
+    let t = g.S.Store.objects c.args.store.now in
+    let t1 = g.S.Store.objects c.latest_of.new.store in
+    let old = c.args.self.now in
+    let n = g.S.Store.calls c.args.store.now in
+    let n1 = g.S.Store.calls c.latest_of.new.store in
+    let held : c.self.inside.lease ≡ Some c.args.lease.now = ap (λ (f : Follower). f.lease) c.self.view_is ∙ c.requires.leased in
+    let managed : old.mode ≡ ManagedCheckpoint = sym (ap (λ (f : Follower). f.mode) c.self.view_is) ∙ mode-leased c.self.inside.following.mode c.self.inside.lease c.args.lease.now c.self.invariant.leased held in
+    let n2 = g.S.Store.calls c.news.new.store in
+    news-once v.latest t t1 v.ensures.kept v.ensures.found old.mode old.skips managed n n1 v.ensures.calls n2 c.in_ok-news.ensures.calls (g.S.Store.calls c.renew_lease.new.store) c.in_err-renewed.ensures.calls
+
+pub returns-then-not-renewed-clause-calls : goal.returns-then-not-renewed-clause-calls
+returns-then-not-renewed-clause-calls g c =
+    let v = c.in_ok-latest in
+    let t = g.S.Store.objects c.args.store.now in
+    let t1 = g.S.Store.objects c.latest_of.new.store in
+    let old = c.args.self.now in
+    let n = g.S.Store.calls c.args.store.now in
+    let n1 = g.S.Store.calls c.latest_of.new.store in
+    let held : c.self.inside.lease ≡ Some c.args.lease.now = ap (λ (f : Follower). f.lease) c.self.view_is ∙ c.requires.leased in
+    let managed : old.mode ≡ ManagedCheckpoint = sym (ap (λ (f : Follower). f.mode) c.self.view_is) ∙ mode-leased c.self.inside.following.mode c.self.inside.lease c.args.lease.now c.self.invariant.leased held in
+    let n2 = g.S.Store.calls c.news.new.store in
+    news-once v.latest t t1 v.ensures.kept v.ensures.found old.mode old.skips managed n n1 v.ensures.calls n2 c.in_ok-news.ensures.calls (g.S.Store.calls c.renew_lease.new.store) c.in_ok-renewed.ensures.calls
+
+pub returns-in_err-answer-2-clause-calls : goal.returns-in_err-answer-2-clause-calls
+returns-in_err-answer-2-clause-calls g c =
+    let v = c.in_ok-latest in
+    let t = g.S.Store.objects c.args.store.now in
+    let t1 = g.S.Store.objects c.latest_of.new.store in
+    let old = c.args.self.now in
+    let n = g.S.Store.calls c.args.store.now in
+    let n1 = g.S.Store.calls c.latest_of.new.store in
+    let held : c.self.inside.lease ≡ Some c.args.lease.now = ap (λ (f : Follower). f.lease) c.self.view_is ∙ c.requires.leased in
+    let managed : old.mode ≡ ManagedCheckpoint = sym (ap (λ (f : Follower). f.mode) c.self.view_is) ∙ mode-leased c.self.inside.following.mode c.self.inside.lease c.args.lease.now c.self.invariant.leased held in
+    let n2 = g.S.Store.calls c.news.new.store in
+    news-once v.latest t t1 v.ensures.kept v.ensures.found old.mode old.skips managed n n1 v.ensures.calls n2 c.in_ok-news.ensures.calls (g.S.Store.calls c.renew_lease.new.store) c.in_ok-renewed.ensures.calls
+
+pub returns-clause-calls : goal.returns-clause-calls
+returns-clause-calls g c =
+    let v = c.in_ok-latest in
+    let t = g.S.Store.objects c.args.store.now in
+    let t1 = g.S.Store.objects c.latest_of.new.store in
+    let old = c.args.self.now in
+    let n = g.S.Store.calls c.args.store.now in
+    let n1 = g.S.Store.calls c.latest_of.new.store in
+    let held : c.self.inside.lease ≡ Some c.args.lease.now = ap (λ (f : Follower). f.lease) c.self.view_is ∙ c.requires.leased in
+    let managed : old.mode ≡ ManagedCheckpoint = sym (ap (λ (f : Follower). f.mode) c.self.view_is) ∙ mode-leased c.self.inside.following.mode c.self.inside.lease c.args.lease.now c.self.invariant.leased held in
+    let n2 = g.S.Store.calls c.news.new.store in
+    news-once v.latest t t1 v.ensures.kept v.ensures.found old.mode old.skips managed n n1 v.ensures.calls n2 c.in_ok-news.ensures.calls (g.S.Store.calls c.renew_lease.new.store) c.in_ok-renewed.ensures.calls
+
+pub returns-then-is_none-clause-calls_again : goal.returns-then-is_none-clause-calls_again
+returns-then-is_none-clause-calls_again g c =
+    let v = c.in_ok-latest in
+    let t = g.S.Store.objects c.args.store.now in
+    let t1 = g.S.Store.objects c.latest_of.new.store in
+    let old = c.args.self.now in
+    let n = g.S.Store.calls c.args.store.now in
+    let n1 = g.S.Store.calls c.latest_of.new.store in
+    let held : c.self.inside.lease ≡ Some c.args.lease.now = ap (λ (f : Follower). f.lease) c.self.view_is ∙ c.requires.leased in
+    let managed : old.mode ≡ ManagedCheckpoint = sym (ap (λ (f : Follower). f.mode) c.self.view_is) ∙ mode-leased c.self.inside.following.mode c.self.inside.lease c.args.lease.now c.self.invariant.leased held in
+    let n2 = g.S.Store.calls c.news.new.store in
+    λ again. news-then v.latest t t1 v.ensures.kept v.ensures.found old.mode old.skips managed n n1 v.ensures.calls n2 c.in_ok-news.ensures.calls (g.S.Store.calls c.replace_lease-then-is_none.new.store) (c.replace_lease-then-is_none.ensures.calls_again again)
+
+pub returns-then-not-renewed-clause-calls_again : goal.returns-then-not-renewed-clause-calls_again
+returns-then-not-renewed-clause-calls_again g c =
+    let v = c.in_ok-latest in
+    let t = g.S.Store.objects c.args.store.now in
+    let t1 = g.S.Store.objects c.latest_of.new.store in
+    let old = c.args.self.now in
+    let n = g.S.Store.calls c.args.store.now in
+    let n1 = g.S.Store.calls c.latest_of.new.store in
+    let held : c.self.inside.lease ≡ Some c.args.lease.now = ap (λ (f : Follower). f.lease) c.self.view_is ∙ c.requires.leased in
+    let managed : old.mode ≡ ManagedCheckpoint = sym (ap (λ (f : Follower). f.mode) c.self.view_is) ∙ mode-leased c.self.inside.following.mode c.self.inside.lease c.args.lease.now c.self.invariant.leased held in
+    let n2 = g.S.Store.calls c.news.new.store in
+    λ again. news-then v.latest t t1 v.ensures.kept v.ensures.found old.mode old.skips managed n n1 v.ensures.calls n2 c.in_ok-news.ensures.calls (g.S.Store.calls c.renew_lease.new.store) c.in_ok-renewed.ensures.calls

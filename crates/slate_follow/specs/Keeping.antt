@@ -1,0 +1,99 @@
+-- What the steps of a reader that keeps a checkpoint of its own put and answer.
+use Rattle.std.specs.Prelude.{◌≡◌, ℕ, ◌⊎◌, Bool, true, false, max, List, [], length, Option, Some, None, Result, Ok, Err, IfErr}
+use Rattle.slate_types.specs.declared.batches.Batch.{Batch}
+use Rattle.slate_types.specs.declared.store_errors.StoreFault.TheVariants.{Unavailable}
+use Rattle.slate_store.specs.declared.objects.VersionedManifest.{VersionedManifest}
+use Rattle.slate_store.specs.declared.reader_modes.DbReaderMode.TheVariants.{ManagedCheckpoint}
+use Rattle.slate_store.specs.declared.refusals.StoreRefusal.TheVariants as refusals
+use Rattle.slate_store.specs.Checkpoints.{Plan}
+use Rattle.slate_store.specs.Objects.{Objects, PutManifest, changed, is_present, latest_manifest}
+use Rattle.slate_store.specs.Refusals.{planned}
+use Rattle.slate_replay.specs.Replay.{Replays, line_of}
+use Rattle.slate_replay.specs.declared.replays.Replayed.{Replayed}
+use Rattle.slate_replay.specs.declared.replays.Replayed.TheVariants.{Whole}
+use Rattle.slate_errors.specs.declared.errors.SlateError.{SlateError}
+use Rattle.slate_errors.specs.declared.errors.SlateError.TheVariants as errors
+use Rattle.slate_model.specs.Changes.{PartMade, after_part}
+use Rattle.slate_model.specs.Follower.{Follower, number, rebuilt}
+use Rattle.slate_model.specs.Followed.{last_read}
+use Rattle.slate_model.specs.Managed.{follower_under}
+use Rattle.slate_model.specs.Stores.{Stands}
+use Rattle.slate_model.specs.declared.answers.PollAnswer.{PollAnswer}
+use Rattle.slate_model.specs.declared.leases.Lease.{Lease}
+use Rattle.slate_follow.specs.Rebuilding.{Builds, followed, reached}
+
+-- the latest manifest, or why it wasn't read
+abbrev pub FindsLatest : Objects → Result VersionedManifest SlateError → Type 0
+FindsLatest objects (Ok latest) = latest_manifest objects ≡ Some latest
+FindsLatest objects (Err errors.LatestTransactionalObjectVersionMissing) = latest_manifest objects ≡ None
+FindsLatest objects (Err (errors.ObjectStoreError Unavailable)) = Unit {0}
+FindsLatest objects (Err errors.NoMemory) = Unit {0}
+FindsLatest objects (Err error) = ⊥
+
+-- What a put of a manifest answers and leaves: true where it was put, false where one is stored under its id.
+abbrev pub PutsManifest : VersionedManifest → Result Bool SlateError → Objects → Objects → Type 0
+PutsManifest next (Ok true) objects objects' = objects' ≡ changed (PutManifest next.id next.manifest) objects
+PutsManifest next (Ok false) objects objects' = (is_present (PutManifest next.id next.manifest) objects ≡ true) × (objects' ≡ objects)
+PutsManifest next (Err (errors.ObjectStoreError Unavailable)) objects objects' =
+    (objects' ≡ objects) ⊎ (objects' ≡ changed (PutManifest next.id next.manifest) objects)
+PutsManifest next (Err errors.NoMemory) objects objects' = objects' ≡ objects
+PutsManifest next (Err error) objects objects' = ⊥
+
+-- the manifest that a plan puts, and the lease that it gives then; want of memory has no cause
+abbrev pub GivesLease : Plan Lease → Result (VersionedManifest × Lease) SlateError → Type 0
+GivesLease plan (Ok (next, lease)) = plan ≡ Ok (Some next, lease)
+GivesLease plan (Err errors.InvalidDBState) = plan ≡ Err refusals.InvalidDBState
+GivesLease plan (Err errors.NoMemory) = Unit {0}
+GivesLease plan (Err error) = ⊥
+
+-- One try, by what the call answers: where the manifest was there already, it is as if it were the last.
+abbrev pub tried : {A : Type 0} → Result (Option A) SlateError → Result A SlateError
+tried (Ok (Some answer)) = Ok answer
+tried (Ok None) = Err (errors.TransactionalObjectTimeout 8)
+tried (Err error) = Err error
+
+abbrev pub put_tried : Result Bool SlateError → Result (Unit {0}) SlateError
+put_tried (Ok true) = Ok tt
+put_tried (Ok false) = Err (errors.TransactionalObjectTimeout 8)
+put_tried (Err error) = Err error
+
+-- why a call answers an error that has this plan after the latest manifest
+abbrev pub CauseBy : Plan Lease → Objects → SlateError → Type 0
+CauseBy plan objects errors.InvalidDBState = plan ≡ Err refusals.InvalidDBState
+CauseBy plan objects (errors.TransactionalObjectTimeout tries) = (tries ≡ 8) × Stands (planned plan) objects
+CauseBy plan objects (errors.ObjectStoreError Unavailable) = Unit {0}
+CauseBy plan objects errors.NoMemory = Unit {0}
+CauseBy plan objects error = ⊥
+
+-- the lease after a call with this plan: the one that it gives, or, at an error, that or the old one
+abbrev pub LeaseBy : {A : Type 0} → Plan Lease → (old : Option Lease) → Result A SlateError → (made : ℕ) → Option Lease → Type 0
+LeaseBy plan old (Ok answer) made lease = (next : Option VersionedManifest) × (given : Lease) × (plan ≡ Ok (next, given)) × (lease ≡ Some given)
+LeaseBy plan old (Err error) made lease =
+    (lease ≡ old) ⊎ ((made ≡ 1) × (next : Option VersionedManifest) × (given : Lease) × (plan ≡ Ok (next, given)) × (lease ≡ Some given))
+
+-- A call with this plan puts what it says, and gives its lease; at an error, so much of that.
+pub record PutsBy {A : Type 0} (plan : Plan Lease) (old : Option Lease) (objects : Objects) (result : Result A SlateError) (lease : Option Lease) (objects' : Objects) : Type 0 where
+  pub made : ℕ
+  pub cause : IfErr result (CauseBy plan objects)
+  pub part : PartMade result (length (planned {L = List Batch} plan)) made
+  pub after : objects' ≡ after_part made (planned plan) objects
+  pub leased : LeaseBy plan old result made lease
+
+-- A reader takes its view and its batches anew from a manifest, which its plan put.
+pub record BuildsLatest (plan : Plan Lease) (skips : Bool) (objects : Objects) (follower : Follower) (answer : PollAnswer) : Type 0 where
+  pub given : Lease
+  pub puts : plan ≡ Ok (Some follower.view, given)
+  pub builds : Builds objects ManagedCheckpoint skips follower.view (last_read ManagedCheckpoint skips follower.view objects) (follower_under follower.view follower) answer
+
+-- What log files have that a reader hasn't replayed yet, under the latest manifest: nothing, for one that skips them.
+abbrev pub IsNews : Objects → Follower → (latest : VersionedManifest) → (skips : Bool) → List Batch → Replayed → (mark : ℕ) → Type 0
+IsNews objects follower latest true added found mark =
+    (added ≡ []) × (found ≡ Whole) × (mark ≡ latest.manifest.replay_after_wal_id)
+IsNews objects follower latest false added found mark =
+    let last = last_read follower.mode follower.skips latest objects in
+    Replays (max follower.mark latest.manifest.replay_after_wal_id) last (number follower) [] added objects (Ok found) × (mark ≡ reached found last)
+
+-- the follower that has these, and goes by its view: one that skips log files has the tables alone
+abbrev pub informed : Follower → (skips : Bool) → List Batch → (mark : ℕ) → Follower
+informed old true added mark = rebuilt old.mode old.skips old.view (line_of old.view.manifest.last_l0_seq []) mark
+informed old false added mark = followed old old.view added mark

@@ -1,0 +1,156 @@
+// The lease of a reader that keeps a checkpoint of its own: what options pass, and the manifests that take it and renew it.
+ghost use Rattle.std.specs.Prelude.{◌≡◌, ◌+◌, ◌≤◌, ℕ, None, Some, Ok, IfOk, IfErr, IfSome, IsSome};
+ghost use Rattle.slate_store.specs.Calls.{WhereModelled};
+ghost use Rattle.slate_store.specs.Checkpoints.{found, to_refresh, to_write};
+ghost use Rattle.slate_store.specs.Refusals.{PlanIs};
+ghost use Rattle.slate_model.specs.Known.{CountsFaults};
+ghost use Rattle.slate_model.specs.Lease.{lease_refusal, leased, to_take};
+ghost use Rattle.slate_model.specs.Managed.{PutsPlanned};
+ghost use Rattle.slate_model.specs.Stores.{Stands};
+ghost use Rattle.slate_follow.specs.Keeping.{FindsLatest, GivesLease, PutsManifest, tried};
+
+use crate::DbReaderOptions;
+use slate_errors::SlateError;
+use slate_model::{Lease, error_of_refusal};
+use slate_store::{Store, StoreError, VersionedManifest, next_with_checkpoint, next_with_end};
+use std::alloc::Global;
+use uuid::Uuid;
+
+/// How often an opening or a poll reads the latest manifest and puts the next one, where others put theirs first.
+pub(crate) const TRIES: u32 = 8;
+
+// The least lifetime of a checkpoint of a reader, in milliseconds.
+const LEAST_LIFETIME: u64 = 1000;
+
+/// Why a reader with these options may not keep a checkpoint of its own.
+pub(crate) fn lease_refusal(options: &DbReaderOptions) -> Option<SlateError>
+    ensures { result ≡ lease_refusal options.now.checkpoint_lifetime_ms options.now.manifest_poll_interval_ms }
+{
+    let lifetime = options.checkpoint_lifetime_ms;
+    let interval = options.manifest_poll_interval_ms;
+    if lifetime < LEAST_LIFETIME {
+        return Some(SlateError::InvalidCheckpointLifetime(lifetime));
+    }
+    let Some(doubled) = interval.checked_mul(2) else {
+        return Some(SlateError::InvalidManifestPollInterval(interval));
+    };
+    if lifetime < doubled {
+        return Some(SlateError::CheckpointLifetimeTooShort {
+            lifetime,
+            interval: doubled,
+        });
+    }
+    None
+}
+
+/// The latest manifest.
+pub(crate) fn latest_of<S: Store>(
+    alloc: Global,
+    store: &mut S,
+) -> Result<VersionedManifest, SlateError>
+    ensures faults { CountsFaults (S.faults store.old) (S.faults store.new) result }
+    ensures calls { S.calls store.new ≤ S.calls store.old + 1 }
+    ensures kept { S.objects store.new ≡ S.objects store.old }
+    ensures found { IfSome (S.objects store.old) (λ o. FindsLatest o result) }
+{
+    match store.latest_manifest(alloc)? {
+        Some(latest) => Ok(latest),
+        None => Err(SlateError::LatestTransactionalObjectVersionMissing),
+    }
+}
+
+/// Puts a manifest, and answers whether it did: where one is stored under its id, it didn't.
+pub(crate) fn put_next<S: Store>(
+    alloc: Global,
+    store: &mut S,
+    next: &VersionedManifest,
+) -> Result<bool, SlateError>
+    ensures faults { CountsFaults (S.faults store.old) (S.faults store.new) result }
+    ensures calls { S.calls store.new ≤ S.calls store.old + 1 }
+    ensures puts { WhereModelled (PutsManifest next.now result) (S.objects store.old) (S.objects store.new) }
+{
+    match store.put_manifest(alloc, next.id, &next.manifest) {
+        Ok(()) => Ok(true),
+        Err(StoreError::Exists) => Ok(false),
+        Err(error) => Err(SlateError::from(error)),
+    }
+}
+
+/// The manifest that follows the latest one with a new checkpoint, in place of another or beside all, and its lease.
+pub(crate) fn with_new_lease(
+    alloc: Global,
+    latest: &VersionedManifest,
+    replaced: Option<Uuid>,
+    lifetime: u64,
+    moment: i64,
+) -> Result<(VersionedManifest, Lease), SlateError>
+    ensures { GivesLease (leased lifetime (to_write replaced (Some lifetime) moment latest.now)) result }
+{
+    match next_with_checkpoint(alloc, latest, replaced, Some(lifetime), moment) {
+        Ok((next, checkpoint)) => Ok((next, Lease::of(&checkpoint, lifetime))),
+        Err(refusal) => Err(error_of_refusal(refusal)),
+    }
+}
+
+/// The manifest that follows the latest one with this lease's checkpoint under a new end, and the lease then.
+pub(crate) fn with_renewed_lease(
+    alloc: Global,
+    latest: &VersionedManifest,
+    lease: &Lease,
+    moment: i64,
+) -> Result<(VersionedManifest, Lease), SlateError>
+    requires { IsSome (found lease.now.id latest.now) }
+    ensures { GivesLease (leased lease.now.lifetime (to_refresh lease.now.id lease.now.lifetime moment latest.now)) result }
+{
+    match next_with_end(alloc, latest, lease.id, lease.lifetime, moment) {
+        Ok((next, checkpoint)) => Ok((next, Lease::of(&checkpoint, lease.lifetime))),
+        Err(refusal) => Err(error_of_refusal(refusal)),
+    }
+}
+
+/// Reads the latest manifest of a database that is initialised, and commits a new checkpoint after it. It answers the
+/// manifest that does and the lease, and None where a manifest is stored already under that one's id.
+fn try_to_take<S: Store>(
+    alloc: Global,
+    store: &mut S,
+    lifetime: u64,
+    moment: i64,
+) -> Result<Option<(VersionedManifest, Lease)>, SlateError>
+    ensures faults { CountsFaults (S.faults store.old) (S.faults store.new) result }
+    ensures calls { S.calls store.new ≤ S.calls store.old + 2 }
+    ensures puts { WhereModelled (λ o o'. (made : ℕ) × PutsPlanned Stands (to_take lifetime moment) o (tried result) made o') (S.objects store.old) (S.objects store.new) }
+    ensures given { IfOk (tried result) (λ p. IfSome (S.objects store.old) (λ o. PlanIs (to_take lifetime moment) o (Ok (Some p.0, p.1)))) }
+    ensures again { result ≡ Ok None → S.objects store.new ≡ S.objects store.old }
+{
+    let latest = latest_of(alloc, store)?;
+    if !latest.manifest.initialized {
+        return Err(SlateError::InvalidDBState);
+    }
+    let (next, lease) = with_new_lease(alloc, &latest, None, lifetime, moment)?;
+    let is_put = put_next(alloc, store, &next)?;
+    if !is_put {
+        return Ok(None);
+    }
+    Ok(Some((next, lease)))
+}
+
+/// Commits a new checkpoint after the latest manifest, in as many tries as there are. It answers the manifest that does,
+/// and the lease.
+pub(crate) fn take_lease<S: Store>(
+    alloc: Global,
+    store: &mut S,
+    lifetime: u64,
+    moment: i64,
+) -> Result<(VersionedManifest, Lease), SlateError>
+    ensures faults { CountsFaults (S.faults store.old) (S.faults store.new) result }
+    ensures calls { S.calls store.new ≤ S.calls store.old + 16 }
+    ensures puts { WhereModelled (λ o o'. (made : ℕ) × PutsPlanned Stands (to_take lifetime moment) o result made o') (S.objects store.old) (S.objects store.new) }
+    ensures given { IfOk result (λ p. IfSome (S.objects store.old) (λ o. PlanIs (to_take lifetime moment) o (Ok (Some p.0, p.1)))) }
+{
+    for earlier in 0..TRIES {
+        if let Some(taken) = try_to_take(alloc, store, lifetime, moment)? {
+            return Ok(taken);
+        }
+    }
+    Err(SlateError::TransactionalObjectTimeout { tries: TRIES })
+}

@@ -1,0 +1,294 @@
+-- A reader that is polled in time holds its checkpoint.
+use Rattle.std.proofs.Common.{◌≡◌, ◌≢◌, ◌⊎◌, ◌++◌, ◌∷◌, ◌+◌, ◌-ℤ◌, ◌+ℤ◌, ◌/◌, ◌∙◌, ◌<◌, ◌≤◌, [], inl, inr, ℕ, ℤ, pos, int_lt, Bool, true, false, cond, get_or, not, length, List, map, find, Option, Some, None, Result, Ok, Err, refl, sym, subst, ap, arith}
+use Rattle.std.proofs.lemmas.Int.{ints}
+use Rattle.std.specs.List.{All, filter, slice_get}
+use Rattle.std.proofs.lemmas.Bool.{false_from_ne_true}
+use Rattle.std.proofs.lemmas.List.Elements.{All-filter}
+use Rattle.std.proofs.lemmas.Slice.Eq.{bytes_eq-Decides}
+use Rattle.std.specs.Bool.{MatchBool}
+use Rattle.slate_store.proofs.Latest.{its-objects}
+use Rattle.slate_store.specs.Changes.{after_part}
+use Rattle.slate_store.specs.Checkpoints.{Plan, checkpoint_id, found, has_id, is_expired, last_moment, lease_end, new_checkpoint, refreshed, to_end, to_refresh, to_write, with_checkpoints, without_id}
+use Rattle.slate_store.specs.Content.{AreRising, IsPinned}
+use Rattle.slate_store.specs.Objects.{entry_at, latest_manifest}
+use Rattle.slate_store.specs.Refusals.{checkpoint_changes, planned, planned_after}
+use Rattle.slate_store.proofs.Parts.{part-none}
+use Rattle.slate_store.specs.declared.objects.VersionedManifest.{VersionedManifest}
+use Rattle.slate_model.specs.Catalogue.{Catalogue, Span}
+use Rattle.slate_model.specs.Lease.{is_due, lease_of, leased, replaces, to_keep}
+use Rattle.slate_model.specs.Write.{last_number}
+use Rattle.slate_model.proofs.Leased.{put-entry, put-id, put-latest_is, puts-one}
+use Rattle.slate_model.proofs.Maintained.{Recheckpoints}
+use Rattle.slate_model.proofs.Planned.{keep-recheckpoints}
+use Rattle.slate_model.proofs.Reduced.{some-same}
+use Rattle.slate_store.specs.declared.objects.Checkpoint.{Checkpoint}
+use Rattle.slate_store.specs.declared.objects.Manifest.{Manifest}
+use Rattle.slate_store.specs.declared.reader_modes.DbReaderMode.TheVariants as modes
+use Rattle.slate_model.specs.declared.leases.Lease.{Lease}
+use Rattle.slate_model.specs.Follower.{Follower}
+use Rattle.slate_script.specs.declared.commands.Command.{Command}
+use Rattle.slate_script.specs.declared.replies.Reply.{Reply}
+use Rattle.slate_live.specs.Calls.{OfObject, call_of, target_of}
+use Rattle.slate_live.specs.Leases.{closes, polls}
+use Rattle.slate_live.specs.Represents.{IsFollowerAt, IsReached}
+use Rattle.slate_live.specs.Settings.{Settings}
+use Rattle.slate_live.specs.World.{Next, World, state_of}
+use Rattle.slate_live.proofs.Leases.{ArePast, AreApart, HasCheckpoint, entry-after, nothing-spared, refreshed-id, rising, spared, still-has}
+use Rattle.slate_live.proofs.Carrying.{leased-is}
+use Rattle.slate_live.proofs.Distinct.{ids-differ, put-low}
+use Rattle.slate_live.proofs.Finding.{find-all, find-last, find-map, found-id}
+use Rattle.slate_live.proofs.Untouched.{is-quiet, stays}
+
+-- ---- moments
+cond-end : (b : Bool) (x y z : ℤ) → int_lt x y ≡ b → int_lt z (cond b x y) ≡ true → int_lt z y ≡ true
+cond-end true x y z less below = grind (arith, ints, less, below)
+cond-end false x y z less below = below
+
+-- a moment before the end of a lease isn't after an end that isn't before that one
+not-over : (end bound moment : ℤ) → int_lt end bound ≡ false → int_lt moment bound ≡ true → int_lt end moment ≡ false
+not-over end bound moment ahead before = grind (arith, ints, ahead, before)
+
+-- a longer lease that begins at a moment doesn't end before a shorter one
+longer-ends : (b c : Bool) (t : ℤ) (long short : ℕ) → short ≤ long → int_lt last_moment (t +ℤ pos long) ≡ b → int_lt last_moment (t +ℤ pos short) ≡ c → int_lt (cond b last_moment (t +ℤ pos long)) (cond c last_moment (t +ℤ pos short)) ≡ false
+longer-ends true true t long short less is_b is_c = grind (arith, ints)
+longer-ends true false t long short less is_b is_c = grind (arith, ints, is_b, is_c)
+longer-ends false true t long short less is_b is_c = grind (arith, ints, less, is_b, is_c)
+longer-ends false false t long short less is_b is_c = grind (arith, ints, less)
+
+pub renewed-ahead : (t : ℤ) (long short : ℕ) → short ≤ long → int_lt (lease_end t long) (lease_end t short) ≡ false
+renewed-ahead t long short less = longer-ends (int_lt last_moment (t +ℤ pos long)) (int_lt last_moment (t +ℤ pos short)) t long short less refl refl
+
+-- a lease that isn't due ends no earlier than one of half its lifetime that begins now
+undue-by : (b : Bool) (t end : ℤ) (half : ℕ) → int_lt (end -ℤ pos half) t ≡ false → int_lt last_moment (t +ℤ pos half) ≡ b → int_lt end (cond b last_moment (t +ℤ pos half)) ≡ false
+undue-by true t end half undue is_b = grind (arith, ints, undue, is_b)
+undue-by false t end half undue is_b = grind (arith, ints, undue)
+
+undue-ahead : (t end : ℤ) (half : ℕ) → int_lt (end -ℤ pos half) t ≡ false → int_lt end (lease_end t half) ≡ false
+undue-ahead t end half undue = undue-by (int_lt last_moment (t +ℤ pos half)) t end half undue refl
+
+-- ---- a reader that holds its checkpoint
+-- It is open, and its checkpoint is in the latest manifest, ends no earlier than a lease of this lifetime that began at the
+-- reader's last turn, and keeps a manifest with the tables that it reads.
+pub record Holds (n lifetime : ℕ) (last : ℤ) (w : World) : Type 0 where
+  pub follower : Follower
+  pub at : IsFollowerAt w.objects n follower
+  pub live : follower.result ≡ None
+  pub managed : follower.mode ≡ modes.ManagedCheckpoint
+  pub lease : Lease
+  pub leased : follower.lease ≡ Some lease
+  pub half : lease.lifetime / 2 ≡ lifetime
+  pub ahead : int_lt lease.end (lease_end last lifetime) ≡ false
+  pub checkpoint : Checkpoint
+  pub kept : Manifest
+  pub has : HasCheckpoint w lease.id checkpoint kept
+  pub expires : checkpoint.expire_ms ≡ Some lease.end
+  pub tables : kept.tables ≡ follower.view.manifest.tables
+
+-- it isn't over at a moment in time
+unexpired : (c : Checkpoint) (end moment bound : ℤ) → c.expire_ms ≡ Some end → int_lt end bound ≡ false → int_lt moment bound ≡ true → is_expired moment c ≡ false
+unexpired c end moment bound expires ahead before = by c.expire_ms expires where
+  by : (e : Option ℤ) → e ≡ Some end → is_expired moment (record c { expire_ms = e }) ≡ false
+  by None is = absurd (cc)
+  by (Some x) is = let same : x ≡ end = cc in subst (λ y. int_lt y moment ≡ false) (sym same) (not-over end bound moment ahead before)
+
+pub holds-lasts : (n lifetime : ℕ) (last moment : ℤ) (w : World) (h : Holds n lifetime last w) → int_lt moment (lease_end last lifetime) ≡ true → is_expired moment h.checkpoint ≡ false
+holds-lasts n lifetime last moment w h before = unexpired h.checkpoint h.lease.end moment (lease_end last lifetime) h.expires h.ahead before
+
+-- the id of a new checkpoint isn't that of one of the latest manifest
+pub new-apart : (w : World) → IsReached w → (latest : VersionedManifest) → latest_manifest w.catalogue ≡ Some latest → latest.id < last_number → All (λ x. has_id (checkpoint_id (latest.id + 1)) x ≡ false) latest.manifest.checkpoints
+new-apart w reached latest is low k d less =
+    let pin = (its-objects reached.1 latest reached.2 (ap latest_manifest (reached.3).catalogue ∙ is)).pinned k d less in
+    let within = pin.within in
+    false_from_ne_true _ (λ same. let ids = (bytes_eq-Decides _ _).0 same in
+    let number = ids-differ (get_or latest.manifest.checkpoints k d).manifest_id (latest.id + 1) (omega (arith, within, low)) (omega (arith, low)) (sym pin.id ∙ ids) in
+    omega (arith, number, within))
+
+module _ (settings : Settings) (w w' : World) (command : Command) (reply : Reply) (reached : IsReached w) (reached' : IsReached w') (next : Next settings w command reply w') (apart : AreApart w) (n lifetime : ℕ) (last : ℤ) (h : Holds n lifetime last w) where
+  -- a command in time that neither polls nor closes it
+  pub holds-still : polls n command.action ≡ false → closes n command.action ≡ false → int_lt command.moment (lease_end last lifetime) ≡ true → Holds n lifetime last w'
+  holds-still unpolled unclosed before =
+      let quiet = is-quiet n command.action unpolled unclosed in
+      let spares = spared w command h.has.latest h.lease.id h.checkpoint h.has.there (holds-lasts n lifetime last command.moment w h before)
+      (λ m f lease names disturbs at has same. quiet (names ∙ ap OfObject (apart m n f h.follower lease h.lease at h.at has h.leased same)) disturbs) in
+      record {
+        follower = h.follower;
+        at = stays settings w command next.made reply (state_of w') n h.follower h.at quiet next.does;
+        live = h.live;
+        managed = h.managed;
+        lease = h.lease;
+        leased = h.leased;
+        half = h.half;
+        ahead = h.ahead;
+        checkpoint = h.checkpoint;
+        kept = h.kept;
+        has = still-has settings w w' command reply reached reached' next h.lease.id h.checkpoint h.kept h.has spares;
+        expires = h.expires;
+        tables = h.tables;
+      }
+
+  -- ---- a poll of the reader itself
+  -- the latest manifest of the world before, whose checkpoints are pinned
+  abbrev latest : VersionedManifest
+  latest = h.has.latest
+
+  all-pinned : All (IsPinned reached.1 latest) latest.manifest.checkpoints
+  all-pinned = (its-objects reached.1 latest reached.2 (ap latest_manifest (reached.3).catalogue ∙ h.has.is)).pinned
+
+  -- the follower after the poll, and its lease by the plan
+  module _ (f' : Follower) (at' : IsFollowerAt w'.objects n f') (open_ : f'.result ≡ None) (mode : f'.mode ≡ modes.ManagedCheckpoint) (made : ℕ) (next_manifest : Option VersionedManifest) (given : Lease)
+      (gives : to_keep h.follower.view h.lease command.moment latest ≡ Ok (next_manifest, given)) (leased' : f'.lease ≡ Some given) (view : MatchBool (replaces h.follower.view h.lease command.moment latest) (next_manifest ≡ Some f'.view) (f'.view ≡ h.follower.view))
+      (part : made ≡ length (checkpoint_changes {L = Span} (to_keep h.follower.view h.lease command.moment) w.catalogue)) (after : w'.catalogue ≡ after_part made (checkpoint_changes (to_keep h.follower.view h.lease command.moment) w.catalogue) w.catalogue) where
+    abbrev lifetime_is : ℕ
+    lifetime_is = h.lease.lifetime
+
+    abbrev plan : VersionedManifest → Plan Lease
+    plan = to_keep h.follower.view h.lease command.moment
+
+    its_rising : AreRising (map (λ e. e.0) w.catalogue.manifests)
+    its_rising = rising settings w w' command reply reached reached' next
+
+    puts : Recheckpoints latest (plan latest)
+    puts = keep-recheckpoints h.follower.view h.lease command.moment latest
+
+    half-less : lifetime ≤ lifetime_is
+    half-less = let half = h.half in omega (arith, half)
+
+    -- it put this manifest
+    module _ (put : VersionedManifest) (is_put : next_manifest ≡ Some put) where
+      gives_put : plan latest ≡ Ok (Some put, given)
+      gives_put = gives ∙ ap (λ x. Ok (x, given)) is_put
+
+      one : made ≡ 1
+      one = part ∙ puts-one plan w.catalogue latest put given its_rising h.has.is gives_put puts
+
+      latest' : latest_manifest w'.catalogue ≡ Some put
+      latest' = ap latest_manifest after ∙ put-latest_is plan w.catalogue latest put given its_rising h.has.is gives_put puts made one
+
+      entry' : entry_at put.id w'.catalogue.manifests ≡ Some put.manifest
+      entry' = ap (λ (x : Catalogue). entry_at put.id x.manifests) after ∙ put-entry plan w.catalogue latest put given its_rising h.has.is gives_put puts made one
+
+      id' : put.id ≡ latest.id + 1
+      id' = put-id plan w.catalogue latest put given its_rising h.has.is gives_put puts
+
+    -- the checkpoint was replaced
+    replaced : leased lifetime_is (to_write (Some h.lease.id) (Some lifetime_is) command.moment latest) ≡ Ok (next_manifest, given) → next_manifest ≡ Some f'.view → Holds n lifetime command.moment w'
+    replaced written is_view =
+        let c = new_checkpoint latest (Some lifetime_is) command.moment in
+        let p = leased-is lifetime_is (to_write (Some h.lease.id) (Some lifetime_is) command.moment latest) next_manifest given written in
+        let checkpoints = without_id h.lease.id latest.manifest.checkpoints ++ c ∷ [] in
+        let q = put-low latest (with_checkpoints checkpoints latest) c next_manifest p.0 p.1 in
+        let put = with_checkpoints checkpoints latest in
+        let given_is : lease_of lifetime_is c ≡ given = sym (ap (lease_of lifetime_is) q.2) ∙ p.2 in
+        let put_view : put ≡ f'.view = some-same put f'.view (sym q.1 ∙ is_view) in
+        let none = All-filter (λ x. not (has_id h.lease.id x)) (λ x. has_id (checkpoint_id (latest.id + 1)) x ≡ false) latest.manifest.checkpoints (new-apart w reached latest h.has.is q.0) in
+        record {
+          follower = f';
+          at = at';
+          live = open_;
+          managed = mode;
+          lease = given;
+          leased = leased';
+          half = ap (λ (l : Lease). l.lifetime / 2) (sym given_is) ∙ h.half;
+          ahead = subst (λ (l : Lease). int_lt l.end (lease_end command.moment lifetime) ≡ false) given_is (renewed-ahead command.moment lifetime_is lifetime half-less);
+          checkpoint = c;
+          kept = put.manifest;
+          has = subst (λ (l : Lease). HasCheckpoint w' l.id c put.manifest) given_is (record {
+            latest = put;
+            is = latest' put q.1;
+            there = find-last (has_id c.id) c (without_id h.lease.id latest.manifest.checkpoints) none ((bytes_eq-Decides c.id c.id).1 refl);
+            entry = entry' put q.1;
+          });
+          expires = ap (λ (l : Lease). Some l.end) given_is;
+          tables = ap (λ (v : VersionedManifest). v.manifest.tables) put_view;
+        }
+
+    -- its lease was renewed
+    renewed : leased lifetime_is (to_refresh h.lease.id lifetime_is command.moment latest) ≡ Ok (next_manifest, given) → f'.view ≡ h.follower.view → Holds n lifetime command.moment w'
+    renewed refreshes same_view =
+        let end = lease_end command.moment lifetime_is in
+        let p = leased-is lifetime_is (to_refresh h.lease.id lifetime_is command.moment latest) next_manifest given refreshes in
+        let gave : to_end h.lease.id end latest (Some h.checkpoint) ≡ Ok (next_manifest, p.0) = ap (to_end h.lease.id end latest) (sym h.has.there) ∙ p.1 in
+        let put = with_checkpoints (map (refreshed h.lease.id end) latest.manifest.checkpoints) latest in
+        let c = record h.checkpoint { expire_ms = Some end } in
+        let q = put-low latest put c next_manifest p.0 gave in
+        let given_is : lease_of lifetime_is c ≡ given = sym (ap (lease_of lifetime_is) q.2) ∙ p.2 in
+        let id_is : h.checkpoint.id ≡ h.lease.id = found-id h.lease.id h.checkpoint latest.manifest.checkpoints h.has.there in
+        let mine : has_id h.lease.id h.checkpoint ≡ true = (bytes_eq-Decides h.checkpoint.id h.lease.id).1 id_is in
+        let there : find (has_id h.lease.id) put.manifest.checkpoints ≡ Some c =
+        find-map (has_id h.lease.id) (refreshed h.lease.id end) (refreshed-id h.lease.id h.lease.id end) h.checkpoint latest.manifest.checkpoints h.has.there ∙ ap (λ b. Some (cond b c h.checkpoint)) mine in
+        let is' = latest' put q.1 in
+        record {
+          follower = f';
+          at = at';
+          live = open_;
+          managed = mode;
+          lease = given;
+          leased = leased';
+          half = ap (λ (l : Lease). l.lifetime / 2) (sym given_is) ∙ h.half;
+          ahead = subst (λ (l : Lease). int_lt l.end (lease_end command.moment lifetime) ≡ false) given_is (renewed-ahead command.moment lifetime_is lifetime half-less);
+          checkpoint = c;
+          kept = h.kept;
+          has = record {
+            latest = put;
+            is = is';
+            there = subst (λ id. find (has_id id) put.manifest.checkpoints ≡ Some c) (sym id_is ∙ ap (λ (l : Lease). l.id) given_is) there;
+            entry = entry-stays put c is' there refl;
+          };
+          expires = ap (λ (l : Lease). Some l.end) given_is;
+          tables = h.tables ∙ ap (λ (v : VersionedManifest). v.manifest.tables) (sym same_view);
+        } where
+          -- the manifest that it keeps is there still
+          entry-stays : (put : VersionedManifest) (c : Checkpoint) → latest_manifest w'.catalogue ≡ Some put → find (has_id h.lease.id) put.manifest.checkpoints ≡ Some c → c.manifest_id ≡ h.checkpoint.manifest_id → entry_at h.checkpoint.manifest_id w'.catalogue.manifests ≡ Some h.kept
+          entry-stays put c is' there same =
+              let within = (find-all (IsPinned reached.1 latest) (has_id h.lease.id) h.checkpoint latest.manifest.checkpoints all-pinned h.has.there).within in
+              elim (entry-after settings w w' command reply reached reached' next (λ cs. Unit {0}) latest h.has.is (nothing-spared w latest command) h.checkpoint.manifest_id within) [
+                | inl gone ↦ absurd (not-gone put c is' there same gone)
+                | inr kept ↦ kept ∙ h.has.entry
+              ] where
+                not-gone : (put : VersionedManifest) (c : Checkpoint) → latest_manifest w'.catalogue ≡ Some put → find (has_id h.lease.id) put.manifest.checkpoints ≡ Some c → c.manifest_id ≡ h.checkpoint.manifest_id → entry_at h.checkpoint.manifest_id w'.catalogue.manifests ≡ None → ⊥
+                not-gone put c is' there same gone =
+                    let o' = reached'.1 in
+                    let here : latest_manifest o' ≡ Some put = ap latest_manifest (reached'.3).catalogue ∙ is' in
+                    let pin = find-all (IsPinned o' put) (has_id h.lease.id) c put.manifest.checkpoints (its-objects o' put reached'.2 here).pinned there in
+                    let no : Some pin.manifest ≡ None = sym pin.kept ∙ (ap (λ (x : Catalogue). entry_at c.manifest_id x.manifests) (reached'.3).catalogue ∙ (ap (λ k. entry_at k w'.catalogue.manifests) same ∙ gone)) in
+                    absurd (cc)
+
+    -- nothing was put
+    unput : ◌≡◌ {A = Plan Lease} (Ok (None, h.lease)) (Ok (next_manifest, given)) → is_due command.moment h.lease ≡ false → f'.view ≡ h.follower.view → Holds n lifetime command.moment w'
+    unput nothing undue same_view =
+        let both : ◌≡◌ {A = Option VersionedManifest × Lease} (None, h.lease) (next_manifest, given) = cc in
+        let given_is = ap (λ (p : Option VersionedManifest × Lease). p.1) both in
+        let none = ap (λ (p : Option VersionedManifest × Lease). p.0) both in
+        let gives_none : plan latest ≡ Ok (None, given) = gives ∙ ap (λ x. Ok (x, given)) (sym none) in
+        let changes : checkpoint_changes {L = Span} plan w.catalogue ≡ [] = ap (planned_after plan) h.has.is ∙ ap planned gives_none in
+        let same : w'.catalogue ≡ w.catalogue = after ∙ (ap (λ cs. after_part made cs w.catalogue) changes ∙ part-none made w.catalogue) in
+        record {
+          follower = f';
+          at = at';
+          live = open_;
+          managed = mode;
+          lease = given;
+          leased = leased';
+          half = ap (λ (l : Lease). l.lifetime / 2) (sym given_is) ∙ h.half;
+          ahead = subst (λ (l : Lease). int_lt l.end (lease_end command.moment lifetime) ≡ false) given_is
+              (subst (λ half. int_lt h.lease.end (lease_end command.moment half) ≡ false) h.half (undue-ahead command.moment h.lease.end (h.lease.lifetime / 2) undue));
+          checkpoint = h.checkpoint;
+          kept = h.kept;
+          has = subst (λ (l : Lease). HasCheckpoint w' l.id h.checkpoint h.kept) given_is (record {
+            latest = latest;
+            is = ap latest_manifest same ∙ h.has.is;
+            there = h.has.there;
+            entry = ap (λ (x : Catalogue). entry_at h.checkpoint.manifest_id x.manifests) same ∙ h.has.entry;
+          });
+          expires = h.expires ∙ ap (λ (l : Lease). Some l.end) given_is;
+          tables = h.tables ∙ ap (λ (v : VersionedManifest). v.manifest.tables) (sym same_view);
+        }
+
+    pub polled-holds : Holds n lifetime command.moment w'
+    polled-holds = by (replaces h.follower.view h.lease command.moment latest) (is_due command.moment h.lease) refl gives view where
+      by : (b due : Bool) → is_due command.moment h.lease ≡ due →
+          cond b (leased lifetime_is (to_write (Some h.lease.id) (Some lifetime_is) command.moment latest)) (cond due (leased lifetime_is (to_refresh h.lease.id lifetime_is command.moment latest)) (Ok (None, h.lease))) ≡ Ok (next_manifest, given) →
+          MatchBool b (next_manifest ≡ Some f'.view) (f'.view ≡ h.follower.view) → Holds n lifetime command.moment w'
+      by true due is_due gives view = replaced gives view
+      by false true is_due gives view = renewed gives view
+      by false false is_due gives view = unput gives is_due view

@@ -1,0 +1,256 @@
+-- A reader that is polled in time keeps its checkpoint.
+use Rattle.std.proofs.Common.{◌≡◌, ◌≢◌, ◌⊎◌, ◌++◌, ◌∷◌, ◌+◌, ◌∙◌, ◌<◌, ◌≤◌, [], inl, inr, ℕ, ℤ, Bool, true, false, cond, not, length, List, map, find, Option, Some, None, Result, Ok, Err, refl, sym, subst, ap, arith}
+use Rattle.std.specs.List.{All, filter}
+use Rattle.std.proofs.lemmas.Bool.{false_from_ne_true}
+use Rattle.std.proofs.lemmas.Slice.Eq.{bytes_eq-Decides}
+use Rattle.slate_store.specs.Checkpoints.{Plan, found, has_id, lease_end, new_checkpoint, refreshed, to_delete, to_end, to_refresh, to_take_out, to_write, with_checkpoints, without_id}
+use Rattle.slate_store.specs.declared.objects.VersionedManifest.{VersionedManifest}
+use Rattle.slate_model.specs.declared.leases.Lease.{Lease}
+use Rattle.slate_model.specs.Lease.{is_due, leased, replaces, to_keep}
+use Rattle.slate_store.proofs.Carried.{Carried, carried, entry-carried}
+use Rattle.slate_store.proofs.Latest.{its-objects}
+use Rattle.slate_store.specs.Checkpoints.{is_expired}
+use Rattle.slate_store.specs.Changes.{after_part}
+use Rattle.slate_store.specs.Content.{AreRising, HasItsTables, IsPinned}
+use Rattle.slate_store.specs.Objects.{Objects, entry_at, latest_manifest}
+use Rattle.slate_store.specs.Sweeps.{has_expired, without_expired}
+use Rattle.slate_store.specs.declared.objects.Manifest.{Manifest}
+use Rattle.slate_model.specs.Catalogue.{Catalogue, Span}
+use Rattle.slate_model.specs.Follower.{Follower}
+use Rattle.slate_model.specs.Tables.{AreStored}
+use Rattle.slate_model.proofs.Carrying.{Has}
+use Rattle.slate_model.proofs.Moving.{known-stored}
+use Rattle.slate_model.proofs.Reduced.{some-same}
+use Rattle.slate_script.specs.declared.commands.Command.{Command}
+use Rattle.slate_script.specs.declared.replies.Reply.{Reply}
+use Rattle.slate_live.specs.Calls.{OfObject, call_of, target_of}
+use Rattle.slate_live.proofs.Untouched.{Disturbs}
+use Rattle.slate_live.specs.Represents.{IsFollowerAt, IsReached}
+use Rattle.slate_live.specs.Settings.{Settings}
+use Rattle.slate_live.specs.World.{Next, World, state_of}
+use Rattle.slate_live.proofs.Finding.{find-all, find-append, find-filter, find-map, found-id, has-other}
+use Rattle.slate_store.specs.Checkpoints.{checkpoint_id}
+use Rattle.slate_model.specs.Write.{last_number}
+use Rattle.slate_live.proofs.Distinct.{ids-differ}
+use Rattle.slate_live.proofs.Fates.{NewLease, WasLease, fates}
+use Rattle.slate_live.proofs.Carrying.{Changes, Spares, does-carries, leased-is, put-is}
+use Rattle.std.proofs.lemmas.List.Elements.{All-head, All-tail}
+use Rattle.slate_store.specs.declared.objects.Checkpoint.{Checkpoint}
+
+pub refreshed-id : (id other : List ℕ) (end : ℤ) (x : Checkpoint) → has_id id (refreshed other end x) ≡ has_id id x
+refreshed-id id other end x = by (has_id other x) where
+  by : (b : Bool) → has_id id (cond b (record x { expire_ms = Some end }) x) ≡ has_id id x
+  by true = refl
+  by false = refl
+
+refreshed-other : (other : List ℕ) (end : ℤ) (c : Checkpoint) → has_id other c ≡ false → refreshed other end c ≡ c
+refreshed-other other end c not_it = by (has_id other c) not_it where
+  by : (b : Bool) → b ≡ false → cond b (record c { expire_ms = Some end }) c ≡ c
+  by true is = absurd (cc)
+  by false is = refl
+
+-- a plan that puts nothing isn't one that puts this
+puts-none : {A : Type 0} (x y : A) (next : VersionedManifest) → ◌≡◌ {A = Plan A} (Ok (None, x)) (Ok (Some next, y)) → ⊥
+puts-none {A} x y next gives =
+    let both : ◌≡◌ {A = Option VersionedManifest × A} (None, x) (Some next, y) = cc in
+    let first = ap (λ (p : Option VersionedManifest × A). p.0) both in
+    absurd (cc)
+
+-- ---- what the plan of another reader leaves
+module _ (id other : List ℕ) (c : Checkpoint) (latest : VersionedManifest) (there : found id latest ≡ Some c) (apart : other ≢ id) where
+  other-not : has_id other c ≡ false
+  other-not = has-other id other c (found-id id c latest.manifest.checkpoints there) apart
+
+  abbrev Stays : VersionedManifest → Type 0
+  Stays next = find (has_id id) next.manifest.checkpoints ≡ Some c
+
+  without-stays : find (has_id id) (without_id other latest.manifest.checkpoints) ≡ Some c
+  without-stays = find-filter (has_id id) (λ checkpoint. not (has_id other checkpoint)) c latest.manifest.checkpoints there (ap not other-not)
+
+  written-stays : (lifetime : Option ℕ) (moment : ℤ) (next : VersionedManifest) (answer : Checkpoint) → to_write (Some other) lifetime moment latest ≡ Ok (Some next, answer) → Stays next
+  written-stays lifetime moment next answer gives =
+      let checkpoint = new_checkpoint latest lifetime moment in
+      subst Stays (put-is latest (with_checkpoints (without_id other latest.manifest.checkpoints ++ checkpoint ∷ []) latest) checkpoint next answer gives)
+      (find-append (has_id id) c (without_id other latest.manifest.checkpoints) (checkpoint ∷ []) without-stays)
+
+  refreshed-stays : (lifetime : ℕ) (moment : ℤ) (next : VersionedManifest) (answer : Checkpoint) → to_refresh other lifetime moment latest ≡ Ok (Some next, answer) → Stays next
+  refreshed-stays lifetime moment next answer gives = by (found other latest) gives where
+    end : ℤ
+    end = lease_end moment lifetime
+
+    by : (was : Option Checkpoint) → to_end other end latest was ≡ Ok (Some next, answer) → Stays next
+    by None gives = absurd (cc)
+    by (Some x) gives =
+        subst Stays (put-is latest (with_checkpoints (map (refreshed other end) latest.manifest.checkpoints) latest) (record x { expire_ms = Some end }) next answer gives)
+        (find-map (has_id id) (refreshed other end) (refreshed-id id other end) c latest.manifest.checkpoints there ∙ ap Some (refreshed-other other end c other-not))
+
+  deleted-stays : (next : VersionedManifest) → to_delete other latest ≡ Ok (Some next, tt) → Stays next
+  deleted-stays next gives = by (found other latest) gives where
+    by : (was : Option Checkpoint) → to_take_out other latest was ≡ Ok (Some next, tt) → Stays next
+    by None gives = absurd (puts-none tt tt next gives)
+    by (Some x) gives = subst Stays (put-is latest (with_checkpoints (without_id other latest.manifest.checkpoints) latest) tt next tt gives) without-stays
+
+-- the plan of a poll, by whether it replaces the checkpoint, and else by whether the lease is due
+abbrev plan_by : (lease : Lease) (moment : ℤ) (latest : VersionedManifest) (replaced due : Bool) → Plan Lease
+plan_by lease moment latest replaced due =
+    cond replaced (leased lease.lifetime (to_write (Some lease.id) (Some lease.lifetime) moment latest)) (cond due (leased lease.lifetime (to_refresh lease.id lease.lifetime moment latest)) (Ok (None, lease)))
+
+kept-stays : (id : List ℕ) (lease : Lease) (c : Checkpoint) (view latest : VersionedManifest) (moment : ℤ) → found id latest ≡ Some c → lease.id ≢ id → (next : VersionedManifest) (given : Lease) → to_keep view lease moment latest ≡ Ok (Some next, given) → find (has_id id) next.manifest.checkpoints ≡ Some c
+kept-stays id lease c view latest moment there apart next given gives = by (replaces view lease moment latest) (is_due moment lease) gives where
+  by : (replaced due : Bool) → plan_by lease moment latest replaced due ≡ Ok (Some next, given) → find (has_id id) next.manifest.checkpoints ≡ Some c
+  by true due gives = let p = leased-is lease.lifetime (to_write (Some lease.id) (Some lease.lifetime) moment latest) (Some next) given gives in written-stays id lease.id c latest there apart (Some lease.lifetime) moment next p.0 p.1
+  by false true gives = let p = leased-is lease.lifetime (to_refresh lease.id lease.lifetime moment latest) (Some next) given gives in refreshed-stays id lease.id c latest there apart lease.lifetime moment next p.0 p.1
+  by false false gives = absurd (puts-none lease given next gives)
+
+-- ---- a command that leaves a checkpoint
+-- what is found under an id
+abbrev pub Finds : List ℕ → Checkpoint → List Checkpoint → Type 0
+Finds id c cs = find (has_id id) cs ≡ Some c
+
+unexpired-found : (id : List ℕ) (c : Checkpoint) (latest : VersionedManifest) (moment : ℤ) → found id latest ≡ Some c → is_expired moment c ≡ false → Finds id c (without_expired moment latest).manifest.checkpoints
+unexpired-found id c latest moment there lasts = by (has_expired moment latest) where
+  by : (b : Bool) → Finds id c (cond b (with_checkpoints (filter (λ checkpoint. not (is_expired moment checkpoint)) latest.manifest.checkpoints) latest) latest).manifest.checkpoints
+  by true = find-filter (has_id id) (λ checkpoint. not (is_expired moment checkpoint)) c latest.manifest.checkpoints there (ap not lasts)
+  by false = there
+
+-- A command leaves it that neither polls nor closes the reader that keeps it, at a moment at which it isn't over.
+pub spared : (w : World) (command : Command) (latest : VersionedManifest) (id : List ℕ) (c : Checkpoint) → found id latest ≡ Some c → is_expired command.moment c ≡ false →
+    ((n : ℕ) (f : Follower) (lease : Lease) → target_of command.action ≡ OfObject n → Disturbs (call_of command.action) → IsFollowerAt w.objects n f → f.lease ≡ Some lease → lease.id ≢ id) → Spares (Finds id c) w latest command
+spared w command latest id c there lasts apart = record {
+  kept = there;
+  swept = λ sweeps. unexpired-found id c latest command.moment there lasts;
+  added = λ checkpoint. find-append (has_id id) c latest.manifest.checkpoints (checkpoint ∷ []) there;
+  polled = λ n f lease given next names asks at has gives. kept-stays id lease c f.view latest command.moment there (apart n f lease names (subst Disturbs (sym asks) tt) at has) next given gives;
+  closed = λ n f lease next flush_type names asks at live has gives. deleted-stays id lease.id c latest there (apart n f lease names (subst Disturbs (sym asks) tt) at has) next gives;
+}
+
+stored-tables : (o : Objects) (m : Manifest) → HasItsTables o m → AreStored o m.tables
+stored-tables o m tables k d less none = let some = (tables.stored k d less).2 in absurd (cc (some, none))
+
+-- what is known of a checkpoint of a world: it is the latest manifest's, and the manifest that it keeps is stored
+pub record HasCheckpoint (w : World) (id : List ℕ) (c : Checkpoint) (kept : Manifest) : Type 0 where
+  pub latest : VersionedManifest
+  pub is : latest_manifest w.catalogue ≡ Some latest
+  pub there : found id latest ≡ Some c
+  pub entry : entry_at c.manifest_id w.catalogue.manifests ≡ Some kept
+
+module _ (w : World) (reached : IsReached w) (id : List ℕ) (c : Checkpoint) (kept : Manifest) (has : HasCheckpoint w id c kept) where
+  abbrev o : Objects
+  o = reached.1
+
+  latest_is : latest_manifest o ≡ Some has.latest
+  latest_is = ap latest_manifest (reached.3).catalogue ∙ has.is
+
+  pub its-pin : IsPinned o has.latest c
+  its-pin = find-all (IsPinned o has.latest) (has_id id) c has.latest.manifest.checkpoints (its-objects o has.latest reached.2 latest_is).pinned has.there
+
+  -- the tables of the manifest that it keeps are stored
+  pub kept-stored : AreStored w.catalogue kept.tables
+  kept-stored =
+      let same : its-pin.manifest ≡ kept = some-same its-pin.manifest kept (sym its-pin.kept ∙ (ap (λ (x : Catalogue). entry_at c.manifest_id x.manifests) (reached.3).catalogue ∙ has.entry)) in
+      subst (λ (m : Manifest). AreStored w.catalogue m.tables) same
+      (subst (λ (x : Catalogue). AreStored x its-pin.manifest.tables) (reached.3).catalogue (known-stored o its-pin.manifest.tables (stored-tables o its-pin.manifest its-pin.tables)))
+
+-- after a command that leaves it the checkpoint is there, and keeps what it kept
+module _ (settings : Settings) (w w' : World) (command : Command) (reply : Reply) (reached : IsReached w) (reached' : IsReached w') (next : Next settings w command reply w') where
+  pub rising : AreRising (map (λ e. e.0) w.catalogue.manifests)
+  rising = subst (λ (x : Catalogue). AreRising (map (λ e. e.0) x.manifests)) (reached.3).catalogue (reached.2).manifests
+
+  -- what the checkpoints of the latest manifest have, they have after it
+  module _ (Q : List Checkpoint → Type 0) (latest : VersionedManifest) (is : latest_manifest w.catalogue ≡ Some latest) (spares : Spares Q w latest command) where
+    made-of : Changes Q settings w reached.0 latest rising is command spares next.made reply (state_of w')
+    made-of = does-carries Q settings w reached.0 latest rising is command spares next.made reply (state_of w') next.does
+
+    catalogue-is : w'.catalogue ≡ after_part made-of.part made-of.all w.catalogue
+    catalogue-is = some-same w'.catalogue (after_part made-of.part made-of.all w.catalogue) made-of.after
+
+    pub latest-after : Carried (Has Q) latest.id w'.catalogue
+    latest-after = subst (Carried (Has Q) latest.id) (sym catalogue-is) (carried (Has Q) made-of.part made-of.all w.catalogue latest rising is spares.kept made-of.carry)
+
+    pub entry-after : (k : ℕ) → k ≤ latest.id → (entry_at k w'.catalogue.manifests ≡ None) ⊎ (entry_at k w'.catalogue.manifests ≡ entry_at k w.catalogue.manifests)
+    entry-after k low = subst (λ (x : Catalogue). (entry_at k x.manifests ≡ None) ⊎ (entry_at k x.manifests ≡ entry_at k w.catalogue.manifests)) (sym catalogue-is) (entry-carried (Has Q) k made-of.part made-of.all w.catalogue latest.id low made-of.carry)
+
+  -- a checkpoint that it leaves keeps what it kept
+  pub still-has : (id : List ℕ) (c : Checkpoint) (kept : Manifest) (has : HasCheckpoint w id c kept) → Spares (Finds id c) w has.latest command → HasCheckpoint w' id c kept
+  still-has id c kept has spares =
+      let l = latest-after (Finds id c) has.latest has.is spares in
+      let within = (its-pin w reached id c kept has).within in
+      elim (entry-after (Finds id c) has.latest has.is spares c.manifest_id within) [
+        | inl gone ↦ absurd (not-gone l.latest l.is l.holds gone)
+        | inr same ↦ record { latest = l.latest; is = l.is; there = l.holds; entry = same ∙ has.entry }
+      ] where
+        not-gone : (latest' : VersionedManifest) → latest_manifest w'.catalogue ≡ Some latest' → found id latest' ≡ Some c → entry_at c.manifest_id w'.catalogue.manifests ≡ None → ⊥
+        not-gone latest' is there gone =
+            let o' = reached'.1 in
+            let here : latest_manifest o' ≡ Some latest' = ap latest_manifest (reached'.3).catalogue ∙ is in
+            let pin = find-all (IsPinned o' latest') (has_id id) c latest'.manifest.checkpoints (its-objects o' latest' reached'.2 here).pinned there in
+            let no : Some pin.manifest ≡ None = sym pin.kept ∙ (ap (λ (x : Catalogue). entry_at c.manifest_id x.manifests) (reached'.3).catalogue ∙ gone) in
+            absurd (cc)
+
+-- ---- the leases of a world
+-- each is of a checkpoint that a manifest up to the latest one commits
+abbrev pub ArePast : World → Type 0
+ArePast w =
+    (n : ℕ) (f : Follower) (lease : Lease) → IsFollowerAt w.objects n f → f.lease ≡ Some lease →
+    (k : ℕ) × (lease.id ≡ checkpoint_id k) × (k ≤ last_number) × (latest : VersionedManifest) × (latest_manifest w.catalogue ≡ Some latest) × (k ≤ latest.id)
+
+-- and each reader has one of another checkpoint
+abbrev pub AreApart : World → Type 0
+AreApart w =
+    (m n : ℕ) (f g : Follower) (a b : Lease) → IsFollowerAt w.objects m f → IsFollowerAt w.objects n g → f.lease ≡ Some a → g.lease ≡ Some b → a.id ≡ b.id → m ≡ n
+
+pub nothing-spared : (w : World) (latest : VersionedManifest) (command : Command) → Spares (λ cs. Unit {0}) w latest command
+nothing-spared w latest command = record { kept = tt; swept = λ sweeps. tt; added = λ checkpoint. tt; polled = λ n f lease given next names asks at has gives. tt; closed = λ n f lease next flush_type names asks at live has gives. tt }
+
+module _ (settings : Settings) (w w' : World) (command : Command) (reply : Reply) (reached : IsReached w) (reached' : IsReached w') (next : Next settings w command reply w') (past : ArePast w) (apart : AreApart w) where
+  abbrev Fate : ℕ → Lease → Type 0
+  Fate n lease = WasLease w n lease ⊎ NewLease w command (state_of w') n lease
+
+  fate : (n : ℕ) (f : Follower) (lease : Lease) → IsFollowerAt w'.objects n f → f.lease ≡ Some lease → Fate n lease
+  fate n f lease at has = fates settings w reached.0 (rising settings w w' command reply reached reached' next) command next.made reply (state_of w') next.does n f lease at has
+
+  -- the latest manifest has no lower id
+  later : (latest : VersionedManifest) → latest_manifest w.catalogue ≡ Some latest → Carried (Has (λ cs. Unit {0})) latest.id w'.catalogue
+  later latest is = latest-after settings w w' command reply reached reached' next (λ cs. Unit {0}) latest is (nothing-spared w latest command)
+
+  pub past-after : ArePast w'
+  past-after n f lease at has = elim (fate n f lease at has) [
+    | inl old ↦
+        let p = past n old.follower old.lease old.at old.leased in
+        let l = later p.3 p.4 in
+        let low = p.5 in
+        let up = l.up in
+        (p.0, old.same ∙ p.1, p.2, l.latest, l.is, omega (arith, low, up))
+    | inr new ↦
+        let same : w'.catalogue ≡ new.catalogue = some-same w'.catalogue new.catalogue new.after in
+        let low = new.low in
+        let id = new.put_id in
+        (new.latest.id + 1, new.id, omega (arith, low), new.put, ap latest_manifest same ∙ new.put_is, omega (arith, id))
+  ]
+
+  -- a new lease isn't of a checkpoint that was there
+  new-other : (m n : ℕ) (a b : Lease) → NewLease w command (state_of w') m a → WasLease w n b → a.id ≡ b.id → ⊥
+  new-other m n a b new old same =
+      let p = past n old.follower old.lease old.at old.leased in
+      let latest : new.latest ≡ p.3 = some-same new.latest p.3 (sym new.is ∙ p.4) in
+      let ids = ap (λ (v : VersionedManifest). v.id) latest in
+      let low = new.low in
+      let number = ids-differ (new.latest.id + 1) p.0 (omega (arith, low)) p.2 (sym new.id ∙ (same ∙ (old.same ∙ p.1))) in
+      let within = p.5 in
+      omega (arith, ids, number, within)
+
+  both-named : (m n : ℕ) (a b : Lease) → NewLease w command (state_of w') m a → NewLease w command (state_of w') n b → m ≡ n
+  both-named m n a b x y = by x.named y.named where
+    by : (target_of command.action ≡ OfObject m) ⊎ ((m ≡ length w.objects) × ((i : ℕ) → target_of command.action ≡ OfObject i → ⊥)) → (target_of command.action ≡ OfObject n) ⊎ ((n ≡ length w.objects) × ((i : ℕ) → target_of command.action ≡ OfObject i → ⊥)) → m ≡ n
+    by (inl is_m) (inl is_n) = let both : OfObject m ≡ OfObject n = sym is_m ∙ is_n in cc
+    by (inl is_m) (inr alone) = absurd (alone.1 m is_m)
+    by (inr alone) (inl is_n) = absurd (alone.1 n is_n)
+    by (inr x) (inr y) = x.0 ∙ sym y.0
+
+  pub apart-after : AreApart w'
+  apart-after m n f g a b at_m at_n has_a has_b same = by (fate m f a at_m has_a) (fate n g b at_n has_b) where
+    by : Fate m a → Fate n b → m ≡ n
+    by (inl x) (inl y) = apart m n x.follower y.follower x.lease y.lease x.at y.at x.leased y.leased (sym x.same ∙ (same ∙ y.same))
+    by (inl x) (inr y) = absurd (new-other n m b a y x (sym same))
+    by (inr x) (inl y) = absurd (new-other m n a b x y same)
+    by (inr x) (inr y) = both-named m n a b x y

@@ -1,0 +1,138 @@
+-- What opening, polling and closing a reader puts and answers that keeps a checkpoint of its own, and what it leaves.
+use Rattle.std.specs.Prelude.{◌≡◌, ℕ, ℤ, ◌⊎◌, Bool, false, MatchBool, List, length, Option, Some, None, unwrap_or, Result, Ok, Err, IfOk, IfErr, IfSome}
+use Rattle.slate_types.specs.Line.{Line}
+use Rattle.slate_types.specs.declared.store_errors.StoreFault.TheVariants.{Unavailable}
+use Rattle.slate_store.specs.declared.objects.VersionedManifest.{VersionedManifest}
+use Rattle.slate_store.specs.declared.reader_modes.DbReaderMode.TheVariants.{ManagedCheckpoint}
+use Rattle.slate_store.specs.declared.refusals.StoreRefusal.TheVariants as refusals
+use Rattle.slate_store.specs.Calls.{WhereModelled}
+use Rattle.slate_store.specs.Checkpoints.{Plan, to_delete}
+use Rattle.slate_store.specs.Objects.{ChangeOf, ObjectsOf, latest_manifest}
+use Rattle.slate_store.specs.Refusals.{PlanIs, checkpoint_changes}
+use Rattle.slate_errors.specs.declared.closing.CloseFault.TheVariants as faults
+use Rattle.slate_errors.specs.declared.endings.Ended.{Ended}
+use Rattle.slate_errors.specs.declared.errors.SlateError.{SlateError}
+use Rattle.slate_errors.specs.declared.errors.SlateError.TheVariants as errors
+use Rattle.slate_errors.specs.Errors.{closed_error}
+use Rattle.slate_model.specs.declared.answers.PollAnswer.{PollAnswer}
+use Rattle.slate_model.specs.declared.leases.Lease.{Lease}
+use Rattle.slate_model.specs.Changes.{PartMade, after_part}
+use Rattle.slate_model.specs.Close.{closed_follower, closing_flush, ended, recorded_fault}
+use Rattle.slate_model.specs.Flush.{recorded}
+use Rattle.slate_model.specs.Follow.{AnswersAt, HasAllLogs, SeesOwed}
+use Rattle.slate_model.specs.Follower.{Follower, number}
+use Rattle.slate_model.specs.Handle.{CloseResult}
+use Rattle.slate_model.specs.Knowledge.{Knowledge}
+use Rattle.slate_model.specs.Known.{CountsFaults, Known, Untouched}
+use Rattle.slate_model.specs.Lease.{lease_refusal, replaces, to_keep, to_take}
+
+-- Why a call with this plan for a checkpoint answers an error, over a store that is modelled. `stands` says that a manifest is
+-- there already under the id of the one that it puts.
+abbrev pub PlanCause : {L A : Type 0} → (stands : Type 0) → (VersionedManifest → Plan A) → ObjectsOf L → SlateError → Type 0
+PlanCause stands plan objects errors.LatestTransactionalObjectVersionMissing = latest_manifest objects ≡ None
+PlanCause stands plan objects errors.InvalidDBState = PlanIs plan objects (Err refusals.InvalidDBState)
+PlanCause stands plan objects (errors.TransactionalObjectTimeout tries) = (tries ≡ 8) × stands
+PlanCause stands plan objects (errors.ObjectStoreError Unavailable) = Unit {0}
+PlanCause stands plan objects errors.NoMemory = Unit {0}
+PlanCause stands plan objects error = ⊥
+
+-- A call puts what its plan for a checkpoint says; at an error, so many of that.
+pub record PutsPlanned {L A B : Type 0} (stands : List (ChangeOf L) → ObjectsOf L → Type 0) (plan : VersionedManifest → Plan A)
+    (objects : ObjectsOf L) (result : Result B SlateError) (made : ℕ) (objects' : ObjectsOf L) : Type 0 where
+  pub cause : IfErr result (PlanCause (stands (checkpoint_changes plan objects) objects) plan objects)
+  pub part : PartMade result (length (checkpoint_changes {L = L} plan objects)) made
+  pub after : objects' ≡ after_part made (checkpoint_changes plan objects) objects
+
+-- the follower with the batches and the mark of another, which goes by this manifest and keeps no checkpoint
+abbrev pub follower_under : VersionedManifest → Follower → Follower
+follower_under latest follower = record follower { view = latest; lease = None }
+
+-- A reader sees what one that follows the latest manifest, this one, is owed of the line that is stored, and has all log files
+-- where it reads them. `seen` says what was seen before.
+pub record SeesLatest {L : Type 0} (k : Knowledge L) (skips : Bool) (seen : Line → Type 0) (latest : VersionedManifest)
+    (objects : ObjectsOf L) (follower : Follower) (answer : PollAnswer) : Type 0 where
+  pub logs : skips ≡ false → HasAllLogs objects follower answer
+  pub sees : (line : Line) → k.is_stored line → seen line → SeesOwed k ManagedCheckpoint skips objects line (follower_under latest follower) answer
+
+-- it is open, in the mode that was asked for, and the answer gives its number
+abbrev pub IsOpenAt : (skips : Bool) → Follower → PollAnswer → Type 0
+IsOpenAt skips follower answer =
+    (follower.mode ≡ ManagedCheckpoint) × (follower.skips ≡ skips) × (follower.result ≡ None) × AnswersAt (number follower) answer
+
+-- nothing was seen before an opening
+abbrev pub unseen_line : Line → Type 0
+unseen_line line = Unit {0}
+
+-- An opening commits a checkpoint with this lifetime, and its reader goes by the manifest that does, under the lease of that.
+pub record Takes {L : Type 0} (k : Knowledge L) (lifetime : ℕ) (skips : Bool) (moment : ℤ) (objects : ObjectsOf L) (follower : Follower) (answer : PollAnswer) (objects' : ObjectsOf L) : Type 0 where
+  pub given : Lease
+  pub plan : PlanIs (to_take lifetime moment) objects (Ok (Some follower.view, given))
+  pub leased : follower.lease ≡ Some given
+  pub sees : SeesLatest k skips unseen_line follower.view objects' follower answer
+
+-- An opening with options that pass: so many of its changes were made.
+pub record TakesLease {L : Type 0} (k : Knowledge L) (made : ℕ) (lifetime : ℕ) (skips : Bool) (moment : ℤ)
+    (before : Known L) (result : Result (Follower × PollAnswer) SlateError) (after : Known L) : Type 0 where
+  pub faults : CountsFaults before.faults after.faults result
+  pub puts : WhereModelled (λ o o'. PutsPlanned k.stands (to_take lifetime moment) o result made o') before.objects after.objects
+  pub answers : IfOk result (λ b. IsOpenAt skips b.0 b.1)
+  pub takes : IfOk result (λ b. WhereModelled (λ o o'. Takes k lifetime skips moment o b.0 b.1 o') before.objects after.objects)
+
+-- An opening of a reader that keeps a checkpoint: options that are refused change nothing.
+pub record OpensManaged {L : Type 0} (k : Knowledge L) (made : ℕ) (lifetime interval : ℕ) (skips : Bool) (moment : ℤ)
+    (before : Known L) (result : Result (Follower × PollAnswer) SlateError) (after : Known L) : Type 0 where
+  pub refused : IfSome (lease_refusal lifetime interval) (λ error. (result ≡ Err error) × Untouched made before after)
+  pub takes : lease_refusal lifetime interval ≡ None → TakesLease k made lifetime skips moment before result after
+
+-- what an error of a poll records: itself, but no want of memory
+abbrev pub poll_result : SlateError → CloseResult
+poll_result errors.InvalidDBState = Some (Err faults.InvalidDBState)
+poll_result (errors.TransactionalObjectTimeout tries) = Some (Err (faults.TransactionalObjectTimeout tries))
+poll_result error = recorded error
+
+-- A poll that answers keeps the lease by its plan. The reader goes by the manifest that was put where the checkpoint was
+-- replaced, and else as before.
+pub record Keeps {L : Type 0} (k : Knowledge L) (lease : Lease) (moment : ℤ) (old : Follower) (objects : ObjectsOf L) (new : Follower) (answer : PollAnswer) (objects' : ObjectsOf L) : Type 0 where
+  pub latest : VersionedManifest
+  pub is_latest : latest_manifest objects ≡ Some latest
+  pub next : Option VersionedManifest
+  pub given : Lease
+  pub plan : to_keep old.view lease moment latest ≡ Ok (next, given)
+  pub leased : new.lease ≡ Some given
+  pub view : MatchBool (replaces old.view lease moment latest) (next ≡ Some new.view) (new.view ≡ old.view)
+  pub sees : SeesLatest k old.skips (k.has_seen old objects) (unwrap_or next latest) objects' new answer
+
+-- one that answers an error has the old lease, or the one of its plan, which it committed
+abbrev pub KeepsOrNot : {L : Type 0} → (plan : VersionedManifest → Plan Lease) → (made : ℕ) → Follower → ObjectsOf L → Follower → Type 0
+KeepsOrNot plan made old objects new =
+    (new.lease ≡ old.lease)
+    ⊎ ((made ≡ 1) × (next : Option VersionedManifest) × (given : Lease) × PlanIs plan objects (Ok (next, given)) × (new.lease ≡ Some given))
+
+-- A poll at a moment of an open reader that keeps a checkpoint under this lease: so many of its changes were made. At an error
+-- it sees what it saw.
+pub record KeepsLease {L : Type 0} (k : Knowledge L) (made : ℕ) (lease : Lease) (moment : ℤ) (old : Follower)
+    (before : Known L) (result : Result PollAnswer SlateError) (new : Follower) (after : Known L) : Type 0 where
+  pub faults : CountsFaults before.faults after.faults result
+  pub puts : WhereModelled (λ o o'. PutsPlanned k.stands (to_keep old.view lease moment) o result made o') before.objects after.objects
+  pub answers : IfOk result (λ answer. IsOpenAt old.skips new answer)
+  pub keeps : IfOk result (λ answer. WhereModelled (λ o o'. Keeps k lease moment old o new answer o') before.objects after.objects)
+  pub failed : IfErr result (λ error. new ≡ record old { lease = new.lease; result = poll_result error })
+  pub lapses : IfErr result (λ _. IfSome before.objects (λ o. KeepsOrNot (to_keep old.view lease moment) made old o new))
+
+-- A poll of a reader that keeps a checkpoint. A closed one answers what closed it, and nothing changes.
+pub record PollsManaged {L : Type 0} (k : Knowledge L) (made : ℕ) (moment : ℤ) (old : Follower)
+    (before : Known L) (result : Result PollAnswer SlateError) (new : Follower) (after : Known L) : Type 0 where
+  pub closed : IfSome old.result (λ r. (result ≡ Err (closed_error r)) × (new ≡ old) × Untouched made before after)
+  pub keeps : (lease : Lease) → old.result ≡ None → old.lease ≡ Some lease → KeepsLease k made lease moment old before result new after
+
+-- A close of a reader that keeps a checkpoint under this lease takes the checkpoint out.
+pub record EndsLease {L : Type 0} (k : Knowledge L) (made : ℕ) (lease : Lease) (before : Known L) (answer : Ended) (after : Known L) : Type 0 where
+  pub faults : CountsFaults before.faults after.faults (closing_flush answer.fault)
+  pub puts : WhereModelled (λ o o'. PutsPlanned k.stands (to_delete lease.id) o (closing_flush answer.fault) made o') before.objects after.objects
+
+-- A close of a reader that keeps a checkpoint. One that was closed before answers what was recorded, and changes nothing.
+pub record ClosesManaged {L : Type 0} (k : Knowledge L) (made : ℕ) (old : Follower) (before : Known L) (answer : Ended) (new : Follower) (after : Known L) : Type 0 where
+  pub closed : new ≡ closed_follower old
+  pub tasks : answer ≡ ended answer.fault
+  pub again : IfSome old.result (λ _. (answer ≡ ended (recorded_fault old.result)) × Untouched made before after)
+  pub ends : (lease : Lease) → old.result ≡ None → old.lease ≡ Some lease → EndsLease k made lease before answer after

@@ -1,5 +1,5 @@
 -- A close of a reader that keeps a checkpoint, from the call that takes it out.
-use Rattle.std.proofs.Common.{◌≡◌, ℕ, List, [], ◌∷◌, Option, Some, None, is_some, Bool, true, false, cond, Result, Ok, Err, refl, sym, ap, subst, ◌∙◌, arith}
+use Rattle.std.proofs.Common.{◌≡◌, ℕ, inl, List, [], ◌∷◌, Option, Some, None, is_some, Bool, true, false, cond, Result, Ok, Err, refl, sym, ap, subst, ◌∙◌, arith}
 use Rattle.std.specs.Option.{IfSome}
 use Rattle.std.specs.Prelude.{nat_lt}
 use Rattle.slate_types.specs.Modelled.{WhereModelled}
@@ -22,7 +22,7 @@ use Rattle.slate_model.specs.Changes.{PartMade}
 use Rattle.slate_model.specs.Close.{closed_follower, closing_flush, ended, recorded_fault}
 use Rattle.slate_model.specs.Follower.{Follower}
 use Rattle.slate_model.specs.Known.{CountsFaults, Known, Untouched}
-use Rattle.slate_model.specs.Managed.{ClosesManaged, EndsLease, PlanCause, PutsPlanned}
+use Rattle.slate_model.specs.Managed.{ClosesManaged, EndsLease, PlanCause, PutsPlanned, unrefused}
 use Rattle.slate_model.specs.Refusal.{error_of_refusal}
 use Rattle.slate_model.specs.Stores.{Stands, by_objects}
 use Rattle.slate_model.specs.declared.leases.Lease.{Lease}
@@ -68,14 +68,14 @@ module _ (id : List ℕ) (o : Objects) where
   ends-part (refusals.TransactionalObjectTimeout tries) all made part = part
   ends-part refusals.NoMemory all made part = part
 
-  ends : (r : Result (Unit {0}) StoreRefusal) (made : ℕ) (o' : Objects) → FollowsPlan (to_delete id) o r made o' → PutsPlanned Stands (to_delete id) o (closing_flush (fault_by r)) made o'
+  ends : (r : Result (Unit {0}) StoreRefusal) (made : ℕ) (o' : Objects) → FollowsPlan (to_delete id) o r made o' → PutsPlanned Stands unrefused (to_delete id) o (closing_flush (fault_by r)) made o'
   ends (Ok x) made o' f = record { cause = tt; part = f.part; after = f.after }
-  ends (Err e) made o' f = record { cause = ends-cause e f.cause; part = ends-part e _ made f.part; after = f.after }
+  ends (Err e) made o' f = record { cause = inl (ends-cause e f.cause); part = ends-part e _ made f.part; after = f.after }
 
 -- so much was made, over a store that may be modelled
 pub lease-ends : (id : List ℕ) (r : Result (Unit {0}) StoreRefusal) {a b : Option Objects} → WhereModelled (λ o o'. (made : ℕ) × FollowsPlan (to_delete id) o r made o') a b →
-    WhereModelled (λ o o'. (made : ℕ) × PutsPlanned Stands (to_delete id) o (closing_flush (fault_by r)) made o') a b
-lease-ends id r w = modelled_as (λ o o'. (made : ℕ) × PutsPlanned Stands (to_delete id) o (closing_flush (fault_by r)) made o') w (λ o o' f. (f.0, ends id o r f.0 o' f.1))
+    WhereModelled (λ o o'. (made : ℕ) × PutsPlanned Stands unrefused (to_delete id) o (closing_flush (fault_by r)) made o') a b
+lease-ends id r w = modelled_as (λ o o'. (made : ℕ) × PutsPlanned Stands unrefused (to_delete id) o (closing_flush (fault_by r)) made o') w (λ o o' f. (f.0, ends id o r f.0 o' f.1))
 
 -- the count of faults
 ends-faults : (f f' n n' : ℕ) (r : Result (Unit {0}) StoreRefusal) → calls.CountsFaults f f' r → calls.CountsTries n n' r → CountsFaults f f' (closing_flush (fault_by r))
@@ -96,7 +96,7 @@ module _ (a b : Option Objects) (f f' n n' : ℕ) (lease : Lease) where
 
   pub ends-so : (r : Result (Unit {0}) StoreRefusal) → WhereModelled (λ o o'. (made : ℕ) × FollowsPlan (to_delete lease.id) o r made o') a b → calls.CountsFaults f f' r → calls.CountsTries n n' r → EndsSo r
   ends-so r follows faults tries =
-      let m = with-made {P = λ made o o'. PutsPlanned Stands (to_delete lease.id) o (closing_flush (fault_by r)) made o'} {a = a} {b = b} (lease-ends lease.id r follows) in
+      let m = with-made {P = λ made o o'. PutsPlanned Stands unrefused (to_delete lease.id) o (closing_flush (fault_by r)) made o'} {a = a} {b = b} (lease-ends lease.id r follows) in
       (m.0, record { faults = ends-faults f f' n n' r faults tries; puts = m.1 })
 
 -- ---- a close of a reader that keeps a checkpoint

@@ -1,5 +1,5 @@
 -- What goes on by what is new in a sound store, where a follower had seen the rest, sees all that it has.
-use Rattle.std.proofs.Common.{◌≡◌, ℕ, ◌+◌, ◌-◌, ◌<◌, ◌≤◌, max, length, List, [], ◌++◌, drop, map, false, Option, Some, Ok, sym, subst, ap, ◌∙◌, arith, length-append}
+use Rattle.std.proofs.Common.{◌≡◌, ℕ, ◌+◌, ◌-◌, ◌<◌, ◌≤◌, max, length, List, [], ◌++◌, drop, map, false, Option, Some, None, Ok, sym, subst, ap, ◌∙◌, arith, length-append}
 use Rattle.std.specs.List.{All, flat_map}
 use Rattle.std.specs.Option.{IfSome}
 use Rattle.slate_types.proofs.Lines.{above-all, above-drop, above-none, numbered-drop}
@@ -20,17 +20,20 @@ use Rattle.slate_replay.specs.Replay.{Replays}
 use Rattle.slate_model.proofs.Free.{numbered-front}
 use Rattle.slate_model.proofs.Owing.{latest-view}
 use Rattle.slate_model.proofs.Reopened.{line_from, logs-by, numbered_rest}
-use Rattle.slate_model.specs.Follow.{HasAllLogs, SeesOwed}
+use Rattle.slate_errors.specs.declared.errors.SlateError.TheVariants as errors
+use Rattle.slate_model.specs.Follow.{HasAllLogs, LacksSegment, ReplayRefuses, SeesOwed}
 use Rattle.slate_model.specs.Followed.{IsView, last_read}
-use Rattle.slate_model.specs.Follower.{Follower, is_pinned, kept_follower, number, rebuilt}
+use Rattle.slate_model.specs.Follower.{Follower, is_pinned, kept_follower, number, rebuilt, unsegmented}
 use Rattle.slate_model.specs.Handle.{line_above}
 use Rattle.slate_model.specs.Known.{IsContent}
+use Rattle.slate_model.specs.Open.{replayed}
 use Rattle.slate_model.specs.Seen.{HasSeen}
+use Rattle.slate_model.specs.Segments.{Extractor, ops_of, unsegmented_refusal}
 use Rattle.slate_model.specs.Stores.{by_objects, kept_seen}
 use Rattle.slate_model.specs.declared.answers.PollAnswer.{PollAnswer}
-use Rattle.slate_follow.specs.Rebuilding.{Continues, FindsView, GoesOn, Reaches, reached}
+use Rattle.slate_follow.specs.Rebuilding.{Continues, FindsView, GoesOn, GoingLacks, Lacks, Reaches, answer_of, followed, reached}
 use Rattle.slate_follow.proofs.Above.{above-append, above-fewer, above-twice, none-between}
-use Rattle.slate_follow.proofs.Rebuilt.{has-all, kept-end, kept-line, sees-kept, sees_stored, some_at, unpinned-last, unpinned-owed}
+use Rattle.slate_follow.proofs.Rebuilt.{has-all, if_some, kept-end, kept-line, refuses_stored, sees-kept, sees_stored, some_at, unpinned-last, unpinned-owed}
 
 -- Log files of sound objects, where those up to one of them have no batch above a number, which isn't below the last one
 -- in tables.
@@ -128,33 +131,45 @@ module _ (o : Objects) (view : VersionedManifest) (sound : IsSound o) (is : late
       ∙ (ap (λ xs. xs ++ batches_above floor rest) (above-twice m floor line.batches low)
       ∙ (sym (above-append floor line.batches rest) ∙ (ap (batches_above floor) (sym parts) ∙ sym logged-above)))
 
--- so a follower that goes on, of which this is the whole, sees it all
+-- so a follower that goes on, of which this is the whole, has all that the log files have
+module _ (o : Objects) (view : VersionedManifest) (w : Follower) (sound : IsSound o) (is : latest_manifest o ≡ Some view) (begins : IsPrefix w.line (content o)) (has : HasSeen o w) (reaches : Reaches (kept_follower w) view) where
+  abbrev kept : List Batch
+  kept = batches_above w.view.manifest.last_l0_seq w.line.batches
+
+  pub whole-batches : (added : List Batch) (found : Replayed) → Replays (max w.mark view.manifest.replay_after_wal_id) (last_log view.manifest.replay_after_wal_id o) (number (kept_follower w)) [] added o (Ok found) →
+      (batches_above view.manifest.last_l0_seq (kept ++ added) ≡ logged o view.manifest) × (found ≡ replays.Whole)
+  whole-batches added found logs =
+      let m = view.manifest in
+      let mark = m.replay_after_wal_id in
+      let last = last_log mark o in
+      let n = end w.line in
+      let from = max w.mark mark in
+      let number_is : number (kept_follower w) ≡ n = kept-number w.view.manifest.last_l0_seq w.line in
+      let behind = reaches.0 in
+      let arrived = reaches.1 in
+      let tabled : m.last_l0_seq ≤ n = omega (arith, arrived, number_is) in
+      let seen = has.mark view is in
+      let least = at_least mark (map (λ log. log.0) o.logs) in
+      let above : mark ≤ from = omega arith in
+      let within : from ≤ last = omega (arith, seen, least) in
+      let ended = ends-within o view sound is w.line begins in
+      let low : (id : ℕ) (bs : List Batch) → mark < id → id ≤ from → log_at id o ≡ Some bs → All (λ b. b.number ≤ n) bs = λ id bs over under stored. has.logs view id bs is over (omega arith) stored in
+      let here = subst (λ k. Replays from last k [] added o (Ok found)) number_is logs in
+      let all = later-replayed o view sound is from n above within tabled ended low found added here in
+      let rest = all.0 ∙ (sym (later-logged o view sound is from n above within tabled ended low) ∙ logged-rest o view sound is w.line begins tabled) in (
+        ap (λ bs. batches_above m.last_l0_seq (kept ++ bs)) rest ∙ kept-rest o view sound is w.line begins w.view.manifest.last_l0_seq behind,
+        all.1,
+      )
+
+-- and sees it all
 whole-sees : (t : Option Objects) (o : Objects) (view : VersionedManifest) (w new : Follower) (answer : PollAnswer) → w.skips ≡ false → is_pinned w.mode ≡ false → IsSound o → latest_manifest o ≡ Some view → IsPrefix w.line (content o) → HasSeen o w →
     Reaches (kept_follower w) view → GoesOn o view (last_log view.manifest.replay_after_wal_id o) (kept_follower w) new answer → SeesOwed (by_objects t) w.mode w.skips o (content o) new answer
 whole-sees t o view w new answer reads free sound is begins has reaches goes =
     let m = view.manifest in
-    let mark = m.replay_after_wal_id in
-    let last = last_log mark o in
-    let n = end w.line in
-    let from = max w.mark mark in
-    let number_is : number (kept_follower w) ≡ n = kept-number w.view.manifest.last_l0_seq w.line in
-    let behind = reaches.0 in
-    let arrived = reaches.1 in
-    let tabled : m.last_l0_seq ≤ n = omega (arith, arrived, number_is) in
-    let seen = has.mark view is in
-    let least = at_least mark (map (λ log. log.0) o.logs) in
-    let above : mark ≤ from = omega arith in
-    let within : from ≤ last = omega (arith, seen, least) in
-    let ended = ends-within o view sound is w.line begins in
-    let low : (id : ℕ) (bs : List Batch) → mark < id → id ≤ from → log_at id o ≡ Some bs → All (λ b. b.number ≤ n) bs = λ id bs over under stored. has.logs view id bs is over (omega arith) stored in
-    let logs = subst (λ k. Replays from last k [] goes.added o (Ok goes.found)) number_is goes.logs in
-    let all = later-replayed o view sound is from n above within tabled ended low goes.found goes.added logs in
-    let rest = all.0 ∙ (sym (later-logged o view sound is from n above within tabled ended low) ∙ logged-rest o view sound is w.line begins tabled) in
-    let kept = batches_above w.view.manifest.last_l0_seq w.line.batches in
-    let now = batches_above m.last_l0_seq (kept ++ goes.added) in
-    let batches = ap (λ bs. batches_above m.last_l0_seq (kept ++ bs)) rest ∙ kept-rest o view sound is w.line begins w.view.manifest.last_l0_seq behind in
-    let line = ap (line_from m.last_l0_seq) batches ∙ kept-line o view sound is in
-    let becomes = subst (λ k. new ≡ rebuilt w.mode w.skips view (line_from m.last_l0_seq now) (reached goes.found k)) (sym (unpinned-last o view w.mode w.skips free reads)) goes.becomes in
+    let all = whole-batches o view w sound is begins has reaches goes.added goes.found goes.logs in
+    let now = batches_above m.last_l0_seq (kept o view w sound is begins has reaches ++ goes.added) in
+    let line = ap (line_from m.last_l0_seq) all.0 ∙ kept-line o view sound is in
+    let becomes = subst (λ k. unsegmented new ≡ rebuilt w.mode w.skips view (line_from m.last_l0_seq now) (reached goes.found k)) (sym (unpinned-last o view w.mode w.skips free reads)) goes.becomes in
     sees-kept t o w.mode w.skips view (content o) (content o) goes.found now new answer (unpinned-owed o view t w.mode w.skips (content o) free reads) line all.1 becomes goes.answers
 
 pub goes-sees : (t : Option Objects) (o : Objects) (view : VersionedManifest) (reach : ℕ) (old new : Follower) (answer : PollAnswer) → old.skips ≡ false → is_pinned old.mode ≡ false → IsSound o → FindsView old.mode old.skips false o (Ok (view, reach)) →
@@ -167,6 +182,46 @@ goes-sees t o view reach old new answer reads free sound can seen reaches goes =
     subst (λ (f : Follower). SeesOwed (by_objects t) f.mode f.skips o (content o) new answer) (sym seen.1)
     (whole-sees t o view w new answer (sym skips ∙ reads) (ap is_pinned (sym mode) ∙ free) sound (latest-view old.mode false o view free can.0) seen.2 seen.3 (subst (λ f. Reaches f view) seen.1 reaches)
     (subst (λ f. GoesOn o view (last_log view.manifest.replay_after_wal_id o) f new answer) seen.1 all))
+
+-- a key that it takes without a segment is one of what it is owed
+pub goes-refuses : (t : Option Objects) (x : Option Extractor) (o : Objects) (view : VersionedManifest) (reach : ℕ) (old : Follower) (key : List ℕ) → old.skips ≡ false → is_pinned old.mode ≡ false → IsSound o → FindsView old.mode old.skips false o (Ok (view, reach)) →
+    kept_seen old o (content o) → Reaches old view → GoingLacks x o view reach old key → ReplayRefuses (by_objects t) x old.mode old.skips false o (content o) (Some (errors.EmptySegmentPrefix key))
+goes-refuses t x o view reach old key reads free sound can seen reaches (added, found, logs, lacks) =
+    let w = seen.0 in
+    let m = view.manifest in
+    let mark = m.replay_after_wal_id in
+    let is = latest-view old.mode false o view free can.0 in
+    let at = subst (λ k. Replays (max old.mark mark) k (number old) [] added o (Ok found)) (can.1 ∙ unpinned-last o view old.mode old.skips free reads) logs in
+    let here = subst (λ (f : Follower). Replays (max f.mark mark) (last_log mark o) (number f) [] added o (Ok found)) seen.1 at in
+    let all = whole-batches o view w sound is seen.2 seen.3 (subst (λ f. Reaches f view) seen.1 reaches) added found here in
+    let now : batches_above m.last_l0_seq (old.line.batches ++ added) ≡ replayed view (content o) =
+    ap (λ (f : Follower). batches_above m.last_l0_seq (f.line.batches ++ added)) seen.1 ∙ (all.0 ∙ logged-above o view sound is w.line seen.2) in
+    (view, content o, can.0, unpinned-owed o view t old.mode old.skips (content o) free reads, ap (λ bs. unsegmented_refusal x (ops_of bs)) (sym now) ∙ lacks)
+
+-- ---- a reader that goes on, by the steps of that
+-- the log files above what it has gave these batches
+module _ (t : Option Objects) (view : VersionedManifest) (last from n : ℕ) (old : Follower) (before added : List Batch) (found : Replayed) (logs : IfSome t (λ o. Replays from last n before added o (Ok found)))
+    (from_is : from ≡ max old.mark view.manifest.replay_after_wal_id) (at : n ≡ number old) (empty : before ≡ []) where
+  pub replayed-at : (o : Objects) → t ≡ Some o → Replays (max old.mark view.manifest.replay_after_wal_id) last (number old) [] added o (Ok found)
+  replayed-at o is =
+      subst (λ k. Replays k last (number old) [] added o (Ok found)) from_is
+      (subst (λ k. Replays from last k [] added o (Ok found)) at
+      (subst (λ bs. Replays from last n bs added o (Ok found)) empty (some_at (λ o. Replays from last n before added o (Ok found)) t o is logs)))
+
+  pub gone-on : (new : Follower) (segments : List (List ℕ)) (mark seen : ℕ) (answer : PollAnswer) → old.lease ≡ None → mark ≡ reached found last → new ≡ record (followed old view added mark) { segments = segments; lease = old.lease } →
+      answer ≡ answer_of found seen → seen ≡ number new → IfSome t (λ o. GoesOn o view last old new answer)
+  gone-on new segments mark seen answer bare mark_is becomes answers seen_is =
+      if_some t
+      (λ o is. record {
+        added = added;
+        found = found;
+        logs = replayed-at o is;
+        becomes = ap unsegmented becomes ∙ (ap (λ l. record (followed old view added mark) { lease = l }) bare ∙ ap (followed old view added) mark_is);
+        answers = answers ∙ ap (answer_of found) seen_is;
+      })
+
+  pub going-lacks : (x : Option Extractor) → (key : List ℕ) × Lacks x (batches_above view.manifest.last_l0_seq (old.line.batches ++ added)) key → IfSome t (λ o. (key : List ℕ) × GoingLacks x o view last old key)
+  going-lacks x lacks = if_some t (λ o is. (lacks.0, (added, found, replayed-at o is, lacks.1)))
 
 -- what went on took what the log files of the latest manifest have
 pub continues : (o : Objects) (view : VersionedManifest) (reach : ℕ) (old new : Follower) (answer : PollAnswer) → FindsView old.mode old.skips false o (Ok (view, reach)) → Reaches old view → GoesOn o view reach old new answer → Continues o old new answer
@@ -206,3 +261,15 @@ module _ (view : VersionedManifest) (reach : ℕ) (old new : Follower) (answer :
       let can = found_at o at in
       sees_stored old.mode old.skips new answer o stored at content_is
       (λ sound line. goes-sees t o view reach old new answer reads free sound can (subst (kept_seen old o) line seen) reaches (gone_at o at))
+
+-- what was found, and went on to a key without a segment
+pub gone-refuses : {t t1 : Option Objects} (x : Option Extractor) (view : VersionedManifest) (reach : ℕ) (old : Follower) → t1 ≡ t → old.skips ≡ false → is_pinned old.mode ≡ false → Reaches old view →
+    IfSome t (λ o. FindsView old.mode old.skips false o (Ok (view, reach))) → IfSome t1 (λ o. (key : List ℕ) × GoingLacks x o view reach old key) →
+    (o : Objects) (stored : Line) → t ≡ Some o → IsContent t stored → kept_seen old o stored → LacksSegment (by_objects t) x old.mode old.skips false o stored
+gone-refuses {t} {t1} x view reach old kept reads free reaches found lacks o stored at content_is seen =
+    let can = some_at (λ o. FindsView old.mode old.skips false o (Ok (view, reach))) t o at found in
+    let l = some_at (λ o. (key : List ℕ) × GoingLacks x o view reach old key) t1 o (kept ∙ at) lacks in (
+      l.0,
+      refuses_stored x old.mode old.skips false (Some (errors.EmptySegmentPrefix l.0)) o stored at content_is
+          (λ sound line. goes-refuses t x o view reach old l.0 reads free sound can (subst (kept_seen old o) line seen) reaches l.1),
+    )

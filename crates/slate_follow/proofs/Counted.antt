@@ -10,6 +10,7 @@ use Rattle.slate_store.specs.Refusals.{PlanIs}
 use Rattle.slate_store.specs.declared.objects.VersionedManifest.{VersionedManifest}
 use Rattle.slate_store.specs.declared.reader_modes.DbReaderMode.{DbReaderMode}
 use Rattle.slate_store.specs.declared.reader_modes.DbReaderMode.TheVariants.{ManagedCheckpoint}
+use Rattle.slate_errors.specs.declared.errors.SlateError.{SlateError}
 use Rattle.slate_model.specs.Followed.{followed_logs, last_read, logs_under, read_logs}
 use Rattle.slate_model.specs.Lease.{leased, to_take}
 use Rattle.slate_model.specs.Managed.{PutsPlanned}
@@ -44,15 +45,15 @@ put-logs o o' latest next form after skips =
     ap (λ n. n - next.manifest.replay_after_wal_id) (sym (reads o o' latest next logs replayed skips)) ∙ ap (λ n. last_read ManagedCheckpoint skips latest o - n) replayed
 
 -- ---- an opening
-module _ (lifetime : ℕ) (skips : Bool) (moment : ℤ) (t t1 : Option Objects) (next : VersionedManifest) (given : Lease)
-    (puts : WhereModelled (λ o o'. (made : ℕ) × PutsPlanned {B = VersionedManifest × Lease} Stands (to_take lifetime moment) o (Ok (next, given)) made o') t t1)
+module _ (refused : Objects → SlateError → Type 0) (lifetime : ℕ) (skips : Bool) (moment : ℤ) (t t1 : Option Objects) (next : VersionedManifest) (given : Lease)
+    (puts : WhereModelled (λ o o'. (made : ℕ) × PutsPlanned {B = VersionedManifest × Lease} Stands refused (to_take lifetime moment) o (Ok (next, given)) made o') t t1)
     (plans : IfSome t (λ o. PlanIs (to_take lifetime moment) o (Ok (Some next, given)))) (last : ℕ) (reach : IfSome t1 (λ o. last ≡ last_read ManagedCheckpoint skips next o)) where
   logs-are : (o : Objects) → t ≡ Some o → last - next.manifest.replay_after_wal_id ≡ followed_logs ManagedCheckpoint skips o
   logs-are o at =
       let h = puts.some o at in
       let plan = some_at (λ o. PlanIs (to_take lifetime moment) o (Ok (Some next, given))) t o at plans in
       let form = written-form plan.0 lifetime moment next given None (taken-from lifetime moment plan.0 next given plan.2) in
-      let after = taken-after lifetime skips moment o h.0 h.2.0 next given plan h.2.1 in
+      let after = taken-after refused lifetime skips moment o h.0 h.2.0 next given plan h.2.1 in
       let last_is = some_at (λ o. last ≡ last_read ManagedCheckpoint skips next o) t1 h.0 h.1 reach in
       ap (λ n. n - next.manifest.replay_after_wal_id) last_is ∙ (put-logs o h.0 plan.0 next form after skips ∙ ap (logs_under ManagedCheckpoint skips o) (sym plan.1))
 

@@ -17,7 +17,7 @@ use Rattle.slate_replay.specs.declared.replays.Replayed.TheVariants.{Whole}
 use Rattle.slate_model.proofs.Reduced.{some-same}
 use Rattle.slate_model.specs.Follow.{HasAllLogs, SeesOwed}
 use Rattle.slate_model.specs.Followed.{IsView, last_read}
-use Rattle.slate_model.specs.Follower.{Follower, is_pinned, number, rebuilt}
+use Rattle.slate_model.specs.Follower.{Follower, is_pinned, number, rebuilt, unsegmented}
 use Rattle.slate_model.specs.Lease.{differs}
 use Rattle.slate_model.specs.Managed.{SeesLatest, follower_under}
 use Rattle.slate_model.specs.Stores.{by_objects, kept_seen}
@@ -57,7 +57,7 @@ module _ (o : Objects) (latest : VersionedManifest) (is : latest_manifest o ≡ 
   reaches = let e = tabled in (omega (arith, e), omega (arith, e, floor))
 
   -- one that skips log files has the tables alone
-  module _ (skipping : old.skips ≡ true) (news : IsNews o old latest true added found mark) (becomes : new ≡ record (informed old true added mark) { lease = lease }) where
+  module _ (skipping : old.skips ≡ true) (news : IsNews o old latest true added found mark) (becomes : unsegmented new ≡ record (informed old true added mark) { lease = lease }) where
     built : Builds o ManagedCheckpoint true latest latest.manifest.replay_after_wal_id (follower_under latest new) answer
     built = record {
       batches = [];
@@ -75,7 +75,7 @@ module _ (o : Objects) (latest : VersionedManifest) (is : latest_manifest o ≡ 
     skipping-sees t sound = builds-sees ManagedCheckpoint true false o latest latest.manifest.replay_after_wal_id (can ManagedCheckpoint refl, refl) (follower_under latest new) answer t sound built
 
   -- one that reads them goes on
-  module _ (reading : old.skips ≡ false) (news : IsNews o old latest false added found mark) (becomes : new ≡ record (informed old false added mark) { lease = lease }) where
+  module _ (reading : old.skips ≡ false) (news : IsNews o old latest false added found mark) (becomes : unsegmented new ≡ record (informed old false added mark) { lease = lease }) where
     abbrev last : ℕ
     last = last_read old.mode old.skips latest o
 
@@ -104,17 +104,17 @@ module _ (o : Objects) (latest : VersionedManifest) (is : latest_manifest o ≡ 
 module _ (o o' : Objects) (latest latest' : VersionedManifest) (is : latest_manifest o ≡ Some latest) (logs : o'.logs ≡ o.logs) (tables : latest'.manifest.last_l0_seq ≡ latest.manifest.last_l0_seq)
     (replayed : latest'.manifest.replay_after_wal_id ≡ latest.manifest.replay_after_wal_id) (old : Follower) (managed : old.mode ≡ ManagedCheckpoint) (same : differs old.view latest ≡ false)
     (floor : old.line.floor ≡ old.view.manifest.last_l0_seq) (added : List Batch) (found : Replayed) (mark : ℕ) (lease : Option Lease) (new : Follower) (answer : PollAnswer) (answers : answer ≡ answer_of found (number new)) (t : Option Objects) (at : t ≡ Some o) where
-  sees-by : (skips : Bool) → old.skips ≡ skips → IsNews o old latest skips added found mark → new ≡ record (informed old skips added mark) { lease = lease } → IsSound o → kept_seen old o (content o) →
+  sees-by : (skips : Bool) → old.skips ≡ skips → IsNews o old latest skips added found mark → unsegmented new ≡ record (informed old skips added mark) { lease = lease } → IsSound o → kept_seen old o (content o) →
       SeesOwed (by_objects t) ManagedCheckpoint skips o (content o) (follower_under latest new) answer
   sees-by true is_skips news becomes sound seen = skipping-sees o latest is old managed same floor added found mark lease new answer answers is_skips news becomes t sound
   sees-by false is_skips news becomes sound seen = reading-sees o latest is old managed same floor added found mark lease new answer answers is_skips news becomes t sound seen
 
-  logs-by : (skips : Bool) → old.skips ≡ skips → IsNews o old latest skips added found mark → new ≡ record (informed old skips added mark) { lease = lease } → skips ≡ false → HasAllLogs o' new answer
+  logs-by : (skips : Bool) → old.skips ≡ skips → IsNews o old latest skips added found mark → unsegmented new ≡ record (informed old skips added mark) { lease = lease } → skips ≡ false → HasAllLogs o' new answer
   logs-by true is_skips news becomes reading = absurd (cc)
   logs-by false is_skips news becomes reading =
       has-on t o o' latest latest' logs tables replayed new answer answer (reading-logs o latest is old managed same floor added found mark lease new answer answers is_skips news becomes)
 
-  pub informed-sees : IsNews o old latest old.skips added found mark → new ≡ record (informed old old.skips added mark) { lease = lease } → SeesLatest (by_objects t) old.skips (kept_seen old o) latest' o' new answer
+  pub informed-sees : IsNews o old latest old.skips added found mark → unsegmented new ≡ record (informed old old.skips added mark) { lease = lease } → SeesLatest (by_objects t) old.skips (kept_seen old o) latest' o' new answer
   informed-sees news becomes = record {
     logs = logs-by old.skips refl news becomes;
     sees = λ line stored seen.

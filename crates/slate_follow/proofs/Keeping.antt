@@ -13,13 +13,13 @@ use Rattle.slate_replay.specs.declared.replays.Replayed.{Replayed}
 use Rattle.slate_errors.specs.declared.errors.SlateError.{SlateError}
 use Rattle.slate_model.specs.Changes.{after_part}
 use Rattle.slate_model.specs.Followed.{last_read}
-use Rattle.slate_model.specs.Follower.{Follower, number}
+use Rattle.slate_model.specs.Follower.{Follower, number, unsegmented}
 use Rattle.slate_model.specs.Lease.{differs, is_due, leased, replaces, to_keep, to_renew}
 use Rattle.slate_model.specs.Managed.{Keeps, KeepsOrNot, PutsPlanned, SeesLatest, follower_under}
 use Rattle.slate_model.specs.Stores.{Stands, by_objects, kept_seen}
 use Rattle.slate_model.specs.declared.answers.PollAnswer.{PollAnswer}
 use Rattle.slate_model.specs.declared.leases.Lease.{Lease}
-use Rattle.slate_follow.specs.Keeping.{BuildsLatest, IsNews, PutsBy, informed}
+use Rattle.slate_follow.specs.Keeping.{BuildsLatest, IsNews, MayLack, PutsBy, informed}
 use Rattle.slate_follow.specs.Rebuilding.{Builds, answer_of}
 use Rattle.slate_follow.proofs.Informed.{informed-sees}
 use Rattle.slate_follow.proofs.Leased.{built-latest, renewed, written}
@@ -54,39 +54,39 @@ module _ (view latest : VersionedManifest) (lease : Lease) (moment : ℤ) where
 
 -- what a try puts, where this is its plan after the latest manifest
 abbrev pub PutsAndKeeps : Lease → ℤ → Follower → Result PollAnswer SlateError → Follower → Objects → Objects → Type 0
-PutsAndKeeps lease moment old result new o o' = (made : ℕ) × PutsPlanned Stands (to_keep old.view lease moment) o result made o'
+PutsAndKeeps lease moment old result new o o' = (made : ℕ) × PutsPlanned Stands MayLack (to_keep old.view lease moment) o result made o'
     × IfErr result (λ _. KeepsOrNot (to_keep old.view lease moment) made old o new)
 
 module _ (o : Objects) (latest : VersionedManifest) (is : latest_manifest o ≡ Some latest) (lease : Lease) (moment : ℤ) (old : Follower) where
   abbrev plan : VersionedManifest → Plan Lease
   plan = to_keep old.view lease moment
 
-  pub puts-by : (p : Plan Lease) → plan latest ≡ p → (result : Result PollAnswer SlateError) (new : Follower) (o' : Objects) → PutsBy p old.lease o result new.lease o' → PutsAndKeeps lease moment old result new o o'
+  pub puts-by : (p : Plan Lease) → plan latest ≡ p → (result : Result PollAnswer SlateError) (new : Follower) (o' : Objects) → PutsBy MayLack p old.lease o result new.lease o' → PutsAndKeeps lease moment old result new o o'
   puts-by p p_is result new o' puts =
-      let q : PutsBy (plan latest) old.lease o result new.lease o' = subst (λ x. PutsBy x old.lease o result new.lease o') (sym p_is) puts in
-      (q.made, puts-planned plan o latest is result old.lease new.lease o' q, lease-kept plan o latest is result old new o' q)
+      let q : PutsBy MayLack (plan latest) old.lease o result new.lease o' = subst (λ y. PutsBy MayLack y old.lease o result new.lease o') (sym p_is) puts in
+      (q.made, puts-planned MayLack plan o latest is result old.lease new.lease o' q, lease-kept MayLack plan o latest is result old new o' q)
 
 -- ---- at Ok
 -- where a plan that puts a manifest is followed, it was put
-put-all : (p : Plan Lease) (old lease : Option Lease) (o o' : Objects) (answer : PollAnswer) (next : VersionedManifest) (given : Lease) → p ≡ Ok (Some next, given) → PutsBy p old o (Ok answer) lease o' → o' ≡ changed (PutManifest next.id next.manifest) o
-put-all p old lease o o' answer next given gives puts =
+put-all : (refused : Objects → SlateError → Type 0) (p : Plan Lease) (old lease : Option Lease) (o o' : Objects) (answer : PollAnswer) (next : VersionedManifest) (given : Lease) → p ≡ Ok (Some next, given) → PutsBy refused p old o (Ok answer) lease o' → o' ≡ changed (PutManifest next.id next.manifest) o
+put-all refused p old lease o o' answer next given gives puts =
     let changes : planned {L = List Batch} p ≡ PutManifest next.id next.manifest ∷ [] = ap planned gives in
     let made : puts.made ≡ 1 = puts.part ∙ ap length changes in
     puts.after ∙ (ap (λ n. after_part n (planned p) o) made ∙ ap (λ cs. after_part 1 cs o) changes)
 
 -- and its lease is the one that is given
-given-lease : (p : Plan Lease) (old lease : Option Lease) (o o' : Objects) (answer : PollAnswer) (next : Option VersionedManifest) (given : Lease) → p ≡ Ok (next, given) → PutsBy p old o (Ok answer) lease o' → lease ≡ Some given
-given-lease p old lease o o' answer next given gives puts =
+given-lease : (refused : Objects → SlateError → Type 0) (p : Plan Lease) (old lease : Option Lease) (o o' : Objects) (answer : PollAnswer) (next : Option VersionedManifest) (given : Lease) → p ≡ Ok (next, given) → PutsBy refused p old o (Ok answer) lease o' → lease ≡ Some given
+given-lease refused p old lease o o' answer next given gives puts =
     let l = puts.leased in
     let both : (l.0, l.1) ≡ (next, given) = (let a = l.2 in cc) in
     l.3 ∙ ap (λ (x : Option VersionedManifest × Lease). Some x.1) both
 
-module _ (t : Option Objects) (o o' : Objects) (at : t ≡ Some o) (latest : VersionedManifest) (is : latest_manifest o ≡ Some latest) (lease : Lease) (moment : ℤ) (old new : Follower) (answer : PollAnswer) where
+module _ (refused : Objects → SlateError → Type 0) (t : Option Objects) (o o' : Objects) (at : t ≡ Some o) (latest : VersionedManifest) (is : latest_manifest o ≡ Some latest) (lease : Lease) (moment : ℤ) (old new : Follower) (answer : PollAnswer) where
   -- the checkpoint was replaced
-  pub replaced-keeps : replaces old.view lease moment latest ≡ true → PutsBy (replacement old.view latest lease moment) old.lease o (Ok answer) new.lease o' → BuildsLatest (replacement old.view latest lease moment) old.skips o' new answer → Keeps (by_objects t) lease moment old o new answer o'
+  pub replaced-keeps : replaces old.view lease moment latest ≡ true → PutsBy refused (replacement old.view latest lease moment) old.lease o (Ok answer) new.lease o' → BuildsLatest (replacement old.view latest lease moment) old.skips o' new answer → Keeps (by_objects t) lease moment old o new answer o'
   replaced-keeps replaced puts b =
       let p = replacement old.view latest lease moment in
-      let after = put-all p old.lease new.lease o o' answer new.view b.given b.puts puts in
+      let after = put-all refused p old.lease new.lease o o' answer new.view b.given b.puts puts in
       let kept = written o latest is lease.lifetime moment new.view b.given (Some lease.id) b.puts in
       let builds = subst (λ x. Builds x ManagedCheckpoint old.skips new.view (last_read ManagedCheckpoint old.skips new.view x) (follower_under new.view new) answer) after b.builds in
       record {
@@ -95,15 +95,15 @@ module _ (t : Option Objects) (o o' : Objects) (at : t ≡ Some o) (latest : Ver
         next = Some new.view;
         given = b.given;
         plan = to-replace old.view latest lease moment replaced ∙ b.puts;
-        leased = given-lease p old.lease new.lease o o' answer (Some new.view) b.given b.puts puts;
+        leased = given-lease refused p old.lease new.lease o o' answer (Some new.view) b.given b.puts puts;
         view = subst (λ r. MatchBool r (Some new.view ≡ Some new.view) (new.view ≡ old.view)) (sym replaced) refl;
         sees = subst (λ x. SeesLatest (by_objects t) old.skips (kept_seen old o) new.view x new answer) (sym after) (built-latest o latest new.view is kept old.skips new answer builds t (kept_seen old o) at);
       }
 
   -- it goes on by its view
   module _ (managed : old.mode ≡ ManagedCheckpoint) (same : differs old.view latest ≡ false) (floor : old.line.floor ≡ old.view.manifest.last_l0_seq) (added : List Batch) (found : Replayed) (mark : ℕ) (answers : answer ≡ answer_of found (number new))
-      (news : IsNews o old latest old.skips added found mark) (becomes : new ≡ record (informed old old.skips added mark) { lease = new.lease }) (unreplaced : replaces old.view lease moment latest ≡ false) where
-    view_is : (skips : Bool) → new ≡ record (informed old skips added mark) { lease = new.lease } → new.view ≡ old.view
+      (news : IsNews o old latest old.skips added found mark) (becomes : unsegmented new ≡ record (informed old old.skips added mark) { lease = new.lease }) (unreplaced : replaces old.view lease moment latest ≡ false) where
+    view_is : (skips : Bool) → unsegmented new ≡ record (informed old skips added mark) { lease = new.lease } → new.view ≡ old.view
     view_is true b = ap (λ (f : Follower). f.view) b
     view_is false b = ap (λ (f : Follower). f.view) b
 
@@ -122,10 +122,10 @@ module _ (t : Option Objects) (o o' : Objects) (at : t ≡ Some o) (latest : Ver
     }
 
     -- where the lease was renewed
-    pub renewed-keeps : is_due moment lease ≡ true → (next : VersionedManifest) (given : Lease) → renewal old.view latest lease moment ≡ Ok (Some next, given) → PutsBy (renewal old.view latest lease moment) old.lease o (Ok answer) new.lease o' → Keeps (by_objects t) lease moment old o new answer o'
+    pub renewed-keeps : is_due moment lease ≡ true → (next : VersionedManifest) (given : Lease) → renewal old.view latest lease moment ≡ Ok (Some next, given) → PutsBy refused (renewal old.view latest lease moment) old.lease o (Ok answer) new.lease o' → Keeps (by_objects t) lease moment old o new answer o'
     renewed-keeps due next given gives puts =
         let p = renewal old.view latest lease moment in
-        let after = put-all p old.lease new.lease o o' answer next given gives puts in
+        let after = put-all refused p old.lease new.lease o o' answer next given gives puts in
         let kept = renewed o latest is lease.lifetime moment next given lease.id gives in
         let tables = ap (λ (v : VersionedManifest). v.manifest.last_l0_seq) kept.form.1 in
         let replayed = ap (λ (v : VersionedManifest). v.manifest.replay_after_wal_id) kept.form.1 in
@@ -135,7 +135,7 @@ module _ (t : Option Objects) (o o' : Objects) (at : t ≡ Some o) (latest : Ver
           next = Some next;
           given = given;
           plan = to-renewal old.view latest lease moment unreplaced due ∙ gives;
-          leased = given-lease p old.lease new.lease o o' answer (Some next) given gives puts;
+          leased = given-lease refused p old.lease new.lease o o' answer (Some next) given gives puts;
           view = subst (λ r. MatchBool r (Some next ≡ Some new.view) (new.view ≡ old.view)) (sym unreplaced) (view_is old.skips becomes);
           sees = subst (λ x. SeesLatest (by_objects t) old.skips (kept_seen old o) next x new answer) (sym after)
               (informed-sees o (changed (PutManifest next.id next.manifest) o) latest next is refl tables replayed old managed same floor added found mark new.lease new answer answers t at news becomes);

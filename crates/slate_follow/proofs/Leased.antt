@@ -19,7 +19,7 @@ use Rattle.slate_model.proofs.Reduced.{some-same}
 use Rattle.slate_model.specs.Changes.{after_part}
 use Rattle.slate_model.specs.Follow.{HasAllLogs, SeesOwed}
 use Rattle.slate_model.specs.Followed.{IsView, last_read}
-use Rattle.slate_model.specs.Follower.{Follower, is_managed, kept_follower, number, rebuilt}
+use Rattle.slate_model.specs.Follower.{Follower, is_managed, kept_follower, number, rebuilt, unsegmented}
 use Rattle.slate_model.specs.Handle.{line_above, up_to}
 use Rattle.slate_model.specs.Lease.{lease_of, leased}
 use Rattle.slate_model.specs.Managed.{SeesLatest, follower_under}
@@ -87,7 +87,7 @@ module _ (o : Objects) (latest : VersionedManifest) (is : latest_manifest o ≡ 
       }
 
 -- so it is the latest
-put-is : (o : Objects) (latest next : VersionedManifest) → IsSound o → latest_manifest o ≡ Some latest → HasCheckpoints latest next → latest_manifest (changed (PutManifest next.id next.manifest) o) ≡ Some next
+pub put-is : (o : Objects) (latest next : VersionedManifest) → IsSound o → latest_manifest o ≡ Some latest → HasCheckpoints latest next → latest_manifest (changed (PutManifest next.id next.manifest) o) ≡ Some next
 put-is o latest next sound is form =
     subst (λ (v : VersionedManifest). latest_manifest (changed (PutManifest v.id v.manifest) o) ≡ Some v) (sym form.1) (put-latest o latest sound is (with_checkpoints form.0 latest).manifest)
 
@@ -133,8 +133,8 @@ module _ (t : Option Objects) (o o' : Objects) (latest latest' : VersionedManife
   abbrev kept : (skips : Bool) (line : Line) (mark : ℕ) → Follower
   kept skips line mark = rebuilt ManagedCheckpoint skips latest' line mark
 
-  seen-under : (skips : Bool) (owed : Line) → follower_under latest new ≡ kept_follower (rebuilt ManagedCheckpoint skips latest owed (last_read ManagedCheckpoint skips latest o)) →
-      follower_under latest' new ≡ kept_follower (rebuilt ManagedCheckpoint skips latest' owed (last_read ManagedCheckpoint skips latest' o'))
+  seen-under : (skips : Bool) (owed : Line) → unsegmented (follower_under latest new) ≡ kept_follower (rebuilt ManagedCheckpoint skips latest owed (last_read ManagedCheckpoint skips latest o)) →
+      unsegmented (follower_under latest' new) ≡ kept_follower (rebuilt ManagedCheckpoint skips latest' owed (last_read ManagedCheckpoint skips latest' o'))
   seen-under skips owed same =
       let was = ap (λ (f : Follower). record f { view = latest' }) same in
       was ∙ (ap (λ n. kept skips (line_above n owed) (last_read ManagedCheckpoint skips latest o)) (sym tabled)

@@ -6,8 +6,11 @@ pub mod Cutting
 pub mod Informed
 pub mod Joining
 pub mod Keeping
+pub mod Lacking
 pub mod Leased
 pub mod Planned
 pub mod Rebuilt
+pub mod Refusing
+pub mod Segmented
 pub mod Taken
 pub mod Trying

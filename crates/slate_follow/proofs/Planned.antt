@@ -1,7 +1,8 @@
 -- What a call with a plan for a lease puts, from what it reads and puts.
 use Rattle.std.proofs.Common.{◌≡◌, ℕ, zero, inl, inr, List, [], ◌∷◌, length, Option, Some, None, true, false, cond, Result, Ok, Err, refl, sym, ap, subst, ◌∙◌, arith}
+use Rattle.std.proofs.Math.Logic.{⊎_map}
 use Rattle.std.specs.Option.{IfSome}
-use Rattle.std.specs.Prelude.{ℤ}
+use Rattle.std.specs.Prelude.{ℤ, ◌⊎◌}
 use Rattle.std.specs.Result.{IfErr}
 use Rattle.slate_types.specs.Modelled.{WhereModelled}
 use Rattle.slate_types.proofs.Modelled.{modelled_as}
@@ -17,12 +18,14 @@ use Rattle.slate_errors.specs.declared.errors.SlateError.TheVariants as errors
 use Rattle.slate_model.specs.Changes.{PartMade, after_part}
 use Rattle.slate_model.specs.Follower.{Follower}
 use Rattle.slate_model.specs.Lease.{leased, to_take}
-use Rattle.slate_model.specs.Managed.{KeepsOrNot, PlanCause, PutsPlanned}
+use Rattle.slate_model.specs.Managed.{KeepsOrNot, PlanCause, PutsPlanned, TakeRefusal}
+use Rattle.slate_model.specs.Followed.{follow_refusal}
+use Rattle.slate_model.specs.Segments.{Extractor}
 use Rattle.slate_model.specs.Stores.{Stands}
 use Rattle.slate_model.specs.declared.leases.Lease.{Lease}
-use Rattle.slate_follow.specs.Keeping.{CauseBy, FindsLatest, GivesLease, PutsBy, PutsManifest}
-use Rattle.slate_follow.specs.Rebuilding.{IsOfReplay}
-use Rattle.slate_follow.proofs.Rebuilt.{some_at}
+use Rattle.slate_follow.specs.Keeping.{CauseBy, FindsLatest, GivesLease, IsOfPolling, MayLack, MayMismatch, PutsBy, PutsManifest}
+use Rattle.slate_follow.specs.Rebuilding.{IsOfFollowing, IsOfReplay}
+use Rattle.slate_follow.proofs.Rebuilt.{if_some, some_at}
 
 pub if_err : {A : Type 0} {P Q : SlateError → Type 0} (r : Result A SlateError) → ((e : SlateError) → P e → Q e) → IfErr r P → IfErr r Q
 if_err (Ok x) f h = tt
@@ -33,32 +36,36 @@ pub none_made : (A : Type 0) (e : SlateError) (n : ℕ) → PartMade {A = A} (Er
 none_made A errors.TransactionalObjectVersionExists n = omega arith
 none_made A (errors.ObjectStoreError f) n = omega arith
 none_made A (errors.WalTruncated id) n = omega arith
+none_made A (errors.EmptySegmentPrefix key) n = omega arith
 none_made A errors.InvalidDBState n = omega arith
 none_made A errors.NoMemory n = omega arith
 none_made A e n = refl
 
-one_made : (A : Type 0) (e : SlateError) → IsOfReplay e → PartMade {A = A} (Err e) 1 1
+one_made : (A : Type 0) (e : SlateError) → IsOfPolling e → PartMade {A = A} (Err e) 1 1
+one_made A errors.InvalidDBState of = omega arith
 one_made A (errors.ObjectStoreError Unavailable) of = omega arith
 one_made A errors.NoMemory of = omega arith
 one_made A e of = absurd of
 
-replay-cause : (plan : Plan Lease) (o : Objects) (e : SlateError) → IsOfReplay e → CauseBy plan o e
+pub replay-polling : (e : SlateError) → IsOfReplay e → IsOfPolling e
+replay-polling (errors.ObjectStoreError Unavailable) of = tt
+replay-polling errors.NoMemory of = tt
+replay-polling e of = absurd of
+
+pub replay-cause : (plan : Plan Lease) (o : Objects) (e : SlateError) → IsOfReplay e → CauseBy plan o e
 replay-cause plan o (errors.ObjectStoreError Unavailable) of = tt
 replay-cause plan o errors.NoMemory of = tt
 replay-cause plan o e of = absurd of
 
+-- where a poll isn't refused by its plan, it may be by a key without a segment
+pub polling-cause : (plan : Plan Lease) (o : Objects) (e : SlateError) → IsOfPolling e → CauseBy plan o e ⊎ MayLack o e
+polling-cause plan o errors.InvalidDBState of = inr tt
+polling-cause plan o (errors.ObjectStoreError Unavailable) of = inl tt
+polling-cause plan o errors.NoMemory of = inl tt
+polling-cause plan o e of = absurd of
+
 -- ---- a plan after the latest manifest
-module _ (plan : VersionedManifest → Plan Lease) (o : Objects) where
-  -- the latest manifest wasn't read
-  unread : (e : SlateError) → FindsLatest o (Err e) → PlanCause (Stands (checkpoint_changes plan o) o) plan o e
-  unread errors.LatestTransactionalObjectVersionMissing h = h
-  unread (errors.ObjectStoreError Unavailable) h = tt
-  unread errors.NoMemory h = tt
-  unread e h = absurd h
-
-  pub without-latest : {A : Type 0} (e : SlateError) → FindsLatest o (Err e) → PutsPlanned {B = A} Stands plan o (Err e) zero o
-  without-latest {A} e h = record { cause = unread e h; part = none_made A e _; after = refl }
-
+module _ (refused : Objects → SlateError → Type 0) (plan : VersionedManifest → Plan Lease) (o : Objects) where
   module _ (latest : VersionedManifest) (is : latest_manifest o ≡ Some latest) where
     changes-are : checkpoint_changes {L = List Batch} plan o ≡ planned (plan latest)
     changes-are = ap (planned_after plan) is
@@ -70,15 +77,15 @@ module _ (plan : VersionedManifest → Plan Lease) (o : Objects) where
     cause-of errors.NoMemory c = tt
     cause-of e c = absurd c
 
-    pub puts-planned : {A : Type 0} (r : Result A SlateError) (old lease : Option Lease) (o' : Objects) (p : PutsBy (plan latest) old o r lease o') → PutsPlanned Stands plan o r p.made o'
+    pub puts-planned : {A : Type 0} (r : Result A SlateError) (old lease : Option Lease) (o' : Objects) (p : PutsBy refused (plan latest) old o r lease o') → PutsPlanned Stands refused plan o r p.made o'
     puts-planned r old lease o' p = record {
-      cause = if_err r cause-of p.cause;
+      cause = if_err r (λ e c. ⊎_map (cause-of e) (λ why. why) c) p.cause;
       part = subst (λ cs. PartMade r (length cs) p.made) (sym changes-are) p.part;
       after = p.after ∙ ap (λ cs. after_part p.made cs o) (sym changes-are);
     }
 
     -- and the lease that is kept at an error
-    pub lease-kept : {A : Type 0} (r : Result A SlateError) (old new : Follower) (o' : Objects) (p : PutsBy (plan latest) old.lease o r new.lease o') → IfErr r (λ _. KeepsOrNot plan p.made old o new)
+    pub lease-kept : {A : Type 0} (r : Result A SlateError) (old new : Follower) (o' : Objects) (p : PutsBy refused (plan latest) old.lease o r new.lease o') → IfErr r (λ _. KeepsOrNot plan p.made old o new)
     lease-kept (Ok x) old new o' p = tt
     lease-kept (Err e) old new o' p = elim p.leased [
       | inl same ↦ inl same
@@ -86,18 +93,15 @@ module _ (plan : VersionedManifest → Plan Lease) (o : Objects) where
     ]
 
 -- ---- a plan, whose manifest is put or not
-module _ (plan : Plan Lease) (old : Option Lease) (o : Objects) where
+module _ (refused : Objects → SlateError → Type 0) (plan : Plan Lease) (old : Option Lease) (o : Objects) where
   -- nothing is put at an error
-  pub nothing-put : {A : Type 0} (e : SlateError) → CauseBy plan o e → PutsBy {A = A} plan old o (Err e) old o
+  pub nothing-put : {A : Type 0} (e : SlateError) → CauseBy plan o e ⊎ refused o e → PutsBy {A = A} refused plan old o (Err e) old o
   nothing-put {A} e cause = record { made = zero; cause = cause; part = none_made A e _; after = refl; leased = inl refl }
 
-  pub not-given : {A : Type 0} (e : SlateError) → GivesLease plan (Err e) → PutsBy {A = A} plan old o (Err e) old o
-  not-given errors.InvalidDBState gives = nothing-put errors.InvalidDBState gives
-  not-given errors.NoMemory gives = nothing-put errors.NoMemory tt
+  pub not-given : {A : Type 0} (e : SlateError) → GivesLease plan (Err e) → PutsBy {A = A} refused plan old o (Err e) old o
+  not-given errors.InvalidDBState gives = nothing-put errors.InvalidDBState (inl gives)
+  not-given errors.NoMemory gives = nothing-put errors.NoMemory (inl tt)
   not-given e gives = absurd gives
-
-  pub not-replayed : {A : Type 0} (e : SlateError) → IsOfReplay e → PutsBy {A = A} plan old o (Err e) old o
-  not-replayed e of = nothing-put e (replay-cause plan o e of)
 
   module _ (next : VersionedManifest) (given : Lease) (gives : GivesLease plan (Ok (next, given))) where
     abbrev put : Change
@@ -113,38 +117,38 @@ module _ (plan : Plan Lease) (old : Option Lease) (o : Objects) where
     put_one o' is = is ∙ ap (λ cs. after_part 1 cs o) (sym changes)
 
     -- another was there already
-    pub not-put : {A : Type 0} (o' : Objects) → PutsManifest next (Ok false) o o' → PutsBy {A = A} plan old o (Err (errors.TransactionalObjectTimeout 8)) old o'
+    pub not-put : {A : Type 0} (o' : Objects) → PutsManifest next (Ok false) o o' → PutsBy {A = A} refused plan old o (Err (errors.TransactionalObjectTimeout 8)) old o'
     not-put o' h =
         let stands : Stands (put ∷ []) o = (put, (0, omega arith, refl), h.0) in
-        record { made = zero; cause = (refl, subst (λ cs. Stands cs o) (sym changes) stands); part = refl; after = h.1; leased = inl refl }
+        record { made = zero; cause = inl (refl, subst (λ cs. Stands cs o) (sym changes) stands); part = refl; after = h.1; leased = inl refl }
 
     -- the put failed
-    pub put-failed : {A : Type 0} (e : SlateError) (o' : Objects) → PutsManifest next (Err e) o o' → PutsBy {A = A} plan old o (Err e) old o'
+    pub put-failed : {A : Type 0} (e : SlateError) (o' : Objects) → PutsManifest next (Err e) o o' → PutsBy {A = A} refused plan old o (Err e) old o'
     put-failed (errors.ObjectStoreError Unavailable) o' h =
         elim h [
-          | inl same ↦ record { made = zero; cause = tt; part = omega arith; after = same; leased = inl refl }
-          | inr put ↦ record { made = 1; cause = tt; part = omega (arith, one); after = put_one o' put; leased = inl refl }
+          | inl same ↦ record { made = zero; cause = inl tt; part = omega arith; after = same; leased = inl refl }
+          | inr put ↦ record { made = 1; cause = inl tt; part = omega (arith, one); after = put_one o' put; leased = inl refl }
         ]
-    put-failed errors.NoMemory o' h = record { made = zero; cause = tt; part = omega arith; after = h; leased = inl refl }
+    put-failed errors.NoMemory o' h = record { made = zero; cause = inl tt; part = omega arith; after = h; leased = inl refl }
     put-failed e o' h = absurd h
 
     -- it was put, and what follows answers so
     module _ (o' : Objects) (h : PutsManifest next (Ok true) o o') where
-      pub put-then : {A : Type 0} (answer : A) → PutsBy plan old o (Ok answer) (Some given) o'
+      pub put-then : {A : Type 0} (answer : A) → PutsBy refused plan old o (Ok answer) (Some given) o'
       put-then answer = record { made = 1; cause = tt; part = sym one; after = put_one o' h; leased = (Some next, given, gives, refl) }
 
-      pub put-broken : {A : Type 0} (e : SlateError) → IsOfReplay e → PutsBy {A = A} plan old o (Err e) (Some given) o'
-      put-broken {A} e of = record {
+      pub put-broken : {A : Type 0} (e : SlateError) → IsOfPolling e → CauseBy plan o e ⊎ refused o e → PutsBy {A = A} refused plan old o (Err e) (Some given) o'
+      put-broken {A} e of cause = record {
         made = 1;
-        cause = replay-cause plan o e of;
+        cause = cause;
         part = subst (λ n. PartMade {A = A} (Err e) n 1) (sym one) (one_made A e of);
         after = put_one o' h;
         leased = inr (refl, Some next, given, gives, refl);
       }
 
 -- nothing is to be put, and the lease stays
-pub stays-put : {A : Type 0} (plan : Plan Lease) (lease : Lease) (o : Objects) (answer : A) → plan ≡ Ok (None, lease) → PutsBy plan (Some lease) o (Ok answer) (Some lease) o
-stays-put plan lease o answer gives = record { made = zero; cause = tt; part = ap length (sym (ap (planned {L = List Batch}) gives)); after = refl; leased = (None, lease, gives, refl) }
+pub stays-put : {A : Type 0} (refused : Objects → SlateError → Type 0) (plan : Plan Lease) (lease : Lease) (o : Objects) (answer : A) → plan ≡ Ok (None, lease) → PutsBy refused plan (Some lease) o (Ok answer) (Some lease) o
+stays-put refused plan lease o answer gives = record { made = zero; cause = tt; part = ap length (sym (ap (planned {L = List Batch}) gives)); after = refl; leased = (None, lease, gives, refl) }
 
 -- ---- over a store that may be modelled
 -- the latest manifest was found, and nothing was put
@@ -159,48 +163,86 @@ modelled-put {F = F} {a = a} found kept puts f = record {
 }
 
 -- a call with a plan, by what it found and put
-module _ {A : Type 0} (plan : VersionedManifest → Plan Lease) {a b : Option Objects} (latest : VersionedManifest) (found : IfSome a (λ o. FindsLatest o (Ok latest))) (kept : b ≡ a) where
+module _ {A : Type 0} (refused : Objects → SlateError → Type 0) (plan : VersionedManifest → Plan Lease) {a b : Option Objects} (latest : VersionedManifest) (found : IfSome a (λ o. FindsLatest o (Ok latest))) (kept : b ≡ a) where
   abbrev Goes : Result A SlateError → Objects → Objects → Type 0
-  Goes result o o' = (made : ℕ) × PutsPlanned Stands plan o result made o'
+  Goes result o o' = (made : ℕ) × PutsPlanned Stands refused plan o result made o'
 
-  goes-by : (o o' : Objects) (lease : Option Lease) (result : Result A SlateError) → latest_manifest o ≡ Some latest → PutsBy (plan latest) None o result lease o' → Goes result o o'
-  goes-by o o' lease result is puts = (puts.made, puts-planned plan o latest is result None lease o' puts)
+  goes-by : (o o' : Objects) (lease : Option Lease) (result : Result A SlateError) → latest_manifest o ≡ Some latest → PutsBy refused (plan latest) None o result lease o' → Goes result o o'
+  goes-by o o' lease result is puts = (puts.made, puts-planned refused plan o latest is result None lease o' puts)
 
   pub planless : (e : SlateError) → GivesLease (plan latest) (Err e) → WhereModelled (Goes (Err e)) a b
-  planless e gives = modelled-kept found kept (λ o is. goes-by o o None (Err e) is (not-given (plan latest) None o e gives))
+  planless e gives = modelled-kept found kept (λ o is. goes-by o o None (Err e) is (not-given refused (plan latest) None o e gives))
 
   module _ (next : VersionedManifest) (given : Lease) (gives : GivesLease (plan latest) (Ok (next, given))) {c : Option Objects} where
     pub unput : WhereModelled (PutsManifest next (Ok false)) b c → WhereModelled (Goes (Err (errors.TransactionalObjectTimeout 8))) a c
-    unput puts = modelled-put found kept puts (λ o o' is h. goes-by o o' None _ is (not-put (plan latest) None o next given gives o' h))
+    unput puts = modelled-put found kept puts (λ o o' is h. goes-by o o' None _ is (not-put refused (plan latest) None o next given gives o' h))
 
     pub failed-put : (e : SlateError) → WhereModelled (PutsManifest next (Err e)) b c → WhereModelled (Goes (Err e)) a c
-    failed-put e puts = modelled-put found kept puts (λ o o' is h. goes-by o o' None _ is (put-failed (plan latest) None o next given gives e o' h))
+    failed-put e puts = modelled-put found kept puts (λ o o' is h. goes-by o o' None _ is (put-failed refused (plan latest) None o next given gives e o' h))
 
     pub all-put : (answer : A) → WhereModelled (PutsManifest next (Ok true)) b c → WhereModelled (Goes (Ok answer)) a c
-    all-put answer puts = modelled-put found kept puts (λ o o' is h. goes-by o o' (Some given) _ is (put-then (plan latest) None o next given gives o' h answer))
+    all-put answer puts = modelled-put found kept puts (λ o o' is h. goes-by o o' (Some given) _ is (put-then refused (plan latest) None o next given gives o' h answer))
 
 -- the plan of an opening
 pub taken : (lifetime : ℕ) (moment : ℤ) (latest : VersionedManifest) → latest.manifest.initialized ≡ true → to_take lifetime moment latest ≡ leased lifetime (to_write None (Some lifetime) moment latest)
 taken lifetime moment latest is = ap (λ b. cond b (leased lifetime (to_write None (Some lifetime) moment latest)) (Err refusals.InvalidDBState)) is
 
-pub not-taken : (lifetime : ℕ) (moment : ℤ) (latest : VersionedManifest) → latest.manifest.initialized ≡ false → to_take lifetime moment latest ≡ Err refusals.InvalidDBState
+not-taken : (lifetime : ℕ) (moment : ℤ) (latest : VersionedManifest) → latest.manifest.initialized ≡ false → to_take lifetime moment latest ≡ Err refusals.InvalidDBState
 not-taken lifetime moment latest is = ap (λ b. cond b (leased lifetime (to_write None (Some lifetime) moment latest)) (Err refusals.InvalidDBState)) is
 
+-- the latest manifest refuses an opening
+module _ (lifetime : ℕ) (moment : ℤ) (latest : VersionedManifest) (e : SlateError) (of : IsOfFollowing e) where
+  unfollowed-cause : (e : SlateError) → IsOfFollowing e → (e ≡ errors.InvalidDBState → latest.manifest.initialized ≡ false) → (o : Objects) → latest_manifest o ≡ Some latest →
+      PlanCause (Stands (checkpoint_changes (to_take lifetime moment) o) o) (to_take lifetime moment) o e ⊎ MayMismatch o e
+  unfollowed-cause errors.InvalidDBState of new o is = inl (latest, is, not-taken lifetime moment latest (new refl))
+  unfollowed-cause (errors.SegmentExtractorMismatch persisted configured) of new o is = inr tt
+  unfollowed-cause (errors.SegmentPrefixNotRecognized prefix name) of new o is = inr tt
+  unfollowed-cause e of new o is = absurd of
+
+  pub unfollowed : {A : Type 0} {a b : Option Objects} → IfSome a (λ o. FindsLatest o (Ok latest)) → b ≡ a → (e ≡ errors.InvalidDBState → latest.manifest.initialized ≡ false) →
+      WhereModelled (λ o o'. (made : ℕ) × PutsPlanned {B = A} Stands MayMismatch (to_take lifetime moment) o (Err e) made o') a b
+  unfollowed {A} found kept new =
+      modelled-kept found kept (λ o is. (zero, record { cause = unfollowed-cause e of new o is; part = none_made A e _; after = refl }))
+
+  -- and its extractor, where it does
+  pub mismatched : (x : Option Extractor) → follow_refusal x true latest ≡ Some e → (a : Option Objects) → IfSome a (λ o. FindsLatest o (Ok latest)) → IfSome a (λ o. MayMismatch o e → TakeRefusal x o e)
+  mismatched x refused a found = by a found where
+    at : (e : SlateError) → follow_refusal x true latest ≡ Some e → (o : Objects) → latest_manifest o ≡ Some latest → MayMismatch o e → TakeRefusal x o e
+    at (errors.SegmentExtractorMismatch persisted configured) refused o is may = (latest, is, refused)
+    at (errors.SegmentPrefixNotRecognized prefix name) refused o is may = (latest, is, refused)
+    at e refused o is may = absurd may
+
+    by : (s : Option Objects) → IfSome s (λ o. FindsLatest o (Ok latest)) → IfSome s (λ o. MayMismatch o e → TakeRefusal x o e)
+    by None found = tt
+    by (Some o) is = at e refused o is
+
+-- where another was there already, all is as before
+pub unput-same : (next : VersionedManifest) (b c : Option Objects) → WhereModelled (PutsManifest next (Ok false)) b c → c ≡ b
+unput-same next b c puts = by b refl where
+  by : (s : Option Objects) → b ≡ s → c ≡ b
+  by None none = puts.none none ∙ sym none
+  by (Some o) at = let h = puts.some o at in h.1 ∙ (ap Some h.2.1 ∙ sym at)
+
+-- a put that failed isn't refused by an extractor
+pub put-matches : (x : Option Extractor) (next : VersionedManifest) (e : SlateError) {a b c : Option Objects} → b ≡ a → WhereModelled (PutsManifest next (Err e)) b c → IfSome a (λ o. MayMismatch o e → TakeRefusal x o e)
+put-matches x next e {a} kept puts = if_some a (λ o at may. absurd (at_put e o (puts.some o (kept ∙ at)).0 (puts.some o (kept ∙ at)).2 may)) where
+  at_put : (e : SlateError) (o o' : Objects) → PutsManifest next (Err e) o o' → MayMismatch o e → ⊥
+  at_put (errors.SegmentExtractorMismatch persisted configured) o o' never may = never
+  at_put (errors.SegmentPrefixNotRecognized prefix name) o o' never may = never
+  at_put e o o' _ may = may
+
 -- the steps of a call whose plan puts a manifest after the latest one
-module _ (plan : Plan Lease) (old : Option Lease) where
-  pub not-given-by : {A : Type 0} {a b : Option Objects} (e : SlateError) → b ≡ a → GivesLease plan (Err e) → WhereModelled (λ o o'. PutsBy {A = A} plan old o (Err e) old o') a b
-  not-given-by {A} e kept gives = record { none = λ no. kept ∙ no; some = λ o at. (o, kept ∙ at, not-given plan old o e gives) }
-
+module _ (refused : Objects → SlateError → Type 0) (plan : Plan Lease) (old : Option Lease) where
   module _ (next : VersionedManifest) (given : Lease) (gives : plan ≡ Ok (Some next, given)) {b c : Option Objects} where
-    pub unput-by : {A : Type 0} → WhereModelled (PutsManifest next (Ok false)) b c → WhereModelled (λ o o'. PutsBy {A = A} plan old o (Err (errors.TransactionalObjectTimeout 8)) old o') b c
-    unput-by {A} puts = modelled_as (λ o o'. PutsBy {A = A} plan old o (Err (errors.TransactionalObjectTimeout 8)) old o') puts (λ o o' h. not-put plan old o next given gives o' h)
+    pub unput-by : {A : Type 0} → WhereModelled (PutsManifest next (Ok false)) b c → WhereModelled (λ o o'. PutsBy {A = A} refused plan old o (Err (errors.TransactionalObjectTimeout 8)) old o') b c
+    unput-by {A} puts = modelled_as (λ o o'. PutsBy {A = A} refused plan old o (Err (errors.TransactionalObjectTimeout 8)) old o') puts (λ o o' h. not-put refused plan old o next given gives o' h)
 
-    pub failed-by : {A : Type 0} (e : SlateError) → WhereModelled (PutsManifest next (Err e)) b c → WhereModelled (λ o o'. PutsBy {A = A} plan old o (Err e) old o') b c
-    failed-by {A} e puts = modelled_as (λ o o'. PutsBy {A = A} plan old o (Err e) old o') puts (λ o o' h. put-failed plan old o next given gives e o' h)
+    pub failed-by : {A : Type 0} (e : SlateError) → WhereModelled (PutsManifest next (Err e)) b c → WhereModelled (λ o o'. PutsBy {A = A} refused plan old o (Err e) old o') b c
+    failed-by {A} e puts = modelled_as (λ o o'. PutsBy {A = A} refused plan old o (Err e) old o') puts (λ o o' h. put-failed refused plan old o next given gives e o' h)
 
     module _ {d : Option Objects} (kept : d ≡ c) (puts : WhereModelled (PutsManifest next (Ok true)) b c) where
-      pub broken-by : {A : Type 0} (e : SlateError) → IsOfReplay e → WhereModelled (λ o o'. PutsBy {A = A} plan old o (Err e) (Some given) o') b d
-      broken-by {A} e of = record { none = λ no. kept ∙ puts.none no; some = λ o at. let h = puts.some o at in (h.0, kept ∙ h.1, put-broken plan old o next given gives h.0 h.2 e of) }
+      pub broken-by : {A : Type 0} (e : SlateError) → IsOfPolling e → ((o : Objects) → CauseBy plan o e ⊎ refused o e) → WhereModelled (λ o o'. PutsBy {A = A} refused plan old o (Err e) (Some given) o') b d
+      broken-by {A} e of cause = record { none = λ no. kept ∙ puts.none no; some = λ o at. let h = puts.some o at in (h.0, kept ∙ h.1, put-broken refused plan old o next given gives h.0 h.2 e of (cause o)) }
 
-      pub put-by : {A : Type 0} (answer : A) → WhereModelled (λ o o'. PutsBy plan old o (Ok answer) (Some given) o') b d
-      put-by answer = record { none = λ no. kept ∙ puts.none no; some = λ o at. let h = puts.some o at in (h.0, kept ∙ h.1, put-then plan old o next given gives h.0 h.2 answer) }
+      pub put-by : {A : Type 0} (answer : A) → WhereModelled (λ o o'. PutsBy refused plan old o (Ok answer) (Some given) o') b d
+      put-by answer = record { none = λ no. kept ∙ puts.none no; some = λ o at. let h = puts.some o at in (h.0, kept ∙ h.1, put-then refused plan old o next given gives h.0 h.2 answer) }

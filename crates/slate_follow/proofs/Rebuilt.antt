@@ -12,31 +12,34 @@ use Rattle.slate_replay.proofs.Recovered.{recovered-all}
 use Rattle.slate_replay.specs.Replay.{Replays}
 use Rattle.slate_replay.specs.declared.replays.Replayed.{Replayed}
 use Rattle.slate_replay.specs.declared.replays.Replayed.TheVariants as replays
-use Rattle.slate_model.specs.Follow.{HasAllLogs, IsOwed, SeesOwed}
+use Rattle.slate_errors.specs.declared.errors.SlateError.{SlateError}
+use Rattle.slate_errors.specs.declared.errors.SlateError.TheVariants as errors
+use Rattle.slate_model.specs.Follow.{HasAllLogs, IsOwed, ReplayRefuses, SeesOwed}
 use Rattle.slate_model.specs.Followed.{IsView, last_read}
-use Rattle.slate_model.specs.Follower.{Follower, is_pinned, number, rebuilt}
+use Rattle.slate_model.specs.Follower.{Follower, is_pinned, number, rebuilt, unsegmented}
 use Rattle.slate_model.specs.Handle.{Handle, kept_handle, line_above}
 use Rattle.slate_model.specs.Known.{IsContent}
-use Rattle.slate_model.specs.Open.{mark_of, next_manifest, opened_handle}
+use Rattle.slate_model.specs.Open.{mark_of, next_manifest, opened_handle, replayed}
+use Rattle.slate_model.specs.Segments.{Extractor, ops_of, unsegmented_refusal}
 use Rattle.slate_model.specs.Stores.{by_objects}
 use Rattle.slate_model.proofs.Keeping.{line_above-end}
 use Rattle.slate_model.proofs.Owing.{Owed, kept-is, owing}
 use Rattle.slate_model.proofs.Reduced.{some-same}
 use Rattle.slate_model.proofs.Reopened.{line_from, recovered, recovered-is}
 use Rattle.slate_model.specs.declared.answers.PollAnswer.{PollAnswer}
-use Rattle.slate_model.specs.declared.answers.PollAnswer.TheVariants.{Whole}
-use Rattle.slate_follow.specs.Rebuilding.{Builds, FindsView, HasLogs, ReplaysView, answer_of, reached}
+use Rattle.slate_model.specs.declared.answers.PollAnswer.TheVariants.{Whole, Truncated}
+use Rattle.slate_follow.specs.Rebuilding.{BuildLacks, Builds, FindsView, HasLogs, ReplaysView, answer_of, reached}
 
 -- The content of sound objects is kept, under their latest manifest, as what the log files have above its last number in
 -- tables: as an opening of a handle keeps it.
 module _ (o : Objects) (view : VersionedManifest) (sound : IsSound o) (is : latest_manifest o ≡ Some view) where
   abbrev next : VersionedManifest
-  next = next_manifest (Some view) (last_log view.manifest.replay_after_wal_id o)
+  next = next_manifest None (Some view) (last_log view.manifest.replay_after_wal_id o)
 
-  opened : recovered true 0 next (logged o next.manifest) ≡ kept_handle (opened_handle true 0 next (content o))
+  opened : recovered None true 0 next (logged o next.manifest) ≡ kept_handle (opened_handle None true 0 next (content o))
   opened =
-      subst (λ x. let v = next_manifest x (last_log (mark_of x) o) in recovered true 0 v (logged o v.manifest) ≡ kept_handle (opened_handle true 0 v (content o))) is
-      (recovered-is true 0 o sound)
+      subst (λ x. let v = next_manifest None x (last_log (mark_of x) o) in recovered None true 0 v (logged o v.manifest) ≡ kept_handle (opened_handle None true 0 v (content o))) is
+      (recovered-is None true 0 o sound)
 
   pub kept-line : line_from view.manifest.last_l0_seq (logged o view.manifest) ≡ line_above view.manifest.last_l0_seq (content o)
   kept-line = ap (λ (h : Handle). h.line) opened
@@ -88,7 +91,7 @@ has-all o mode skips view replays.Whole at follower answer free reads mark answe
 -- last log file that it reads, sees what it is owed.
 pub sees-kept : (t : Option Objects) (o : Objects) (mode : DbReaderMode) (skips : Bool) (view : VersionedManifest) (stored owed : Line) (found : Replayed) (batches : List Batch) (follower : Follower) (answer : PollAnswer) →
     IsOwed (by_objects t) mode skips o view stored owed → line_from view.manifest.last_l0_seq batches ≡ line_above view.manifest.last_l0_seq owed → found ≡ replays.Whole →
-    follower ≡ rebuilt mode skips view (line_from view.manifest.last_l0_seq batches) (reached found (last_read mode skips view o)) → answer ≡ answer_of found (number follower) →
+    unsegmented follower ≡ rebuilt mode skips view (line_from view.manifest.last_l0_seq batches) (reached found (last_read mode skips view o)) → answer ≡ answer_of found (number follower) →
     SeesOwed (by_objects t) mode skips o stored follower answer
 sees-kept t o mode skips view stored owed found batches follower answer is_owed line whole becomes answers =
     let floor = view.manifest.last_l0_seq in
@@ -112,27 +115,49 @@ module _ (mode : DbReaderMode) (skips opening : Bool) (o : Objects) (view : Vers
       let m = view.manifest in
       (id, subst (λ n. Replays m.replay_after_wal_id n m.last_l0_seq [] batches o (Ok (replays.Truncated id))) can.1 logs, refl)
 
+  logs-plain : (answer : PollAnswer) → HasLogs o (unsegmented follower) answer → HasLogs o follower answer
+  logs-plain (Whole at) logs = logs
+  logs-plain (Truncated at) logs = logs
+
+  replays-plain : ReplaysView opening o (unsegmented follower) answer → ReplaysView opening o follower answer
+  replays-plain r = record { view = r.view; floor = r.floor; logs = logs-plain answer r.logs }
+
   -- what is built is a replay of the log files of the manifest that it goes by
   pub replays-view : Builds o mode skips view last follower answer → ReplaysView opening o follower answer
   replays-view built =
       let one = rebuilt mode skips view (line_from view.manifest.last_l0_seq built.batches) (reached built.found last) in
-      subst (λ f. ReplaysView opening o f answer) (sym built.becomes)
+      replays-plain (subst (λ f. ReplaysView opening o f answer) (sym built.becomes)
       (record {
         view = can.0;
         floor = refl;
         logs = subst (HasLogs o one) (sym built.answers) (has_logs built.found built.batches (number follower) built.logs);
-      })
+      }))
+
+  -- of sound objects the log files have what it is owed above the last number in tables
+  replays-owed : (sound : IsSound o) → (batches : List Batch) (found : Replayed) → Replays view.manifest.replay_after_wal_id last view.manifest.last_l0_seq [] batches o (Ok found) →
+      (line_from view.manifest.last_l0_seq batches ≡ line_above view.manifest.last_l0_seq (owing o mode skips opening view sound can.0).owed) × (found ≡ replays.Whole)
+  replays-owed sound batches found logs =
+      let m = view.manifest in
+      let its : Owed o (content o) mode skips view = owing o mode skips opening view sound can.0 in
+      let all = recovered-all m.replay_after_wal_id (last_read mode skips view o) m.last_l0_seq its.tables.rest batches o its.whole its.belong found
+      (subst (λ n. Replays m.replay_after_wal_id n m.last_l0_seq [] batches o (Ok found)) can.1 logs) in
+      (ap (line_from m.last_l0_seq) all.0 ∙ sym (kept-is o m its.owed its.tables its.numbered), all.1)
 
   -- and sees what it is owed of sound objects
   pub builds-sees : (t : Option Objects) → IsSound o → Builds o mode skips view last follower answer → SeesOwed (by_objects t) mode skips o (content o) follower answer
   builds-sees t sound built =
-      let m = view.manifest in
       let its : Owed o (content o) mode skips view = owing o mode skips opening view sound can.0 in
-      let logs = subst (λ n. Replays m.replay_after_wal_id n m.last_l0_seq [] built.batches o (Ok built.found)) can.1 built.logs in
-      let all = recovered-all m.replay_after_wal_id (last_read mode skips view o) m.last_l0_seq its.tables.rest built.batches o its.whole its.belong built.found logs in
-      let becomes = subst (λ n. follower ≡ rebuilt mode skips view (line_from m.last_l0_seq built.batches) (reached built.found n)) can.1 built.becomes in
-      let line = ap (line_from m.last_l0_seq) all.0 ∙ sym (kept-is o m its.owed its.tables its.numbered) in
-      sees-kept t o mode skips view (content o) its.owed built.found built.batches follower answer (owed-any t o mode skips view (content o) its.owed its.is_owed) line all.1 becomes built.answers
+      let all = replays-owed sound built.batches built.found built.logs in
+      let becomes = subst (λ n. unsegmented follower ≡ rebuilt mode skips view (line_from view.manifest.last_l0_seq built.batches) (reached built.found n)) can.1 built.becomes in
+      sees-kept t o mode skips view (content o) its.owed built.found built.batches follower answer (owed-any t o mode skips view (content o) its.owed its.is_owed) all.0 all.1 becomes built.answers
+
+  -- of whose keys the first without a segment is that of what is replayed
+  pub builds-refuses : (t : Option Objects) (x : Option Extractor) (refusal : Option SlateError) → IsSound o → (batches : List Batch) (found : Replayed) → Replays view.manifest.replay_after_wal_id last view.manifest.last_l0_seq [] batches o (Ok found) →
+      unsegmented_refusal x (ops_of batches) ≡ refusal → ReplayRefuses (by_objects t) x mode skips opening o (content o) refusal
+  builds-refuses t x refusal sound batches found logs refused =
+      let its : Owed o (content o) mode skips view = owing o mode skips opening view sound can.0 in
+      let same : batches ≡ replayed view its.owed = ap (λ (l : Line). l.batches) (replays-owed sound batches found logs).0 in
+      (view, its.owed, can.0, owed-any t o mode skips view (content o) its.owed its.is_owed, ap (λ bs. unsegmented_refusal x (ops_of bs)) (sym same) ∙ refused)
 
 -- what holds of each that there is holds where there is one
 pub if_some : {X : Type 0} {P : X → Type 0} (t : Option X) → ((x : X) → t ≡ Some x → P x) → IfSome t P
@@ -149,6 +174,14 @@ sees_stored {t = t} mode skips follower answer o stored at content_is sees =
     let same : content_is.0 ≡ o = some-same content_is.0 o (sym content_is.1 ∙ at) in
     let line : stored ≡ content o = content_is.3 ∙ ap content same in
     subst (λ l. SeesOwed (by_objects t) mode skips o l follower answer) (sym line) (sees (subst IsSound same content_is.2) line)
+
+-- and so of what it replays
+pub refuses_stored : {t : Option Objects} (x : Option Extractor) (mode : DbReaderMode) (skips opening : Bool) (refusal : Option SlateError) (o : Objects) (stored : Line) → t ≡ Some o → IsContent t stored →
+    (IsSound o → stored ≡ content o → ReplayRefuses (by_objects t) x mode skips opening o (content o) refusal) → ReplayRefuses (by_objects t) x mode skips opening o stored refusal
+refuses_stored {t = t} x mode skips opening refusal o stored at content_is refuses =
+    let same : content_is.0 ≡ o = some-same content_is.0 o (sym content_is.1 ∙ at) in
+    let line : stored ≡ content o = content_is.3 ∙ ap content same in
+    subst (λ l. ReplayRefuses (by_objects t) x mode skips opening o l refusal) (sym line) (refuses (subst IsSound same content_is.2) line)
 
 -- what was found and built
 module _ (mode : DbReaderMode) (skips opening : Bool) (view : VersionedManifest) (last : ℕ) (follower : Follower) (answer : PollAnswer) {t t1 : Option Objects} (kept : t1 ≡ t)
@@ -177,3 +210,21 @@ module _ (mode : DbReaderMode) (skips opening : Bool) (view : VersionedManifest)
   pub built-sees : (o : Objects) (stored : Line) → t ≡ Some o → IsContent t stored → SeesOwed (by_objects t) mode skips o stored follower answer
   built-sees o stored at content_is =
       sees_stored mode skips follower answer o stored at content_is (λ sound _. builds-sees mode skips opening o view last (found_at o at) follower answer t sound (built_at o at))
+
+  -- each key of which has a segment
+  pub built-segmented : (x : Option Extractor) → unsegmented_refusal x (ops_of follower.line.batches) ≡ None → (o : Objects) (stored : Line) → t ≡ Some o → IsContent t stored → ReplayRefuses (by_objects t) x mode skips opening o stored None
+  built-segmented x fits o stored at content_is =
+      let built_it = built_at o at in
+      let same : follower.line.batches ≡ built_it.batches = ap (λ (f : Follower). f.line.batches) built_it.becomes in
+      refuses_stored x mode skips opening None o stored at content_is
+      (λ sound _. builds-refuses mode skips opening o view last (found_at o at) follower answer t x None sound built_it.batches built_it.found built_it.logs (ap (λ bs. unsegmented_refusal x (ops_of bs)) (sym same) ∙ fits))
+
+-- what was found, and has a key without a segment
+pub lacking-refuses : {t t1 : Option Objects} (x : Option Extractor) (mode : DbReaderMode) (skips opening : Bool) (view : VersionedManifest) (last : ℕ) (key : List ℕ) → t1 ≡ t → IfSome t (λ o. FindsView mode skips opening o (Ok (view, last))) → IfSome t1 (λ o. BuildLacks x o view last key) →
+    (o : Objects) (stored : Line) → t ≡ Some o → IsContent t stored → ReplayRefuses (by_objects t) x mode skips opening o stored (Some (errors.EmptySegmentPrefix key))
+lacking-refuses {t} {t1} x mode skips opening view last key kept found lacks o stored at content_is =
+    let can = some_at (λ o. FindsView mode skips opening o (Ok (view, last))) t o at found in
+    let l = some_at (λ o. BuildLacks x o view last key) t1 o (kept ∙ at) lacks in
+    let refusal = Some (errors.EmptySegmentPrefix key) in
+    let plain = rebuilt mode skips view (line_from view.manifest.last_l0_seq l.0) last in
+    refuses_stored x mode skips opening refusal o stored at content_is (λ sound _. builds-refuses mode skips opening o view last can plain (Whole 0) t x refusal sound l.0 l.1 l.2 l.3)

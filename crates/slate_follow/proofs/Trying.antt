@@ -1,9 +1,11 @@
 -- A try of a poll of a reader that keeps a checkpoint, by its steps, over a store that may be modelled.
-use Rattle.std.proofs.Common.{◌≡◌, ℕ, inl, inr, List, length, Option, Some, None, Bool, true, false, cond, Result, Ok, Err, refl, sym, ap, subst, ◌∙◌, arith}
+use Rattle.std.proofs.Common.{◌≡◌, ℕ, inl, inr, List, [], ◌++◌, length, Option, Some, None, Bool, true, false, cond, Result, Ok, Err, refl, sym, ap, subst, ◌∙◌, arith}
+use Rattle.std.proofs.Math.Logic.{⊎_map}
 use Rattle.std.specs.Option.{IfSome}
-use Rattle.std.specs.Prelude.{ℤ, nat_lt}
+use Rattle.std.specs.Prelude.{ℤ, ◌⊎◌, nat_lt}
 use Rattle.std.specs.Result.{IfOk}
 use Rattle.slate_types.specs.Modelled.{WhereModelled}
+use Rattle.slate_types.specs.Line.{batches_above}
 use Rattle.slate_types.specs.declared.batches.Batch.{Batch}
 use Rattle.slate_store.specs.Checkpoints.{Plan, found, lease_end, to_end}
 use Rattle.slate_store.specs.Objects.{Objects}
@@ -17,17 +19,20 @@ use Rattle.slate_replay.specs.declared.replays.Replayed.TheVariants as replays
 use Rattle.slate_errors.specs.declared.errors.SlateError.{SlateError}
 use Rattle.slate_errors.specs.declared.errors.SlateError.TheVariants.{NoMemory, TransactionalObjectTimeout}
 use Rattle.slate_model.specs.Follow.{AnswersAt}
-use Rattle.slate_model.specs.Follower.{Follower, number}
+use Rattle.slate_model.proofs.Reopened.{segments-none}
+use Rattle.slate_model.specs.Follower.{Follower, HasSegments, number, unsegmented}
+use Rattle.slate_model.specs.Segments.{Extractor, segments_of}
 use Rattle.slate_model.specs.Lease.{differs, is_due, lease_of, leased, replaces, to_keep}
-use Rattle.slate_model.specs.Managed.{IsOpenAt, Keeps, PlanCause}
+use Rattle.slate_model.specs.Managed.{IsOpenAt, Keeps, PlanCause, unrefused}
 use Rattle.slate_model.specs.Stores.{Stands, by_objects}
 use Rattle.slate_model.specs.declared.answers.PollAnswer.{PollAnswer}
 use Rattle.slate_model.specs.declared.leases.Lease.{Lease}
-use Rattle.slate_follow.specs.Keeping.{BuildsLatest, FindsLatest, IsNews, PutsBy, informed}
+use Rattle.slate_follow.specs.Keeping.{BuildsLatest, FindsLatest, IsNews, MayLack, PutsBy, informed}
 use Rattle.slate_follow.specs.Rebuilding.{answer_of}
 use Rattle.slate_follow.proofs.Keeping.{PutsAndKeeps, puts-by, renewal, renewed-keeps, replaced-keeps, replacement, stays-keeps, to-renewal, to-stay}
 use Rattle.slate_follow.proofs.Planned.{modelled-kept, modelled-put, stays-put}
 use Rattle.slate_follow.proofs.Rebuilt.{some_at}
+use Rattle.slate_follow.proofs.Segmented.{followed-segments}
 
 -- ---- a reader that goes on by its view
 answers-at : (n : ℕ) (replayed : Replayed) → AnswersAt n (answer_of replayed n)
@@ -38,7 +43,7 @@ informed-asked : (old : Follower) (skips : Bool) (added : List Batch) (mark : �
 informed-asked old true added mark = (refl, refl, refl)
 informed-asked old false added mark = (refl, refl, refl)
 
-pub informed-open : (old new : Follower) (added : List Batch) (replayed : Replayed) (mark : ℕ) (lease : Option Lease) (answer : PollAnswer) → old.mode ≡ ManagedCheckpoint → new ≡ record (informed old old.skips added mark) { lease = lease } → answer ≡ answer_of replayed (number new) → IsOpenAt old.skips new answer
+pub informed-open : (old new : Follower) (added : List Batch) (replayed : Replayed) (mark : ℕ) (lease : Option Lease) (answer : PollAnswer) → old.mode ≡ ManagedCheckpoint → unsegmented new ≡ record (informed old old.skips added mark) { lease = lease } → answer ≡ answer_of replayed (number new) → IsOpenAt old.skips new answer
 informed-open old new added replayed mark lease answer managed becomes answers =
     let asked = informed-asked old old.skips added mark in (
       ap (λ (f : Follower). f.mode) becomes ∙ (asked.0 ∙ managed),
@@ -51,10 +56,30 @@ informed-leased : (old : Follower) (lease : Option Lease) (skips : Bool) (added 
 informed-leased old lease true added mark = refl
 informed-leased old lease false added mark = refl
 
--- one whose lease was renewed before goes on as the one before that
-pub informed-renewed : (old mid new : Follower) (added : List Batch) (mark : ℕ) → mid ≡ record old { lease = mid.lease } → new ≡ record (informed mid mid.skips added mark) { lease = mid.lease } → new ≡ record (informed old old.skips added mark) { lease = mid.lease }
-informed-renewed old mid new added mark same becomes =
-    becomes ∙ (ap (λ (f : Follower). record (informed f f.skips added mark) { lease = mid.lease }) same ∙ ap (λ (f : Follower). record f { lease = mid.lease }) (informed-leased old mid.lease old.skips added mark))
+informed-plain : (old : Follower) (skips : Bool) (added : List Batch) (mark : ℕ) (segments : List (List ℕ)) (lease : Option Lease) →
+    unsegmented (record (informed old skips added mark) { segments = segments; lease = lease }) ≡ record (informed old skips added mark) { lease = lease }
+informed-plain old true added mark segments lease = refl
+informed-plain old false added mark segments lease = refl
+
+module _ (old new : Follower) (added : List Batch) (mark : ℕ) (segments : List (List ℕ)) (lease : Option Lease) where
+  -- but for its segments
+  pub informed-becomes : new ≡ record (informed old old.skips added mark) { segments = segments; lease = lease } → unsegmented new ≡ record (informed old old.skips added mark) { lease = lease }
+  informed-becomes becomes = ap unsegmented becomes ∙ informed-plain old old.skips added mark segments lease
+
+  -- one whose lease was renewed before goes on as the one before that
+  pub informed-renewed : (mid : Follower) → mid ≡ record old { lease = mid.lease } → new ≡ record (informed mid mid.skips added mark) { segments = segments; lease = lease } → new ≡ record (informed old old.skips added mark) { segments = segments; lease = lease }
+  informed-renewed mid same becomes =
+      becomes ∙ (ap (λ (f : Follower). record (informed f f.skips added mark) { segments = segments; lease = lease }) same
+      ∙ ap (λ (f : Follower). record f { segments = segments; lease = lease }) (informed-leased old mid.lease old.skips added mark))
+
+  -- it has the segments of its batches
+  module _ (x : Option Extractor) (whole : batches_above old.view.manifest.last_l0_seq (old.line.batches ++ added) ≡ old.line.batches ++ added) where
+    segments-by : (skips : Bool) → (skips ≡ true → segments ≡ []) → (skips ≡ false → segments ≡ segments_of x (old.line.batches ++ added)) → HasSegments x (record (informed old skips added mark) { segments = segments; lease = lease })
+    segments-by true skipped are = skipped refl ∙ sym (segments-none x)
+    segments-by false skipped are = followed-segments x old old.view added mark segments lease (are refl ∙ ap (segments_of x) (sym whole))
+
+    pub informed-segments : new ≡ record (informed old old.skips added mark) { segments = segments; lease = lease } → (old.skips ≡ true → segments ≡ []) → (old.skips ≡ false → segments ≡ segments_of x (old.line.batches ++ added)) → HasSegments x new
+    informed-segments becomes skipped are = subst (HasSegments x) (sym becomes) (segments-by old.skips skipped are)
 
 -- ---- what renews a lease
 end-puts : (lifetime : ℕ) (id : List ℕ) (end : ℤ) (latest : VersionedManifest) (there : Option AnyCheckpoint) (next : Option VersionedManifest) (given : Lease) → leased lifetime (to_end id end latest there) ≡ Ok (next, given) →
@@ -74,21 +99,24 @@ module _ (view latest : VersionedManifest) (lease : Lease) (moment : ℤ) where
   renewal-puts next given = end-puts lease.lifetime lease.id (lease_end moment lease.lifetime) latest (found lease.id latest) next given
 
   -- the poll fails as the renewal did
-  pub renewal-failed : (old new : Option Lease) (o o' : Objects) (e : SlateError) → PutsBy {A = Unit {0}} (renewal view latest lease moment) old o (Err e) new o' → PutsBy {A = PollAnswer} (renewal view latest lease moment) old o (Err e) new o'
-  renewal-failed old new o o' e p = record { made = p.made; cause = p.cause; part = p.part; after = p.after; leased = p.leased }
+  pub renewal-failed : (refused : Objects → SlateError → Type 0) (old new : Option Lease) (o o' : Objects) (e : SlateError) → PutsBy {A = Unit {0}} unrefused (renewal view latest lease moment) old o (Err e) new o' →
+      PutsBy {A = PollAnswer} refused (renewal view latest lease moment) old o (Err e) new o'
+  renewal-failed refused old new o o' e p = record { made = p.made; cause = ⊎_map (λ c. c) (λ none. absurd none) p.cause; part = p.part; after = p.after; leased = p.leased }
 
   -- it fails for want of memory after that
-  pub renewal-broken : (old new : Option Lease) (o o' : Objects) → PutsBy {A = Unit {0}} (renewal view latest lease moment) old o (Ok tt) new o' → PutsBy {A = PollAnswer} (renewal view latest lease moment) old o (Err NoMemory) new o'
-  renewal-broken old new o o' p =
+  pub renewal-broken : (refused : Objects → SlateError → Type 0) (old new : Option Lease) (o o' : Objects) → PutsBy {A = Unit {0}} unrefused (renewal view latest lease moment) old o (Ok tt) new o' →
+      PutsBy {A = PollAnswer} refused (renewal view latest lease moment) old o (Err NoMemory) new o'
+  renewal-broken refused old new o o' p =
       let l = p.leased in
       let put = renewal-puts l.0 l.1 l.2 in
       let all = p.part in
       let one : p.made ≡ 1 = all ∙ ap (λ (x : Plan Lease). length (planned {L = List Batch} x)) put.1 in
-      record { made = p.made; cause = tt; part = omega (arith, all); after = p.after; leased = inr (one, Some put.0, l.1, put.1, l.3) }
+      record { made = p.made; cause = inl tt; part = omega (arith, all); after = p.after; leased = inr (one, Some put.0, l.1, put.1, l.3) }
 
   -- and it goes on
-  pub renewal-done : (old new : Option Lease) (o o' : Objects) (answer : PollAnswer) → PutsBy {A = Unit {0}} (renewal view latest lease moment) old o (Ok tt) new o' → PutsBy (renewal view latest lease moment) old o (Ok answer) new o'
-  renewal-done old new o o' answer p = record { made = p.made; cause = tt; part = p.part; after = p.after; leased = p.leased }
+  pub renewal-done : (refused : Objects → SlateError → Type 0) (old new : Option Lease) (o o' : Objects) (answer : PollAnswer) → PutsBy {A = Unit {0}} unrefused (renewal view latest lease moment) old o (Ok tt) new o' →
+      PutsBy refused (renewal view latest lease moment) old o (Ok answer) new o'
+  renewal-done refused old new o o' answer p = record { made = p.made; cause = tt; part = p.part; after = p.after; leased = p.leased }
 
 -- ---- a try, where this is the latest manifest
 module _ (t : Option Objects) (latest : VersionedManifest) (is : IfSome t (λ o. FindsLatest o (Ok latest))) (lease : Lease) (moment : ℤ) (old new : Follower) where
@@ -96,7 +124,7 @@ module _ (t : Option Objects) (latest : VersionedManifest) (is : IfSome t (λ o.
   latest_is o at = some_at (λ o. FindsLatest o (Ok latest)) t o at is
 
   -- the checkpoint is replaced
-  pub replaced-kept : replaces old.view lease moment latest ≡ true → {t1 t' : Option Objects} → t1 ≡ t → (r : Result PollAnswer SlateError) → WhereModelled (λ o o'. PutsBy (replacement old.view latest lease moment) old.lease o r new.lease o') t1 t' →
+  pub replaced-kept : replaces old.view lease moment latest ≡ true → {t1 t' : Option Objects} → t1 ≡ t → (r : Result PollAnswer SlateError) → WhereModelled (λ o o'. PutsBy MayLack (replacement old.view latest lease moment) old.lease o r new.lease o') t1 t' →
       IfOk r (λ answer. IfSome t' (λ o'. BuildsLatest (replacement old.view latest lease moment) old.skips o' new answer)) → IfOk r (λ answer. WhereModelled (λ o o'. Keeps (by_objects t) lease moment old o new answer o') t t')
   replaced-kept replaced {t1} {t'} kept (Err e) puts built = tt
   replaced-kept replaced {t1} {t'} kept (Ok answer) puts built = record {
@@ -104,7 +132,7 @@ module _ (t : Option Objects) (latest : VersionedManifest) (is : IfSome t (λ o.
     some = λ o at.
         let h = puts.some o (kept ∙ at) in
         let builds = some_at (λ o'. BuildsLatest (replacement old.view latest lease moment) old.skips o' new answer) t' h.0 h.1 built in
-        (h.0, h.1, replaced-keeps t o h.0 at latest (latest_is o at) lease moment old new answer replaced h.2 builds);
+        (h.0, h.1, replaced-keeps MayLack t o h.0 at latest (latest_is o at) lease moment old new answer replaced h.2 builds);
   }
 
   module _ (unreplaced : replaces old.view lease moment latest ≡ false) where
@@ -113,34 +141,34 @@ module _ (t : Option Objects) (latest : VersionedManifest) (is : IfSome t (λ o.
     stays-puts early held holds answer kept =
         let p : Plan Lease = Ok (None, lease) in
         modelled-kept is kept (λ o at. puts-by o latest at lease moment old p (to-stay old.view latest lease moment unreplaced early) (Ok answer) new o
-        (subst (λ l. PutsBy p l o (Ok answer) new.lease o) (sym held) (subst (λ l. PutsBy p (Some lease) o (Ok answer) l o) (sym holds) (stays-put p lease o answer refl))))
+        (subst (λ l. PutsBy MayLack p l o (Ok answer) new.lease o) (sym held) (subst (λ l. PutsBy MayLack p (Some lease) o (Ok answer) l o) (sym holds) (stays-put MayLack p lease o answer refl))))
 
     -- it is, and is renewed
-    pub renewed-puts : is_due moment lease ≡ true → (r0 : Result (Unit {0}) SlateError) (r : Result PollAnswer SlateError) → {t1 t' : Option Objects} → t1 ≡ t → WhereModelled (λ o o'. PutsBy (renewal old.view latest lease moment) old.lease o r0 new.lease o') t1 t' →
-        ((o o' : Objects) → PutsBy (renewal old.view latest lease moment) old.lease o r0 new.lease o' → PutsBy (renewal old.view latest lease moment) old.lease o r new.lease o') → WhereModelled (PutsAndKeeps lease moment old r new) t t'
+    pub renewed-puts : is_due moment lease ≡ true → (r0 : Result (Unit {0}) SlateError) (r : Result PollAnswer SlateError) → {t1 t' : Option Objects} → t1 ≡ t → WhereModelled (λ o o'. PutsBy unrefused (renewal old.view latest lease moment) old.lease o r0 new.lease o') t1 t' →
+        ((o o' : Objects) → PutsBy unrefused (renewal old.view latest lease moment) old.lease o r0 new.lease o' → PutsBy MayLack (renewal old.view latest lease moment) old.lease o r new.lease o') → WhereModelled (PutsAndKeeps lease moment old r new) t t'
     renewed-puts due r0 r kept puts turn =
         modelled-put is kept puts (λ o o' at h. puts-by o latest at lease moment old (renewal old.view latest lease moment) (to-renewal old.view latest lease moment unreplaced due) r new o' (turn o o' h))
 
     module _ (managed : old.mode ≡ ManagedCheckpoint) (same : differs old.view latest ≡ false) (floor : old.line.floor ≡ old.view.manifest.last_l0_seq) (added : List Batch) (replayed : Replayed) (mark : ℕ) (answer : PollAnswer)
-        (answers : answer ≡ answer_of replayed (number new)) (t1 : Option Objects) (kept : t1 ≡ t) (news : IfSome t1 (λ o. IsNews o old latest old.skips added replayed mark)) (becomes : new ≡ record (informed old old.skips added mark) { lease = new.lease }) where
+        (answers : answer ≡ answer_of replayed (number new)) (t1 : Option Objects) (kept : t1 ≡ t) (news : IfSome t1 (λ o. IsNews o old latest old.skips added replayed mark)) (becomes : unsegmented new ≡ record (informed old old.skips added mark) { lease = new.lease }) where
       news_at : (o : Objects) → t ≡ Some o → IsNews o old latest old.skips added replayed mark
       news_at o at = some_at (λ o. IsNews o old latest old.skips added replayed mark) t1 o (kept ∙ at) news
 
       pub stays-kept : is_due moment lease ≡ false → new.lease ≡ Some lease → WhereModelled (λ o o'. Keeps (by_objects t) lease moment old o new answer o') t t1
       stays-kept early holds = record {
         none = λ no. kept ∙ no;
-        some = λ o at. (o, kept ∙ at, stays-keeps t o o at latest (latest_is o at) lease moment old new answer managed same floor added replayed mark answers (news_at o at) becomes unreplaced early refl holds);
+        some = λ o at. (o, kept ∙ at, stays-keeps MayLack t o o at latest (latest_is o at) lease moment old new answer managed same floor added replayed mark answers (news_at o at) becomes unreplaced early refl holds);
       }
 
-      pub renewed-kept : is_due moment lease ≡ true → {t' : Option Objects} → WhereModelled (λ o o'. PutsBy {A = Unit {0}} (renewal old.view latest lease moment) old.lease o (Ok tt) new.lease o') t1 t' → WhereModelled (λ o o'. Keeps (by_objects t) lease moment old o new answer o') t t'
+      pub renewed-kept : is_due moment lease ≡ true → {t' : Option Objects} → WhereModelled (λ o o'. PutsBy {A = Unit {0}} unrefused (renewal old.view latest lease moment) old.lease o (Ok tt) new.lease o') t1 t' → WhereModelled (λ o o'. Keeps (by_objects t) lease moment old o new answer o') t t'
       renewed-kept due puts = record {
         none = λ no. puts.none (kept ∙ no);
         some = λ o at.
             let h = puts.some o (kept ∙ at) in
             let l = h.2.leased in
             let put = renewal-puts old.view latest lease moment l.0 l.1 l.2 in
-            let done = renewal-done old.view latest lease moment old.lease new.lease o h.0 answer h.2 in
-            (h.0, h.1, renewed-keeps t o h.0 at latest (latest_is o at) lease moment old new answer managed same floor added replayed mark answers (news_at o at) becomes unreplaced due put.0 l.1 put.1 done);
+            let done = renewal-done old.view latest lease moment MayLack old.lease new.lease o h.0 answer h.2 in
+            (h.0, h.1, renewed-keeps MayLack t o h.0 at latest (latest_is o at) lease moment old new answer managed same floor added replayed mark answers (news_at o at) becomes unreplaced due put.0 l.1 put.1 done);
       }
 
 -- every try found another manifest there
@@ -152,5 +180,10 @@ never-put t t' lease moment old new kept same met =
       none = λ no. kept ∙ no;
       some = λ o at.
           let cause = some_at (λ o. PlanCause (Stands (checkpoint_changes plan o) o) plan o (TransactionalObjectTimeout 8)) t o at met in
-          (o, kept ∙ at, (0, record { cause = cause; part = refl; after = refl }, inl (ap (λ (f : Follower). f.lease) same)));
+          (o, kept ∙ at, (0, record { cause = inl cause; part = refl; after = refl }, inl (ap (λ (f : Follower). f.lease) same)));
     }
+
+-- and each one found so by its plan
+pub timed-out : (stands : Type 0) (plan : VersionedManifest → Plan Lease) (o : Objects) → PlanCause stands plan o (TransactionalObjectTimeout 8) ⊎ MayLack o (TransactionalObjectTimeout 8) → PlanCause stands plan o (TransactionalObjectTimeout 8)
+timed-out stands plan o (inl cause) = cause
+timed-out stands plan o (inr none) = absurd none

@@ -1,11 +1,12 @@
 -- What the steps of a reader that keeps a checkpoint of its own put and answer.
-use Rattle.std.specs.Prelude.{◌≡◌, ℕ, ◌⊎◌, Bool, true, false, max, List, [], length, Option, Some, None, Result, Ok, Err, IfErr}
+use Rattle.std.specs.Prelude.{◌≡◌, ℕ, ℤ, ◌⊎◌, Bool, true, false, max, List, [], ◌++◌, length, Option, Some, None, Result, Ok, Err, IfErr}
 use Rattle.slate_types.specs.declared.batches.Batch.{Batch}
+use Rattle.slate_types.specs.Line.{batches_above}
 use Rattle.slate_types.specs.declared.store_errors.StoreFault.TheVariants.{Unavailable}
 use Rattle.slate_store.specs.declared.objects.VersionedManifest.{VersionedManifest}
 use Rattle.slate_store.specs.declared.reader_modes.DbReaderMode.TheVariants.{ManagedCheckpoint}
 use Rattle.slate_store.specs.declared.refusals.StoreRefusal.TheVariants as refusals
-use Rattle.slate_store.specs.Checkpoints.{Plan}
+use Rattle.slate_store.specs.Checkpoints.{Plan, to_write}
 use Rattle.slate_store.specs.Objects.{Objects, PutManifest, changed, is_present, latest_manifest}
 use Rattle.slate_store.specs.Refusals.{planned}
 use Rattle.slate_replay.specs.Replay.{Replays, line_of}
@@ -16,11 +17,13 @@ use Rattle.slate_errors.specs.declared.errors.SlateError.TheVariants as errors
 use Rattle.slate_model.specs.Changes.{PartMade, after_part}
 use Rattle.slate_model.specs.Follower.{Follower, number, rebuilt}
 use Rattle.slate_model.specs.Followed.{last_read}
+use Rattle.slate_model.specs.Lease.{leased, to_keep}
 use Rattle.slate_model.specs.Managed.{follower_under}
+use Rattle.slate_model.specs.Segments.{Extractor}
 use Rattle.slate_model.specs.Stores.{Stands}
 use Rattle.slate_model.specs.declared.answers.PollAnswer.{PollAnswer}
 use Rattle.slate_model.specs.declared.leases.Lease.{Lease}
-use Rattle.slate_follow.specs.Rebuilding.{Builds, followed, reached}
+use Rattle.slate_follow.specs.Rebuilding.{BuildLacks, Builds, GoingLacks, Lacks, Reaches, followed, reached}
 
 -- the latest manifest, or why it wasn't read
 abbrev pub FindsLatest : Objects → Result VersionedManifest SlateError → Type 0
@@ -71,10 +74,22 @@ LeaseBy plan old (Ok answer) made lease = (next : Option VersionedManifest) × (
 LeaseBy plan old (Err error) made lease =
     (lease ≡ old) ⊎ ((made ≡ 1) × (next : Option VersionedManifest) × (given : Lease) × (plan ≡ Ok (next, given)) × (lease ≡ Some given))
 
--- A call with this plan puts what it says, and gives its lease; at an error, so much of that.
-pub record PutsBy {A : Type 0} (plan : Plan Lease) (old : Option Lease) (objects : Objects) (result : Result A SlateError) (lease : Option Lease) (objects' : Objects) : Type 0 where
+-- An opening may be refused so, where its plan isn't: by its extractor.
+abbrev pub MayMismatch : Objects → SlateError → Type 0
+MayMismatch objects (errors.SegmentExtractorMismatch persisted configured) = Unit {0}
+MayMismatch objects (errors.SegmentPrefixNotRecognized prefix name) = Unit {0}
+MayMismatch objects error = ⊥
+
+-- And a poll: by a key without a segment.
+abbrev pub MayLack : Objects → SlateError → Type 0
+MayLack objects errors.InvalidDBState = Unit {0}
+MayLack objects error = ⊥
+
+-- A call with this plan puts what it says, and gives its lease; at an error, so much of that. `refused` says why it answers what
+-- the plan doesn't.
+pub record PutsBy {A : Type 0} (refused : Objects → SlateError → Type 0) (plan : Plan Lease) (old : Option Lease) (objects : Objects) (result : Result A SlateError) (lease : Option Lease) (objects' : Objects) : Type 0 where
   pub made : ℕ
-  pub cause : IfErr result (CauseBy plan objects)
+  pub cause : IfErr result (λ error. CauseBy plan objects error ⊎ refused objects error)
   pub part : PartMade result (length (planned {L = List Batch} plan)) made
   pub after : objects' ≡ after_part made (planned plan) objects
   pub leased : LeaseBy plan old result made lease
@@ -97,3 +112,41 @@ IsNews objects follower latest false added found mark =
 abbrev pub informed : Follower → (skips : Bool) → List Batch → (mark : ℕ) → Follower
 informed old true added mark = rebuilt old.mode old.skips old.view (line_of old.view.manifest.last_l0_seq []) mark
 informed old false added mark = followed old old.view added mark
+
+-- the errors of what a poll takes: those of a replay, and that a key has no segment
+abbrev pub IsOfPolling : SlateError → Type 0
+IsOfPolling errors.InvalidDBState = Unit {0}
+IsOfPolling (errors.ObjectStoreError Unavailable) = Unit {0}
+IsOfPolling errors.NoMemory = Unit {0}
+IsOfPolling error = ⊥
+
+-- a key of what a reader has, with what log files have that it hasn't replayed yet under the latest manifest, has no segment
+abbrev pub NewsLacks : Option Extractor → Follower → (latest : VersionedManifest) → Objects → Type 0
+NewsLacks extractor follower latest objects =
+    (key : List ℕ) × (added : List Batch) × (found : Replayed) × (follower.skips ≡ false)
+    × Replays (max follower.mark latest.manifest.replay_after_wal_id) (last_read follower.mode follower.skips latest objects) (number follower) [] added objects (Ok found)
+    × Lacks extractor (batches_above follower.view.manifest.last_l0_seq (follower.line.batches ++ added)) key
+
+-- so has what it takes that goes on by the latest manifest
+abbrev pub OnLacks : Option Extractor → Follower → (latest : VersionedManifest) → Objects → Type 0
+OnLacks extractor follower latest objects =
+    (follower.mode ≡ ManagedCheckpoint) × (follower.skips ≡ false) × Reaches follower latest
+    × ((key : List ℕ) × GoingLacks extractor objects latest (last_read follower.mode follower.skips latest objects) follower key)
+
+-- a key that is replayed has no segment under the manifest that a plan puts
+abbrev pub NextLacks : Option Extractor → Plan Lease → (skips : Bool) → Objects → Type 0
+NextLacks extractor plan skips objects =
+    (next : VersionedManifest) × (given : Lease) × (key : List ℕ) × (plan ≡ Ok (Some next, given))
+    × (let after = changed (PutManifest next.id next.manifest) objects in BuildLacks extractor after next (last_read ManagedCheckpoint skips next after) key)
+
+-- why a call with a plan for a new checkpoint answers InvalidDBState: its plan does, or a key that is replayed has no segment
+abbrev pub ReplaceLacks : Option Extractor → Plan Lease → (skips : Bool) → Objects → Type 0
+ReplaceLacks extractor plan skips objects = (plan ≡ Err refusals.InvalidDBState) ⊎ NextLacks extractor plan skips objects
+
+-- and why a poll does
+abbrev pub KeepLacks : Option Extractor → Lease → (moment : ℤ) → Follower → Objects → Type 0
+KeepLacks extractor lease moment follower objects =
+    (latest : VersionedManifest) × (latest_manifest objects ≡ Some latest)
+    × ((to_keep follower.view lease moment latest ≡ Err refusals.InvalidDBState)
+    ⊎ (NextLacks extractor (leased lease.lifetime (to_write (Some lease.id) (Some lease.lifetime) moment latest)) follower.skips objects
+    ⊎ OnLacks extractor follower latest objects))

@@ -14,14 +14,14 @@ follower_of a =
       skips = a.following.skips;
       view = a.status.manifest;
       line = record { floor = a.status.manifest.manifest.last_l0_seq; batches = joined a.kept.items };
+      segments = a.segments;
       mark = a.mark;
       lease = a.lease;
       result = a.status.result;
     }
 
--- each table in memory has a batch; their batches are numbered from the last number in tables on, its number is that of the
--- last one, and none is in a segment. It has a
--- lease exactly where it keeps a checkpoint of its own.
+-- each table in memory has a batch; their batches are numbered from the last number in tables on, and its number is that of the
+-- last one. It has a lease exactly where it keeps a checkpoint of its own. What it reports has no segments of its own.
 pub record IsKept (a : Inside) : Type 0 where
   pub filled : AreFilled a.kept.items
   pub numbered : AreNumberedFrom a.status.manifest.manifest.last_l0_seq (joined a.kept.items)
@@ -32,7 +32,7 @@ pub record IsKept (a : Inside) : Type 0 where
 
 -- the follower that what was built makes
 abbrev pub rebuilt_follower : Rebuilt → Follower
-rebuilt_follower a = rebuilt a.following.mode a.following.skips a.view (record { floor = a.view.manifest.last_l0_seq; batches = a.memory }) a.mark
+rebuilt_follower a = record (rebuilt a.following.mode a.following.skips a.view (record { floor = a.view.manifest.last_l0_seq; batches = a.memory }) a.mark) { segments = a.segments }
 
 -- its batches are numbered from the last number in tables on
 pub record IsRebuilt (a : Rebuilt) : Type 0 where

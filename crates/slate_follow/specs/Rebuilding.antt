@@ -1,5 +1,5 @@
 -- What a follower finds of the latest manifest and its log files.
-use Rattle.std.specs.Prelude.{◌≡◌, ℕ, ◌+◌, ◌-◌, ◌≤◌, max, Bool, List, [], ◌++◌, true, false, None, Some, Result, Ok, Err, IfOk}
+use Rattle.std.specs.Prelude.{◌≡◌, ℕ, ◌+◌, ◌-◌, ◌≤◌, max, Bool, List, [], ◌++◌, true, false, Option, None, Some, Result, Ok, Err, IfOk}
 use Rattle.slate_types.specs.declared.batches.Batch.{Batch}
 use Rattle.slate_types.specs.Line.{batches_above}
 use Rattle.slate_store.specs.declared.objects.VersionedManifest.{VersionedManifest}
@@ -14,9 +14,10 @@ use Rattle.slate_replay.specs.declared.replays.Replayed.TheVariants as replays
 use Rattle.slate_errors.specs.declared.errors.SlateError.{SlateError}
 use Rattle.slate_errors.specs.declared.errors.SlateError.TheVariants as errors
 use Rattle.slate_model.specs.Follow.{FollowCause}
-use Rattle.slate_model.specs.Followed.{IsView, finds, followed_logs, last_read, view_under}
-use Rattle.slate_model.specs.Follower.{Follower, number, rebuilt}
+use Rattle.slate_model.specs.Followed.{IsView, RefusesLatest, finds, followed_logs, last_read, view_under}
+use Rattle.slate_model.specs.Follower.{Follower, number, rebuilt, unsegmented}
 use Rattle.slate_model.specs.Open.{replayed_logs}
+use Rattle.slate_model.specs.Segments.{Extractor, ops_of, unsegmented_refusal}
 use Rattle.slate_model.specs.Stores.{Unpinned}
 use Rattle.slate_model.specs.declared.answers.PollAnswer.{PollAnswer}
 use Rattle.slate_model.specs.declared.answers.PollAnswer.TheVariants.{Whole, Truncated}
@@ -69,7 +70,7 @@ pub record GoesOn (objects : Objects) (view : VersionedManifest) (last : ℕ) (o
   pub added : List Batch
   pub found : Replayed
   pub logs : Replays (max old.mark view.manifest.replay_after_wal_id) last (number old) [] added objects (Ok found)
-  pub becomes : follower ≡ followed old view added (reached found last)
+  pub becomes : unsegmented follower ≡ followed old view added (reached found last)
   pub answers : answer ≡ answer_of found (number follower)
 
 -- What a follower took of objects, sound or not, that goes on from what it had: it can go by its manifest, whose tables its
@@ -84,13 +85,18 @@ pub record Builds (objects : Objects) (mode : DbReaderMode) (skips : Bool) (view
   pub batches : List Batch
   pub found : Replayed
   pub logs : Replays view.manifest.replay_after_wal_id last view.manifest.last_l0_seq [] batches objects (Ok found)
-  pub becomes : follower ≡ rebuilt mode skips view (line_of view.manifest.last_l0_seq batches) (reached found last)
+  pub becomes : unsegmented follower ≡ rebuilt mode skips view (line_of view.manifest.last_l0_seq batches) (reached found last)
   pub answers : answer ≡ answer_of found (number follower)
 
--- the manifest that a follower goes by, and the last log file that it reads; or why there is none
+-- the manifest that a follower goes by, and the last log file that it reads, where it finds these
 abbrev pub FindsView : DbReaderMode → Bool → (opening : Bool) → Objects → Result (VersionedManifest × ℕ) SlateError → Type 0
 FindsView mode skips opening objects (Ok found) = IsView mode opening objects found.0 × (found.1 ≡ last_read mode skips found.0 objects)
-FindsView mode skips opening objects (Err error) = FollowCause mode opening (Unpinned mode objects) objects error
+FindsView mode skips opening objects (Err error) = Unit {0}
+
+-- nothing stands against following the objects by their latest manifest with an extractor, or this does
+abbrev pub Follows : {A : Type 0} → Option Extractor → DbReaderMode → (opening : Bool) → Objects → Result A SlateError → Type 0
+Follows extractor mode opening objects (Ok _) = RefusesLatest extractor opening objects None
+Follows extractor mode opening objects (Err error) = FollowCause extractor mode opening (Unpinned mode objects) objects error
 
 -- the manifest that a follower goes by where this one is the latest, or why there is none
 abbrev pub GoesBy : DbReaderMode → Objects → (latest : VersionedManifest) → Result VersionedManifest SlateError → Type 0
@@ -101,9 +107,56 @@ GoesBy mode objects latest (Err (errors.ObjectStoreError Unavailable)) = Unit {0
 GoesBy mode objects latest (Err errors.NoMemory) = Unit {0}
 GoesBy mode objects latest (Err error) = ⊥
 
+-- the errors of looking for it
+abbrev pub IsOfView : SlateError → Type 0
+IsOfView (errors.CheckpointMissing id) = Unit {0}
+IsOfView (errors.ObjectStoreError fault) = Unit {0}
+IsOfView errors.NoMemory = Unit {0}
+IsOfView error = ⊥
+
 -- the last log file that a follower reads, where none failed
 abbrev pub FindsLast : DbReaderMode → Bool → VersionedManifest → Objects → Result ℕ SlateError → Type 0
 FindsLast mode skips view objects result = IfOk result (λ last. last ≡ last_read mode skips view objects)
+
+-- of these batches a key has no segment, the first one this
+abbrev pub Lacks : Option Extractor → List Batch → (key : List ℕ) → Type 0
+Lacks extractor batches key = unsegmented_refusal extractor (ops_of batches) ≡ Some (errors.EmptySegmentPrefix key)
+
+-- the log files of a manifest up to the last one have a key without a segment
+abbrev pub BuildLacks : Option Extractor → Objects → (view : VersionedManifest) → (last : ℕ) → (key : List ℕ) → Type 0
+BuildLacks extractor objects view last key =
+    (batches : List Batch) × (found : Replayed)
+    × Replays view.manifest.replay_after_wal_id last view.manifest.last_l0_seq [] batches objects (Ok found) × Lacks extractor batches key
+
+-- so has what a follower has of those, with what it hasn't replayed yet
+abbrev pub GoingLacks : Option Extractor → Objects → (view : VersionedManifest) → (last : ℕ) → Follower → (key : List ℕ) → Type 0
+GoingLacks extractor objects view last old key =
+    (added : List Batch) × (found : Replayed)
+    × Replays (max old.mark view.manifest.replay_after_wal_id) last (number old) [] added objects (Ok found)
+    × Lacks extractor (batches_above view.manifest.last_l0_seq (old.line.batches ++ added)) key
+
+-- a poll answers so for a key without a segment, since what it records has no key
+abbrev pub poll_error : SlateError → SlateError
+poll_error (errors.EmptySegmentPrefix key) = errors.InvalidDBState
+poll_error error = error
+
+abbrev pub polled : {A : Type 0} → Result A SlateError → Result A SlateError
+polled (Ok answer) = Ok answer
+polled (Err error) = Err (poll_error error)
+
+-- the refusals of a database by its latest manifest
+abbrev pub IsOfFollowing : SlateError → Type 0
+IsOfFollowing errors.InvalidDBState = Unit {0}
+IsOfFollowing (errors.SegmentExtractorMismatch persisted configured) = Unit {0}
+IsOfFollowing (errors.SegmentPrefixNotRecognized prefix name) = Unit {0}
+IsOfFollowing error = ⊥
+
+-- the errors of a replay whose keys are to have segments
+abbrev pub IsOfRebuilding : SlateError → Type 0
+IsOfRebuilding (errors.ObjectStoreError Unavailable) = Unit {0}
+IsOfRebuilding (errors.EmptySegmentPrefix key) = Unit {0}
+IsOfRebuilding errors.NoMemory = Unit {0}
+IsOfRebuilding error = ⊥
 
 -- the errors of a replay
 abbrev pub IsOfReplay : SlateError → Type 0

@@ -1,54 +1,62 @@
 // Polling a reader that keeps a checkpoint of its own.
-ghost use Rattle.std.specs.Prelude.{◌≡◌, ◌+◌, ◌-◌, ◌*◌, ◌<◌, ◌≤◌, ◌^◌, ℕ, max, [], None, Some, Ok, OnOk, OnErr, IfOk, IfErr, IfSome, IsSome, false, true, is_none, length};
+ghost use Rattle.std.specs.Prelude.{◌≡◌, ◌+◌, ◌-◌, ◌*◌, ◌<◌, ◌≤◌, ◌^◌, ℕ, max, [], ◌++◌, Option, None, Some, Ok, Err, OnOk, OnErr, IfOk, IfErr, IfSome, IsSome, false, true, is_none, length};
+ghost use Rattle.std.specs.Option.{option_copied};
 ghost use Rattle.slate_types.specs.Line.{AreNumberedFrom};
 ghost use Rattle.slate_store.specs.Calls.{WhereModelled};
 ghost use Rattle.slate_store.specs.Checkpoints.{found, to_refresh, to_write};
 ghost use Rattle.slate_replay.specs.declared.replays.Replayed.TheVariants.{Whole};
 ghost use Rattle.slate_model.specs.Followed.{read_logs};
-ghost use Rattle.slate_model.specs.Follower.{number};
+ghost use Rattle.slate_model.specs.Follower.{HasSegments, number};
 ghost use Rattle.slate_model.specs.Known.{CountsFaults, known};
 ghost use Rattle.slate_model.specs.Lease.{differs, leased, to_keep};
-ghost use Rattle.slate_model.specs.Managed.{IsOpenAt, Keeps, KeepsLease, KeepsOrNot, PutsPlanned, poll_result};
+ghost use Rattle.slate_model.specs.Managed.{IsOpenAt, Keeps, KeepsLease, KeepsOrNot, PutsPlanned, poll_result, unrefused};
+ghost use Rattle.slate_model.specs.Segments.{Extractor, IsExtractor, segments_of};
 ghost use Rattle.slate_model.specs.Open.{replayed_logs};
 ghost use Rattle.slate_model.specs.Stores.{Stands, by_objects};
-ghost use Rattle.slate_follow.specs.Keeping.{BuildsLatest, IsNews, PutsBy, informed, put_tried, tried};
-ghost use Rattle.slate_follow.specs.Rebuilding.{IsOfReplay, answer_of};
+ghost use Rattle.slate_follow.specs.Keeping.{BuildsLatest, IsNews, IsOfPolling, KeepLacks, MayLack, NewsLacks, PutsBy, ReplaceLacks, informed, put_tried, tried};
+ghost use Rattle.slate_follow.specs.Rebuilding.{answer_of};
 
 use crate::leases::{TRIES, latest_of, put_next, with_new_lease, with_renewed_lease};
+use crate::polls::poll_error;
 use crate::rebuilds::{Rebuilt, answer_of, find_checkpoint, last_read, reached, rebuild};
 use crate::{FollowerState, PollAnswer};
+use bytes::Bytes;
 use slate_errors::{CloseFault, SlateError};
 use slate_model::Lease;
 use slate_reads::IndexedTable;
 use slate_replay::{Replayed, replay};
 use slate_store::{Store, VersionedManifest};
-use slate_types::NoMemory;
+use slate_types::{NoMemory, PrefixExtractor, Seq};
 use std::alloc::Global;
 
-/// What log files have that a reader hasn't replayed yet: the batches, how the replay ended, and up to which log file.
+/// What log files have that a reader hasn't replayed yet: the batches, how the replay ended, and up to which log file; and the
+/// segments that the reader has with them.
 #[derive(Drop)]
 pub(crate) struct News {
     added: IndexedTable,
+    segments: Seq<Bytes>,
     replayed: Replayed,
     mark: u64,
 }
 
 impl FollowerState {
     /// Polls a reader that keeps a checkpoint under this lease. An error but want of memory closes it.
-    pub(crate) fn poll_leased<S: Store>(
+    pub(crate) fn poll_leased<S: Store, E: PrefixExtractor>(
         &mut self,
         alloc: Global,
         store: &mut S,
         lease: &Lease,
+        extractor: Option<&E>,
         moment: i64,
     ) -> Result<PollAnswer, SlateError>
         requires open_ { self.old.result ≡ None }
         requires leased { self.old.lease ≡ Some lease.now }
-        ensures keeps { (made : ℕ) × KeepsLease (by_objects (S.objects store.old)) made lease.now moment self.old
+        ensures faults { CountsFaults (S.faults store.old) (S.faults store.new) result }
+        ensures keeps { (x : Option Extractor) → IsExtractor E.may_name E.may_extract (option_copied extractor.entry) x → (made : ℕ) × KeepsLease (by_objects (S.objects store.old)) x made lease.now moment self.old
             (known S.objects S.faults store.old) result self.new (known S.objects S.faults store.new) }
         ensures calls { IfSome (S.objects store.old) (λ o. S.calls store.new ≤ S.calls store.old + 9 * (replayed_logs o + 3)) }
     {
-        match self.keep_lease(alloc, store, lease, moment) {
+        match self.keep_lease(alloc, store, lease, extractor, moment) {
             Ok(answer) => Ok(answer),
             Err(error) => {
                 self.close_by(&error);
@@ -68,25 +76,28 @@ impl FollowerState {
     }
 
     /// Reads the latest manifest, takes what is new, and keeps the lease, in as many tries as there are.
-    fn keep_lease<S: Store>(
+    fn keep_lease<S: Store, E: PrefixExtractor>(
         &mut self,
         alloc: Global,
         store: &mut S,
         lease: &Lease,
+        extractor: Option<&E>,
         moment: i64,
     ) -> Result<PollAnswer, SlateError>
         requires open_ { self.old.result ≡ None }
         requires leased { self.old.lease ≡ Some lease.now }
         ensures faults { CountsFaults (S.faults store.old) (S.faults store.new) result }
-        ensures puts { WhereModelled (λ o o'. (made : ℕ) × PutsPlanned Stands (to_keep self.old.view lease.now moment) o result made o'
+        ensures puts { WhereModelled (λ o o'. (made : ℕ) × PutsPlanned Stands MayLack (to_keep self.old.view lease.now moment) o result made o'
             × IfErr result (λ _. KeepsOrNot (to_keep self.old.view lease.now moment) made self.old o self.new)) (S.objects store.old) (S.objects store.new) }
         ensures answers { IfOk result (λ answer. IsOpenAt self.old.skips self.new answer) }
         ensures keeps { IfOk result (λ answer. WhereModelled (λ o o'. Keeps (by_objects (S.objects store.old)) lease.now moment self.old o self.new answer o') (S.objects store.old) (S.objects store.new)) }
         ensures failed { IfErr result (λ _. self.new ≡ record self.old { lease = self.new.lease }) }
         ensures calls { IfSome (S.objects store.old) (λ o. S.calls store.new ≤ S.calls store.old + 9 * (replayed_logs o + 3)) }
+        ensures segments { (x : Option Extractor) → IsExtractor E.may_name E.may_extract (option_copied extractor.entry) x → HasSegments x self.old → HasSegments x self.new }
+        ensures lacks { (x : Option Extractor) → IsExtractor E.may_name E.may_extract (option_copied extractor.entry) x → result ≡ Err SlateError.InvalidDBState → IfSome (S.objects store.old) (λ o. KeepLacks x lease.now moment self.old o) }
     {
         for earlier in 0..TRIES {
-            if let Some(answer) = self.try_to_keep(alloc, store, lease, moment)? {
+            if let Some(answer) = self.try_to_keep(alloc, store, lease, extractor, moment)? {
                 return Ok(answer);
             }
         }
@@ -94,17 +105,18 @@ impl FollowerState {
     }
 
     /// One try. It answers None where a manifest is stored already under the id of the one that it puts.
-    fn try_to_keep<S: Store>(
+    fn try_to_keep<S: Store, E: PrefixExtractor>(
         &mut self,
         alloc: Global,
         store: &mut S,
         lease: &Lease,
+        extractor: Option<&E>,
         moment: i64,
     ) -> Result<Option<PollAnswer>, SlateError>
         requires open_ { self.old.result ≡ None }
         requires leased { self.old.lease ≡ Some lease.now }
         ensures faults { CountsFaults (S.faults store.old) (S.faults store.new) result }
-        ensures puts { WhereModelled (λ o o'. (made : ℕ) × PutsPlanned Stands (to_keep self.old.view lease.now moment) o (tried result) made o'
+        ensures puts { WhereModelled (λ o o'. (made : ℕ) × PutsPlanned Stands MayLack (to_keep self.old.view lease.now moment) o (tried result) made o'
             × IfErr (tried result) (λ _. KeepsOrNot (to_keep self.old.view lease.now moment) made self.old o self.new)) (S.objects store.old) (S.objects store.new) }
         ensures answers { IfOk (tried result) (λ answer. IsOpenAt self.old.skips self.new answer) }
         ensures keeps { IfOk (tried result) (λ answer. WhereModelled (λ o o'. Keeps (by_objects (S.objects store.old)) lease.now moment self.old o self.new answer o') (S.objects store.old) (S.objects store.new)) }
@@ -112,18 +124,20 @@ impl FollowerState {
         ensures again { result ≡ Ok None → (self.new ≡ self.old) × (S.objects store.new ≡ S.objects store.old) }
         ensures calls { IfSome (S.objects store.old) (λ o. S.calls store.new ≤ S.calls store.old + 2 * (replayed_logs o + 2)) }
         ensures calls_again { result ≡ Ok None → IfSome (S.objects store.old) (λ o. S.calls store.new ≤ S.calls store.old + (replayed_logs o + 3)) }
+        ensures segments { (x : Option Extractor) → IsExtractor E.may_name E.may_extract (option_copied extractor.entry) x → HasSegments x self.old → HasSegments x self.new }
+        ensures lacks { (x : Option Extractor) → IsExtractor E.may_name E.may_extract (option_copied extractor.entry) x → result ≡ Err SlateError.InvalidDBState → IfSome (S.objects store.old) (λ o. KeepLacks x lease.now moment self.old o) }
     {
         let latest = latest_of(alloc, store)?;
         if differs(self.status.manifest(), &latest) {
-            return self.replace_lease(alloc, store, lease, &latest, moment);
+            return self.replace_lease(alloc, store, lease, &latest, extractor, moment);
         }
-        let news = self.news(alloc, store, &latest)?;
+        let news = self.news(alloc, store, &latest, extractor)?;
         if !lease.is_due(moment) {
             let answer = self.take_news(alloc, news)?;
             return Ok(Some(answer));
         }
         if find_checkpoint(&latest, lease.id).is_none() {
-            return self.replace_lease(alloc, store, lease, &latest, moment);
+            return self.replace_lease(alloc, store, lease, &latest, extractor, moment);
         }
         let renewed = self.renew_lease(alloc, store, lease, &latest, moment)?;
         if !renewed {
@@ -135,24 +149,28 @@ impl FollowerState {
 
     /// Puts a manifest after the latest one with a new checkpoint in place of its own, and goes by that manifest. It answers
     /// None where one is stored already under its id.
-    fn replace_lease<S: Store>(
+    fn replace_lease<S: Store, E: PrefixExtractor>(
         &mut self,
         alloc: Global,
         store: &mut S,
         lease: &Lease,
         latest: &VersionedManifest,
+        extractor: Option<&E>,
         moment: i64,
     ) -> Result<Option<PollAnswer>, SlateError>
         requires open_ { self.old.result ≡ None }
         requires leased { self.old.lease ≡ Some lease.now }
         ensures faults { CountsFaults (S.faults store.old) (S.faults store.new) result }
-        ensures puts { WhereModelled (λ o o'. PutsBy (leased lease.now.lifetime (to_write (Some lease.now.id) (Some lease.now.lifetime) moment latest.now)) self.old.lease o (tried result) self.new.lease o') (S.objects store.old) (S.objects store.new) }
+        ensures puts { WhereModelled (λ o o'. PutsBy MayLack (leased lease.now.lifetime (to_write (Some lease.now.id) (Some lease.now.lifetime) moment latest.now)) self.old.lease o (tried result) self.new.lease o') (S.objects store.old) (S.objects store.new) }
         ensures built { IfOk (tried result) (λ answer. IfSome (S.objects store.new) (λ o'. BuildsLatest (leased lease.now.lifetime (to_write (Some lease.now.id) (Some lease.now.lifetime) moment latest.now)) self.old.skips o' self.new answer)) }
         ensures answers { IfOk (tried result) (λ answer. IsOpenAt self.old.skips self.new answer) }
         ensures failed { IfErr (tried result) (λ _. self.new ≡ record self.old { lease = self.new.lease }) }
         ensures again { result ≡ Ok None → (self.new ≡ self.old) × (S.objects store.new ≡ S.objects store.old) }
         ensures calls { IfSome (S.objects store.old) (λ o. S.calls store.new ≤ S.calls store.old + (read_logs self.old.mode self.old.skips o (Some latest.now) + 2)) }
         ensures calls_again { result ≡ Ok None → S.calls store.new ≤ S.calls store.old + 1 }
+        ensures segments { (x : Option Extractor) → IsExtractor E.may_name E.may_extract (option_copied extractor.entry) x → HasSegments x self.old → HasSegments x self.new }
+        ensures lacks { (x : Option Extractor) → IsExtractor E.may_name E.may_extract (option_copied extractor.entry) x → result ≡ Err SlateError.InvalidDBState →
+            IfSome (S.objects store.old) (λ o. ReplaceLacks x (leased lease.now.lifetime (to_write (Some lease.now.id) (Some lease.now.lifetime) moment latest.now)) self.old.skips o) }
     {
         let replaced = Some(lease.id);
         let (next, taken) = with_new_lease(alloc, latest, replaced, lease.lifetime, moment)?;
@@ -162,7 +180,10 @@ impl FollowerState {
         }
         self.lease = Some(taken);
         let last = last_read(alloc, store, self.following, &next)?;
-        let (rebuilt, answer) = rebuild(alloc, store, self.following, next, last)?;
+        let (rebuilt, answer) = match rebuild(alloc, store, self.following, next, last, extractor) {
+            Ok(built) => built,
+            Err(error) => return Err(poll_error(error)),
+        };
         self.take(alloc, rebuilt)?;
         Ok(Some(answer))
     }
@@ -180,7 +201,7 @@ impl FollowerState {
         requires leased { self.old.lease ≡ Some lease.now }
         requires there { IsSome (found lease.now.id latest.now) }
         ensures faults { CountsFaults (S.faults store.old) (S.faults store.new) result }
-        ensures puts { WhereModelled (λ o o'. PutsBy (leased lease.now.lifetime (to_refresh lease.now.id lease.now.lifetime moment latest.now)) self.old.lease o (put_tried result) self.new.lease o') (S.objects store.old) (S.objects store.new) }
+        ensures puts { WhereModelled (λ o o'. PutsBy unrefused (leased lease.now.lifetime (to_refresh lease.now.id lease.now.lifetime moment latest.now)) self.old.lease o (put_tried result) self.new.lease o') (S.objects store.old) (S.objects store.new) }
         ensures same { self.new ≡ record self.old { lease = self.new.lease } }
         ensures again { result ≡ Ok false → (self.new ≡ self.old) × (S.objects store.new ≡ S.objects store.old) }
         ensures calls { S.calls store.new ≤ S.calls store.old + 1 }
@@ -195,18 +216,23 @@ impl FollowerState {
     }
 
     /// What log files have that it hasn't replayed yet, under the latest manifest.
-    fn news<S: Store>(
+    fn news<S: Store, E: PrefixExtractor>(
         &self,
         alloc: Global,
         store: &mut S,
         latest: &VersionedManifest,
+        extractor: Option<&E>,
     ) -> Result<News, SlateError>
         ensures faults { CountsFaults (S.faults store.old) (S.faults store.new) result }
         ensures kept { S.objects store.new ≡ S.objects store.old }
         ensures news { IfOk result (λ news. IfSome (S.objects store.old) (λ o. IsNews o self.now latest.now self.now.skips news.added news.replayed news.mark)) }
         ensures skipped { IfOk result (λ news. self.now.skips ≡ true → (news.added ≡ []) × (news.replayed ≡ Whole)) }
         ensures numbered { IfOk result (λ news. AreNumberedFrom (number self.now) news.added × (number self.now + length news.added < 2 ^ 64)) }
-        ensures refusals { IfErr result IsOfReplay }
+        ensures segments { (x : Option Extractor) → IsExtractor E.may_name E.may_extract (option_copied extractor.entry) x → IfOk result (λ news. self.now.skips ≡ false → HasSegments x self.now →
+            news.segments ≡ segments_of x (self.now.line.batches ++ news.added)) }
+        ensures unsegmented { IfOk result (λ news. self.now.skips ≡ true → news.segments ≡ []) }
+        ensures lacks { (x : Option Extractor) → IsExtractor E.may_name E.may_extract (option_copied extractor.entry) x → result ≡ Err SlateError.InvalidDBState → IfSome (S.objects store.old) (λ o. NewsLacks x self.now latest.now o) }
+        ensures refusals { IfErr result IsOfPolling }
         ensures calls { IfSome (S.objects store.old) (λ o. S.calls store.new ≤ S.calls store.old + (read_logs self.now.mode self.now.skips o (Some latest.now) + 1)) }
     {
         let mut added = IndexedTable::new(alloc);
@@ -214,14 +240,20 @@ impl FollowerState {
         if self.following.skips {
             return Ok(News {
                 added,
+                segments: Seq::of(Vec::new(alloc)),
                 replayed: Replayed::Whole,
                 mark: last,
             });
         }
         let from = self.mark.max(latest.manifest.replay_after_wal_id);
         let replayed = replay(alloc, store, &mut added, self.number(), from, last)?;
+        let segments = match self.segments_with(alloc, extractor, added.batches()) {
+            Ok(segments) => segments,
+            Err(error) => return Err(poll_error(error)),
+        };
         Ok(News {
             added,
+            segments,
             replayed,
             mark: reached(replayed, last),
         })
@@ -233,7 +265,7 @@ impl FollowerState {
         requires numbered { AreNumberedFrom (number self.old) news.added }
         requires fits { number self.old + length news.added < 2 ^ 64 }
         requires skipped { self.old.skips ≡ true → news.added ≡ [] }
-        ensures ok { OnOk result (self.new ≡ record (informed self.old self.old.skips news.added news.mark) { lease = self.old.lease }) }
+        ensures ok { OnOk result (self.new ≡ record (informed self.old self.old.skips news.added news.mark) { segments = news.segments; lease = self.old.lease }) }
         ensures answer { IfOk result (λ answer. answer ≡ answer_of news.replayed (number self.new)) }
         ensures err { OnErr result (self.new ≡ self.old) }
     {
@@ -243,11 +275,12 @@ impl FollowerState {
                 following: self.following,
                 view,
                 memory: news.added,
+                segments: news.segments,
                 mark: news.mark,
             };
             self.take(alloc, rebuilt)?;
         } else {
-            self.take_more(alloc, view, news.added, news.mark)?;
+            self.take_more(alloc, view, news.added, news.segments, news.mark)?;
         }
         Ok(answer_of(news.replayed, self.number()))
     }

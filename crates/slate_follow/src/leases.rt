@@ -1,18 +1,23 @@
 // The lease of a reader that keeps a checkpoint of its own: what options pass, and the manifests that take it and renew it.
-ghost use Rattle.std.specs.Prelude.{◌≡◌, ◌+◌, ◌≤◌, ℕ, None, Some, Ok, IfOk, IfErr, IfSome, IsSome};
+ghost use Rattle.std.specs.Prelude.{◌≡◌, ◌+◌, ◌≤◌, ℕ, List, Option, None, Some, Ok, Err, true, IfOk, IfErr, IfSome, IsSome};
+ghost use Rattle.std.specs.Option.{option_copied};
 ghost use Rattle.slate_store.specs.Calls.{WhereModelled};
 ghost use Rattle.slate_store.specs.Checkpoints.{found, to_refresh, to_write};
 ghost use Rattle.slate_store.specs.Refusals.{PlanIs};
 ghost use Rattle.slate_model.specs.Known.{CountsFaults};
 ghost use Rattle.slate_model.specs.Lease.{lease_refusal, leased, to_take};
-ghost use Rattle.slate_model.specs.Managed.{PutsPlanned};
+ghost use Rattle.slate_model.specs.Followed.{RefusesLatest};
+ghost use Rattle.slate_model.specs.Managed.{PutsPlanned, TakeRefusal};
+ghost use Rattle.slate_model.specs.Segments.{Extractor, IsExtractor};
 ghost use Rattle.slate_model.specs.Stores.{Stands};
-ghost use Rattle.slate_follow.specs.Keeping.{FindsLatest, GivesLease, PutsManifest, tried};
+ghost use Rattle.slate_follow.specs.Keeping.{FindsLatest, GivesLease, MayMismatch, PutsManifest, tried};
 
 use crate::DbReaderOptions;
+use crate::rebuilds::follow_refusal;
 use slate_errors::SlateError;
 use slate_model::{Lease, error_of_refusal};
 use slate_store::{Store, StoreError, VersionedManifest, next_with_checkpoint, next_with_end};
+use slate_types::PrefixExtractor;
 use std::alloc::Global;
 use uuid::Uuid;
 
@@ -52,6 +57,7 @@ pub(crate) fn latest_of<S: Store>(
     ensures calls { S.calls store.new ≤ S.calls store.old + 1 }
     ensures kept { S.objects store.new ≡ S.objects store.old }
     ensures found { IfSome (S.objects store.old) (λ o. FindsLatest o result) }
+    ensures whole { (key : List ℕ) → result ≡ Err (SlateError.EmptySegmentPrefix key) → ⊥ }
 {
     match store.latest_manifest(alloc)? {
         Some(latest) => Ok(latest),
@@ -68,6 +74,7 @@ pub(crate) fn put_next<S: Store>(
     ensures faults { CountsFaults (S.faults store.old) (S.faults store.new) result }
     ensures calls { S.calls store.new ≤ S.calls store.old + 1 }
     ensures puts { WhereModelled (PutsManifest next.now result) (S.objects store.old) (S.objects store.new) }
+    ensures whole { (key : List ℕ) → result ≡ Err (SlateError.EmptySegmentPrefix key) → ⊥ }
 {
     match store.put_manifest(alloc, next.id, &next.manifest) {
         Ok(()) => Ok(true),
@@ -110,21 +117,25 @@ pub(crate) fn with_renewed_lease(
 
 /// Reads the latest manifest of a database that is initialised, and commits a new checkpoint after it. It answers the
 /// manifest that does and the lease, and None where a manifest is stored already under that one's id.
-fn try_to_take<S: Store>(
+fn try_to_take<S: Store, E: PrefixExtractor>(
     alloc: Global,
     store: &mut S,
     lifetime: u64,
+    extractor: Option<&E>,
     moment: i64,
 ) -> Result<Option<(VersionedManifest, Lease)>, SlateError>
     ensures faults { CountsFaults (S.faults store.old) (S.faults store.new) result }
     ensures calls { S.calls store.new ≤ S.calls store.old + 2 }
-    ensures puts { WhereModelled (λ o o'. (made : ℕ) × PutsPlanned Stands (to_take lifetime moment) o (tried result) made o') (S.objects store.old) (S.objects store.new) }
+    ensures puts { WhereModelled (λ o o'. (made : ℕ) × PutsPlanned Stands MayMismatch (to_take lifetime moment) o (tried result) made o') (S.objects store.old) (S.objects store.new) }
+    ensures mismatch { (x : Option Extractor) → IsExtractor E.may_name E.may_extract (option_copied extractor.entry) x → IfErr result (λ error. IfSome (S.objects store.old) (λ o. MayMismatch o error → TakeRefusal x o error)) }
     ensures given { IfOk (tried result) (λ p. IfSome (S.objects store.old) (λ o. PlanIs (to_take lifetime moment) o (Ok (Some p.0, p.1)))) }
+    ensures fits { (x : Option Extractor) → IsExtractor E.may_name E.may_extract (option_copied extractor.entry) x → IfOk (tried result) (λ p. IfSome (S.objects store.old) (λ o. RefusesLatest x true o None)) }
+    ensures whole { (key : List ℕ) → result ≡ Err (SlateError.EmptySegmentPrefix key) → ⊥ }
     ensures again { result ≡ Ok None → S.objects store.new ≡ S.objects store.old }
 {
     let latest = latest_of(alloc, store)?;
-    if !latest.manifest.initialized {
-        return Err(SlateError::InvalidDBState);
+    if let Some(refusal) = follow_refusal(alloc, true, extractor, &latest)? {
+        return Err(refusal);
     }
     let (next, lease) = with_new_lease(alloc, &latest, None, lifetime, moment)?;
     let is_put = put_next(alloc, store, &next)?;
@@ -136,19 +147,23 @@ fn try_to_take<S: Store>(
 
 /// Commits a new checkpoint after the latest manifest, in as many tries as there are. It answers the manifest that does,
 /// and the lease.
-pub(crate) fn take_lease<S: Store>(
+pub(crate) fn take_lease<S: Store, E: PrefixExtractor>(
     alloc: Global,
     store: &mut S,
     lifetime: u64,
+    extractor: Option<&E>,
     moment: i64,
 ) -> Result<(VersionedManifest, Lease), SlateError>
     ensures faults { CountsFaults (S.faults store.old) (S.faults store.new) result }
     ensures calls { S.calls store.new ≤ S.calls store.old + 16 }
-    ensures puts { WhereModelled (λ o o'. (made : ℕ) × PutsPlanned Stands (to_take lifetime moment) o result made o') (S.objects store.old) (S.objects store.new) }
+    ensures puts { WhereModelled (λ o o'. (made : ℕ) × PutsPlanned Stands MayMismatch (to_take lifetime moment) o result made o') (S.objects store.old) (S.objects store.new) }
+    ensures mismatch { (x : Option Extractor) → IsExtractor E.may_name E.may_extract (option_copied extractor.entry) x → IfErr result (λ error. IfSome (S.objects store.old) (λ o. MayMismatch o error → TakeRefusal x o error)) }
     ensures given { IfOk result (λ p. IfSome (S.objects store.old) (λ o. PlanIs (to_take lifetime moment) o (Ok (Some p.0, p.1)))) }
+    ensures fits { (x : Option Extractor) → IsExtractor E.may_name E.may_extract (option_copied extractor.entry) x → IfOk result (λ p. IfSome (S.objects store.old) (λ o. RefusesLatest x true o None)) }
+    ensures whole { (key : List ℕ) → result ≡ Err (SlateError.EmptySegmentPrefix key) → ⊥ }
 {
     for earlier in 0..TRIES {
-        if let Some(taken) = try_to_take(alloc, store, lifetime, moment)? {
+        if let Some(taken) = try_to_take(alloc, store, lifetime, extractor, moment)? {
             return Ok(taken);
         }
     }

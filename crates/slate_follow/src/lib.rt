@@ -13,6 +13,7 @@ mod polls;
 mod reads;
 mod rebuilds;
 mod scans;
+mod segments;
 mod states;
 mod tables;
 

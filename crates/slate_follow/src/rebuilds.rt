@@ -1,30 +1,36 @@
 // Finding the manifest that a reader goes by and the last log file, and building it anew from the log files above its mark.
-ghost use Rattle.std.specs.Prelude.{◌≡◌, ◌+◌, ◌-◌, ◌<◌, ◌≤◌, ◌^◌, length, true, cond, Err, None, IfOk, IfErr, IfSome};
-ghost use Rattle.slate_types.specs.Line.{AreNumberedFrom};
+ghost use Rattle.std.specs.Prelude.{◌≡◌, ◌+◌, ◌-◌, ◌<◌, ◌≤◌, ℕ, List, true, false, cond, Err, Option, Some, None, IfOk, IfErr, IfSome};
+ghost use Rattle.std.specs.Option.{option_copied};
 ghost use Rattle.slate_types.specs.declared.store_errors.StoreFault.TheVariants.{NotFound};
 ghost use Rattle.slate_store.specs.Checkpoints.{found, has_id};
 ghost use Rattle.slate_model.specs.Follow.{AnswersAt};
-ghost use Rattle.slate_model.specs.Followed.{can_follow};
-ghost use Rattle.slate_model.specs.Follower.{is_pinned, number};
+ghost use Rattle.slate_model.specs.Followed.{can_follow, follow_refusal};
+ghost use Rattle.slate_model.specs.Follower.{HasSegments, is_pinned, number};
 ghost use Rattle.slate_model.specs.Known.{CountsFaults, FaultsRise};
-ghost use Rattle.slate_follow.specs.Rebuilding.{Builds, FindsLast, FindsView, GoesBy, IsOfReplay, answer_of, reached};
+ghost use Rattle.slate_model.specs.Segments.{Extractor, IsExtractor, ops_of, unsegmented_refusal};
+ghost use Rattle.slate_follow.specs.Rebuilding.{BuildLacks, Builds, FindsLast, FindsView, Follows, GoesBy, IsOfFollowing, IsOfRebuilding, IsOfReplay, IsOfView, answer_of, reached};
 
 use crate::PollAnswer;
 use crate::states::Following;
+use bytes::Bytes;
 use slate_errors::SlateError;
 use slate_reads::IndexedTable;
 use slate_replay::{Replayed, recover};
+use slate_segments::{extractor_refusal, replayed_segments};
 use slate_store::{Checkpoint, DbReaderMode, Store, VersionedManifest};
+use slate_types::{NoMemory, PrefixExtractor, Seq};
 use std::alloc::Global;
 use std::marker::Model;
 use uuid::Uuid;
 
-/// What a reader goes by: a manifest, the batches that the log files have above its tables, and up to which log file.
+/// What a reader goes by: a manifest, the batches that the log files have above its tables, their prefixes, and up to which log
+/// file.
 #[derive(Drop)]
 pub(crate) struct Rebuilt {
     pub(crate) following: Following,
     pub(crate) view: VersionedManifest,
     pub(crate) memory: IndexedTable,
+    pub(crate) segments: Seq<Bytes>,
     pub(crate) mark: u64,
 }
 
@@ -50,27 +56,54 @@ impl Rebuilt {
 }
 
 /// The manifest that a reader goes by, where the database can be followed, and the last log file that it reads.
-pub(crate) fn find_view<S: Store>(
+pub(crate) fn find_view<S: Store, E: PrefixExtractor>(
     alloc: Global,
     store: &mut S,
     following: Following,
     opening: bool,
+    extractor: Option<&E>,
 ) -> Result<(VersionedManifest, u64), SlateError>
     ensures faults { FaultsRise (S.faults store.old) (S.faults store.new) result }
     ensures missing { result ≡ Err (SlateError.ObjectStoreError NotFound) → is_pinned following.mode ≡ true }
     ensures calls { S.calls store.new ≤ S.calls store.old + 2 }
     ensures kept { S.objects store.new ≡ S.objects store.old }
     ensures where_modelled { IfSome (S.objects store.old) (λ o. FindsView following.mode following.skips opening o result) }
+    ensures follows { (x : Option Extractor) → IsExtractor E.may_name E.may_extract (option_copied extractor.entry) x →
+        IfSome (S.objects store.old) (λ o. Follows x following.mode opening o result) }
+    ensures whole { (key : List ℕ) → result ≡ Err (SlateError.EmptySegmentPrefix key) → ⊥ }
+    ensures valid { opening ≡ false → result ≡ Err SlateError.InvalidDBState → ⊥ }
 {
     let Some(latest) = store.latest_manifest(alloc)? else {
         return Err(SlateError::LatestTransactionalObjectVersionMissing);
     };
-    if !can_follow(opening, &latest) {
-        return Err(SlateError::InvalidDBState);
+    if let Some(refusal) = follow_refusal(alloc, opening, extractor, &latest)? {
+        return Err(refusal);
     }
     let view = view_under(alloc, store, following.mode, latest)?;
     let last = last_read(alloc, store, following, &view)?;
     Ok((view, last))
+}
+
+/// Why a database isn't followed by its latest manifest.
+pub(crate) fn follow_refusal<E: PrefixExtractor>(
+    alloc: Global,
+    opening: bool,
+    extractor: Option<&E>,
+    latest: &VersionedManifest,
+) -> Result<Option<SlateError>, NoMemory>
+    ensures refusal { (x : Option Extractor) → IsExtractor E.may_name E.may_extract (option_copied extractor.entry) x → IfOk result (λ refusal. refusal ≡ follow_refusal x opening latest.now) }
+    ensures kind { IfOk result (λ refusal. IfSome refusal IsOfFollowing) }
+    ensures can { IfOk result (λ refusal. refusal ≡ None → can_follow opening latest.now ≡ true) }
+    ensures invalid { IfOk result (λ refusal. refusal ≡ Some SlateError.InvalidDBState → latest.now.manifest.initialized ≡ false) }
+    ensures poll { opening ≡ false → IfOk result (λ refusal. refusal ≡ None) }
+{
+    if !opening {
+        return Ok(None);
+    }
+    if !latest.manifest.initialized {
+        return Ok(Some(SlateError::InvalidDBState));
+    }
+    extractor_refusal(alloc, extractor, &latest.manifest)
 }
 
 /// The manifest that a reader goes by where this one is the latest: the one that its checkpoint keeps, or the latest.
@@ -85,6 +118,7 @@ fn view_under<S: Store>(
     ensures calls { S.calls store.new ≤ S.calls store.old + cond (is_pinned mode) 1 0 }
     ensures kept { S.objects store.new ≡ S.objects store.old }
     ensures where_modelled { IfSome (S.objects store.old) (λ o. GoesBy mode o latest result) }
+    ensures kind { IfErr result IsOfView }
 {
     let DbReaderMode::Checkpoint(id) = mode else {
         return Ok(latest);
@@ -141,20 +175,14 @@ fn has_id(checkpoint: &Checkpoint, id: Uuid) -> bool
     checkpoint.id == id
 }
 
-/// Whether a database can be followed by its latest manifest.
-fn can_follow(opening: bool, latest: &VersionedManifest) -> bool
-    ensures { result ≡ can_follow opening latest.now }
-{
-    latest.manifest.initialized || !opening
-}
-
 /// What a reader has of a manifest that it goes by and its log files up to the last one, and whether these were whole.
-pub(crate) fn rebuild<S: Store>(
+pub(crate) fn rebuild<S: Store, E: PrefixExtractor>(
     alloc: Global,
     store: &mut S,
     following: Following,
     view: VersionedManifest,
     last: u64,
+    extractor: Option<&E>,
 ) -> Result<(Rebuilt, PollAnswer), SlateError>
     ensures faults { CountsFaults (S.faults store.old) (S.faults store.new) result }
     ensures calls { S.calls store.new ≤ S.calls store.old + (last - view.manifest.replay_after_wal_id) }
@@ -162,13 +190,19 @@ pub(crate) fn rebuild<S: Store>(
     ensures built { IfOk result (λ p. IfSome (S.objects store.old) (λ o. Builds o following.mode following.skips view last p.0 p.1)) }
     ensures asked { IfOk result (λ p. (p.0.mode ≡ following.mode) × (p.0.skips ≡ following.skips)) }
     ensures answer { IfOk result (λ p. (p.0.lease ≡ None) × (p.0.result ≡ None) × AnswersAt (number p.0) p.1) }
-    ensures refusals { IfErr result IsOfReplay }
+    ensures segments { (x : Option Extractor) → IsExtractor E.may_name E.may_extract (option_copied extractor.entry) x → IfOk result (λ p.
+        HasSegments x p.0 × (unsegmented_refusal x (ops_of p.0.line.batches) ≡ None)) }
+    ensures lacks { (x : Option Extractor) (key : List ℕ) → IsExtractor E.may_name E.may_extract (option_copied extractor.entry) x →
+        result ≡ Err (SlateError.EmptySegmentPrefix key) → IfSome (S.objects store.old) (λ o. BuildLacks x o view last key) }
+    ensures refusals { IfErr result IsOfRebuilding }
 {
     let (memory, replayed) = recover(alloc, store, &view.manifest, last)?;
+    let segments = replayed_segments(alloc, extractor, memory.batches())?;
     let rebuilt = Rebuilt {
         following,
         view,
         memory,
+        segments: Seq::of(segments),
         mark: reached(replayed, last),
     };
     let at = rebuilt.number();

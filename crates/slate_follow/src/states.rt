@@ -1,16 +1,17 @@
 // What a reader that follows a database keeps.
 ghost use Rattle.std.specs.Prelude.{◌≡◌, ◌≤◌, [], is_some, length, None, IfOk, OnOk, OnErr};
 ghost use Rattle.slate_model.specs.Follower.{is_managed, is_pinned, number};
-ghost use Rattle.slate_status.specs.Records.{status_by};
+ghost use Rattle.slate_model.specs.Status.{follower_status};
 
 use crate::rebuilds::Rebuilt;
 use crate::tables::list_of;
+use bytes::Bytes;
 use slate_errors::CloseFault;
 use slate_model::Lease;
 use slate_reads::IndexedTable;
-use slate_status::{DbStatus, StatusRecord};
+use slate_status::{DbStatus, StatusRecord, copies};
 use slate_store::{DbReaderMode, TableId};
-use slate_types::NoMemory;
+use slate_types::{NoMemory, Seq};
 use std::alloc::Global;
 use std::marker::Model;
 
@@ -32,6 +33,8 @@ pub struct FollowerState {
     pub(crate) limit: u64,
     /// Its batches, joined: the tables of each poll that found some, oldest first.
     pub(crate) kept: Vec<IndexedTable>,
+    /// The prefixes of its batches, rising, each once.
+    pub(crate) segments: Seq<Bytes>,
     /// The log files up to this id are replayed.
     pub(crate) mark: u64,
     /// Of the checkpoint that it keeps of its own, where it does.
@@ -68,6 +71,7 @@ impl FollowerState {
             following: rebuilt.following,
             limit,
             kept: list_of(alloc, rebuilt.memory, limit)?,
+            segments: rebuilt.segments,
             mark: rebuilt.mark,
             lease,
             status: StatusRecord::new(alloc, number, rebuilt.view),
@@ -84,6 +88,7 @@ impl FollowerState {
         let number = rebuilt.number();
         self.kept = list_of(alloc, rebuilt.memory, self.limit)?;
         self.following = rebuilt.following;
+        self.segments = rebuilt.segments;
         self.mark = rebuilt.mark;
         self.status.report_view(number, rebuilt.view);
         Ok(())
@@ -138,12 +143,17 @@ impl FollowerState {
     }
 
     /// A copy of what it reports of itself: the number of the last batch that it sees, the manifest that it goes by
-    /// (the latest, when it was opened or last polled, or that of its checkpoint), and why it closed, where it did. It is answered of a closed
-    /// reader, too, and changes nothing. None of its batches is in a segment yet. It takes time and memory linear in
-    /// the manifest. SlateDB's `DbReader::status`.
+    /// (the latest, when it was opened or last polled, or that of its checkpoint), the prefixes of its batches that aren't in
+    /// the tables of that manifest, and why it closed, where it did. It is answered of a closed reader, too, and changes
+    /// nothing. Where all its polls were given the extractor with which it was opened, the prefixes rise, each once; none is
+    /// there without an extractor. It takes time and memory linear in the manifest and in these prefixes. SlateDB's
+    /// `DbReader::status`.
     pub fn status(&self, alloc: Global) -> Result<DbStatus, NoMemory>
-        ensures { IfOk result (λ status. status ≡ status_by (number self.now) self.now.view self.now.result) }
+        ensures { IfOk result (λ status. status ≡ follower_status self.now) }
     {
-        self.status.status(alloc)
+        Ok(DbStatus {
+            memtable_segments: Seq::of(copies(alloc, self.segments.as_slice())?),
+            ..self.status.status(alloc)?
+        })
     }
 }

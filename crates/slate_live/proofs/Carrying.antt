@@ -1,4 +1,4 @@
--- What each command carries on of the checkpoints of the latest manifest, in what a world knows of the store.
+-- What each command carries on of the latest manifest, in what a world knows of the store.
 use Rattle.std.proofs.Common.{◌≡◌, ◌++◌, ◌∷◌, ◌∙◌, [], ℕ, ℤ, Bool, true, false, cond, List, map, Option, Some, None, Result, Ok, Err, refl, sym, subst, ap}
 use Rattle.std.specs.List.{slice_get}
 use Rattle.slate_types.specs.declared.options.FlushType.{FlushType}
@@ -10,15 +10,15 @@ use Rattle.slate_store.specs.Checkpoints.{Plan, new_checkpoint, puts_next, to_de
 use Rattle.slate_store.specs.declared.refusals.StoreRefusal.TheVariants as refusals
 use Rattle.slate_model.specs.Write.{last_number}
 use Rattle.std.specs.Prelude.{nat_lt}
-use Rattle.slate_store.specs.Compaction.{compact_changes_by}
+use Rattle.slate_store.specs.Compaction.{compact_changes_by, with_table}
 use Rattle.slate_store.specs.Content.{AreRising}
 use Rattle.slate_store.specs.Objects.{ChangeOf, latest_manifest}
 use Rattle.slate_store.specs.Refusals.{checkpoint_changes, planned_after}
 use Rattle.slate_store.specs.Sweeps.{sweep_changes_by, without_expired}
 use Rattle.slate_store.specs.declared.objects.Checkpoint.{Checkpoint}
+use Rattle.slate_store.specs.declared.objects.Manifest.{Manifest}
 use Rattle.slate_store.specs.declared.objects.TableId.{TableId}
 use Rattle.slate_store.specs.declared.objects.VersionedManifest.{VersionedManifest}
-use Rattle.slate_store.specs.declared.reader_modes.DbReaderMode.{DbReaderMode}
 use Rattle.slate_store.specs.declared.reader_modes.DbReaderMode.TheVariants as modes
 use Rattle.slate_errors.specs.Errors.{closed_error}
 use Rattle.slate_errors.specs.declared.endings.Ended.{Ended}
@@ -28,18 +28,19 @@ use Rattle.slate_model.specs.declared.leases.Lease.{Lease}
 use Rattle.slate_model.specs.declared.snapshots.HandleSnapshot.{HandleSnapshot}
 use Rattle.slate_model.specs.Catalogue.{Catalogue, Span}
 use Rattle.slate_model.specs.Close.{ended, recorded_fault}
-use Rattle.slate_model.specs.Flush.{flush_changes_by}
-use Rattle.slate_model.specs.Follow.{Polls}
+use Rattle.slate_model.specs.Flush.{flush_changes_by, next_flushed}
 use Rattle.slate_model.specs.Follower.{Follower, is_managed, is_pinned}
-use Rattle.slate_model.specs.Handle.{CloseResult, Handle, next_table}
+use Rattle.slate_model.specs.Handle.{CloseResult, Handle, has_untabled}
 use Rattle.slate_model.specs.Knowledge.{Knowledge}
 use Rattle.slate_model.specs.Known.{Known, Untouched}
 use Rattle.slate_model.specs.Lease.{lease_of, lease_refusal, leased, to_keep, to_take}
-use Rattle.slate_model.specs.Managed.{OpensManaged, PollsManaged, PutsPlanned}
+use Rattle.slate_model.specs.Managed.{OpensManaged}
 use Rattle.slate_model.specs.Object.{Object, Handle as AHandle, Snapshot as ASnapshot, Follower as AFollower}
+use Rattle.slate_model.specs.Open.{next_manifest}
 use Rattle.slate_model.specs.Read.{Reads}
+use Rattle.slate_model.specs.Segments.{extractor_name}
 use Rattle.slate_model.specs.Stores.{by_catalogue}
-use Rattle.slate_model.proofs.Carrying.{Has, compact-carries, flush-carries, open-carries, plan-carries, sweep-carries}
+use Rattle.slate_model.proofs.Carrying.{compact-carries, flush-carries, open-carries, plan-carries, sweep-carries}
 use Rattle.slate_model.proofs.Maintained.{Recheckpoints, delete-recheckpoints, write-recheckpoints}
 use Rattle.slate_model.proofs.Reduced.{some-same}
 use Rattle.slate_model.proofs.Planned.{keep-recheckpoints, take-recheckpoints}
@@ -47,10 +48,10 @@ use Rattle.slate_script.specs.declared.commands.Command.{Command}
 use Rattle.slate_script.specs.declared.replies.Reply.{Reply}
 use Rattle.slate_live.specs.declared.states.Write.{Write}
 use Rattle.slate_live.specs.Calls.{Call, Write as WriteCall, Merge as MergeCall, Flush, Refresh, Compact, Get, Scan, Seek, Close, Poll, Status, FindTime, FindNumber, Nothing, call_of, Target, NewHandle, NewSnapshot, NewFollower, NewCheckpoint, WholeStore, OfWrite, OfObject, at_snapshot, target_of}
-use Rattle.slate_live.specs.Commands.{ActsAt, ActsOn, DoesBy, OnlyAnswers, OpensSnapshot, ReadsSnapshot, interval_of, lifetime_of}
+use Rattle.slate_live.specs.Commands.{ActsAt, ActsOn, DoesBy, OpensSnapshot, ReadsSnapshot, interval_of, lifetime_of}
 use Rattle.slate_live.specs.Followers.{ClosesAs, FollowerActs, PollsAs}
 use Rattle.slate_live.specs.Handles.{HandleActs}
-use Rattle.slate_live.specs.Represents.{IsLeased, IsValid}
+use Rattle.slate_live.specs.Represents.{IsValid}
 use Rattle.slate_live.specs.Settings.{Settings}
 use Rattle.slate_live.specs.State.{State}
 use Rattle.slate_live.specs.World.{World, state_of}
@@ -79,28 +80,32 @@ taken-is lifetime moment latest given gives = by latest.manifest.initialized _ g
   by true plan gives = gives
   by false plan gives = absurd (cc)
 
--- What the checkpoints of a latest manifest have they have after a command: without those that have expired where it sweeps, with
--- one more where it commits one, and after the plan of the reader that it polls or closes.
-pub record Spares (Q : List Checkpoint → Type 0) (w : World) (latest : VersionedManifest) (command : Command) : Type 0 where
-  pub kept : Q latest.manifest.checkpoints
-  pub swept : target_of command.action ≡ WholeStore → Q (without_expired command.moment latest).manifest.checkpoints
-  pub added : (checkpoint : Checkpoint) → Q (latest.manifest.checkpoints ++ checkpoint ∷ [])
+-- What a latest manifest has, the manifests have that a command may put after it: one that names a table more, or one table in
+-- place of all, one of an opening, one without the checkpoints that have expired where it sweeps, one with a checkpoint more, and
+-- the one of the plan of the reader that it polls or closes.
+pub record Spares (P : Manifest → Type 0) (w : World) (latest : VersionedManifest) (command : Command) : Type 0 where
+  pub kept : P latest.manifest
+  pub flushed : (handle : Handle) (last : ℕ) → has_untabled handle latest.manifest ≡ true → P (next_flushed handle latest last).manifest
+  pub compacted : (id : TableId) → P (with_table id latest).manifest
+  pub opened : (name : Option (List ℕ)) (last : ℕ) → P (next_manifest name (Some latest) last).manifest
+  pub swept : target_of command.action ≡ WholeStore → P (without_expired command.moment latest).manifest
+  pub added : (checkpoint : Checkpoint) → P (with_checkpoints (latest.manifest.checkpoints ++ checkpoint ∷ []) latest).manifest
   pub polled : (n : ℕ) (f : Follower) (lease given : Lease) (next : VersionedManifest) → target_of command.action ≡ OfObject n → call_of command.action ≡ Poll → slice_get w.objects n ≡ Some (AFollower f) → f.lease ≡ Some lease →
-      to_keep f.view lease command.moment latest ≡ Ok (Some next, given) → Q next.manifest.checkpoints
+      to_keep f.view lease command.moment latest ≡ Ok (Some next, given) → P next.manifest
   pub closed : (n : ℕ) (f : Follower) (lease : Lease) (next : VersionedManifest) (flush_type : Option FlushType) → target_of command.action ≡ OfObject n → call_of command.action ≡ Close flush_type → slice_get w.objects n ≡ Some (AFollower f) → f.result ≡ None → f.lease ≡ Some lease →
-      to_delete lease.id latest ≡ Ok (Some next, tt) → Q next.manifest.checkpoints
+      to_delete lease.id latest ≡ Ok (Some next, tt) → P next.manifest
 
-module _ (Q : List Checkpoint → Type 0) (settings : Settings) (w : World) (valid : IsValid w) (latest : VersionedManifest) (rising : AreRising (map (λ e. e.0) w.catalogue.manifests)) (is : latest_manifest w.catalogue ≡ Some latest)
-    (command : Command) (spares : Spares Q w latest command) (made : ℕ) (reply : Reply) (s' : State Span) where
+module _ (P : Manifest → Type 0) (settings : Settings) (w : World) (valid : IsValid w) (latest : VersionedManifest) (rising : AreRising (map (λ e. e.0) w.catalogue.manifests)) (is : latest_manifest w.catalogue ≡ Some latest)
+    (command : Command) (spares : Spares P w latest command) (made : ℕ) (reply : Reply) (s' : State Span) where
   abbrev k : Knowledge Span
   k = by_catalogue w.stored w.catalogue
 
-  -- the changes that the command made, and that they carry on what the checkpoints have
+  -- the changes that the command made, and that they carry it on
   pub record Changes : Type 0 where
     pub all : List (ChangeOf Span)
     pub part : ℕ
     pub after : s'.store.objects ≡ Some (after_part part all w.catalogue)
-    pub carry : Carry (Has Q) latest.id all
+    pub carry : Carry P latest.id all
 
   unchanged : s'.store.objects ≡ Some w.catalogue → Changes
   unchanged same = record { all = []; part = 0; after = same; carry = tt }
@@ -111,27 +116,27 @@ module _ (Q : List Checkpoint → Type 0) (settings : Settings) (w : World) (val
   state-before : s' ≡ state_of w → Changes
   state-before same = as-before (ap (λ (s : State Span). s.store) same)
 
-  changes : (all : List (ChangeOf Span)) (after : Catalogue) → s'.store.objects ≡ Some after → after ≡ after_part made all w.catalogue → Carry (Has Q) latest.id all → Changes
+  changes : (all : List (ChangeOf Span)) (after : Catalogue) → s'.store.objects ≡ Some after → after ≡ after_part made all w.catalogue → Carry P latest.id all → Changes
   changes all after there made_is carry = record { all = all; part = made; after = there ∙ ap Some made_is; carry = carry }
 
   -- ---- the changes of each operation
-  flushed : (t : FlushType) (h : Handle) → Carry (Has Q) latest.id (flush_changes_by k.summary t h w.catalogue (latest_manifest w.catalogue))
-  flushed t h = subst (λ found. Carry (Has Q) latest.id (flush_changes_by k.summary t h w.catalogue found)) (sym is) (flush-carries Q k.summary t h latest _ spares.kept)
+  flushed : (t : FlushType) (h : Handle) → Carry P latest.id (flush_changes_by k.summary t h w.catalogue (latest_manifest w.catalogue))
+  flushed t h = subst (λ found. Carry P latest.id (flush_changes_by k.summary t h w.catalogue found)) (sym is) (flush-carries P k.summary t h latest _ (spares.flushed h _))
 
-  compacted : (id : TableId) → Carry (Has Q) latest.id (compact_changes_by k.joined id w.catalogue (latest_manifest w.catalogue))
-  compacted id = subst (λ found. Carry (Has Q) latest.id (compact_changes_by k.joined id w.catalogue found)) (sym is) (compact-carries Q k.joined id w.catalogue latest spares.kept)
+  compacted : (id : TableId) → Carry P latest.id (compact_changes_by k.joined id w.catalogue (latest_manifest w.catalogue))
+  compacted id = subst (λ found. Carry P latest.id (compact_changes_by k.joined id w.catalogue found)) (sym is) (compact-carries P k.joined id w.catalogue latest (spares.compacted id))
 
-  planned : {A : Type 0} (plan : VersionedManifest → Plan A) → Recheckpoints latest (plan latest) → ((next : VersionedManifest) (answer : A) → plan latest ≡ Ok (Some next, answer) → Q next.manifest.checkpoints) → Carry (Has Q) latest.id (checkpoint_changes {L = Span} plan w.catalogue)
-  planned plan puts has = subst (λ found. Carry {L = Span} (Has Q) latest.id (planned_after plan found)) (sym is) (plan-carries Span Q latest (plan latest) puts has)
+  planned : {A : Type 0} (plan : VersionedManifest → Plan A) → Recheckpoints latest (plan latest) → ((next : VersionedManifest) (answer : A) → plan latest ≡ Ok (Some next, answer) → P next.manifest) → Carry P latest.id (checkpoint_changes {L = Span} plan w.catalogue)
+  planned plan puts has = subst (λ found. Carry {L = Span} P latest.id (planned_after plan found)) (sym is) (plan-carries Span P latest (plan latest) puts has)
 
   -- a plan that adds a checkpoint
-  added : (lifetime : Option ℕ) (next : VersionedManifest) (answer : Checkpoint) → to_write None lifetime command.moment latest ≡ Ok (Some next, answer) → Q next.manifest.checkpoints
+  added : (lifetime : Option ℕ) (next : VersionedManifest) (answer : Checkpoint) → to_write None lifetime command.moment latest ≡ Ok (Some next, answer) → P next.manifest
   added lifetime next answer gives =
       let checkpoint = new_checkpoint latest lifetime command.moment in
       let next_is = put-is latest (with_checkpoints (latest.manifest.checkpoints ++ checkpoint ∷ []) latest) checkpoint next answer gives in
-      subst (λ (n : VersionedManifest). Q n.manifest.checkpoints) next_is (spares.added checkpoint)
+      subst (λ (n : VersionedManifest). P n.manifest) next_is (spares.added checkpoint)
 
-  taken : (lifetime : ℕ) (next : VersionedManifest) (given : Lease) → to_take lifetime command.moment latest ≡ Ok (Some next, given) → Q next.manifest.checkpoints
+  taken : (lifetime : ℕ) (next : VersionedManifest) (given : Lease) → to_take lifetime command.moment latest ≡ Ok (Some next, given) → P next.manifest
   taken lifetime next given gives =
       let plan = leased-is lifetime (to_write None (Some lifetime) command.moment latest) (Some next) given (taken-is lifetime command.moment latest (Some next, given) gives) in
       added (Some lifetime) next plan.0 plan.1
@@ -143,7 +148,7 @@ module _ (Q : List Checkpoint → Type 0) (settings : Settings) (w : World) (val
       (λ q shut. as-before (some-of (λ q. (r ≡ Err (closed_error q)) × (s'.store ≡ (state_of w).store)) closed q shut s.closed).1)
 
   -- ---- what a handle does
-  handle-made : (n : ℕ) (call : Call) (h h' : Handle) (writes' : List Write) → HandleActs k settings.merge n command.moment command.second call made h (state_of w).store w.writes reply h' s'.store writes' → Changes
+  handle-made : (n : ℕ) (call : Call) (h h' : Handle) (writes' : List Write) → HandleActs k settings n command.moment command.second call made h (state_of w).store w.writes reply h' s'.store writes' → Changes
   handle-made n (WriteCall ops) h h' writes' a = as-before a.1.1
   handle-made n (MergeCall op) h h' writes' a = as-before a.1.1
   handle-made n (Flush t) h h' writes' a =
@@ -174,10 +179,10 @@ module _ (Q : List Checkpoint → Type 0) (settings : Settings) (w : World) (val
   handle-made n (FindNumber seconds find) h h' writes' a = as-before a.2.1
   handle-made n Nothing h h' writes' a = as-before a.2.1
 
-  handle-acts : (n : ℕ) (call : Call) (h : Handle) → ActsAt k settings.merge n command call made (AHandle h) (state_of w) reply s' → Changes
-  handle-acts n call h a = let d = handle-acted k settings.merge n command call made (state_of w) reply s' h a in handle-made n call h d.new s'.writes d.acts
+  handle-acts : (n : ℕ) (call : Call) (h : Handle) → ActsAt k settings n command call made (AHandle h) (state_of w) reply s' → Changes
+  handle-acts n call h a = let d = handle-acted k settings n command call made (state_of w) reply s' h a in handle-made n call h d.new s'.writes d.acts
 
-  snapshot-acts : (x : HandleSnapshot) (call : Call) (found : Option Object) → ReadsSnapshot k settings.merge x command call made found (state_of w) reply s' → Changes
+  snapshot-acts : (x : HandleSnapshot) (call : Call) (found : Option Object) → ReadsSnapshot k settings x command call made found (state_of w) reply s' → Changes
   snapshot-acts x call (Some (AHandle h)) a = handle-acts x.handle (at_snapshot x.number call) h a
   snapshot-acts x call (Some (ASnapshot y)) a = state-before a.2
   snapshot-acts x call (Some (AFollower f)) a = state-before a.2
@@ -188,7 +193,7 @@ module _ (Q : List Checkpoint → Type 0) (settings : Settings) (w : World) (val
     leased-of : {G : Type 0} → is_managed f.mode ≡ true → f.result ≡ None → ((lease : Lease) → f.lease ≡ Some lease → G) → G
     leased-of managed live done = by-option f.lease (λ none. absurd (let there = (valid.followers n f at).2 managed live in cc)) done
 
-    polled-made : (r : Result PollAnswer SlateError) (managed : Bool) → is_managed f.mode ≡ managed → call_of command.action ≡ Poll → PollsAs k managed made command.moment f (state_of w).store r f' s'.store → Changes
+    polled-made : (r : Result PollAnswer SlateError) (managed : Bool) → is_managed f.mode ≡ managed → call_of command.action ≡ Poll → PollsAs k settings.extractor managed made command.moment f (state_of w).store r f' s'.store → Changes
     polled-made r true managed asks p =
         by-option f.result
         (λ live. leased-of managed live (λ lease has.
@@ -212,7 +217,7 @@ module _ (Q : List Checkpoint → Type 0) (settings : Settings) (w : World) (val
         (λ q shut. as-before (some-of (λ _. (answer ≡ ended (recorded_fault f.result)) × Untouched made (state_of w).store s'.store) f.result q shut c.again).1.1)
     closed-made answer false flush_type asks unmanaged c = as-before c.2.1
 
-    follower-made : (call : Call) → call_of command.action ≡ call → FollowerActs k settings.merge command.moment call made f (state_of w).store w.writes reply f' s'.store s'.writes → Changes
+    follower-made : (call : Call) → call_of command.action ≡ call → FollowerActs k settings command.moment call made f (state_of w).store w.writes reply f' s'.store s'.writes → Changes
     follower-made Poll asks a = polled-made (a.0).result (is_managed f.mode) refl asks (a.0).does
     follower-made (Close t) asks a = closed-made (a.0).answer (is_managed f.mode) t asks refl (a.0).does
     follower-made (Get key remote snapshot) asks a = read f.result f.view.manifest.tables (a.0).result (a.0).does
@@ -228,12 +233,12 @@ module _ (Q : List Checkpoint → Type 0) (settings : Settings) (w : World) (val
     follower-made (FindNumber seconds find) asks a = as-before a.2.1
     follower-made Nothing asks a = as-before a.2.1
 
-  on-made : (n : ℕ) (found : Option Object) → target_of command.action ≡ OfObject n → slice_get w.objects n ≡ found → ActsOn k settings.merge n command (call_of command.action) made found (state_of w) reply s' → Changes
+  on-made : (n : ℕ) (found : Option Object) → target_of command.action ≡ OfObject n → slice_get w.objects n ≡ found → ActsOn k settings n command (call_of command.action) made found (state_of w) reply s' → Changes
   on-made n None names at a = state-before a.2
   on-made n (Some (AHandle h)) names at a = handle-acts n (call_of command.action) h a
   on-made n (Some (ASnapshot x)) names at a = snapshot-acts x (call_of command.action) (slice_get w.objects x.handle) a
   on-made n (Some (AFollower f)) names at a =
-      let d = follower-did k settings.merge n command (call_of command.action) made (state_of w) reply s' (Some (AFollower f)) f refl a in
+      let d = follower-did k settings n command (call_of command.action) made (state_of w) reply s' (Some (AFollower f)) f refl a in
       follower-made n f d.new names at (call_of command.action) refl d.acts
 
   opened-made : (n : ℕ) (found : Option Object) → OpensSnapshot n made found (state_of w) reply s' → Changes
@@ -243,7 +248,7 @@ module _ (Q : List Checkpoint → Type 0) (settings : Settings) (w : World) (val
   opened-made n None d = state-before d.2
 
   -- an opening of a reader that keeps a checkpoint
-  took-made : (lifetime interval : ℕ) (skips : Bool) (r : Result (Follower × PollAnswer) SlateError) → OpensManaged k made lifetime interval skips command.moment (state_of w).store r s'.store → Changes
+  took-made : (lifetime interval : ℕ) (skips : Bool) (r : Result (Follower × PollAnswer) SlateError) → OpensManaged k settings.extractor made lifetime interval skips command.moment (state_of w).store r s'.store → Changes
   took-made lifetime interval skips r d =
       by-option (lease_refusal lifetime interval)
       (λ none. let t = ((d.takes none).puts).some w.catalogue refl in changes _ t.0 t.1 (t.2).after (planned (to_take lifetime command.moment) (take-recheckpoints lifetime command.moment latest) (taken lifetime)))
@@ -252,7 +257,7 @@ module _ (Q : List Checkpoint → Type 0) (settings : Settings) (w : World) (val
   made-by : (target : Target) → target_of command.action ≡ target → DoesBy k settings command target made (state_of w) reply s' → Changes
   made-by (NewHandle keeps_log) names d =
       let t = ((d.does).opens).some w.catalogue refl in
-      changes _ t.0 t.1 (t.2).after (open-carries Q k.summary w.catalogue latest is spares.kept)
+      changes _ t.0 t.1 (t.2).after (open-carries P (extractor_name settings.extractor) k.summary w.catalogue latest is (spares.opened (extractor_name settings.extractor) _))
   made-by (NewSnapshot n) names d = opened-made n (slice_get w.objects n) d
   made-by (NewFollower modes.FollowLatest managed skips) names d = unchanged ((d.0).does).kept
   made-by (NewFollower (modes.Checkpoint id) managed skips) names d = unchanged ((d.0).does).kept
@@ -262,7 +267,7 @@ module _ (Q : List Checkpoint → Type 0) (settings : Settings) (w : World) (val
       changes _ t.0 t.1 (t.2).after (planned (to_write None lifetime command.moment) (write-recheckpoints None lifetime command.moment latest) (added lifetime))
   made-by WholeStore names d =
       let t = (((d.does).does).objects).some w.catalogue refl in
-      changes _ t.0 t.1 (t.2).after (subst (λ found. Carry (Has Q) latest.id (sweep_changes_by command.moment w.catalogue found)) (sym is) (sweep-carries Q command.moment latest w.catalogue rising is (spares.swept names)))
+      changes _ t.0 t.1 (t.2).after (subst (λ found. Carry P latest.id (sweep_changes_by command.moment w.catalogue found)) (sym is) (sweep-carries P command.moment latest w.catalogue rising is (spares.swept names)))
   made-by (OfWrite n) names d = state-before d.2
   made-by (OfObject n) names d = on-made n (slice_get w.objects n) names refl d
 

@@ -5,11 +5,10 @@ use Rattle.std.proofs.lemmas.List.{map-append, take_all, take_more}
 use Rattle.std.proofs.lemmas.List.Elements.{All-nil, All-push}
 use Rattle.slate_types.specs.declared.batches.Batch.{Batch}
 use Rattle.slate_types.specs.Line.{IsPrefix}
-use Rattle.slate_types.specs.Operator.{Merge}
 use Rattle.slate_store.specs.Objects.{Objects}
-use Rattle.slate_store.specs.Content.{AreRising, IsSound}
-use Rattle.slate_model.specs.Catalogue.{Catalogue}
+use Rattle.slate_store.specs.Content.{IsSound}
 use Rattle.slate_model.specs.Known.{Known}
+use Rattle.slate_model.specs.Segments.{Extractor}
 use Rattle.slate_model.specs.Stores.{by_objects}
 use Rattle.slate_script.specs.declared.commands.Command.{Command}
 use Rattle.slate_script.specs.declared.options.Options.{Options}
@@ -18,7 +17,7 @@ use Rattle.slate_live.specs.State.{Live, State, running}
 use Rattle.slate_live.specs.Commands.{Does}
 use Rattle.slate_live.specs.Run.{DoAll, LeadsTo}
 use Rattle.slate_live.specs.Settings.{Settings}
-use Rattle.slate_live.specs.Represents.{IsReached, Represents}
+use Rattle.slate_live.specs.Represents.{AreInSegments, IsReached, Represents}
 use Rattle.slate_live.specs.Steps.{Chain, Step, last_world}
 use Rattle.slate_live.specs.Valid.{Link}
 use Rattle.slate_live.specs.World.{World, start}
@@ -70,8 +69,8 @@ pub done_none : (settings : Settings) (first : World) (replies : List Reply) →
 done_none settings first replies none = record { commands_are = refl; replies_are = sym none; chain = tt; reached = All-nil (λ (step : Step). IsReached step.world) }
 
 -- the command at a place of a list, done after those before it
-done-at : (settings : Settings) (first last : World) (steps : List Step) (commands : List Command) (i : ℕ) (command : Command) (replies replies' : List Reply) (reply : Reply) → i < length commands → command ≡ get_or commands i command → replies' ≡ replies ++ reply ∷ [] → Done settings first (take i commands) replies steps → Link settings (last_world first steps) command reply last → IsReached last → Done settings first (take (i + 1) commands) replies' (steps ++ record { command = command; reply = reply; world = last } ∷ [])
-done-at settings first last steps commands i command replies replies' reply inside item pushed done link valid =
+pub done-next : (settings : Settings) (first last : World) (steps : List Step) (commands : List Command) (i : ℕ) (command : Command) (replies replies' : List Reply) (reply : Reply) → i < length commands → command ≡ get_or commands i command → replies' ≡ replies ++ reply ∷ [] → Done settings first (take i commands) replies steps → Link settings (last_world first steps) command reply last → IsReached last → Done settings first (take (i + 1) commands) replies' (steps ++ record { command = command; reply = reply; world = last } ∷ [])
+done-next settings first last steps commands i command replies replies' reply inside item pushed done link valid =
     let step : Step = record { command = command; reply = reply; world = last } in
     let more : take (i + 1) commands ≡ take i commands ++ command ∷ [] = take_more commands i command inside ∙ ap (λ c. take i commands ++ c ∷ []) (sym item) in
     record {
@@ -81,16 +80,15 @@ done-at settings first last steps commands i command replies replies' reply insi
       reached = All-push (λ (s : Step). IsReached s.world) steps step done.reached valid;
     }
 
--- the same, where the link is one with options that are these
-pub done-next : (merge : Option Merge) (options options' : Options) (first last : World) (steps : List Step) (commands : List Command) (i : ℕ) (command : Command) (replies replies' : List Reply) (reply : Reply) → options' ≡ options → i < length commands → command ≡ get_or commands i command → replies' ≡ replies ++ reply ∷ [] → Done (record { merge = merge; options = options }) first (take i commands) replies steps → Link (record { merge = merge; options = options' }) (last_world first steps) command reply last → IsReached last → Done (record { merge = merge; options = options }) first (take (i + 1) commands) replies' (steps ++ record { command = command; reply = reply; world = last } ∷ [])
-done-next merge options options' first last steps commands i command replies replies' reply same inside item pushed done link valid =
-    done-at (record { merge = merge; options = options }) first last steps commands i command replies replies' reply inside item pushed done
-    (subst (λ o. Link (record { merge = merge; options = o }) (last_world first steps) command reply last) same link) valid
-
 -- the world after the command that was done last
 pub stands-push : (first last : World) (steps : List Step) (command : Command) (reply : Reply) (live : Live) (store : Known (List Batch)) → Represents live store last → Represents live store (last_world first (steps ++ record { command = command; reply = reply; world = last } ∷ []))
 stands-push first last steps command reply live store stands =
     subst (Represents live store) (sym (last-push first steps (record { command = command; reply = reply; world = last }))) stands
+
+-- whose keys are in segments
+pub segments-push : (extractor : Option Extractor) (first last : World) (steps : List Step) (command : Command) (reply : Reply) → AreInSegments extractor last → AreInSegments extractor (last_world first (steps ++ record { command = command; reply = reply; world = last } ∷ []))
+segments-push extractor first last steps command reply segments =
+    subst (AreInSegments extractor) (sym (last-push first steps (record { command = command; reply = reply; world = last }))) segments
 
 -- what is stored in the first world is stored in the last
 chain-grows : (settings : Settings) (first : World) (steps : List Step) → Chain settings first steps → IsPrefix first.stored (last_world first steps).stored
@@ -145,10 +143,9 @@ pub do-all : (settings : Settings) (s last : State (List Batch)) (commands : Lis
 do-all settings s last commands i replies behind all = subst (λ cs. DoAll settings s cs replies last) (take_all i commands behind) all
 
 -- the command at a place of a list, done after those before it
-pub do-next : (merge : Option Merge) (options options' : Options) (s mid last : State (List Batch)) (commands : List Command) (i : ℕ) (command : Command) (replies replies' : List Reply) (reply : Reply) (made : ℕ) → options' ≡ options → i < length commands → command ≡ get_or commands i command → replies' ≡ replies ++ reply ∷ [] → DoAll (record { merge = merge; options = options }) s (take i commands) replies mid → Does (by_objects mid.store.objects) (record { merge = merge; options = options' }) made mid command reply last → DoAll (record { merge = merge; options = options }) s (take (i + 1) commands) replies' last
-do-next merge options options' s mid last commands i command replies replies' reply made same inside item pushed all does =
+pub do-next : (settings : Settings) (s mid last : State (List Batch)) (commands : List Command) (i : ℕ) (command : Command) (replies replies' : List Reply) (reply : Reply) (made : ℕ) → i < length commands → command ≡ get_or commands i command → replies' ≡ replies ++ reply ∷ [] → DoAll settings s (take i commands) replies mid → Does (by_objects mid.store.objects) settings made mid command reply last → DoAll settings s (take (i + 1) commands) replies' last
+do-next settings s mid last commands i command replies replies' reply made inside item pushed all does =
     let more : take (i + 1) commands ≡ take i commands ++ command ∷ [] = take_more commands i command inside ∙ ap (λ c. take i commands ++ c ∷ []) (sym item) in
-    subst (λ cs. DoAll (record { merge = merge; options = options }) s cs replies' last) (sym more)
-    (subst (λ rs. DoAll (record { merge = merge; options = options }) s (take i commands ++ command ∷ []) rs last) (sym pushed)
-    (do-push (record { merge = merge; options = options }) s mid last (take i commands) replies command reply made all
-    (subst (λ o. Does (by_objects mid.store.objects) (record { merge = merge; options = o }) made mid command reply last) same does)))
+    subst (λ cs. DoAll settings s cs replies' last) (sym more)
+    (subst (λ rs. DoAll settings s (take i commands ++ command ∷ []) rs last) (sym pushed)
+    (do-push settings s mid last (take i commands) replies command reply made all does))

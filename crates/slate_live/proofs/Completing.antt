@@ -7,6 +7,7 @@ use Rattle.slate_types.specs.declared.batches.Batch.{Batch}
 use Rattle.slate_types.specs.declared.batches.KeyOp.{KeyOp}
 use Rattle.slate_types.specs.declared.batches.KeyValue.{KeyValue}
 use Rattle.slate_types.specs.declared.options.FlushType.{FlushType}
+use Rattle.slate_types.specs.Line.{Line}
 use Rattle.slate_types.specs.Operator.{Merge}
 use Rattle.slate_types.specs.declared.read_faults.ReadFault.{ReadFault}
 use Rattle.slate_types.specs.declared.read_faults.ReadFault.TheVariants as reads
@@ -24,7 +25,7 @@ use Rattle.slate_errors.specs.declared.endings.Ended.{Ended}
 use Rattle.slate_errors.specs.declared.endings.TaskName.{TaskName}
 use Rattle.slate_model.specs.declared.leases.Lease.{Lease}
 use Rattle.slate_model.specs.Lease.{lease_refusal, to_keep, to_take}
-use Rattle.slate_model.specs.Managed.{KeepsLease, OpensManaged, PlanCause}
+use Rattle.slate_model.specs.Managed.{KeepRefusal, KeepsLease, OpensManaged, PlanCause, TakeRefusal}
 use Rattle.slate_store.specs.declared.refusals.StoreRefusal.TheVariants as refusals
 use Rattle.slate_errors.specs.declared.errors.SlateError.{SlateError}
 use Rattle.slate_errors.specs.declared.errors.SlateError.TheVariants as errors
@@ -32,10 +33,11 @@ use Rattle.slate_model.specs.Close.{Closes, closing_flush, ended, fault_again, r
 use Rattle.slate_model.specs.declared.answers.PollAnswer.{PollAnswer}
 use Rattle.slate_model.specs.declared.answers.Written.{Written}
 use Rattle.slate_model.specs.Flush.{FlushCause, Flushes, ManifestCause, Stores, has_ids}
-use Rattle.slate_model.specs.Follow.{unseen, FollowCause, Polls, Rebuilds, built}
-use Rattle.slate_model.specs.Followed.{can_follow, kept_by, view_under}
+use Rattle.slate_model.specs.Follow.{unseen, AreFollowed, FollowCause, IsOwed, LacksSegment, Polls, Rebuilds, ReplayRefuses, built}
+use Rattle.slate_model.specs.Followed.{IsView, RefusesLatest, follow_refusal, kept_by, view_under}
 use Rattle.slate_model.specs.Follower.{Follower, is_managed, is_pinned}
 use Rattle.slate_store.specs.Checkpoints.{Plan, found, to_delete}
+use Rattle.slate_store.specs.Refusals.{PlanIs}
 use Rattle.slate_store.specs.declared.reader_modes.DbReaderMode.{DbReaderMode}
 use Rattle.slate_store.specs.declared.reader_modes.DbReaderMode.TheVariants as modes
 use Rattle.slate_model.specs.Handle.{CloseResult, Handle, accepted}
@@ -45,7 +47,8 @@ use Rattle.slate_model.specs.Knowledge.{Knowledge}
 use Rattle.slate_model.specs.Known.{Known}
 use Rattle.slate_model.specs.declared.snapshots.HandleSnapshot.{HandleSnapshot}
 use Rattle.slate_model.specs.Object.{Object, Handle as AHandle, Snapshot as ASnapshot, Follower as AFollower}
-use Rattle.slate_model.specs.Open.{OpenAnswer}
+use Rattle.slate_model.specs.Open.{AreSegmented, OpenAnswer, opened_manifest, replayed}
+use Rattle.slate_model.specs.Segments.{Extractor, extractor_name, ops_of, unsegmented_refusal}
 use Rattle.slate_model.specs.Read.{AnswersRead, Gives, ReadsTables}
 use Rattle.slate_model.specs.Refresh.{CompactCause, Compacts, Refreshes}
 use Rattle.slate_model.specs.Stores.{by_catalogue}
@@ -65,13 +68,15 @@ use Rattle.slate_live.specs.Commands.{ActsAt, ActsOn, DoesBy, OpensSnapshot, Rea
 use Rattle.slate_live.specs.Followers.{ClosesAs, FollowerActs, PollsAs}
 use Rattle.slate_live.specs.Handles.{HandleActs, MergesTo, WritesTo, flush_type_by, pending_reply}
 use Rattle.slate_live.specs.Replies.{AnswersStatus, IsRead, closed_reply, ended_reply, follower_closed_reply, follower_ended_reply, followed_reply, found_reply, polled_reply, refusal, reply_to}
-use Rattle.slate_live.specs.Represents.{IsLeased, IsValid}
+use Rattle.slate_live.specs.Represents.{AreInSegments, IsLeased, IsValid}
 use Rattle.slate_live.specs.Scans.{IsTaken, Takes, scanned, sought}
 use Rattle.slate_live.specs.Settings.{Settings}
-use Rattle.slate_live.specs.Valid.{AtHandle, AtObject, CanAsk, CanAskFollower, CanAskSnapshot, CanCheckpoint, CanClose, CanCompact, CanEnd, CanFollow, CanOpen, CanPoll, CanPut, CanRead, CanRefresh, CanStore, CanSweep, CanTake, CanWrite, IsDurable, IsOkOrNoMemory, IsValidAt, IsValidCommand}
+use Rattle.slate_live.specs.Valid.{AtHandle, AtObject, CanAsk, CanAskFollower, CanAskSnapshot, CanCheckpoint, CanClose, CanCompact, CanEnd, CanFollow, CanOpen, CanPoll, CanPut, CanRead, CanRefresh, CanReplay, CanStore, CanSweep, CanTake, CanWrite, IsDurable, IsOkOrNoMemory, IsValidAt, IsValidCommand}
 use Rattle.slate_live.specs.World.{Next, World, state_of}
 use Rattle.slate_live.proofs.Cases.{by-option, some-of}
 use Rattle.slate_live.proofs.Naming.{follower-did, handle-acted}
+use Rattle.slate_live.proofs.Rising.{managed-free, managed-mode}
+use Rattle.slate_live.proofs.Segmented.{none-lacks}
 use Rattle.slate_live.proofs.Writing.{accepts}
 
 none-some : {A : Type 0} (o : Option A) (x : A) → o ≡ None → o ≡ Some x → ⊥
@@ -112,12 +117,15 @@ manifest-cause w handle faults errors.NoMemory cause fault can calm = refl
 manifest-cause w handle faults error cause fault can calm = absurd cause
 
 -- an opening that nothing stands against, and that met no fault
-open-free : (w : World) (faults : ℕ) (r : Result Handle SlateError) → OpenAnswer (λ _. ⊥) w.catalogue r → CountsFaults w.faults faults r → CanOpen w → (HasRisen w.faults faults → ⊥) → IsFree r
-open-free w faults (Ok h) answer fault can calm = tt
-open-free w faults (Err errors.InvalidDBState) answer fault can calm = absurd (cc)
-open-free w faults (Err (errors.ObjectStoreError Unavailable)) answer fault can calm = absurd (calm (fault.unavailable refl))
-open-free w faults (Err errors.NoMemory) answer fault can calm = refl
-open-free w faults (Err error) answer fault can calm = absurd answer
+open-free : (extractor : Option Extractor) (w : World) (faults : ℕ) (r : Result Handle SlateError) → OpenAnswer extractor (λ _. ⊥) w.catalogue r → AreSegmented extractor (replayed (opened_manifest (extractor_name extractor) w.catalogue) w.stored) r → CountsFaults w.faults faults r → CanOpen extractor w → (HasRisen w.faults faults → ⊥) → IsFree r
+open-free extractor w faults (Ok h) answer segmented fault can calm = tt
+open-free extractor w faults (Err errors.InvalidDBState) answer segmented fault can calm = absurd (none-some _ errors.InvalidDBState can.0 answer)
+open-free extractor w faults (Err (errors.SegmentExtractorMismatch persisted configured)) answer segmented fault can calm = absurd (none-some _ (errors.SegmentExtractorMismatch persisted configured) can.0 answer)
+open-free extractor w faults (Err (errors.SegmentPrefixNotRecognized prefix name)) answer segmented fault can calm = absurd (none-some _ (errors.SegmentPrefixNotRecognized prefix name) can.0 answer)
+open-free extractor w faults (Err (errors.EmptySegmentPrefix key)) answer segmented fault can calm = absurd (none-some _ (errors.EmptySegmentPrefix key) can.1 segmented)
+open-free extractor w faults (Err (errors.ObjectStoreError Unavailable)) answer segmented fault can calm = absurd (calm (fault.unavailable refl))
+open-free extractor w faults (Err errors.NoMemory) answer segmented fault can calm = refl
+open-free extractor w faults (Err error) answer segmented fault can calm = absurd answer
 
 full-ids : (w : World) (t : FlushType) (handle : Handle) → FlushCause ⊥ t handle w.catalogue errors.InvalidDBState → CanStore w t handle → ⊥
 full-ids w t handle cause can =
@@ -193,29 +201,29 @@ close-completes w w' made h h' (Some (Err fault)) flush_type e reply at can c is
     subst IsOkOrNoMemory (sym (is ∙ ap ended_reply a.0)) tt
 
 -- a write that nothing stands against isn't refused
-no-refusal : (handle : Handle) (ops : List KeyOp) (moment : ℤ) (second : Option ℤ) → CanWrite ops moment second handle → write_refusal handle ops moment second ≡ None
-no-refusal handle ops moment second can =
+no-refusal : (extractor : Option Extractor) (handle : Handle) (ops : List KeyOp) (moment : ℤ) (second : Option ℤ) → CanWrite extractor ops moment second handle → write_refusal extractor handle ops moment second ≡ None
+no-refusal extractor handle ops moment second can =
     let batch : batch_refusal ops ≡ None = accepts ops can.writable in
     let room : limit_refusal (unflushed handle) handle.limit ≡ None = ap (λ below. if below then None else Some (errors.Backpressure (unflushed handle) handle.limit)) (lt-ltb (unflushed handle) handle.limit can.room) in
     let number : number_refusal (accepted handle) ≡ None = ap (λ below. if below then None else Some errors.InvalidDBState) (lt-ltb (accepted handle) last_number can.number) in
     let clock : clock_refusal handle.tick moment second (accepted_moment handle.tick moment second) ≡ None = ap (clock_refusal handle.tick moment second) (can.moments).1 in
-    rw (can.unclosed, batch, room, number, clock) refl
+    rw (can.unclosed, batch, room, can.segmented, number, clock) refl
 
 memory-alone : (e : SlateError) (refused : Option SlateError) → refused ≡ None → (e ≡ errors.NoMemory) ⊎ (refused ≡ Some e) → e ≡ errors.NoMemory
 memory-alone e refused none (inl memory) = memory
 memory-alone e refused none (inr because) = absurd (none-some refused e none because)
 
-write-free : (h h' : Handle) (ops : List KeyOp) (moment : ℤ) (second : Option ℤ) (r : Result Written SlateError) → CanWrite ops moment second h → Writes h ops moment second r h' → IsFree r
-write-free h h' ops moment second (Ok w) can s = tt
-write-free h h' ops moment second (Err e) can s = memory-alone e _ (no-refusal h ops moment second can) s.refused.0
+write-free : (extractor : Option Extractor) (h h' : Handle) (ops : List KeyOp) (moment : ℤ) (second : Option ℤ) (r : Result Written SlateError) → CanWrite extractor ops moment second h → Writes extractor h ops moment second r h' → IsFree r
+write-free extractor h h' ops moment second (Ok w) can s = tt
+write-free extractor h h' ops moment second (Err e) can s = memory-alone e _ (no-refusal extractor h ops moment second can) s.refused.0
 
-write-completes : (n : ℕ) (ops : List KeyOp) (moment : ℤ) (second : Option ℤ) (h : Handle) (writes : List Write) (reply : Reply) (h' : Handle) (writes' : List Write) → CanWrite ops moment second h → WritesTo n ops moment second h writes reply h' writes' → IsOkOrNoMemory reply
-write-completes n ops moment second h writes reply h' writes' can s =
-    subst IsOkOrNoMemory (sym s.replied) (free-reply _ s.result (λ x at. tt) (write-free h h' ops moment second s.result can s.does))
+write-completes : (extractor : Option Extractor) (n : ℕ) (ops : List KeyOp) (moment : ℤ) (second : Option ℤ) (h : Handle) (writes : List Write) (reply : Reply) (h' : Handle) (writes' : List Write) → CanWrite extractor ops moment second h → WritesTo extractor n ops moment second h writes reply h' writes' → IsOkOrNoMemory reply
+write-completes extractor n ops moment second h writes reply h' writes' can s =
+    subst IsOkOrNoMemory (sym s.replied) (free-reply _ s.result (λ x at. tt) (write-free extractor h h' ops moment second s.result can s.does))
 
-merge-completes : (merge : Option Merge) (n : ℕ) (op : KeyOp) (moment : ℤ) (second : Option ℤ) (h : Handle) (writes : List Write) (reply : Reply) (h' : Handle) (writes' : List Write) → merge ≢ None → CanWrite (op ∷ []) moment second h → MergesTo merge n op moment second h writes reply h' writes' → IsOkOrNoMemory reply
-merge-completes None n op moment second h writes reply h' writes' some can s = absurd (some refl)
-merge-completes (Some merge) n op moment second h writes reply h' writes' some can s = write-completes n (op ∷ []) moment second h writes reply h' writes' can s
+merge-completes : (merge : Option Merge) (extractor : Option Extractor) (n : ℕ) (op : KeyOp) (moment : ℤ) (second : Option ℤ) (h : Handle) (writes : List Write) (reply : Reply) (h' : Handle) (writes' : List Write) → merge ≢ None → CanWrite extractor (op ∷ []) moment second h → MergesTo merge extractor n op moment second h writes reply h' writes' → IsOkOrNoMemory reply
+merge-completes None extractor n op moment second h writes reply h' writes' some can s = absurd (some refl)
+merge-completes (Some merge) extractor n op moment second h writes reply h' writes' some can s = write-completes extractor n (op ∷ []) moment second h writes reply h' writes' can s
 
 ok-err : {A : Type 0} (answer : Result A ReadFault) (found : A) (fault : ReadFault) → answer ≡ Ok found → answer ≡ Err fault → ⊥
 ok-err answer found fault ok err = absurd (cc)
@@ -273,25 +281,64 @@ found-not mode c latest view id is none at =
     let gone : kept_by c (found id latest) ≡ None = ap (kept_by c) none in
     cc
 
-follow-cause : (w : World) (mode : DbReaderMode) (opening : Bool) (faults : ℕ) (error : SlateError) → FollowCause mode opening ⊥ w.catalogue error → FaultsRise {A = Follower × PollAnswer} w.faults faults (Err error) → CanFollow mode opening w → (HasRisen w.faults faults → ⊥) → error ≡ errors.NoMemory
-follow-cause w mode opening faults errors.LatestTransactionalObjectVersionMissing cause fault can calm = absurd (none-some (latest_manifest w.catalogue) can.1.0 cause can.1.1)
-follow-cause w mode opening faults errors.InvalidDBState cause fault can calm =
-    let v = can.1 in
-    let same : cause.0 ≡ v.0 = same-manifest (latest_manifest w.catalogue) cause.0 v.0 cause.1 v.1 in
-    let no : can_follow opening v.0 ≡ false = subst (λ m. can_follow opening m ≡ false) same cause.2 in
-    let yes = v.2 in
-    absurd (cc)
-follow-cause w mode opening faults (errors.CheckpointMissing id) cause fault can calm =
+-- a reader goes by one manifest, and is owed one line
+view-once : (mode : DbReaderMode) (opening : Bool) (c : Catalogue) (a b : VersionedManifest) → IsView mode opening c a → IsView mode opening c b → a ≡ b
+view-once mode opening c a b is_a is_b =
+    let latest : is_a.0 ≡ is_b.0 = same-manifest (latest_manifest c) is_a.0 is_b.0 is_a.1 is_b.1 in
+    same-manifest (view_under mode c is_b.0) a b (subst (λ m. view_under mode c m ≡ Some a) latest is_a.3) is_b.3
+
+owed-once : (stored : Line) (c : Catalogue) (mode : DbReaderMode) (skips : Bool) (view : VersionedManifest) (a b : Line) → IsOwed (by_catalogue stored c) mode skips c view stored a → IsOwed (by_catalogue stored c) mode skips c view stored b → a ≡ b
+owed-once stored c mode true view a b is_a is_b = is_a ∙ sym is_b
+owed-once stored c (modes.Checkpoint id) false view a b is_a is_b = is_a ∙ sym is_b
+owed-once stored c modes.FollowLatest false view a b is_a is_b = is_a ∙ sym is_b
+owed-once stored c modes.ManagedCheckpoint false view a b is_a is_b = is_a ∙ sym is_b
+
+-- the latest manifest isn't refused in two ways
+refuses-once : (ext : Option Extractor) (w : World) (opening : Bool) (e : SlateError) → RefusesLatest ext opening w.catalogue (Some e) → RefusesLatest ext opening w.catalogue None → ⊥
+refuses-once ext w opening e one other =
+    let same : one.0 ≡ other.0 = same-manifest (latest_manifest w.catalogue) one.0 other.0 one.1 other.1 in
+    none-some (follow_refusal ext opening other.0) e other.2 (subst (λ m. follow_refusal ext opening m ≡ Some e) same one.2)
+
+-- nor is a key that an opening replays
+replays-once : (ext : Option Extractor) (w : World) (mode : DbReaderMode) (skips : Bool) (key : List ℕ) → ReplayRefuses (by_catalogue w.stored w.catalogue) ext mode skips true w.catalogue w.stored (Some (errors.EmptySegmentPrefix key)) → ReplayRefuses (by_catalogue w.stored w.catalogue) ext mode skips true w.catalogue w.stored None → ⊥
+replays-once ext w mode skips key one other =
+    let view : one.0 ≡ other.0 = view-once mode true w.catalogue one.0 other.0 one.2 other.2 in
+    let owed : one.1 ≡ other.1 = owed-once w.stored w.catalogue mode skips other.0 one.1 other.1 (subst (λ v. IsOwed (by_catalogue w.stored w.catalogue) mode skips w.catalogue v w.stored one.1) view one.3) other.3 in
+    let same : replayed one.0 one.1 ≡ replayed other.0 other.1 = ap (λ v. replayed v one.1) view ∙ ap (replayed other.0) owed in
+    none-some (unsegmented_refusal ext (ops_of (replayed other.0 other.1))) (errors.EmptySegmentPrefix key) other.4 (sym (ap (λ bs. unsegmented_refusal ext (ops_of bs)) same) ∙ one.4)
+
+follow-cause : (ext : Option Extractor) (w : World) (mode : DbReaderMode) (opening : Bool) (faults : ℕ) (error : SlateError) → FollowCause ext mode opening ⊥ w.catalogue error → FaultsRise {A = Follower × PollAnswer} w.faults faults (Err error) → CanFollow mode opening w → RefusesLatest ext opening w.catalogue None →
+    (opening ≡ false → error ≡ errors.InvalidDBState → ⊥) → ((key : List ℕ) → opening ≡ true → error ≡ errors.EmptySegmentPrefix key → ⊥) → (HasRisen w.faults faults → ⊥) → error ≡ errors.NoMemory
+follow-cause ext w mode opening faults errors.LatestTransactionalObjectVersionMissing cause fault can fits polled keyed calm = absurd (none-some (latest_manifest w.catalogue) can.1.0 cause can.1.1)
+follow-cause ext w mode opening faults errors.InvalidDBState cause fault can fits polled keyed calm = elim cause [
+  | inl refused ↦ absurd (refuses-once ext w opening errors.InvalidDBState refused fits)
+  | inr lacks ↦ absurd (polled lacks.0 refl)
+]
+follow-cause ext w mode opening faults (errors.SegmentExtractorMismatch persisted configured) cause fault can fits polled keyed calm = absurd (refuses-once ext w opening (errors.SegmentExtractorMismatch persisted configured) cause fits)
+follow-cause ext w mode opening faults (errors.SegmentPrefixNotRecognized prefix name) cause fault can fits polled keyed calm = absurd (refuses-once ext w opening (errors.SegmentPrefixNotRecognized prefix name) cause fits)
+follow-cause ext w mode opening faults (errors.EmptySegmentPrefix key) cause fault can fits polled keyed calm = absurd (keyed key cause.0 refl)
+follow-cause ext w mode opening faults (errors.CheckpointMissing id) cause fault can fits polled keyed calm =
     let v = can.1 in
     let same : cause.0 ≡ v.0 = same-manifest (latest_manifest w.catalogue) cause.0 v.0 cause.1 v.1 in
     absurd (found-not mode w.catalogue v.0 can.0 id cause.2 (subst (λ m. found id m ≡ None) same cause.3) v.3)
-follow-cause w mode opening faults (errors.ObjectStoreError Unavailable) cause fault can calm = absurd (calm (fault.unavailable refl))
-follow-cause w mode opening faults errors.NoMemory cause fault can calm = refl
-follow-cause w mode opening faults error cause fault can calm = absurd cause
+follow-cause ext w mode opening faults (errors.ObjectStoreError Unavailable) cause fault can fits polled keyed calm = absurd (calm (fault.unavailable refl))
+follow-cause ext w mode opening faults errors.NoMemory cause fault can fits polled keyed calm = refl
+follow-cause ext w mode opening faults error cause fault can fits polled keyed calm = absurd cause
 
-rebuild-free : (w w' : World) (mode : DbReaderMode) (skips opening : Bool) (r : Result (Follower × PollAnswer) SlateError) → Rebuilds (by_catalogue w.stored w.catalogue) mode skips opening (λ objects line. Unit {0}) (state_of w).store r (state_of w').store → CanFollow mode opening w → (HasRisen w.faults w'.faults → ⊥) → IsFree r
-rebuild-free w w' mode skips opening (Ok b) built can calm = tt
-rebuild-free w w' mode skips opening (Err e) built can calm = follow-cause w mode opening w'.faults e built.cause built.faults can calm
+-- an opening that finds a segment for each key
+rebuild-free : (ext : Option Extractor) (w w' : World) (mode : DbReaderMode) (skips : Bool) (r : Result (Follower × PollAnswer) SlateError) → Rebuilds (by_catalogue w.stored w.catalogue) ext mode skips true unseen (state_of w).store r (state_of w').store → CanFollow mode true w → CanReplay ext mode skips w → (HasRisen w.faults w'.faults → ⊥) → IsFree r
+rebuild-free ext w w' mode skips (Ok b) d can fits calm = tt
+rebuild-free ext w w' mode skips (Err e) d can fits calm =
+    follow-cause ext w mode true w'.faults e d.cause d.faults can fits.0 (λ polled is. absurd (cc))
+    (λ key opened is. replays-once ext w mode skips key (subst (λ x. AreFollowed {A = Follower × PollAnswer} (by_catalogue w.stored w.catalogue) ext mode skips true w.catalogue w.stored (Err x)) is (d.segmented w.catalogue w.stored refl refl tt)) fits.1) calm
+
+-- and a poll of a reader that lacks none
+repoll-free : (ext : Option Extractor) (w w' : World) (mode : DbReaderMode) (skips : Bool) (r : Result (Follower × PollAnswer) SlateError) → Rebuilds (by_catalogue w.stored w.catalogue) ext mode skips false (λ objects line. Unit {0}) (state_of w).store r (state_of w').store → CanFollow mode false w → (LacksSegment (by_catalogue w.stored w.catalogue) ext mode skips false w.catalogue w.stored → ⊥) → (HasRisen w.faults w'.faults → ⊥) → IsFree r
+repoll-free ext w w' mode skips (Ok b) d can lacks calm = tt
+repoll-free ext w w' mode skips (Err e) d can lacks calm =
+    follow-cause ext w mode false w'.faults e d.cause d.faults can (can.1.0, can.1.1, refl)
+    (λ polled is. lacks (subst (λ x. AreFollowed {A = Follower × PollAnswer} (by_catalogue w.stored w.catalogue) ext mode skips false w.catalogue w.stored (Err x)) is (d.segmented w.catalogue w.stored refl refl tt)))
+    (λ key opened is. absurd (cc)) calm
 
 -- a checkpoint and a sweep of a world in which they can be made
 checkpoint-free : (lifetime : Option ℕ) (moment : ℤ) (w : World) (faults : ℕ) (r : Result Checkpoint SlateError) → CheckpointAnswer ⊥ lifetime moment w.catalogue r → CountsFaults w.faults faults r → CanCheckpoint w → (HasRisen w.faults faults → ⊥) → IsFree r
@@ -322,65 +369,94 @@ sweep-free w after faults moment (Err errors.NoMemory) answer counts can calm = 
 sweep-free w after faults moment (Err error) answer counts can calm = absurd answer
 
 -- over an honest store nothing is missing
-follow-reply : (w w' : World) (mode : DbReaderMode) (skips : Bool) (n : ℕ) (r : Result (Follower × PollAnswer) SlateError) → Rebuilds (by_catalogue w.stored w.catalogue) mode skips true unseen (state_of w).store r (state_of w').store → CanFollow mode true w → (HasRisen w.faults w'.faults → ⊥) → IsOkOrNoMemory (reply_to (λ (b : Follower × PollAnswer). followed_reply n b.1) r)
-follow-reply w w' mode skips n (Ok b) r can calm =
+follow-reply : (ext : Option Extractor) (w w' : World) (mode : DbReaderMode) (skips : Bool) (n : ℕ) (r : Result (Follower × PollAnswer) SlateError) → Rebuilds (by_catalogue w.stored w.catalogue) ext mode skips true unseen (state_of w).store r (state_of w').store → CanFollow mode true w × CanReplay ext mode skips w → (HasRisen w.faults w'.faults → ⊥) → IsOkOrNoMemory (reply_to (λ (b : Follower × PollAnswer). followed_reply n b.1) r)
+follow-reply ext w w' mode skips n (Ok b) r can calm =
     let all = r.sees w.catalogue w.stored refl refl tt in
     subst (λ a. IsOkOrNoMemory (followed_reply n a)) (sym all.3) tt
-follow-reply w w' mode skips n (Err e) r can calm = subst (λ x. IsOkOrNoMemory (refusal x)) (sym (rebuild-free w w' mode skips true (Err e) r can calm)) tt
+follow-reply ext w w' mode skips n (Err e) r (can, fits) calm = subst (λ x. IsOkOrNoMemory (refusal x)) (sym (rebuild-free ext w w' mode skips (Err e) r can fits calm)) tt
 
-poll-reply : (w w' : World) (mode : DbReaderMode) (skips : Bool) (f : Follower) (r : Result PollAnswer SlateError) → Rebuilds (by_catalogue w.stored w.catalogue) mode skips false (λ objects line. Unit {0}) (state_of w).store (built f r) (state_of w').store → CanFollow mode false w → (HasRisen w.faults w'.faults → ⊥) → IsOkOrNoMemory (reply_to polled_reply r)
-poll-reply w w' mode skips f (Ok answer) r can calm =
+poll-reply : (ext : Option Extractor) (w w' : World) (mode : DbReaderMode) (skips : Bool) (f : Follower) (r : Result PollAnswer SlateError) → Rebuilds (by_catalogue w.stored w.catalogue) ext mode skips false (λ objects line. Unit {0}) (state_of w).store (built f r) (state_of w').store → CanFollow mode false w → (LacksSegment (by_catalogue w.stored w.catalogue) ext mode skips false w.catalogue w.stored → ⊥) → (HasRisen w.faults w'.faults → ⊥) → IsOkOrNoMemory (reply_to polled_reply r)
+poll-reply ext w w' mode skips f (Ok answer) r can lacks calm =
     let all = r.sees w.catalogue w.stored refl refl tt in
     subst (λ a. IsOkOrNoMemory (polled_reply a)) (sym all.3) tt
-poll-reply w w' mode skips f (Err e) r can calm = subst (λ x. IsOkOrNoMemory (refusal x)) (sym (rebuild-free w w' mode skips false (Err e) r can calm)) tt
+poll-reply ext w w' mode skips f (Err e) r can lacks calm = subst (λ x. IsOkOrNoMemory (refusal x)) (sym (repoll-free ext w w' mode skips (Err e) r can lacks calm)) tt
 
 -- a poll of one that is open
-polled-completes : (w w' : World) (f f' : Follower) (r : Result PollAnswer SlateError) → Polls (by_catalogue w.stored w.catalogue) f (state_of w).store r f' (state_of w').store → f.result ≡ None → (is_pinned f.mode ≡ false → CanFollow f.mode false w) → (HasRisen w.faults w'.faults → ⊥) → (pinned : Bool) → is_pinned f.mode ≡ pinned → IsOkOrNoMemory (reply_to polled_reply r)
-polled-completes w w' f f' r p live can calm true stays = subst (λ x. IsOkOrNoMemory (reply_to polled_reply x)) (sym (p.pinned live stays).0) tt
-polled-completes w w' f f' r p live can calm false free = poll-reply w w' f.mode f.skips f' r (p.rebuilds live free) (can free) calm
+polled-completes : (ext : Option Extractor) (w w' : World) (f f' : Follower) (r : Result PollAnswer SlateError) → Polls (by_catalogue w.stored w.catalogue) ext f (state_of w).store r f' (state_of w').store → f.result ≡ None → (is_pinned f.mode ≡ false → CanFollow f.mode false w) → (is_pinned f.mode ≡ false → LacksSegment (by_catalogue w.stored w.catalogue) ext f.mode f.skips false w.catalogue w.stored → ⊥) → (HasRisen w.faults w'.faults → ⊥) → (pinned : Bool) → is_pinned f.mode ≡ pinned → IsOkOrNoMemory (reply_to polled_reply r)
+polled-completes ext w w' f f' r p live can lacks calm true stays = subst (λ x. IsOkOrNoMemory (reply_to polled_reply x)) (sym (p.pinned live stays).0) tt
+polled-completes ext w w' f f' r p live can lacks calm false free = poll-reply ext w w' f.mode f.skips f' r (p.rebuilds live free) (can free) (lacks free) calm
 
--- a call with a plan for a checkpoint that can be put
-plan-free : {A B : Type 0} (plan : VersionedManifest → Plan A) (w : World) (faults : ℕ) (r : Result B SlateError) → IfErr r (PlanCause ⊥ plan w.catalogue) → CountsFaults w.faults faults r → CanPut plan w → (HasRisen w.faults faults → ⊥) → IsFree r
-plan-free plan w faults (Ok x) cause counts can calm = tt
-plan-free plan w faults (Err errors.LatestTransactionalObjectVersionMissing) cause counts can calm = absurd (none-some (latest_manifest w.catalogue) can.0 cause can.1)
-plan-free plan w faults (Err errors.InvalidDBState) cause counts can calm =
+-- a call with a plan for a checkpoint that can be put, and that is refused for nothing else
+planned-free : {A B : Type 0} (plan : VersionedManifest → Plan A) (w : World) (faults : ℕ) (error : SlateError) → PlanCause ⊥ plan w.catalogue error → CountsFaults {A = B} w.faults faults (Err error) → CanPut plan w → (HasRisen w.faults faults → ⊥) → error ≡ errors.NoMemory
+planned-free plan w faults errors.LatestTransactionalObjectVersionMissing cause counts can calm = absurd (none-some (latest_manifest w.catalogue) can.0 cause can.1)
+planned-free plan w faults errors.InvalidDBState cause counts can calm =
     let same = same-manifest (latest_manifest w.catalogue) cause.0 can.0 cause.1 can.1 in
     absurd (let no : ◌≡◌ (Ok can.2) (Err refusals.InvalidDBState) = sym can.3 ∙ (ap plan (sym same) ∙ cause.2) in cc)
-plan-free plan w faults (Err (errors.TransactionalObjectTimeout tries)) cause counts can calm = absurd cause.1
-plan-free plan w faults (Err (errors.ObjectStoreError Unavailable)) cause counts can calm = absurd (calm (counts.unavailable refl))
-plan-free plan w faults (Err errors.NoMemory) cause counts can calm = refl
-plan-free plan w faults (Err error) cause counts can calm = absurd cause
+planned-free plan w faults (errors.TransactionalObjectTimeout tries) cause counts can calm = absurd cause.1
+planned-free plan w faults (errors.ObjectStoreError Unavailable) cause counts can calm = absurd (calm (counts.unavailable refl))
+planned-free plan w faults errors.NoMemory cause counts can calm = refl
+planned-free plan w faults error cause counts can calm = absurd cause
+
+plan-free : {A B : Type 0} (plan : VersionedManifest → Plan A) (w : World) (faults : ℕ) (r : Result B SlateError) (refused : SlateError → Type 0) → IfErr r (λ error. PlanCause ⊥ plan w.catalogue error ⊎ refused error) → ((error : SlateError) → r ≡ Err error → refused error → PlanCause ⊥ plan w.catalogue error) → CountsFaults w.faults faults r → CanPut plan w → (HasRisen w.faults faults → ⊥) → IsFree r
+plan-free plan w faults (Ok x) refused cause none counts can calm = tt
+plan-free {A} {B} plan w faults (Err e) refused (inl planned) none counts can calm = planned-free {A = A} {B = B} plan w faults e planned counts can calm
+plan-free {A} {B} plan w faults (Err e) refused (inr other) none counts can calm = planned-free {A = A} {B = B} plan w faults e (none e refl other) counts can calm
 
 -- an opening of a reader that keeps a checkpoint
-take-reply : (w w' : World) (made lifetime interval : ℕ) (skips : Bool) (moment : ℤ) (n : ℕ) (r : Result (Follower × PollAnswer) SlateError) → OpensManaged (by_catalogue w.stored w.catalogue) made lifetime interval skips moment (state_of w).store r (state_of w').store →
-    (lease_refusal lifetime interval ≡ None) × CanPut (to_take lifetime moment) w → (HasRisen w.faults w'.faults → ⊥) → IsOkOrNoMemory (reply_to (λ (b : Follower × PollAnswer). followed_reply n b.1) r)
-take-reply w w' made lifetime interval skips moment n (Ok b) d can calm =
-    let t = modelled w.catalogue w'.catalogue (d.takes can.0).takes in
+take-not : (ext : Option Extractor) (w : World) (skips : Bool) (lifetime : ℕ) (moment : ℤ) (e : SlateError) → CanReplay ext modes.ManagedCheckpoint skips w → ((key : List ℕ) → e ≡ errors.EmptySegmentPrefix key → ReplayRefuses (by_catalogue w.stored w.catalogue) ext modes.ManagedCheckpoint skips true w.catalogue w.stored (Some e)) → TakeRefusal ext w.catalogue e → PlanCause ⊥ (to_take lifetime moment) w.catalogue e
+take-not ext w skips lifetime moment (errors.SegmentExtractorMismatch persisted configured) fits keyed cause = absurd (refuses-once ext w true (errors.SegmentExtractorMismatch persisted configured) cause fits.0)
+take-not ext w skips lifetime moment (errors.SegmentPrefixNotRecognized prefix name) fits keyed cause = absurd (refuses-once ext w true (errors.SegmentPrefixNotRecognized prefix name) cause fits.0)
+take-not ext w skips lifetime moment (errors.EmptySegmentPrefix key) fits keyed cause = absurd (replays-once ext w modes.ManagedCheckpoint skips key (keyed key refl) fits.1)
+take-not ext w skips lifetime moment e fits keyed cause = absurd cause
+
+take-reply : (ext : Option Extractor) (w w' : World) (made lifetime interval : ℕ) (skips : Bool) (moment : ℤ) (n : ℕ) (r : Result (Follower × PollAnswer) SlateError) → OpensManaged (by_catalogue w.stored w.catalogue) ext made lifetime interval skips moment (state_of w).store r (state_of w').store →
+    (lease_refusal lifetime interval ≡ None) × CanPut (to_take lifetime moment) w × CanReplay ext modes.ManagedCheckpoint skips w → (HasRisen w.faults w'.faults → ⊥) → IsOkOrNoMemory (reply_to (λ (b : Follower × PollAnswer). followed_reply n b.1) r)
+take-reply ext w w' made lifetime interval skips moment n (Ok b) d (none, can, fits) calm =
+    let t = modelled w.catalogue w'.catalogue (d.takes none).takes in
     let all = (t.sees).sees w.stored refl tt in
     subst (λ a. IsOkOrNoMemory (followed_reply n a)) (sym all.3) tt
-take-reply w w' made lifetime interval skips moment n (Err e) d can calm =
-    let t = d.takes can.0 in
+take-reply ext w w' made lifetime interval skips moment n (Err e) d (none, can, fits) calm =
+    let t = d.takes none in
     let puts = modelled w.catalogue w'.catalogue t.puts in
-    subst (λ x. IsOkOrNoMemory (refusal x)) (sym (plan-free {B = Follower × PollAnswer} (to_take lifetime moment) w w'.faults (Err e) puts.cause t.faults can.1 calm)) tt
+    let segmented : AreFollowed {A = Follower × PollAnswer} (by_catalogue w.stored w.catalogue) ext modes.ManagedCheckpoint skips true w.catalogue w.stored (Err e) = t.segmented w.catalogue w.stored refl refl in
+    subst (λ x. IsOkOrNoMemory (refusal x)) (sym (plan-free {B = Follower × PollAnswer} (to_take lifetime moment) w w'.faults (Err e) (TakeRefusal ext w.catalogue) puts.cause
+    (λ error is. taken error is segmented) t.faults can calm)) tt where
+      taken : (error : SlateError) → ◌≡◌ {A = Result (Follower × PollAnswer) SlateError} (Err e) (Err error) → AreFollowed {A = Follower × PollAnswer} (by_catalogue w.stored w.catalogue) ext modes.ManagedCheckpoint skips true w.catalogue w.stored (Err e) → TakeRefusal ext w.catalogue error → PlanCause ⊥ (to_take lifetime moment) w.catalogue error
+      taken error is segmented =
+          let same : e ≡ error = cc in
+          take-not ext w skips lifetime moment error fits
+          (λ key is_key.
+          subst (λ x. ReplayRefuses (by_catalogue w.stored w.catalogue) ext modes.ManagedCheckpoint skips true w.catalogue w.stored (Some x)) (sym is_key)
+          (subst (λ x. AreFollowed {A = Follower × PollAnswer} (by_catalogue w.stored w.catalogue) ext modes.ManagedCheckpoint skips true w.catalogue w.stored (Err x)) (same ∙ is_key) segmented))
 
 -- a poll of one
-keep-reply : (w w' : World) (made : ℕ) (lease : Lease) (moment : ℤ) (f f' : Follower) (r : Result PollAnswer SlateError) → KeepsLease (by_catalogue w.stored w.catalogue) made lease moment f (state_of w).store r f' (state_of w').store → CanPut (to_keep f.view lease moment) w → (HasRisen w.faults w'.faults → ⊥) → IsOkOrNoMemory (reply_to polled_reply r)
-keep-reply w w' made lease moment f f' (Ok answer) d can calm =
+keep-not : (ext : Option Extractor) (w : World) (plan : VersionedManifest → Plan Lease) (e : SlateError) → (e ≡ errors.InvalidDBState → PlanIs plan w.catalogue (Err refusals.InvalidDBState)) → KeepRefusal ext w.catalogue e → PlanCause ⊥ plan w.catalogue e
+keep-not ext w plan errors.InvalidDBState planned cause = planned refl
+keep-not ext w plan e planned cause = absurd cause
+
+keep-reply : (ext : Option Extractor) (w w' : World) (made : ℕ) (lease : Lease) (moment : ℤ) (f f' : Follower) (r : Result PollAnswer SlateError) → KeepsLease (by_catalogue w.stored w.catalogue) ext made lease moment f (state_of w).store r f' (state_of w').store → CanPut (to_keep f.view lease moment) w → (LacksSegment (by_catalogue w.stored w.catalogue) ext modes.ManagedCheckpoint f.skips false w.catalogue w.stored → ⊥) → (HasRisen w.faults w'.faults → ⊥) → IsOkOrNoMemory (reply_to polled_reply r)
+keep-reply ext w w' made lease moment f f' (Ok answer) d can lacks calm =
     let t = modelled w.catalogue w'.catalogue d.keeps in
     let all = (t.sees).sees w.stored refl tt in
     subst (λ a. IsOkOrNoMemory (polled_reply a)) (sym all.3) tt
-keep-reply w w' made lease moment f f' (Err e) d can calm =
+keep-reply ext w w' made lease moment f f' (Err e) d can lacks calm =
     let puts = modelled w.catalogue w'.catalogue d.puts in
-    subst (λ x. IsOkOrNoMemory (refusal x)) (sym (plan-free {B = PollAnswer} (to_keep f.view lease moment) w w'.faults (Err e) puts.cause d.faults can calm)) tt
+    let segmented = d.segmented w.catalogue w.stored refl refl tt in
+    subst (λ x. IsOkOrNoMemory (refusal x)) (sym (plan-free {B = PollAnswer} (to_keep f.view lease moment) w w'.faults (Err e) (KeepRefusal ext w.catalogue) puts.cause
+    (λ error same. keep-not ext w (to_keep f.view lease moment) error (λ is. planned (segmented (same ∙ ap Err is)))) d.faults can calm)) tt where
+      planned : PlanIs (to_keep f.view lease moment) w.catalogue (Err refusals.InvalidDBState) ⊎ LacksSegment (by_catalogue w.stored w.catalogue) ext modes.ManagedCheckpoint f.skips false w.catalogue w.stored → PlanIs (to_keep f.view lease moment) w.catalogue (Err refusals.InvalidDBState)
+      planned (inl is) = is
+      planned (inr lack) = absurd (lacks lack)
 
 -- a lease that an open reader has which keeps a checkpoint
 lease-of : {G : Type 0} (f : Follower) → IsLeased f → is_managed f.mode ≡ true → f.result ≡ None → ((lease : Lease) → f.lease ≡ Some lease → G) → G
 lease-of f leased managed live g = by-option f.lease (λ none. absurd (let there = leased managed live in cc)) g
 
-polls-complete : (w w' : World) (made : ℕ) (moment : ℤ) (f f' : Follower) (r : Result PollAnswer SlateError) (managed : Bool) → is_managed f.mode ≡ managed → PollsAs (by_catalogue w.stored w.catalogue) managed made moment f (state_of w).store r f' (state_of w').store → IsLeased f → f.result ≡ None → CanPoll w moment f → (HasRisen w.faults w'.faults → ⊥) → IsOkOrNoMemory (reply_to polled_reply r)
-polls-complete w w' made moment f f' r true managed p leased live can calm =
-    lease-of f leased managed live (λ lease is. keep-reply w w' made lease moment f f' r (p.keeps lease live is) (some-of (λ lease. CanPut (to_keep f.view lease moment) w) f.lease lease is (can.1 managed)) calm)
-polls-complete w w' made moment f f' r false unmanaged p leased live can calm = polled-completes w w' f f' r p.0 live (can.0 unmanaged) calm (is_pinned f.mode) refl
+polls-complete : (ext : Option Extractor) (w w' : World) (made : ℕ) (moment : ℤ) (f f' : Follower) (r : Result PollAnswer SlateError) (managed : Bool) → is_managed f.mode ≡ managed → PollsAs (by_catalogue w.stored w.catalogue) ext managed made moment f (state_of w).store r f' (state_of w').store → IsLeased f → f.result ≡ None → CanPoll w moment f → (is_pinned f.mode ≡ false → LacksSegment (by_catalogue w.stored w.catalogue) ext f.mode f.skips false w.catalogue w.stored → ⊥) → (HasRisen w.faults w'.faults → ⊥) → IsOkOrNoMemory (reply_to polled_reply r)
+polls-complete ext w w' made moment f f' r true managed p leased live can lacks calm =
+    lease-of f leased managed live (λ lease is. keep-reply ext w w' made lease moment f f' r (p.keeps lease live is) (some-of (λ lease. CanPut (to_keep f.view lease moment) w) f.lease lease is (can.1 managed))
+    (subst (λ m. LacksSegment (by_catalogue w.stored w.catalogue) ext m f.skips false w.catalogue w.stored → ⊥) (managed-mode f.mode managed) (lacks (managed-free f.mode managed))) calm)
+polls-complete ext w w' made moment f f' r false unmanaged p leased live can lacks calm = polled-completes ext w w' f f' r p.0 live (can.0 unmanaged) lacks calm (is_pinned f.mode) refl
 
 -- a close of an open one, and of one that was closed without an error
 ended-free : (fault : Option SlateError) (tasks : List TaskName) → IsFree (closing_flush fault) → IsOkOrNoMemory (replies.Ended fault tasks)
@@ -396,7 +472,7 @@ closes-complete w w' made f f' answer true managed c leased can calm None live =
     lease-of f leased managed live (λ lease is.
     let e = c.ends lease live is in
     let puts = modelled w.catalogue w'.catalogue e.puts in
-    ended-free answer.fault answer.tasks (plan-free (to_delete lease.id) w w'.faults (closing_flush answer.fault) puts.cause e.faults (some-of (λ (lease : Lease). CanPut (to_delete lease.id) w) f.lease lease is (can.1 managed live)) calm))
+    ended-free answer.fault answer.tasks (plan-free (to_delete lease.id) w w'.faults (closing_flush answer.fault) (λ error. ⊥) puts.cause (λ error is never. absurd never) e.faults (some-of (λ (lease : Lease). CanPut (to_delete lease.id) w) f.lease lease is (can.1 managed live)) calm))
 closes-complete w w' made f f' answer true managed c leased can calm (Some q) is =
     let again = some-of (λ _. (answer ≡ ended (recorded_fault f.result)) × Untouched made (state_of w).store (state_of w').store) f.result q is c.again in
     again-reply answer.fault answer.tasks (ap (λ (e : Ended). e.fault) again.0 ∙ can.0)
@@ -422,7 +498,7 @@ by-object (Some (AFollower x)) of_handle of_snapshot of_follower at f s g = g x 
 by-handle : {G : Type 0} (w : World) (n : ℕ) (of_handle : Handle → Type 0) → AtHandle w n of_handle → ((h : Handle) → slice_get w.objects n ≡ Some (AHandle h) → of_handle h → G) → G
 by-handle w n of_handle at f = by-object (slice_get w.objects n) of_handle _ _ at f (λ x is never. absurd never) (λ g is never. absurd never)
 
-module _ (settings : Settings) (w w' : World) (valid : IsValid w) (command : Command) (made : ℕ) (reply : Reply) (calm : HasRisen w.faults w'.faults → ⊥) where
+module _ (settings : Settings) (w w' : World) (valid : IsValid w) (segments : AreInSegments settings.extractor w) (command : Command) (made : ℕ) (reply : Reply) (calm : HasRisen w.faults w'.faults → ⊥) where
   asked : (found : Option Write) → IsDurable w found → IsOkOrNoMemory (write_reply w.objects found)
   asked None never = absurd never
   asked (Some write) at =
@@ -431,9 +507,9 @@ module _ (settings : Settings) (w w' : World) (valid : IsValid w) (command : Com
       (subst IsOkOrNoMemory (sym (ap (λ b. if b then replies.Durable else pending_reply h.result) (le-leb write.number h.durable low))) tt))
 
   -- a handle that may be asked this
-  handle-completes : (n : ℕ) (call : Call) (h h' : Handle) → CanAsk settings.merge w command.moment command.second call h → HandleActs (by_catalogue w.stored w.catalogue) settings.merge n command.moment command.second call made h (state_of w).store w.writes reply h' (state_of w').store w'.writes → IsOkOrNoMemory reply
-  handle-completes n (WriteCall ops) h h' can a = write-completes n ops _ _ h _ reply h' _ can a.0
-  handle-completes n (MergeCall op) h h' can a = merge-completes settings.merge n op _ _ h _ reply h' _ can.0 can.1 a.0
+  handle-completes : (n : ℕ) (call : Call) (h h' : Handle) → CanAsk settings w command.moment command.second call h → HandleActs (by_catalogue w.stored w.catalogue) settings n command.moment command.second call made h (state_of w).store w.writes reply h' (state_of w').store w'.writes → IsOkOrNoMemory reply
+  handle-completes n (WriteCall ops) h h' can a = write-completes settings.extractor n ops _ _ h _ reply h' _ can a.0
+  handle-completes n (MergeCall op) h h' can a = merge-completes settings.merge settings.extractor n op _ _ h _ reply h' _ can.0 can.1 a.0
   handle-completes n (Flush t) h h' can a = flush-completes w w' made (flush_type_by t h) h h' (a.0).result reply can.0 can.1 (a.0).does (a.0).replied calm
   handle-completes n Refresh h h' can a =
       subst IsOkOrNoMemory (sym (a.0).replied) (free-reply _ (a.0).result (λ x at. tt) (refresh-free w w' h h' (a.0).result can.0 can.1 (a.0).does calm))
@@ -453,7 +529,7 @@ module _ (settings : Settings) (w w' : World) (valid : IsValid w) (command : Com
   handle-completes n Nothing h h' can a = absurd can
 
   -- a follower that may be asked this
-  follower-completes : (n : ℕ) (call : Call) (f f' : Follower) → slice_get w.objects n ≡ Some (AFollower f) → CanAskFollower settings.merge w command.moment call f → FollowerActs (by_catalogue w.stored w.catalogue) settings.merge command.moment call made f (state_of w).store w.writes reply f' (state_of w').store w'.writes → IsOkOrNoMemory reply
+  follower-completes : (n : ℕ) (call : Call) (f f' : Follower) → slice_get w.objects n ≡ Some (AFollower f) → CanAskFollower settings w command.moment call f → FollowerActs (by_catalogue w.stored w.catalogue) settings command.moment call made f (state_of w).store w.writes reply f' (state_of w').store w'.writes → IsOkOrNoMemory reply
   follower-completes n (WriteCall ops) f f' at can a = absurd can
   follower-completes n (MergeCall op) f f' at can a = absurd can
   follower-completes n (Flush t) f f' at can a = absurd can
@@ -470,28 +546,29 @@ module _ (settings : Settings) (w w' : World) (valid : IsValid w) (command : Com
   follower-completes n (Close t) f f' at can a =
       subst IsOkOrNoMemory (sym (a.0).replied) (closes-complete w w' made f f' (a.0).answer (is_managed f.mode) refl (a.0).does (valid.followers n f at).2 can calm f.result refl)
   follower-completes n Poll f f' at can a =
-      subst IsOkOrNoMemory (sym (a.0).replied) (polls-complete w w' made command.moment f f' (a.0).result (is_managed f.mode) refl (a.0).does (valid.followers n f at).2 can.0 can.1 calm)
+      subst IsOkOrNoMemory (sym (a.0).replied) (polls-complete settings.extractor w w' made command.moment f f' (a.0).result (is_managed f.mode) refl (a.0).does (valid.followers n f at).2 can.0 can.1
+      (none-lacks settings.extractor w valid.line segments n f at) calm)
   follower-completes n Status f f' at can a = status-completes _ reply a.0
   follower-completes n Nothing f f' at can a = absurd can
 
   abbrev k : Knowledge Span
   k = by_catalogue w.stored w.catalogue
 
-  handle-acts : (n : ℕ) (call : Call) (h : Handle) → CanAsk settings.merge w command.moment command.second call h → ActsAt k settings.merge n command call made (AHandle h) (state_of w) reply (state_of w') → IsOkOrNoMemory reply
-  handle-acts n call h can d = let a = handle-acted k settings.merge n command call made (state_of w) reply (state_of w') h d in handle-completes n call h a.new can a.acts
+  handle-acts : (n : ℕ) (call : Call) (h : Handle) → CanAsk settings w command.moment command.second call h → ActsAt k settings n command call made (AHandle h) (state_of w) reply (state_of w') → IsOkOrNoMemory reply
+  handle-acts n call h can d = let a = handle-acted k settings n command call made (state_of w) reply (state_of w') h d in handle-completes n call h a.new can a.acts
 
-  snapshot-completes : (x : HandleSnapshot) (call : Call) → CanAskSnapshot settings.merge w command.moment command.second call x → ReadsSnapshot k settings.merge x command call made (slice_get w.objects x.handle) (state_of w) reply (state_of w') → IsOkOrNoMemory reply
+  snapshot-completes : (x : HandleSnapshot) (call : Call) → CanAskSnapshot settings w command.moment command.second call x → ReadsSnapshot k settings x command call made (slice_get w.objects x.handle) (state_of w) reply (state_of w') → IsOkOrNoMemory reply
   snapshot-completes x call can d =
       by-handle w x.handle _ can
-      (λ h at can_ask. handle-acts x.handle (at_snapshot x.number call) h can_ask (subst (λ found. ReadsSnapshot k settings.merge x command call made found (state_of w) reply (state_of w')) at d))
+      (λ h at can_ask. handle-acts x.handle (at_snapshot x.number call) h can_ask (subst (λ found. ReadsSnapshot k settings x command call made found (state_of w) reply (state_of w')) at d))
 
-  object-completes : (n : ℕ) (call : Call) → AtObject (slice_get w.objects n) (CanAsk settings.merge w command.moment command.second call) (CanAskSnapshot settings.merge w command.moment command.second call) (CanAskFollower settings.merge w command.moment call) → ActsOn k settings.merge n command call made (slice_get w.objects n) (state_of w) reply (state_of w') → IsOkOrNoMemory reply
+  object-completes : (n : ℕ) (call : Call) → AtObject (slice_get w.objects n) (CanAsk settings w command.moment command.second call) (CanAskSnapshot settings w command.moment command.second call) (CanAskFollower settings w command.moment call) → ActsOn k settings n command call made (slice_get w.objects n) (state_of w) reply (state_of w') → IsOkOrNoMemory reply
   object-completes n call can d =
       by-object (slice_get w.objects n) _ _ _ can
-      (λ h at can_ask. handle-acts n call h can_ask (subst (λ found. ActsOn k settings.merge n command call made found (state_of w) reply (state_of w')) at d))
-      (λ x at can_ask. snapshot-completes x call can_ask (subst (λ found. ActsOn k settings.merge n command call made found (state_of w) reply (state_of w')) at d))
+      (λ h at can_ask. handle-acts n call h can_ask (subst (λ found. ActsOn k settings n command call made found (state_of w) reply (state_of w')) at d))
+      (λ x at can_ask. snapshot-completes x call can_ask (subst (λ found. ActsOn k settings n command call made found (state_of w) reply (state_of w')) at d))
       (λ f at can_ask.
-      let a = follower-did k settings.merge n command call made (state_of w) reply (state_of w') (slice_get w.objects n) f at d in
+      let a = follower-did k settings n command call made (state_of w) reply (state_of w') (slice_get w.objects n) f at d in
       follower-completes n call f a.new at can_ask a.acts)
 
   -- a snapshot of an open handle
@@ -506,15 +583,15 @@ module _ (settings : Settings) (w w' : World) (valid : IsValid w) (command : Com
       let a : OpensSnapshot n made (Some (AHandle h)) (state_of w) reply (state_of w') = subst (λ found. OpensSnapshot n made found (state_of w) reply (state_of w')) at d in
       subst IsOkOrNoMemory (sym (a.0).replied) (free-reply _ (a.0).result (λ x at. tt) (snapshot-free h _ _ (a.0).result live (a.0).does)))
 
-  completes-at : (target : Target) → DoesBy (by_catalogue w.stored w.catalogue) settings command target made (state_of w) reply (state_of w') → IsValidAt settings.merge w command.moment command.second (call_of command.action) target → IsOkOrNoMemory reply
+  completes-at : (target : Target) → DoesBy (by_catalogue w.stored w.catalogue) settings command target made (state_of w) reply (state_of w') → IsValidAt settings w command.moment command.second (call_of command.action) target → IsOkOrNoMemory reply
   completes-at (NewHandle keeps_log) d can =
       let o = modelled w.catalogue w'.catalogue (d.does).opens in
-      subst IsOkOrNoMemory (sym d.replied) (free-reply _ d.result (λ x at. tt) (open-free w w'.faults d.result o.answer (d.does).faults can calm))
+      subst IsOkOrNoMemory (sym d.replied) (free-reply _ d.result (λ x at. tt) (open-free settings.extractor w w'.faults d.result o.answer ((d.does).segmented w.catalogue w.stored refl refl) (d.does).faults can calm))
   completes-at (NewSnapshot n) d can = opens-snapshot n can d
-  completes-at (NewFollower modes.FollowLatest managed skips) d can = subst IsOkOrNoMemory (sym (d.0).replied) (follow-reply w w' modes.FollowLatest skips (length w.objects) (d.0).result (d.0).does can calm)
-  completes-at (NewFollower (modes.Checkpoint id) managed skips) d can = subst IsOkOrNoMemory (sym (d.0).replied) (follow-reply w w' (modes.Checkpoint id) skips (length w.objects) (d.0).result (d.0).does can calm)
+  completes-at (NewFollower modes.FollowLatest managed skips) d can = subst IsOkOrNoMemory (sym (d.0).replied) (follow-reply settings.extractor w w' modes.FollowLatest skips (length w.objects) (d.0).result (d.0).does can calm)
+  completes-at (NewFollower (modes.Checkpoint id) managed skips) d can = subst IsOkOrNoMemory (sym (d.0).replied) (follow-reply settings.extractor w w' (modes.Checkpoint id) skips (length w.objects) (d.0).result (d.0).does can calm)
   completes-at (NewFollower modes.ManagedCheckpoint managed skips) d can =
-      subst IsOkOrNoMemory (sym d.replied) (take-reply w w' made (lifetime_of managed) (interval_of managed) skips command.moment (length w.objects) d.result d.does can calm)
+      subst IsOkOrNoMemory (sym d.replied) (take-reply settings.extractor w w' made (lifetime_of managed) (interval_of managed) skips command.moment (length w.objects) d.result d.does can calm)
   completes-at (NewCheckpoint lifetime) d can =
       let c = d.does in
       let o = modelled w.catalogue w'.catalogue (c.does).objects in
@@ -527,5 +604,5 @@ module _ (settings : Settings) (w w' : World) (valid : IsValid w) (command : Com
   completes-at (OfObject n) d can = object-completes n (call_of command.action) can d
 
 -- a valid command that meets no fault is refused nothing
-pub completes : (settings : Settings) (w : World) (command : Command) (reply : Reply) (w' : World) → IsValid w → Next settings w command reply w' → IsValidCommand settings.merge w command → (HasRisen w.faults w'.faults → ⊥) → IsOkOrNoMemory reply
-completes settings w command reply w' valid next can calm = completes-at settings w w' valid command next.made reply calm (target_of command.action) next.does can
+pub completes : (settings : Settings) (w : World) (command : Command) (reply : Reply) (w' : World) → IsValid w → AreInSegments settings.extractor w → Next settings w command reply w' → IsValidCommand settings w command → (HasRisen w.faults w'.faults → ⊥) → IsOkOrNoMemory reply
+completes settings w command reply w' valid segments next can calm = completes-at settings w w' valid segments command next.made reply calm (target_of command.action) next.does can

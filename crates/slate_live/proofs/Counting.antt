@@ -1,8 +1,7 @@
 -- Openings, polls and closes call the store no more often than a command may.
-use Rattle.std.proofs.Common.{◌≡◌, ℕ, ◌+◌, ◌*◌, ◌≤◌, Bool, true, false, Option, Some, None, Err, refl, subst, arith}
+use Rattle.std.proofs.Common.{◌≡◌, ℕ, ◌+◌, ◌*◌, ◌≤◌, Bool, true, false, Option, Some, None, Err, refl, arith}
 use Rattle.std.specs.Option.{IfSome}
 use Rattle.slate_store.specs.Objects.{Objects}
-use Rattle.slate_store.specs.Calls.{WhereModelled}
 use Rattle.slate_store.specs.declared.reader_modes.DbReaderMode.{DbReaderMode}
 use Rattle.slate_store.specs.declared.reader_modes.DbReaderMode.TheVariants as modes
 use Rattle.slate_errors.specs.declared.errors.SlateError.{SlateError}
@@ -11,18 +10,17 @@ use Rattle.slate_follow.specs.Rebuilding.{CallsOpening as CallsFollowing, CallsR
 use Rattle.slate_model.specs.Followed.{followed_logs}
 use Rattle.slate_model.specs.Follower.{is_managed}
 use Rattle.slate_model.specs.Handle.{Handle}
-use Rattle.slate_model.specs.Open.{OpenCause, OpenFault, Opens, replayed_logs}
+use Rattle.slate_model.specs.Open.{replayed_logs}
 use Rattle.slate_writer.specs.Opening.{CallsOpening}
 use Rattle.slate_live.specs.Calls.{end_calls, follow_calls, poll_calls}
 
-most-at : (o : Objects) (e : SlateError) (calls calls' : ℕ) → OpenCause (OpenFault o) o e → CallsOpening {A = Handle} o calls calls' (Err e) → calls' ≤ calls + (replayed_logs o + 5)
-most-at o (errors.WalTruncated id) calls calls' cause counted = let within = cause.1.within in omega (arith, within, counted)
-most-at o e calls calls' cause counted = omega (arith, counted)
+most-at : (o : Objects) (e : SlateError) (calls calls' : ℕ) → CallsOpening {A = Handle} o calls calls' (Err e) → calls' ≤ calls + (replayed_logs o + 5)
+most-at o (errors.WalTruncated id) calls calls' counted = let most = counted.1 in omega (arith, most)
+most-at o e calls calls' counted = omega (arith, counted)
 
--- where it is truncated, the log file at which it ended is at most the last one
-pub opening-calls : {t t' : Option Objects} (e : SlateError) (made calls calls' : ℕ) → WhereModelled (λ o o'. Opens {A = Handle} (λ batches. batches) (OpenFault o) o (Err e) made o') t t' → IfSome t (λ o. CallsOpening {A = Handle} o calls calls' (Err e)) → IfSome t (λ o. calls' ≤ calls + (replayed_logs o + 5))
-opening-calls {t = None} e made calls calls' opens counted = tt
-opening-calls {t = Some o} e made calls calls' opens counted = let opened = opens.some o refl in most-at o e calls calls' opened.2.answer counted
+pub opening-calls : (t : Option Objects) (e : SlateError) (calls calls' : ℕ) → IfSome t (λ o. CallsOpening {A = Handle} o calls calls' (Err e)) → IfSome t (λ o. calls' ≤ calls + (replayed_logs o + 5))
+opening-calls None e calls calls' counted = tt
+opening-calls (Some o) e calls calls' counted = most-at o e calls calls' counted
 
 -- an opening of a reader, by its mode
 follows-at : (mode : DbReaderMode) (skips : Bool) (o : Objects) (calls calls' : ℕ) → (is_managed mode ≡ false → CallsFollowing mode skips o calls calls') → (is_managed mode ≡ true → calls' ≤ calls + (followed_logs mode skips o + 17)) → calls' ≤ calls + follow_calls mode skips o

@@ -1,20 +1,18 @@
 -- The leases of the readers of a world are of checkpoints that manifests up to the latest one commit, each of another.
-use Rattle.std.proofs.Common.{◌≡◌, ◌≢◌, ◌⊎◌, ◌++◌, ◌∷◌, ◌+◌, ◌∙◌, ◌<◌, ◌≤◌, [], inl, inr, ℕ, ℤ, Bool, true, false, cond, length, List, drop, map, Option, Some, None, Result, Ok, Err, refl, sym, subst, ap, arith}
+use Rattle.std.proofs.Common.{◌≡◌, ◌⊎◌, ◌+◌, ◌∙◌, ◌<◌, ◌≤◌, inl, inr, ℕ, ℤ, Bool, true, false, cond, List, drop, Option, Some, None, Ok, Err, refl, sym, ap, arith}
 use Rattle.std.proofs.lemmas.Bool.{ltb-true}
 use Rattle.std.proofs.lemmas.Nat.{from_be_bytes-to_be_bytes_8}
 use Rattle.std.specs.Int.{from_be_bytes}
 use Rattle.std.specs.Prelude.{nat_lt}
 use mir.Syntax.{w64}
-use Rattle.slate_store.specs.Checkpoints.{Plan, checkpoint_id, found, has_id, lease_end, new_checkpoint, puts_next, refreshed, to_end, to_refresh, to_write, with_checkpoints, without_id}
-use Rattle.slate_store.specs.Objects.{latest_manifest}
+use Rattle.slate_store.specs.Checkpoints.{Plan, checkpoint_id, found, lease_end, new_checkpoint, puts_next, to_end, to_refresh, to_write}
 use Rattle.slate_store.specs.declared.objects.Checkpoint.{Checkpoint}
 use Rattle.slate_store.specs.declared.objects.VersionedManifest.{VersionedManifest}
 use Rattle.slate_store.specs.declared.refusals.StoreRefusal.TheVariants as refusals
 use Rattle.slate_model.specs.declared.leases.Lease.{Lease}
-use Rattle.slate_model.specs.Lease.{is_due, lease_of, leased, replaces, to_keep, to_take}
+use Rattle.slate_model.specs.Lease.{is_due, leased, replaces, to_keep, to_take}
 use Rattle.slate_model.specs.Write.{last_number}
-use Rattle.slate_model.proofs.Reduced.{some-same}
-use Rattle.slate_live.proofs.Carrying.{leased-is, put-is, taken-is}
+use Rattle.slate_live.proofs.Carrying.{leased-is, taken-is}
 use Rattle.slate_live.proofs.Finding.{found-id}
 
 -- a checkpoint's id tells the id of the manifest that commits it

@@ -1,10 +1,10 @@
 -- What the live state's calls do, by what the calls of its objects do.
+use Rattle.slate_model.specs.Segments.{Extractor}
 use Rattle.std.proofs.Common.{◌≡◌, ◌∙◌, inl, inr, ℕ, ℤ, Bool, List, [], ◌∷◌, ◌++◌, length, set, true, false, Option, Some, None, Result, Ok, Err, refl, sym, subst, ap, arith}
 use Rattle.std.specs.Option.{IfSome, UnwrapsOrElse}
 use Rattle.slate_types.specs.declared.batches.Batch.{Batch}
 use Rattle.slate_types.specs.declared.options.CloseOptions.{CloseOptions}
 use Rattle.slate_types.specs.declared.options.FlushType.TheVariants.{MemTable}
-use Rattle.slate_types.specs.Operator.{Merge}
 use Rattle.slate_types.specs.Modelled.{WhereModelled}
 use Rattle.slate_types.specs.declared.store_errors.StoreFault.TheVariants.{NotFound, Unavailable}
 use Rattle.slate_store.specs.declared.objects.Checkpoint.{Checkpoint}
@@ -27,7 +27,7 @@ use Rattle.slate_errors.specs.declared.errors.SlateError.TheVariants as errors
 use Rattle.slate_model.specs.Follow.{FollowCause, Polls, Rebuilds, unseen}
 use Rattle.slate_model.specs.Follower.{Follower, is_managed}
 use Rattle.slate_model.specs.Lease.{lease_refusal, to_take}
-use Rattle.slate_model.specs.Managed.{OpensManaged, PollsManaged, PutsPlanned, TakesLease}
+use Rattle.slate_model.specs.Managed.{OpensManaged, PollsManaged, PutsPlanned, TakeRefusal, TakesLease}
 use Rattle.slate_model.specs.declared.answers.PollAnswer.{PollAnswer}
 use Rattle.slate_model.specs.Knowledge.{Knowledge}
 use Rattle.slate_model.specs.Known.{Known, Untouched}
@@ -49,8 +49,8 @@ use Rattle.std.proofs.lemmas.List.{append-nil}
 use Rattle.slate_live.specs.State.{State}
 
 -- an opening that finds no room touches no store
-pub opens-nothing : {L : Type 0} (k : Knowledge L) (keeps_log : Bool) (limit : ℕ) (store : Known L) → OpensHandle k 0 keeps_log limit store (Err errors.NoMemory) store
-opens-nothing k keeps_log limit store = record {
+pub opens-nothing : {L : Type 0} (k : Knowledge L) (extractor : Option Extractor) (keeps_log : Bool) (limit : ℕ) (store : Known L) → OpensHandle k extractor 0 keeps_log limit store (Err errors.NoMemory) store
+opens-nothing k extractor keeps_log limit store = record {
   opens = record {
     none = λ h. h;
     some = λ o is. (o, is, record { answer = tt; part = omega arith; only = tt; can = λ h. absurd (omega (arith, h)); after = refl });
@@ -58,96 +58,104 @@ opens-nothing k keeps_log limit store = record {
   faults = record { count = omega arith; unavailable = λ h. absurd (cc); none_missing = λ h. absurd (cc) };
   fresh = tt;
   view = tt;
+  segmented = λ o line is stored. tt;
   handle = tt;
 }
 
-caused : (k : Knowledge (List Batch)) (mode : DbReaderMode) (objects : Option Objects) → IfSome objects (λ o. FollowCause mode true (k.unpinned mode o) o errors.NoMemory)
-caused k mode None = tt
-caused k mode (Some o) = tt
+caused : (ext : Option Extractor) (k : Knowledge (List Batch)) (mode : DbReaderMode) (objects : Option Objects) → IfSome objects (λ o. FollowCause ext mode true (k.unpinned mode o) o errors.NoMemory)
+caused ext k mode None = tt
+caused ext k mode (Some o) = tt
 
 -- an opening of a reader that was opened and finds no room
-pub follows-in_vain : (k : Knowledge (List Batch)) (mode : DbReaderMode) (skips : Bool) (b : Follower × PollAnswer) (before after : Known (List Batch)) → Rebuilds k mode skips true unseen before (Ok b) after → Rebuilds k mode skips true unseen before (Err errors.NoMemory) after
-follows-in_vain k mode skips b before after did = record {
+pub follows-in_vain : (ext : Option Extractor) (k : Knowledge (List Batch)) (mode : DbReaderMode) (skips : Bool) (b : Follower × PollAnswer) (before after : Known (List Batch)) → Rebuilds k ext mode skips true unseen before (Ok b) after → Rebuilds k ext mode skips true unseen before (Err errors.NoMemory) after
+follows-in_vain ext k mode skips b before after did = record {
   kept = did.kept;
   faults = record { count = did.faults.count; unavailable = λ h. absurd (cc) };
   missing = λ h. absurd (cc);
-  cause = caused k mode before.objects;
+  cause = caused ext k mode before.objects;
   answer = tt;
   can = tt;
   logs = tt;
+  fits = tt;
   sees = tt;
+  segmented = λ o line is stored seen. tt;
+  segments = tt;
 }
 
 -- and of one that keeps a checkpoint, which is left to lapse
-module _ {L : Type 0} (k : Knowledge L) (made lifetime interval : ℕ) (skips : Bool) (moment : ℤ) (b : Follower × PollAnswer) (before after : Known L) where
+module _ {L : Type 0} (ext : Option Extractor) (k : Knowledge L) (made lifetime interval : ℕ) (skips : Bool) (moment : ℤ) (b : Follower × PollAnswer) (before after : Known L) where
   refused-not : (refusal : Option SlateError) → IfSome refusal (λ error. (◌≡◌ {A = Result (Follower × PollAnswer) SlateError} (Ok b) (Err error)) × Untouched made before after) → IfSome refusal (λ error. (◌≡◌ {A = Result (Follower × PollAnswer) SlateError} (Err errors.NoMemory) (Err error)) × Untouched made before after)
   refused-not None is = tt
   refused-not (Some error) is = absurd (let e = is.0 in cc)
 
-  puts-in_vain : (o o' : ObjectsOf L) → PutsPlanned k.stands (to_take lifetime moment) o (Ok b) made o' → PutsPlanned {B = Follower × PollAnswer} k.stands (to_take lifetime moment) o (Err errors.NoMemory) made o'
-  puts-in_vain o o' puts = record { cause = tt; part = let whole = puts.part in omega (arith, whole); after = puts.after }
+  puts-in_vain : (o o' : ObjectsOf L) → PutsPlanned k.stands (TakeRefusal ext) (to_take lifetime moment) o (Ok b) made o' → PutsPlanned {B = Follower × PollAnswer} k.stands (TakeRefusal ext) (to_take lifetime moment) o (Err errors.NoMemory) made o'
+  puts-in_vain o o' puts = record { cause = inl tt; part = let whole = puts.part in omega (arith, whole); after = puts.after }
 
-  takes-in_vain : TakesLease k made lifetime skips moment before (Ok b) after → TakesLease k made lifetime skips moment before (Err errors.NoMemory) after
+  takes-in_vain : TakesLease k ext made lifetime skips moment before (Ok b) after → TakesLease k ext made lifetime skips moment before (Err errors.NoMemory) after
   takes-in_vain takes = record {
     faults = record { count = takes.faults.count; unavailable = λ h. absurd (cc); none_missing = λ h. absurd (cc) };
     puts = record { none = takes.puts.none; some = λ o is. let t = takes.puts.some o is in (t.0, t.1, puts-in_vain o t.0 t.2) };
     answers = tt;
     takes = tt;
+    fits = tt;
+    segmented = λ o line is stored. tt;
+    segments = tt;
+    whole = λ key is. absurd (cc);
   }
 
-  pub opens-in_vain : OpensManaged k made lifetime interval skips moment before (Ok b) after → OpensManaged k made lifetime interval skips moment before (Err errors.NoMemory) after
+  pub opens-in_vain : OpensManaged k ext made lifetime interval skips moment before (Ok b) after → OpensManaged k ext made lifetime interval skips moment before (Err errors.NoMemory) after
   opens-in_vain did = record { refused = refused-not (lease_refusal lifetime interval) did.refused; takes = λ passes. takes-in_vain (did.takes passes) }
 
 -- An opening of a reader that answered this, over the options that a command gives: what it did, by its mode, is what the command does.
 module _ {L : Type 0} (k : Knowledge L) (settings : Settings) where
   opens-by : (mode : DbReaderMode) (managed : Option (ℕ × ℕ)) (skips : Bool) (moment : ℤ) (r : Result (Follower × PollAnswer) SlateError) (s : State L) (reply : Reply) (s' : State L) →
       reply ≡ reply_to (λ b. followed_reply (length s.objects) b.1) r → s'.objects ≡ s.objects ++ added (λ b. AFollower b.0) r → s'.writes ≡ s.writes → (lifetime interval : ℕ) → lifetime ≡ lifetime_of managed → interval ≡ interval_of managed →
-      (is_managed mode ≡ false → Rebuilds k mode skips true unseen s.store r s'.store) → (is_managed mode ≡ true → (made : ℕ) × OpensManaged k made lifetime interval skips moment s.store r s'.store) →
+      (is_managed mode ≡ false → Rebuilds k settings.extractor mode skips true unseen s.store r s'.store) → (is_managed mode ≡ true → (made : ℕ) × OpensManaged k settings.extractor made lifetime interval skips moment s.store r s'.store) →
       (made : ℕ) × OpensFollowerIn k settings mode managed skips moment made s reply s'
   opens-by (modes.Checkpoint id) managed skips moment r s reply s' replied objects writes lifetime interval is is' other keeps = (0, (record { result = r; replied = replied; does = other refl; objects = objects; writes = writes }, refl))
   opens-by modes.FollowLatest managed skips moment r s reply s' replied objects writes lifetime interval is is' other keeps = (0, (record { result = r; replied = replied; does = other refl; objects = objects; writes = writes }, refl))
   opens-by modes.ManagedCheckpoint managed skips moment r s reply s' replied objects writes lifetime interval is is' other keeps =
       let d = keeps refl in
-      let did : OpensManaged k d.0 (lifetime_of managed) (interval_of managed) skips moment s.store r s'.store =
-      subst (λ i. OpensManaged k d.0 (lifetime_of managed) i skips moment s.store r s'.store) is' (subst (λ l. OpensManaged k d.0 l interval skips moment s.store r s'.store) is d.1) in
+      let did : OpensManaged k settings.extractor d.0 (lifetime_of managed) (interval_of managed) skips moment s.store r s'.store =
+      subst (λ i. OpensManaged k settings.extractor d.0 (lifetime_of managed) i skips moment s.store r s'.store) is' (subst (λ l. OpensManaged k settings.extractor d.0 l interval skips moment s.store r s'.store) is d.1) in
       (d.0, record { result = r; replied = replied; does = did; objects = objects; writes = writes })
 
 module _ (k : Knowledge (List Batch)) (settings : Settings) (mode : DbReaderMode) (managed : Option (ℕ × ℕ)) (skips : Bool) (moment : ℤ) where
   -- it is added
   pub opens-follower : (b : Follower × PollAnswer) (objects objects' : List Object) (writes : List Write) (before after : Known (List Batch)) (reply : Reply) → reply ≡ followed_reply (length objects) b.1 → objects' ≡ objects ++ AFollower b.0 ∷ [] →
       (lifetime interval : ℕ) → lifetime ≡ lifetime_of managed → interval ≡ interval_of managed → (at : ℤ) → at ≡ moment →
-      (is_managed mode ≡ false → Rebuilds k mode skips true unseen before (Ok b) after) → (is_managed mode ≡ true → (made : ℕ) × OpensManaged k made lifetime interval skips at before (Ok b) after) →
+      (is_managed mode ≡ false → Rebuilds k settings.extractor mode skips true unseen before (Ok b) after) → (is_managed mode ≡ true → (made : ℕ) × OpensManaged k settings.extractor made lifetime interval skips at before (Ok b) after) →
       (made : ℕ) × OpensFollowerIn k settings mode managed skips moment made (record { objects = objects; writes = writes; store = before }) reply (record { objects = objects'; writes = writes; store = after })
   opens-follower b objects objects' writes before after reply replied added lifetime interval is is' at same_at other keeps =
-      opens-by k settings mode managed skips moment (Ok b) (record { objects = objects; writes = writes; store = before }) reply (record { objects = objects'; writes = writes; store = after }) replied added refl lifetime interval is is' other (λ keep. let d = keeps keep in (d.0, subst (λ m. OpensManaged k d.0 lifetime interval skips m before (Ok b) after) same_at d.1))
+      opens-by k settings mode managed skips moment (Ok b) (record { objects = objects; writes = writes; store = before }) reply (record { objects = objects'; writes = writes; store = after }) replied added refl lifetime interval is is' other (λ keep. let d = keeps keep in (d.0, subst (λ m. OpensManaged k settings.extractor d.0 lifetime interval skips m before (Ok b) after) same_at d.1))
 
   -- no room is left for it
   pub follower-in_vain : (b : Follower × PollAnswer) (objects objects' : List Object) (writes : List Write) (before after : Known (List Batch)) → objects' ≡ objects →
       (lifetime interval : ℕ) → lifetime ≡ lifetime_of managed → interval ≡ interval_of managed → (at : ℤ) → at ≡ moment →
-      (is_managed mode ≡ false → Rebuilds k mode skips true unseen before (Ok b) after) → (is_managed mode ≡ true → (made : ℕ) × OpensManaged k made lifetime interval skips at before (Ok b) after) →
+      (is_managed mode ≡ false → Rebuilds k settings.extractor mode skips true unseen before (Ok b) after) → (is_managed mode ≡ true → (made : ℕ) × OpensManaged k settings.extractor made lifetime interval skips at before (Ok b) after) →
       (made : ℕ) × OpensFollowerIn k settings mode managed skips moment made (record { objects = objects; writes = writes; store = before }) replies.NoMemory (record { objects = objects'; writes = writes; store = after })
   follower-in_vain b objects objects' writes before after same lifetime interval is is' at same_at other keeps =
       opens-by k settings mode managed skips moment (Err errors.NoMemory) (record { objects = objects; writes = writes; store = before }) replies.NoMemory (record { objects = objects'; writes = writes; store = after }) refl (same ∙ sym (append-nil objects)) refl
-      lifetime interval is is' (λ free. follows-in_vain k mode skips b before after (other free)) (λ keep. let d = keeps keep in (d.0, opens-in_vain k d.0 lifetime interval skips moment b before after (subst (λ m. OpensManaged k d.0 lifetime interval skips m before (Ok b) after) same_at d.1)))
+      lifetime interval is is' (λ free. follows-in_vain settings.extractor k mode skips b before after (other free)) (λ keep. let d = keeps keep in (d.0, opens-in_vain settings.extractor k d.0 lifetime interval skips moment b before after (subst (λ m. OpensManaged k settings.extractor d.0 lifetime interval skips m before (Ok b) after) same_at d.1)))
 
   -- or it was refused
   pub refuses-follower : (error : SlateError) (objects : List Object) (writes : List Write) (before after : Known (List Batch)) (reply : Reply) → reply ≡ refusal error →
       (lifetime interval : ℕ) → lifetime ≡ lifetime_of managed → interval ≡ interval_of managed → (at : ℤ) → at ≡ moment →
-      (is_managed mode ≡ false → Rebuilds k mode skips true unseen before (Err error) after) → (is_managed mode ≡ true → (made : ℕ) × OpensManaged k made lifetime interval skips at before (Err error) after) →
+      (is_managed mode ≡ false → Rebuilds k settings.extractor mode skips true unseen before (Err error) after) → (is_managed mode ≡ true → (made : ℕ) × OpensManaged k settings.extractor made lifetime interval skips at before (Err error) after) →
       (made : ℕ) × OpensFollowerIn k settings mode managed skips moment made (record { objects = objects; writes = writes; store = before }) reply (record { objects = objects; writes = writes; store = after })
   refuses-follower error objects writes before after reply replied lifetime interval is is' at same_at other keeps =
-      opens-by k settings mode managed skips moment (Err error) (record { objects = objects; writes = writes; store = before }) reply (record { objects = objects; writes = writes; store = after }) replied (sym (append-nil objects)) refl lifetime interval is is' other (λ keep. let d = keeps keep in (d.0, subst (λ m. OpensManaged k d.0 lifetime interval skips m before (Err error) after) same_at d.1))
+      opens-by k settings mode managed skips moment (Err error) (record { objects = objects; writes = writes; store = before }) reply (record { objects = objects; writes = writes; store = after }) replied (sym (append-nil objects)) refl lifetime interval is is' other (λ keep. let d = keeps keep in (d.0, subst (λ m. OpensManaged k settings.extractor d.0 lifetime interval skips m before (Err error) after) same_at d.1))
 
 -- a poll, by whether the reader keeps a checkpoint
-polls-as : {L : Type 0} (k : Knowledge L) (keeps : Bool) (moment : ℤ) (old new : Follower) (before after : Known L) (result : Result PollAnswer SlateError) → (keeps ≡ false → Polls k old before result new after) →
-    (keeps ≡ true → (made : ℕ) × PollsManaged k made moment old before result new after) → (made : ℕ) × PollsAs k keeps made moment old before result new after
-polls-as k true moment old new before after result other managed = managed refl
-polls-as k false moment old new before after result other managed = (0, (other refl, refl))
+polls-as : (ext : Option Extractor) {L : Type 0} (k : Knowledge L) (keeps : Bool) (moment : ℤ) (old new : Follower) (before after : Known L) (result : Result PollAnswer SlateError) → (keeps ≡ false → Polls k ext old before result new after) →
+    (keeps ≡ true → (made : ℕ) × PollsManaged k ext made moment old before result new after) → (made : ℕ) × PollsAs k ext keeps made moment old before result new after
+polls-as ext k true moment old new before after result other managed = managed refl
+polls-as ext k false moment old new before after result other managed = (0, (other refl, refl))
 
-pub polls-follower : {L : Type 0} (k : Knowledge L) (moment : ℤ) (old new : Follower) (before after : Known L) (result : Result PollAnswer SlateError) (reply : Reply) → reply ≡ reply_to polled_reply result → (at : ℤ) → at ≡ moment →
-    (is_managed old.mode ≡ false → Polls k old before result new after) → (is_managed old.mode ≡ true → (made : ℕ) × PollsManaged k made at old before result new after) → (made : ℕ) × PollsFollower k made moment old before reply new after
-polls-follower k moment old new before after result reply replied at same other managed =
-    let d = subst (λ m. (made : ℕ) × PollsAs k (is_managed old.mode) made m old before result new after) same (polls-as k (is_managed old.mode) at old new before after result other managed) in
+pub polls-follower : (ext : Option Extractor) {L : Type 0} (k : Knowledge L) (moment : ℤ) (old new : Follower) (before after : Known L) (result : Result PollAnswer SlateError) (reply : Reply) → reply ≡ reply_to polled_reply result → (at : ℤ) → at ≡ moment →
+    (is_managed old.mode ≡ false → Polls k ext old before result new after) → (is_managed old.mode ≡ true → (made : ℕ) × PollsManaged k ext made at old before result new after) → (made : ℕ) × PollsFollower k ext made moment old before reply new after
+polls-follower ext k moment old new before after result reply replied at same other managed =
+    let d = subst (λ m. (made : ℕ) × PollsAs k ext (is_managed old.mode) made m old before result new after) same (polls-as ext k (is_managed old.mode) at old new before after result other managed) in
     (d.0, record { result = result; replied = replied; does = d.1 })
 
 -- a close without options flushes to a table
@@ -156,16 +164,16 @@ close-type None found is = ap (λ (o : CloseOptions). o.flush_type) is
 close-type (Some options) found is = ap (λ (o : CloseOptions). o.flush_type) is
 
 -- the object at a place does what is asked of it
-acts-at : {L : Type 0} (k : Knowledge L) (merge : Option Merge) (n : ℕ) (command : Command) (call : Call) (made : ℕ) (s : State L) (reply : Reply) (s' : State L) (old new : Object) → Acts k merge n command call made old s.store s.writes reply new s'.store s'.writes → s'.objects ≡ set s.objects n new → ActsOn k merge n command call made (Some old) s reply s'
-acts-at k merge n command call made s reply s' (AHandle h) new acts objects = record { new = new; acts = acts; objects = objects }
-acts-at k merge n command call made s reply s' (ASnapshot x) (AHandle h) acts objects = absurd acts
-acts-at k merge n command call made s reply s' (ASnapshot x) (ASnapshot y) acts objects = absurd acts
-acts-at k merge n command call made s reply s' (ASnapshot x) (AFollower f) acts objects = absurd acts
-acts-at k merge n command call made s reply s' (AFollower f) new acts objects = record { new = new; acts = acts; objects = objects }
+acts-at : {L : Type 0} (k : Knowledge L) (settings : Settings) (n : ℕ) (command : Command) (call : Call) (made : ℕ) (s : State L) (reply : Reply) (s' : State L) (old new : Object) → Acts k settings n command call made old s.store s.writes reply new s'.store s'.writes → s'.objects ≡ set s.objects n new → ActsOn k settings n command call made (Some old) s reply s'
+acts-at k settings n command call made s reply s' (AHandle h) new acts objects = record { new = new; acts = acts; objects = objects }
+acts-at k settings n command call made s reply s' (ASnapshot x) (AHandle h) acts objects = absurd acts
+acts-at k settings n command call made s reply s' (ASnapshot x) (ASnapshot y) acts objects = absurd acts
+acts-at k settings n command call made s reply s' (ASnapshot x) (AFollower f) acts objects = absurd acts
+acts-at k settings n command call made s reply s' (AFollower f) new acts objects = record { new = new; acts = acts; objects = objects }
 
-pub acts_on : {L : Type 0} (k : Knowledge L) (merge : Option Merge) (n : ℕ) (command : Command) (call : Call) (made : ℕ) (found : Option Object) (s : State L) (reply : Reply) (s' : State L) (old new : Object) → found ≡ Some old → Acts k merge n command call made old s.store s.writes reply new s'.store s'.writes → s'.objects ≡ set s.objects n new → ActsOn k merge n command call made found s reply s'
-acts_on k merge n command call made found s reply s' old new is acts objects =
-    subst (λ x. ActsOn k merge n command call made x s reply s') (sym is) (acts-at k merge n command call made s reply s' old new acts objects)
+pub acts_on : {L : Type 0} (k : Knowledge L) (settings : Settings) (n : ℕ) (command : Command) (call : Call) (made : ℕ) (found : Option Object) (s : State L) (reply : Reply) (s' : State L) (old new : Object) → found ≡ Some old → Acts k settings n command call made old s.store s.writes reply new s'.store s'.writes → s'.objects ≡ set s.objects n new → ActsOn k settings n command call made found s reply s'
+acts_on k settings n command call made found s reply s' old new is acts objects =
+    subst (λ x. ActsOn k settings n command call made x s reply s') (sym is) (acts-at k settings n command call made s reply s' old new acts objects)
 
 -- ---- checkpoints and sweeps
 -- so many changes were made, whether the store is modelled or not
@@ -245,22 +253,22 @@ read-itself objects found old is itself = ap (read_by objects) is ∙ by old its
   by (AFollower f) itself = refl
 
 -- a snapshot is read by what its handle does
-pub reads-snapshot : {L : Type 0} (k : Knowledge L) (merge : Option Merge) (x : HandleSnapshot) (command : Command) (call : Call) (s : State L) (reply : Reply) (after : Known L) (old : Object) → slice_get s.objects x.handle ≡ Some old →
-    ActsAsOf k merge x.handle command (at_snapshot x.number call) old s.store s.writes reply after → ReadsSnapshot k merge x command call 0 (slice_get s.objects x.handle) s reply (record { objects = s.objects; writes = s.writes; store = after })
-reads-snapshot k merge x command call s reply after old is acts =
-    subst (λ found. ReadsSnapshot k merge x command call 0 found s reply (record { objects = s.objects; writes = s.writes; store = after })) (sym is) (by old is acts) where
-      by : (old : Object) → slice_get s.objects x.handle ≡ Some old → ActsAsOf k merge x.handle command (at_snapshot x.number call) old s.store s.writes reply after → ReadsSnapshot k merge x command call 0 (Some old) s reply (record { objects = s.objects; writes = s.writes; store = after })
+pub reads-snapshot : {L : Type 0} (k : Knowledge L) (settings : Settings) (x : HandleSnapshot) (command : Command) (call : Call) (s : State L) (reply : Reply) (after : Known L) (old : Object) → slice_get s.objects x.handle ≡ Some old →
+    ActsAsOf k settings x.handle command (at_snapshot x.number call) old s.store s.writes reply after → ReadsSnapshot k settings x command call 0 (slice_get s.objects x.handle) s reply (record { objects = s.objects; writes = s.writes; store = after })
+reads-snapshot k settings x command call s reply after old is acts =
+    subst (λ found. ReadsSnapshot k settings x command call 0 found s reply (record { objects = s.objects; writes = s.writes; store = after })) (sym is) (by old is acts) where
+      by : (old : Object) → slice_get s.objects x.handle ≡ Some old → ActsAsOf k settings x.handle command (at_snapshot x.number call) old s.store s.writes reply after → ReadsSnapshot k settings x command call 0 (Some old) s reply (record { objects = s.objects; writes = s.writes; store = after })
       by (AHandle h) is acts = record { new = AHandle h; acts = acts; objects = sym (set-same s.objects x.handle (AHandle h) is) }
       by (ASnapshot y) is acts = (refl, acts.0, ap (λ store. record { objects = s.objects; writes = s.writes; store = store }) acts.1)
       by (AFollower f) is acts = (refl, acts.0, ap (λ store. record { objects = s.objects; writes = s.writes; store = store }) acts.1)
 
 -- what a command does that names a snapshot
-pub on-snapshot : {L : Type 0} (k : Knowledge L) (merge : Option Merge) (n : ℕ) (command : Command) (call : Call) (made : ℕ) (found : Option Object) (s : State L) (reply : Reply) (s' : State L) (old : Object) (x : HandleSnapshot) → found ≡ Some old → snapshot_of old ≡ Some x →
-    ReadsSnapshot k merge x command call made (slice_get s.objects x.handle) s reply s' → ActsOn k merge n command call made found s reply s'
-on-snapshot k merge n command call made found s reply s' old x is it reads = subst (λ found. ActsOn k merge n command call made found s reply s') (sym is) (by old it) where
-  by : (old : Object) → snapshot_of old ≡ Some x → ActsOn k merge n command call made (Some old) s reply s'
+pub on-snapshot : {L : Type 0} (k : Knowledge L) (settings : Settings) (n : ℕ) (command : Command) (call : Call) (made : ℕ) (found : Option Object) (s : State L) (reply : Reply) (s' : State L) (old : Object) (x : HandleSnapshot) → found ≡ Some old → snapshot_of old ≡ Some x →
+    ReadsSnapshot k settings x command call made (slice_get s.objects x.handle) s reply s' → ActsOn k settings n command call made found s reply s'
+on-snapshot k settings n command call made found s reply s' old x is it reads = subst (λ found. ActsOn k settings n command call made found s reply s') (sym is) (by old it) where
+  by : (old : Object) → snapshot_of old ≡ Some x → ActsOn k settings n command call made (Some old) s reply s'
   by (AHandle h) it = absurd (cc)
-  by (ASnapshot y) it = let same : y ≡ x = cc in subst (λ z. ReadsSnapshot k merge z command call made (slice_get s.objects z.handle) s reply s') (sym same) reads
+  by (ASnapshot y) it = let same : y ≡ x = cc in subst (λ z. ReadsSnapshot k settings z command call made (slice_get s.objects z.handle) s reply s') (sym same) reads
   by (AFollower f) it = absurd (cc)
 
 -- a snapshot that is taken of a handle and added

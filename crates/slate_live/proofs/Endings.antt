@@ -1,12 +1,15 @@
 -- Two ways in which a session ends before anything is run.
 use Rattle.std.specs.Option.{option_map}
-use Rattle.std.proofs.Common.{◌≡◌, inl, inr, List, [], Option, Some, None, refl}
+use Rattle.std.specs.Fmt.{decimal}
+use Rattle.std.proofs.Common.{◌≡◌, ◌++◌, codes, inl, inr, ℕ, List, [], Option, Some, None, refl}
 use Rattle.slate_types.specs.declared.operators.ConcatOperator.{ConcatOperator}
 use Rattle.slate_types.specs.Operator.{concat}
+use Rattle.slate_types.specs.Prefix.{fixed_prefix}
+use Rattle.slate_model.specs.Segments.{IsExtractor}
 use Rattle.slate_reads.specs.Read.{IsOperator}
 use Rattle.slate_script.specs.declared.options.RunOptions.{RunOptions}
 use Rattle.slate_script.specs.declared.replies.Reply.{Reply}
-use Rattle.slate_live.specs.Session.{Ends, KeepsOutput, Sides}
+use Rattle.slate_live.specs.Session.{Ends, KeepsOutput, Sides, fixed_extractor}
 use Rattle.slate_live.specs.declared.sessions.Outcome.TheVariants.{NoMemory, WordsRefused}
 
 -- words that spell no options end a session before anything is read
@@ -23,3 +26,8 @@ ends-unrun words options replies s s' accepted output none =
 pub appends : (o : Option ConcatOperator) → IsOperator (λ operator key existing operand answer. answer ≡ concat key existing operand) o (option_map (λ operator. concat) o)
 appends None = tt
 appends (Some operator) = λ key existing operand answer is. is
+
+-- and so is its extractor
+pub extracts : (o : Option ℕ) → IsExtractor (λ length name. name ≡ codes "fixed-" ++ decimal length) (λ length key answer. answer ≡ fixed_prefix length key) o (option_map fixed_extractor o)
+extracts None = tt
+extracts (Some length) = record { name = λ answer is. is; prefix_of = λ key answer is. is }

@@ -1,5 +1,5 @@
 -- What a command leaves of the leases of a world's readers.
-use Rattle.std.proofs.Common.{◌≡◌, ◌≢◌, ◌⊎◌, ◌++◌, ◌∷◌, ◌+◌, ◌∙◌, ◌<◌, ◌≤◌, [], inl, inr, ℕ, ℤ, Bool, true, false, length, List, set, map, Option, Some, None, Result, Ok, Err, IfErr, IfOk, refl, sym, subst, ap, arith}
+use Rattle.std.proofs.Common.{◌≡◌, ◌⊎◌, ◌++◌, ◌+◌, ◌∙◌, ◌<◌, inl, inr, ℕ, Bool, true, false, length, set, map, Option, Some, None, Result, Ok, Err, IfErr, IfOk, refl, sym, subst, ap}
 use Rattle.std.specs.List.{slice_get}
 use Rattle.std.proofs.lemmas.List.{append-nil}
 use Rattle.slate_store.specs.Changes.{after_part}
@@ -16,12 +16,11 @@ use Rattle.slate_errors.specs.declared.errors.SlateError.{SlateError}
 use Rattle.slate_model.specs.declared.answers.PollAnswer.{PollAnswer}
 use Rattle.slate_model.specs.declared.leases.Lease.{Lease}
 use Rattle.slate_model.specs.Catalogue.{Catalogue, Span}
-use Rattle.slate_model.specs.Close.{closed_follower}
 use Rattle.slate_model.specs.Follow.{Polls, Rebuilds, built, unseen}
 use Rattle.slate_model.specs.Follower.{Follower, is_managed, is_pinned}
 use Rattle.slate_model.specs.Handle.{Handle}
 use Rattle.slate_model.specs.Knowledge.{Knowledge}
-use Rattle.slate_model.specs.Known.{Known, Untouched}
+use Rattle.slate_model.specs.Known.{Untouched}
 use Rattle.slate_model.specs.Lease.{lease_refusal, to_keep, to_take}
 use Rattle.slate_model.specs.Managed.{KeepsLease, OpensManaged, TakesLease}
 use Rattle.slate_model.specs.Object.{Object, Handle as AHandle, Snapshot as ASnapshot, Follower as AFollower}
@@ -35,7 +34,7 @@ use Rattle.slate_model.proofs.Reduced.{some-same}
 use Rattle.slate_script.specs.declared.commands.Command.{Command}
 use Rattle.slate_script.specs.declared.replies.Reply.{Reply}
 use Rattle.slate_live.specs.Calls.{Call, Write as WriteCall, Merge as MergeCall, Flush, Refresh, Compact, Get, Scan, Seek, Close, Poll, Status, FindTime, FindNumber, Nothing, call_of, Target, NewHandle, NewSnapshot, NewFollower, NewCheckpoint, WholeStore, OfWrite, OfObject, at_snapshot, target_of}
-use Rattle.slate_live.specs.Commands.{ActsAt, ActsOn, DoesBy, OnlyAnswers, OpensSnapshot, ReadsSnapshot, added, interval_of, lifetime_of}
+use Rattle.slate_live.specs.Commands.{ActsAt, ActsOn, DoesBy, OpensSnapshot, ReadsSnapshot, added, interval_of, lifetime_of}
 use Rattle.slate_live.specs.Followers.{ClosesAs, FollowerActs, PollsAs}
 use Rattle.slate_live.specs.Represents.{IsFollowerAt, IsValid}
 use Rattle.slate_live.specs.Settings.{Settings}
@@ -147,7 +146,7 @@ module _ (settings : Settings) (w : World) (valid : IsValid w) (rising : AreRisi
           | inr new ↦ new-lease (to_keep f.view lease command.moment) n latest next given after is gives (keep-recheckpoints f.view lease command.moment latest) new there after_is (one new) (inl names)
         ])
 
-    keeps-fate : (lease lease' : Lease) (r : Result PollAnswer SlateError) → f.lease ≡ Some lease → KeepsLease k made lease command.moment f (state_of w).store r f' s'.store → f'.lease ≡ Some lease' → Fate n lease'
+    keeps-fate : (lease lease' : Lease) (r : Result PollAnswer SlateError) → f.lease ≡ Some lease → KeepsLease k settings.extractor made lease command.moment f (state_of w).store r f' s'.store → f'.lease ≡ Some lease' → Fate n lease'
     keeps-fate lease lease' (Ok answer) leased p has =
         let puts = (p.puts).some w.catalogue refl in
         let t = (p.keeps).some w.catalogue refl in
@@ -162,11 +161,11 @@ module _ (settings : Settings) (w : World) (valid : IsValid w) (rising : AreRisi
         ]
 
     -- a poll of one that keeps no checkpoint leaves it as it was, or without a lease
-    unleased : (r : Result PollAnswer SlateError) (lease' : Lease) → Rebuilds k f.mode f.skips false (λ objects line. Unit {0}) (state_of w).store (built f' r) s'.store → IfErr r (λ error. f' ≡ f) → f'.lease ≡ Some lease' → Fate n lease'
+    unleased : (r : Result PollAnswer SlateError) (lease' : Lease) → Rebuilds k settings.extractor f.mode f.skips false (λ objects line. Unit {0}) (state_of w).store (built f' r) s'.store → IfErr r (λ error. f' ≡ f) → f'.lease ≡ Some lease' → Fate n lease'
     unleased (Ok answer) lease' b failed has = absurd (let none = b.answer.2 in cc)
     unleased (Err e) lease' b failed has = old lease' (ap (λ (x : Follower). x.lease) failed) has
 
-    polls-plainly : (r : Result PollAnswer SlateError) (lease' : Lease) → Polls k f (state_of w).store r f' s'.store → f'.lease ≡ Some lease' → Fate n lease'
+    polls-plainly : (r : Result PollAnswer SlateError) (lease' : Lease) → Polls k settings.extractor f (state_of w).store r f' s'.store → f'.lease ≡ Some lease' → Fate n lease'
     polls-plainly r lease' p has =
         by-option f.result
         (λ live. by live (is_pinned f.mode) refl)
@@ -175,7 +174,7 @@ module _ (settings : Settings) (w : World) (valid : IsValid w) (rising : AreRisi
           by live true stays = old lease' (ap (λ (x : Follower). x.lease) (p.pinned live stays).1) has
           by live false free = unleased r lease' (p.rebuilds live free) p.failed has
 
-    polls-fate : (r : Result PollAnswer SlateError) (lease' : Lease) (managed : Bool) → is_managed f.mode ≡ managed → PollsAs k managed made command.moment f (state_of w).store r f' s'.store → f'.lease ≡ Some lease' → Fate n lease'
+    polls-fate : (r : Result PollAnswer SlateError) (lease' : Lease) (managed : Bool) → is_managed f.mode ≡ managed → PollsAs k settings.extractor managed made command.moment f (state_of w).store r f' s'.store → f'.lease ≡ Some lease' → Fate n lease'
     polls-fate r lease' true managed p has =
         by-option f.result
         (λ live. by-option f.lease
@@ -192,7 +191,7 @@ module _ (settings : Settings) (w : World) (valid : IsValid w) (rising : AreRisi
     stays-fate : (lease' : Lease) → f' ≡ f → f'.lease ≡ Some lease' → Fate n lease'
     stays-fate lease' same has = old lease' (ap (λ (x : Follower). x.lease) same) has
 
-    follower-fate : (call : Call) (lease' : Lease) → FollowerActs k settings.merge command.moment call made f (state_of w).store w.writes reply f' s'.store s'.writes → f'.lease ≡ Some lease' → Fate n lease'
+    follower-fate : (call : Call) (lease' : Lease) → FollowerActs k settings command.moment call made f (state_of w).store w.writes reply f' s'.store s'.writes → f'.lease ≡ Some lease' → Fate n lease'
     follower-fate Poll lease' a has = polls-fate (a.0).result lease' (is_managed f.mode) refl (a.0).does has
     follower-fate (Close t) lease' a has = closes-fate (a.0).answer lease' (is_managed f.mode) (a.0).does has
     follower-fate (Get key remote snapshot) lease' a has = stays-fate lease' a.1 has
@@ -209,23 +208,23 @@ module _ (settings : Settings) (w : World) (valid : IsValid w) (rising : AreRisi
     follower-fate Nothing lease' a has = stays-fate lease' a.1 has
 
   -- ---- a command, by where it goes
-  handle-fates : (n : ℕ) (call : Call) (h : Handle) → slice_get w.objects n ≡ Some (AHandle h) → ActsAt k settings.merge n command call made (AHandle h) (state_of w) reply s' → Fates
+  handle-fates : (n : ℕ) (call : Call) (h : Handle) → slice_get w.objects n ≡ Some (AHandle h) → ActsAt k settings n command call made (AHandle h) (state_of w) reply s' → Fates
   handle-fates n call h at a =
-      let d = handle-acted k settings.merge n command call made (state_of w) reply s' h a in
+      let d = handle-acted k settings n command call made (state_of w) reply s' h a in
       fates-set n (AHandle h) (AHandle d.new) at d.objects (λ f lease same has. absurd (cc))
 
-  snapshot-fates : (x : HandleSnapshot) (call : Call) (found : Option Object) → slice_get w.objects x.handle ≡ found → ReadsSnapshot k settings.merge x command call made found (state_of w) reply s' → Fates
+  snapshot-fates : (x : HandleSnapshot) (call : Call) (found : Option Object) → slice_get w.objects x.handle ≡ found → ReadsSnapshot k settings x command call made found (state_of w) reply s' → Fates
   snapshot-fates x call (Some (AHandle h)) at a = handle-fates x.handle (at_snapshot x.number call) h at a
   snapshot-fates x call (Some (ASnapshot y)) at a = fates-state a.2
   snapshot-fates x call (Some (AFollower f)) at a = fates-state a.2
   snapshot-fates x call None at a = fates-state a.2
 
-  on-fates : (n : ℕ) (found : Option Object) → target_of command.action ≡ OfObject n → slice_get w.objects n ≡ found → ActsOn k settings.merge n command (call_of command.action) made found (state_of w) reply s' → Fates
+  on-fates : (n : ℕ) (found : Option Object) → target_of command.action ≡ OfObject n → slice_get w.objects n ≡ found → ActsOn k settings n command (call_of command.action) made found (state_of w) reply s' → Fates
   on-fates n None names at a = fates-state a.2
   on-fates n (Some (AHandle h)) names at a = handle-fates n (call_of command.action) h at a
   on-fates n (Some (ASnapshot x)) names at a = snapshot-fates x (call_of command.action) (slice_get w.objects x.handle) refl a
   on-fates n (Some (AFollower f)) names at a =
-      let d = follower-did k settings.merge n command (call_of command.action) made (state_of w) reply s' (Some (AFollower f)) f refl a in
+      let d = follower-did k settings n command (call_of command.action) made (state_of w) reply s' (Some (AFollower f)) f refl a in
       fates-set n (AFollower f) (AFollower d.new) at d.objects
       (λ g lease same has. let it : d.new ≡ g = cc in follower-fate n f d.new names at (call_of command.action) lease d.acts (ap (λ (x : Follower). x.lease) it ∙ has))
 
@@ -236,16 +235,16 @@ module _ (settings : Settings) (w : World) (valid : IsValid w) (rising : AreRisi
   sampled-fates n None d = fates-state d.2
 
   -- an opening of a reader that keeps no checkpoint gives no lease
-  opened-unleased : (mode : DbReaderMode) (skips : Bool) (r : Result (Follower × PollAnswer) SlateError) → Rebuilds k mode skips true unseen (state_of w).store r s'.store → s'.objects ≡ w.objects ++ added (λ (b : Follower × PollAnswer). AFollower b.0) r → Fates
+  opened-unleased : (mode : DbReaderMode) (skips : Bool) (r : Result (Follower × PollAnswer) SlateError) → Rebuilds k settings.extractor mode skips true unseen (state_of w).store r s'.store → s'.objects ≡ w.objects ++ added (λ (b : Follower × PollAnswer). AFollower b.0) r → Fates
   opened-unleased mode skips r d objects =
       fates-added (λ (b : Follower × PollAnswer). AFollower b.0) r objects
       (λ b f lease is same has. absurd (let answer = subst (λ x. IfOk x (λ (b : Follower × PollAnswer). b.0.lease ≡ None)) is (unleased-answer r d) in let it : b.0 ≡ f = cc in let no = sym (ap (λ (x : Follower). x.lease) it) ∙ answer in cc)) where
-        unleased-answer : (r : Result (Follower × PollAnswer) SlateError) → Rebuilds k mode skips true unseen (state_of w).store r s'.store → IfOk r (λ (b : Follower × PollAnswer). b.0.lease ≡ None)
+        unleased-answer : (r : Result (Follower × PollAnswer) SlateError) → Rebuilds k settings.extractor mode skips true unseen (state_of w).store r s'.store → IfOk r (λ (b : Follower × PollAnswer). b.0.lease ≡ None)
         unleased-answer (Ok b) d = d.answer.2
         unleased-answer (Err e) d = tt
 
   -- one that does gives a new one
-  took-fate : (lifetime : ℕ) (skips : Bool) (b : Follower × PollAnswer) (lease : Lease) → ((m : ℕ) → target_of command.action ≡ OfObject m → ⊥) → TakesLease k made lifetime skips command.moment (state_of w).store (Ok b) s'.store → b.0.lease ≡ Some lease → Fate (length w.objects) lease
+  took-fate : (lifetime : ℕ) (skips : Bool) (b : Follower × PollAnswer) (lease : Lease) → ((m : ℕ) → target_of command.action ≡ OfObject m → ⊥) → TakesLease k settings.extractor made lifetime skips command.moment (state_of w).store (Ok b) s'.store → b.0.lease ≡ Some lease → Fate (length w.objects) lease
   took-fate lifetime skips b lease alone t has =
       let puts = (t.puts).some w.catalogue refl in
       let q = ((t.takes).some w.catalogue refl).2 in
@@ -257,13 +256,13 @@ module _ (settings : Settings) (w : World) (valid : IsValid w) (rising : AreRisi
       (new-lease (to_take lifetime command.moment) (length w.objects) latest (Some b.0.view) q.given puts.0 q.plan.1 q.plan.2 puts_it new puts.1 (puts.2).after
       (all-one (to_take lifetime command.moment) latest (Some b.0.view) q.given q.plan.1 q.plan.2 puts_it new (puts.2).part) (inr (refl, alone)))
 
-  took-fates : (lifetime interval : ℕ) (skips : Bool) (r : Result (Follower × PollAnswer) SlateError) → ((m : ℕ) → target_of command.action ≡ OfObject m → ⊥) → OpensManaged k made lifetime interval skips command.moment (state_of w).store r s'.store → s'.objects ≡ w.objects ++ added (λ (b : Follower × PollAnswer). AFollower b.0) r → Fates
+  took-fates : (lifetime interval : ℕ) (skips : Bool) (r : Result (Follower × PollAnswer) SlateError) → ((m : ℕ) → target_of command.action ≡ OfObject m → ⊥) → OpensManaged k settings.extractor made lifetime interval skips command.moment (state_of w).store r s'.store → s'.objects ≡ w.objects ++ added (λ (b : Follower × PollAnswer). AFollower b.0) r → Fates
   took-fates lifetime interval skips r alone d objects =
       fates-added (λ (b : Follower × PollAnswer). AFollower b.0) r objects
       (λ b f lease is same has.
       let it : b.0 ≡ f = cc in
       by-option (lease_refusal lifetime interval)
-      (λ none. took-fate lifetime skips b lease alone (subst (λ x. TakesLease k made lifetime skips command.moment (state_of w).store x s'.store) is (d.takes none)) (ap (λ (x : Follower). x.lease) it ∙ has))
+      (λ none. took-fate lifetime skips b lease alone (subst (λ x. TakesLease k settings.extractor made lifetime skips command.moment (state_of w).store x s'.store) is (d.takes none)) (ap (λ (x : Follower). x.lease) it ∙ has))
       (λ error refused. absurd (let c = some-of (λ error. (r ≡ Err error) × Untouched made (state_of w).store s'.store) (lease_refusal lifetime interval) error refused d.refused in let no : ◌≡◌ {A = Result (Follower × PollAnswer) SlateError} (Ok b) (Err error) = sym is ∙ c.0 in cc)))
 
   fates-by : (target : Target) → target_of command.action ≡ target → DoesBy k settings command target made (state_of w) reply s' → Fates

@@ -1,5 +1,5 @@
 -- What an opening and a poll of a follower leave of it: over sound objects it sees what it is owed.
-use Rattle.std.proofs.Common.{◌≡◌, ℕ, ◌-◌, ◌≤◌, inl, inr, ◌⊎◌, Bool, true, false, Option, Some, refl, sym, subst, ap, ◌∙◌, arith}
+use Rattle.std.proofs.Common.{◌≡◌, ℕ, ◌-◌, ◌≤◌, inl, inr, ◌⊎◌, Bool, true, false, List, Option, Some, refl, sym, subst, ap, ◌∙◌, arith}
 use Rattle.std.proofs.lemmas.List.{length-take}
 use Rattle.slate_types.specs.Line.{IsPrefix, Line, end}
 use Rattle.slate_store.specs.Content.{IsSound, content}
@@ -11,7 +11,7 @@ use Rattle.slate_model.specs.Catalogue.{Catalogue, Span, catalogue_of}
 use Rattle.slate_model.specs.declared.answers.PollAnswer.{PollAnswer}
 use Rattle.slate_model.specs.Follow.{IsOwed, SeesOwed}
 use Rattle.slate_model.specs.Followed.{IsView, last_read}
-use Rattle.slate_model.specs.Follower.{Follower, is_managed, is_pinned, kept_follower, number, rebuilt}
+use Rattle.slate_model.specs.Follower.{Follower, is_managed, is_pinned, kept_follower, number, rebuilt, unsegmented}
 use Rattle.slate_model.specs.Handle.{up_to}
 use Rattle.slate_model.specs.Object.{Follower as AFollower}
 use Rattle.slate_model.specs.Seen.{HasSeen}
@@ -21,8 +21,7 @@ use Rattle.slate_model.specs.Valid.{IsHeld, ReadsLine}
 use Rattle.slate_model.proofs.Moving.{Follows}
 use Rattle.slate_model.proofs.Owing.{are-stored, ends, latest-view, owed-is, owed-reads, owed-seen, owed_line, view-tables}
 use Rattle.slate_model.proofs.Reduced.{its, its-line, owed-begins}
-use Rattle.slate_live.specs.Confirmed.{follows_all}
-use Rattle.slate_live.specs.Represents.{IsTabled, IsValidFollower}
+use Rattle.slate_live.specs.Represents.{IsTabled, IsValidFollower, follows_all}
 use Rattle.slate_live.proofs.Prefixes.{prefix-end, prefix-then}
 
 -- what such a one is owed is all that is stored, or what is in tables
@@ -75,10 +74,18 @@ follower-follows stored stored' o o' latest latest' is f g v = (
   v.2,
 )
 
+-- a follower with these segments
+abbrev pub with_segments : List (List ℕ) → Follower → Follower
+with_segments segments follower = record follower { segments = segments }
+
+-- it has seen what it has seen
+pub segmented-seen : (o : Objects) (segments : List (List ℕ)) (f : Follower) → HasSeen o f → HasSeen o (with_segments segments f)
+segmented-seen o segments f seen = record { mark = seen.mark; logs = seen.logs }
+
 -- the follower that sees what it is owed under a manifest
-module _ (stored : Line) (mode : DbReaderMode) (skips opening : Bool) (o : Objects) (view : VersionedManifest) (sound : IsSound o) (holds : content o ≡ stored) (v : IsView mode opening o view) (mark : ℕ) (mark_is : mark ≡ last_read mode skips view o) where
+module _ (segments : List (List ℕ)) (stored : Line) (mode : DbReaderMode) (skips opening : Bool) (o : Objects) (view : VersionedManifest) (sound : IsSound o) (holds : content o ≡ stored) (v : IsView mode opening o view) (mark : ℕ) (mark_is : mark ≡ last_read mode skips view o) where
   abbrev new : Follower
-  new = rebuilt mode skips view (owed_line mode skips o view stored) mark
+  new = with_segments segments (rebuilt mode skips view (owed_line mode skips o view stored) mark)
 
   owed_floor : stored.floor ≤ view.manifest.last_l0_seq
   owed_floor =
@@ -115,8 +122,9 @@ module _ (stored : Line) (mode : DbReaderMode) (skips opening : Bool) (o : Objec
       let read = owed-reads o stored mode skips view (its stored mode skips opening o view sound holds v) in
       let line = its-line stored mode skips opening o view sound holds v in (
         subst (ReadsLine o view) line read,
-        λ free. subst (λ n. HasSeen o (rebuilt mode skips view (owed_line mode skips o view stored) n)) (sym mark_is)
-            (subst (λ l. HasSeen o (rebuilt mode skips view (owed_line mode skips o view l) (last_read mode skips view o))) holds (owed-seen o mode skips opening view sound v free)),
+        λ free. segmented-seen o segments (rebuilt mode skips view (owed_line mode skips o view stored) mark)
+            (subst (λ n. HasSeen o (rebuilt mode skips view (owed_line mode skips o view stored) n)) (sym mark_is)
+            (subst (λ l. HasSeen o (rebuilt mode skips view (owed_line mode skips o view l) (last_read mode skips view o))) holds (owed-seen o mode skips opening view sound v free))),
       )
 
 -- the code keeps it where it was found that what it is owed is seen
@@ -124,8 +132,11 @@ module _ (t : Option Objects) (stored : Line) (mode : DbReaderMode) (skips : Boo
   pub seen-mark : b.mark ≡ last_read mode skips b.view o
   seen-mark = ap (λ (x : Follower). x.mark) all.2
 
-  pub seen-kept : b ≡ kept_follower (rebuilt mode skips b.view (owed_line mode skips o b.view stored) b.mark)
-  seen-kept =
+  unsegmented-kept : unsegmented b ≡ kept_follower (rebuilt mode skips b.view (owed_line mode skips o b.view stored) b.mark)
+  unsegmented-kept =
       all.2
       ∙ (ap (λ l. kept_follower (rebuilt mode skips b.view l (last_read mode skips b.view o))) (owed-is t o mode skips b.view stored all.0 all.1)
       ∙ ap (λ n. kept_follower (rebuilt mode skips b.view (owed_line mode skips o b.view stored) n)) (sym seen-mark))
+
+  pub seen-kept : b ≡ kept_follower (with_segments b.segments (rebuilt mode skips b.view (owed_line mode skips o b.view stored) b.mark))
+  seen-kept = ap (with_segments b.segments) unsegmented-kept

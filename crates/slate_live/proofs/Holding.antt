@@ -1,14 +1,14 @@
 -- A reader that is polled in time holds its checkpoint.
-use Rattle.std.proofs.Common.{◌≡◌, ◌≢◌, ◌⊎◌, ◌++◌, ◌∷◌, ◌+◌, ◌-ℤ◌, ◌+ℤ◌, ◌/◌, ◌∙◌, ◌<◌, ◌≤◌, [], inl, inr, ℕ, ℤ, pos, int_lt, Bool, true, false, cond, get_or, not, length, List, map, find, Option, Some, None, Result, Ok, Err, refl, sym, subst, ap, arith}
+use Rattle.std.proofs.Common.{◌≡◌, ◌++◌, ◌∷◌, ◌+◌, ◌-ℤ◌, ◌+ℤ◌, ◌/◌, ◌∙◌, ◌<◌, ◌≤◌, [], inl, inr, ℕ, ℤ, pos, int_lt, Bool, true, false, cond, get_or, not, length, map, find, Option, Some, None, Ok, refl, sym, subst, ap, arith}
 use Rattle.std.proofs.lemmas.Int.{ints}
-use Rattle.std.specs.List.{All, filter, slice_get}
+use Rattle.std.specs.List.{All}
 use Rattle.std.proofs.lemmas.Bool.{false_from_ne_true}
 use Rattle.std.proofs.lemmas.List.Elements.{All-filter}
 use Rattle.std.proofs.lemmas.Slice.Eq.{bytes_eq-Decides}
 use Rattle.std.specs.Bool.{MatchBool}
 use Rattle.slate_store.proofs.Latest.{its-objects}
 use Rattle.slate_store.specs.Changes.{after_part}
-use Rattle.slate_store.specs.Checkpoints.{Plan, checkpoint_id, found, has_id, is_expired, last_moment, lease_end, new_checkpoint, refreshed, to_end, to_refresh, to_write, with_checkpoints, without_id}
+use Rattle.slate_store.specs.Checkpoints.{Plan, checkpoint_id, has_id, is_expired, last_moment, lease_end, new_checkpoint, refreshed, to_end, to_refresh, to_write, with_checkpoints, without_id}
 use Rattle.slate_store.specs.Content.{AreRising, IsPinned}
 use Rattle.slate_store.specs.Objects.{entry_at, latest_manifest}
 use Rattle.slate_store.specs.Refusals.{checkpoint_changes, planned, planned_after}
@@ -28,12 +28,12 @@ use Rattle.slate_model.specs.declared.leases.Lease.{Lease}
 use Rattle.slate_model.specs.Follower.{Follower}
 use Rattle.slate_script.specs.declared.commands.Command.{Command}
 use Rattle.slate_script.specs.declared.replies.Reply.{Reply}
-use Rattle.slate_live.specs.Calls.{OfObject, call_of, target_of}
+use Rattle.slate_live.specs.Calls.{OfObject}
 use Rattle.slate_live.specs.Leases.{closes, polls}
 use Rattle.slate_live.specs.Represents.{IsFollowerAt, IsReached}
 use Rattle.slate_live.specs.Settings.{Settings}
 use Rattle.slate_live.specs.World.{Next, World, state_of}
-use Rattle.slate_live.proofs.Leases.{ArePast, AreApart, HasCheckpoint, entry-after, nothing-spared, refreshed-id, rising, spared, still-has}
+use Rattle.slate_live.proofs.Leases.{AreApart, HasCheckpoint, entry-after, nothing-spared, refreshed-id, rising, spared, still-has}
 use Rattle.slate_live.proofs.Carrying.{leased-is}
 use Rattle.slate_live.proofs.Distinct.{ids-differ, put-low}
 use Rattle.slate_live.proofs.Finding.{find-all, find-last, find-map, found-id}
@@ -241,7 +241,7 @@ module _ (settings : Settings) (w w' : World) (command : Command) (reply : Reply
           entry-stays : (put : VersionedManifest) (c : Checkpoint) → latest_manifest w'.catalogue ≡ Some put → find (has_id h.lease.id) put.manifest.checkpoints ≡ Some c → c.manifest_id ≡ h.checkpoint.manifest_id → entry_at h.checkpoint.manifest_id w'.catalogue.manifests ≡ Some h.kept
           entry-stays put c is' there same =
               let within = (find-all (IsPinned reached.1 latest) (has_id h.lease.id) h.checkpoint latest.manifest.checkpoints all-pinned h.has.there).within in
-              elim (entry-after settings w w' command reply reached reached' next (λ cs. Unit {0}) latest h.has.is (nothing-spared w latest command) h.checkpoint.manifest_id within) [
+              elim (entry-after settings w w' command reply reached reached' next (λ manifest. Unit {0}) latest h.has.is (nothing-spared w latest command) h.checkpoint.manifest_id within) [
                 | inl gone ↦ absurd (not-gone put c is' there same gone)
                 | inr kept ↦ kept ∙ h.has.entry
               ] where

@@ -7,6 +7,8 @@ use Rattle.slate_types.specs.declared.batches.KeyOp.{KeyOp}
 use Rattle.slate_types.specs.declared.batches.KeyValue.{KeyValue}
 use Rattle.slate_types.specs.Line.{IsPrefix, Line}
 use Rattle.slate_types.specs.Operator.{Merge}
+use Rattle.slate_model.specs.Segments.{Extractor}
+use Rattle.slate_live.specs.Settings.{Settings}
 use Rattle.slate_errors.specs.declared.endings.Ended.{Ended}
 use Rattle.slate_errors.specs.declared.endings.TaskName.{TaskName}
 use Rattle.slate_store.specs.declared.reader_modes.DbReaderMode.TheVariants as modes
@@ -101,20 +103,20 @@ module _ (xs ys : List Object) (rise : Rise xs ys) (ws vs : List Write) (reply :
       }
 
   -- one that accepts a write
-  pub keeps-write : (n : ℕ) (h h' : Handle) (ops : List KeyOp) (at : ℤ) (write : Write) → IsHandleAt xs n h → write.handle ≡ n → write.number ≡ accepted h + 1 → h' ≡ written h ops at → ys ≡ set xs n (AHandle h') → vs ≡ ws ++ write ∷ [] → Numbers vs reply → Keeps xs ws reply ys vs
-  keeps-write n h h' ops at write is of number new objects_are writes_are numbers =
-      let mine : IsHandleAt ys n (written h ops at) =
-      subst (λ os. IsHandleAt os n (written h ops at)) (sym (objects_are ∙ ap (λ x. set xs n (AHandle x)) new)) (get-set_same xs n (AHandle (written h ops at)) (AHandle h) is) in
-      let stands : StandsIn (next_batch h ops at) (written h ops at).line = (length h.line.batches, get-seam h.line.batches (next_batch h ops at), refl) in
+  pub keeps-write : (extractor : Option Extractor) (n : ℕ) (h h' : Handle) (ops : List KeyOp) (at : ℤ) (write : Write) → IsHandleAt xs n h → write.handle ≡ n → write.number ≡ accepted h + 1 → h' ≡ written extractor h ops at → ys ≡ set xs n (AHandle h') → vs ≡ ws ++ write ∷ [] → Numbers vs reply → Keeps xs ws reply ys vs
+  keeps-write extractor n h h' ops at write is of number new objects_are writes_are numbers =
+      let mine : IsHandleAt ys n (written extractor h ops at) =
+      subst (λ os. IsHandleAt os n (written extractor h ops at)) (sym (objects_are ∙ ap (λ x. set xs n (AHandle x)) new)) (get-set_same xs n (AHandle (written extractor h ops at)) (AHandle h) is) in
+      let stands : StandsIn (next_batch h ops at) (written extractor h ops at).line = (length h.line.batches, get-seam h.line.batches (next_batch h ops at), refl) in
       record {
         stays = λ m other there. subst (λ us. slice_get us m ≡ Some other) (sym writes_are) (get-before ws (write ∷ []) m other there);
         written = λ before m other there.
             elim (get-cases ws write other m (subst (λ us. slice_get us m ≡ Some other) writes_are there)) [
               | inl old ↦ later m other (before m other old)
               | inr last ↦ (
-                written h ops at,
+                written extractor h ops at,
                 next_batch h ops at,
-                subst (λ k. IsHandleAt ys k (written h ops at)) (sym (ap (λ (x : Write). x.handle) last ∙ of)) mine,
+                subst (λ k. IsHandleAt ys k (written extractor h ops at)) (sym (ap (λ (x : Write). x.handle) last ∙ of)) mine,
                 stands,
                 sym (ap (λ (x : Write). x.number) last ∙ number),
               )
@@ -179,59 +181,59 @@ numbers-write vs xs None = tt
 numbers-write vs xs (Some write) = numbers-asked vs (slice_get xs write.handle) write.number
 
 module _ (xs ys : List Object) (rise : Rise xs ys) (ws vs : List Write) where
-  write-keeps : (n : ℕ) (h h' : Handle) (ops : List KeyOp) (moment : ℤ) (second : Option ℤ) (r : Result Written SlateError) (reply : Reply) → IsHandleAt xs n h → Writes h ops moment second r h' → reply ≡ reply_to (λ (w : Written). replies.Written (length ws) w.number) r → vs ≡ ws ++ noted n r → ys ≡ set xs n (AHandle h') → Keeps xs ws reply ys vs
-  write-keeps n h h' ops moment second (Err e) reply at s is more set_is = keeps-by xs ys rise ws vs reply (more ∙ append-nil ws) (numbers-by vs is (numbers-refusal vs e))
-  write-keeps n h h' ops moment second (Ok w) reply at s is more set_is =
+  write-keeps : (extractor : Option Extractor) (n : ℕ) (h h' : Handle) (ops : List KeyOp) (moment : ℤ) (second : Option ℤ) (r : Result Written SlateError) (reply : Reply) → IsHandleAt xs n h → Writes extractor h ops moment second r h' → reply ≡ reply_to (λ (w : Written). replies.Written (length ws) w.number) r → vs ≡ ws ++ noted n r → ys ≡ set xs n (AHandle h') → Keeps xs ws reply ys vs
+  write-keeps extractor n h h' ops moment second (Err e) reply at s is more set_is = keeps-by xs ys rise ws vs reply (more ∙ append-nil ws) (numbers-by vs is (numbers-refusal vs e))
+  write-keeps extractor n h h' ops moment second (Ok w) reply at s is more set_is =
       let write : Write = record { handle = n; number = w.number } in
-      keeps-write xs ys rise ws vs reply n h h' ops w.create_ts write at refl s.accepted.2 s.accepted.3 set_is more
+      keeps-write xs ys rise ws vs reply extractor n h h' ops w.create_ts write at refl s.accepted.2 s.accepted.3 set_is more
       (numbers-by vs is (write, subst (λ us. slice_get us (length ws) ≡ Some write) (sym more) (get-seam ws write), refl))
 
-  merge-keeps : (merge : Option Merge) (n : ℕ) (op : KeyOp) (moment : ℤ) (second : Option ℤ) (h h' : Handle) (reply : Reply) → IsHandleAt xs n h → ys ≡ set xs n (AHandle h') → MergesTo merge n op moment second h ws reply h' vs → Keeps xs ws reply ys vs
-  merge-keeps None n op moment second h h' reply at set_is a = keeps-by xs ys rise ws vs reply a.2 (numbers-by vs a.0 tt)
-  merge-keeps (Some merge) n op moment second h h' reply at set_is a = write-keeps n h h' _ moment second a.result reply at a.does a.replied a.noted set_is
+  merge-keeps : (merge : Option Merge) (extractor : Option Extractor) (n : ℕ) (op : KeyOp) (moment : ℤ) (second : Option ℤ) (h h' : Handle) (reply : Reply) → IsHandleAt xs n h → ys ≡ set xs n (AHandle h') → MergesTo merge extractor n op moment second h ws reply h' vs → Keeps xs ws reply ys vs
+  merge-keeps None extractor n op moment second h h' reply at set_is a = keeps-by xs ys rise ws vs reply a.2 (numbers-by vs a.0 tt)
+  merge-keeps (Some merge) extractor n op moment second h h' reply at set_is a = write-keeps extractor n h h' _ moment second a.result reply at a.does a.replied a.noted set_is
 
-  handle-keeps : (stored : Line) (catalogue : Catalogue) (merge : Option Merge) (n : ℕ) (moment : ℤ) (second : Option ℤ) (call : Call) (made : ℕ) (h h' : Handle) (before after : Known Span) (reply : Reply) → IsHandleAt xs n h → ys ≡ set xs n (AHandle h') → HandleActs (by_catalogue stored catalogue) merge n moment second call made h before ws reply h' after vs → Keeps xs ws reply ys vs
-  handle-keeps stored catalogue merge n moment second (WriteCall ops) made h h' before after reply at set_is a = write-keeps n h h' _ moment second (a.0).result reply at (a.0).does (a.0).replied (a.0).noted set_is
-  handle-keeps stored catalogue merge n moment second (MergeCall op) made h h' before after reply at set_is a = merge-keeps merge n op moment second h h' reply at set_is a.0
-  handle-keeps stored catalogue merge n moment second (Flush t) made h h' before after reply at set_is a =
+  handle-keeps : (stored : Line) (catalogue : Catalogue) (settings : Settings) (n : ℕ) (moment : ℤ) (second : Option ℤ) (call : Call) (made : ℕ) (h h' : Handle) (before after : Known Span) (reply : Reply) → IsHandleAt xs n h → ys ≡ set xs n (AHandle h') → HandleActs (by_catalogue stored catalogue) settings n moment second call made h before ws reply h' after vs → Keeps xs ws reply ys vs
+  handle-keeps stored catalogue settings n moment second (WriteCall ops) made h h' before after reply at set_is a = write-keeps settings.extractor n h h' _ moment second (a.0).result reply at (a.0).does (a.0).replied (a.0).noted set_is
+  handle-keeps stored catalogue settings n moment second (MergeCall op) made h h' before after reply at set_is a = merge-keeps settings.merge settings.extractor n op moment second h h' reply at set_is a.0
+  handle-keeps stored catalogue settings n moment second (Flush t) made h h' before after reply at set_is a =
       keeps-by xs ys rise ws vs reply a.1 (numbers-by vs (a.0).replied (numbers-to vs _ (a.0).result (λ x. tt)))
-  handle-keeps stored catalogue merge n moment second Refresh made h h' before after reply at set_is a =
+  handle-keeps stored catalogue settings n moment second Refresh made h h' before after reply at set_is a =
       keeps-by xs ys rise ws vs reply a.2 (numbers-by vs (a.0).replied (numbers-to vs _ (a.0).result (λ x. tt)))
-  handle-keeps stored catalogue merge n moment second Compact made h h' before after reply at set_is a =
+  handle-keeps stored catalogue settings n moment second Compact made h h' before after reply at set_is a =
       keeps-by xs ys rise ws vs reply a.1 (numbers-by vs (a.0).replied (numbers-to vs _ (a.0).result (λ x. tt)))
-  handle-keeps stored catalogue merge n moment second (Close t) made h h' before after reply at set_is a =
+  handle-keeps stored catalogue settings n moment second (Close t) made h h' before after reply at set_is a =
       keeps-by xs ys rise ws vs reply a.1 (numbers-by vs (a.0).replied (numbers-closed vs _ _))
-  handle-keeps stored catalogue merge n moment second (Get key remote snapshot) made h h' before after reply at set_is a =
+  handle-keeps stored catalogue settings n moment second (Get key remote snapshot) made h h' before after reply at set_is a =
       keeps-by xs ys rise ws vs reply a.3 (numbers-by vs (a.0).replied (numbers-to vs _ (a.0).result (numbers-found vs)))
-  handle-keeps stored catalogue merge n moment second (Scan range order remote snapshot) made h h' before after reply at set_is a =
+  handle-keeps stored catalogue settings n moment second (Scan range order remote snapshot) made h h' before after reply at set_is a =
       keeps-by xs ys rise ws vs reply a.3 (numbers-by vs (a.0).replied (numbers-to vs _ (a.0).result (λ x. tt)))
-  handle-keeps stored catalogue merge n moment second (Seek range take key order remote snapshot) made h h' before after reply at set_is a =
+  handle-keeps stored catalogue settings n moment second (Seek range take key order remote snapshot) made h h' before after reply at set_is a =
       keeps-by xs ys rise ws vs reply a.3 (numbers-by vs (a.0).replied (numbers-to vs _ (a.0).result (λ x. tt)))
-  handle-keeps stored catalogue merge n moment second Poll made h h' before after reply at set_is a = keeps-by xs ys rise ws vs reply a.3 (numbers-by vs a.0 tt)
-  handle-keeps stored catalogue merge n moment second Status made h h' before after reply at set_is a = keeps-by xs ys rise ws vs reply a.3 (numbers-status vs _ a.0)
-  handle-keeps stored catalogue merge n moment second (FindTime number find) made h h' before after reply at set_is a = keeps-by xs ys rise ws vs reply a.3 (numbers-by vs a.0.2 tt)
-  handle-keeps stored catalogue merge n moment second (FindNumber seconds find) made h h' before after reply at set_is a = keeps-by xs ys rise ws vs reply a.3 (numbers-by vs a.0.2 tt)
-  handle-keeps stored catalogue merge n moment second Nothing made h h' before after reply at set_is a = keeps-by xs ys rise ws vs reply a.3 (numbers-by vs a.0 tt)
+  handle-keeps stored catalogue settings n moment second Poll made h h' before after reply at set_is a = keeps-by xs ys rise ws vs reply a.3 (numbers-by vs a.0 tt)
+  handle-keeps stored catalogue settings n moment second Status made h h' before after reply at set_is a = keeps-by xs ys rise ws vs reply a.3 (numbers-status vs _ a.0)
+  handle-keeps stored catalogue settings n moment second (FindTime number find) made h h' before after reply at set_is a = keeps-by xs ys rise ws vs reply a.3 (numbers-by vs a.0.2 tt)
+  handle-keeps stored catalogue settings n moment second (FindNumber seconds find) made h h' before after reply at set_is a = keeps-by xs ys rise ws vs reply a.3 (numbers-by vs a.0.2 tt)
+  handle-keeps stored catalogue settings n moment second Nothing made h h' before after reply at set_is a = keeps-by xs ys rise ws vs reply a.3 (numbers-by vs a.0 tt)
 
-  follower-keeps : (stored : Line) (catalogue : Catalogue) (merge : Option Merge) (moment : ℤ) (call : Call) (made : ℕ) (f f' : Follower) (before after : Known Span) (reply : Reply) → FollowerActs (by_catalogue stored catalogue) merge moment call made f before ws reply f' after vs → Keeps xs ws reply ys vs
-  follower-keeps stored catalogue merge moment Poll made f f' before after reply a =
+  follower-keeps : (stored : Line) (catalogue : Catalogue) (settings : Settings) (moment : ℤ) (call : Call) (made : ℕ) (f f' : Follower) (before after : Known Span) (reply : Reply) → FollowerActs (by_catalogue stored catalogue) settings moment call made f before ws reply f' after vs → Keeps xs ws reply ys vs
+  follower-keeps stored catalogue settings moment Poll made f f' before after reply a =
       keeps-by xs ys rise ws vs reply a.1 (numbers-by vs (a.0).replied (numbers-to vs _ (a.0).result (numbers-polled vs)))
-  follower-keeps stored catalogue merge moment (Get key remote snapshot) made f f' before after reply a =
+  follower-keeps stored catalogue settings moment (Get key remote snapshot) made f f' before after reply a =
       keeps-by xs ys rise ws vs reply a.3 (numbers-by vs (a.0).replied (numbers-to vs _ (a.0).result (numbers-found vs)))
-  follower-keeps stored catalogue merge moment (Close t) made f f' before after reply a = keeps-by xs ys rise ws vs reply a.1 (numbers-by vs (a.0).replied (numbers-follower-ended vs f.result _))
-  follower-keeps stored catalogue merge moment (Scan range order remote snapshot) made f f' before after reply a =
+  follower-keeps stored catalogue settings moment (Close t) made f f' before after reply a = keeps-by xs ys rise ws vs reply a.1 (numbers-by vs (a.0).replied (numbers-follower-ended vs f.result _))
+  follower-keeps stored catalogue settings moment (Scan range order remote snapshot) made f f' before after reply a =
       keeps-by xs ys rise ws vs reply a.3 (numbers-by vs (a.0).replied (numbers-to vs _ (a.0).result (λ x. tt)))
-  follower-keeps stored catalogue merge moment (Seek range take key order remote snapshot) made f f' before after reply a =
+  follower-keeps stored catalogue settings moment (Seek range take key order remote snapshot) made f f' before after reply a =
       keeps-by xs ys rise ws vs reply a.3 (numbers-by vs (a.0).replied (numbers-to vs _ (a.0).result (λ x. tt)))
-  follower-keeps stored catalogue merge moment (WriteCall ops) made f f' before after reply a = keeps-by xs ys rise ws vs reply a.3 (numbers-by vs a.0 tt)
-  follower-keeps stored catalogue merge moment (MergeCall op) made f f' before after reply a = keeps-by xs ys rise ws vs reply a.3 (numbers-by vs a.0 tt)
-  follower-keeps stored catalogue merge moment (Flush t) made f f' before after reply a = keeps-by xs ys rise ws vs reply a.3 (numbers-by vs a.0 tt)
-  follower-keeps stored catalogue merge moment Refresh made f f' before after reply a = keeps-by xs ys rise ws vs reply a.3 (numbers-by vs a.0 tt)
-  follower-keeps stored catalogue merge moment Compact made f f' before after reply a = keeps-by xs ys rise ws vs reply a.3 (numbers-by vs a.0 tt)
-  follower-keeps stored catalogue merge moment (FindTime number find) made f f' before after reply a = keeps-by xs ys rise ws vs reply a.3 (numbers-by vs a.0 tt)
-  follower-keeps stored catalogue merge moment (FindNumber seconds find) made f f' before after reply a = keeps-by xs ys rise ws vs reply a.3 (numbers-by vs a.0 tt)
-  follower-keeps stored catalogue merge moment Status made f f' before after reply a = keeps-by xs ys rise ws vs reply a.3 (numbers-status vs _ a.0)
-  follower-keeps stored catalogue merge moment Nothing made f f' before after reply a = keeps-by xs ys rise ws vs reply a.3 (numbers-by vs a.0 tt)
+  follower-keeps stored catalogue settings moment (WriteCall ops) made f f' before after reply a = keeps-by xs ys rise ws vs reply a.3 (numbers-by vs a.0 tt)
+  follower-keeps stored catalogue settings moment (MergeCall op) made f f' before after reply a = keeps-by xs ys rise ws vs reply a.3 (numbers-by vs a.0 tt)
+  follower-keeps stored catalogue settings moment (Flush t) made f f' before after reply a = keeps-by xs ys rise ws vs reply a.3 (numbers-by vs a.0 tt)
+  follower-keeps stored catalogue settings moment Refresh made f f' before after reply a = keeps-by xs ys rise ws vs reply a.3 (numbers-by vs a.0 tt)
+  follower-keeps stored catalogue settings moment Compact made f f' before after reply a = keeps-by xs ys rise ws vs reply a.3 (numbers-by vs a.0 tt)
+  follower-keeps stored catalogue settings moment (FindTime number find) made f f' before after reply a = keeps-by xs ys rise ws vs reply a.3 (numbers-by vs a.0 tt)
+  follower-keeps stored catalogue settings moment (FindNumber seconds find) made f f' before after reply a = keeps-by xs ys rise ws vs reply a.3 (numbers-by vs a.0 tt)
+  follower-keeps stored catalogue settings moment Status made f f' before after reply a = keeps-by xs ys rise ws vs reply a.3 (numbers-status vs _ a.0)
+  follower-keeps stored catalogue settings moment Nothing made f f' before after reply a = keeps-by xs ys rise ws vs reply a.3 (numbers-by vs a.0 tt)
 
 module _ (settings : Settings) (w w' : World) (command : Command) (made : ℕ) (reply : Reply) (rise : Rise w.objects w'.objects) where
   abbrev k : Knowledge Span
@@ -240,24 +242,24 @@ module _ (settings : Settings) (w w' : World) (command : Command) (made : ℕ) (
   only-keeps : (answer : Reply) → Numbers w'.writes answer → OnlyAnswers answer made (state_of w) reply (state_of w') → Keeps w.objects w.writes reply w'.objects w'.writes
   only-keeps answer numbers d = keeps-by w.objects w'.objects rise w.writes w'.writes reply (ap (λ (s : State Span). s.writes) d.2) (numbers-by w'.writes d.1 numbers)
 
-  handle-keep : (n : ℕ) (call : Call) (h : Handle) → slice_get w.objects n ≡ Some (AHandle h) → ActsAt k settings.merge n command call made (AHandle h) (state_of w) reply (state_of w') → Keeps w.objects w.writes reply w'.objects w'.writes
+  handle-keep : (n : ℕ) (call : Call) (h : Handle) → slice_get w.objects n ≡ Some (AHandle h) → ActsAt k settings n command call made (AHandle h) (state_of w) reply (state_of w') → Keeps w.objects w.writes reply w'.objects w'.writes
   handle-keep n call h at a =
-      let d = handle-acted k settings.merge n command call made (state_of w) reply (state_of w') h a in
-      handle-keeps w.objects w'.objects rise w.writes w'.writes w.stored w.catalogue settings.merge n command.moment command.second call made h d.new _ _ reply at d.objects d.acts
+      let d = handle-acted k settings n command call made (state_of w) reply (state_of w') h a in
+      handle-keeps w.objects w'.objects rise w.writes w'.writes w.stored w.catalogue settings n command.moment command.second call made h d.new _ _ reply at d.objects d.acts
 
-  snapshot-keeps : (x : HandleSnapshot) (call : Call) (found : Option Object) → slice_get w.objects x.handle ≡ found → ReadsSnapshot k settings.merge x command call made found (state_of w) reply (state_of w') → Keeps w.objects w.writes reply w'.objects w'.writes
+  snapshot-keeps : (x : HandleSnapshot) (call : Call) (found : Option Object) → slice_get w.objects x.handle ≡ found → ReadsSnapshot k settings x command call made found (state_of w) reply (state_of w') → Keeps w.objects w.writes reply w'.objects w'.writes
   snapshot-keeps x call (Some (AHandle h)) at d = handle-keep x.handle (at_snapshot x.number call) h at d
   snapshot-keeps x call (Some (ASnapshot y)) at d = only-keeps _ tt d
   snapshot-keeps x call (Some (AFollower f)) at d = only-keeps _ tt d
   snapshot-keeps x call None at d = only-keeps _ tt d
 
-  on-keeps : (n : ℕ) (call : Call) (found : Option Object) → slice_get w.objects n ≡ found → ActsOn k settings.merge n command call made found (state_of w) reply (state_of w') → Keeps w.objects w.writes reply w'.objects w'.writes
+  on-keeps : (n : ℕ) (call : Call) (found : Option Object) → slice_get w.objects n ≡ found → ActsOn k settings n command call made found (state_of w) reply (state_of w') → Keeps w.objects w.writes reply w'.objects w'.writes
   on-keeps n call None at d = only-keeps _ tt d
   on-keeps n call (Some (AHandle h)) at d = handle-keep n call h at d
   on-keeps n call (Some (ASnapshot x)) at d = snapshot-keeps x call (slice_get w.objects x.handle) refl d
   on-keeps n call (Some (AFollower f)) at d =
-      let a = follower-did k settings.merge n command call made (state_of w) reply (state_of w') (Some (AFollower f)) f refl d in
-      follower-keeps w.objects w'.objects rise w.writes w'.writes w.stored w.catalogue settings.merge command.moment call made f a.new _ _ reply a.acts
+      let a = follower-did k settings n command call made (state_of w) reply (state_of w') (Some (AFollower f)) f refl d in
+      follower-keeps w.objects w'.objects rise w.writes w'.writes w.stored w.catalogue settings command.moment call made f a.new _ _ reply a.acts
 
   opened-keeps : (n : ℕ) (found : Option Object) → OpensSnapshot n made found (state_of w) reply (state_of w') → Keeps w.objects w.writes reply w'.objects w'.writes
   opened-keeps n (Some (AHandle h)) d =

@@ -1,4 +1,7 @@
 -- What a command does to an honest store by what the code keeps of a handle, it does to what the world knows of both.
+use Rattle.slate_status.specs.Records.{status_by}
+use Rattle.slate_live.specs.Settings.{Settings}
+use Rattle.slate_model.specs.Segments.{Extractor, segments_of}
 use Rattle.std.proofs.Common.{◌≡◌, ℕ, ℤ, List, [], Option, Some, None, Result, Ok, Err, inl, inr, refl, sym, subst, ap, ◌∙◌, ◌≤◌, ◌++◌, arith, ◌∷◌, ◌⊎◌, Bool, true, false, not, ◌||◌}
 use Rattle.slate_types.specs.declared.batches.Batch.{Batch}
 use Rattle.slate_types.specs.declared.batches.KeyOp.{KeyOp}
@@ -14,9 +17,13 @@ use Rattle.slate_reads.specs.Read.{read_at}
 use Rattle.slate_rows.specs.Iteration.{Iteration}
 use Rattle.slate_rows.specs.Scan.{BeginsScan}
 use Rattle.slate_store.specs.Content.{IsSound, content, table_batches}
-use Rattle.slate_store.specs.Objects.{Objects, latest_manifest, table_at}
+use Rattle.slate_store.specs.Objects.{Objects, latest_manifest, table_at, ObjectsOf}
 use Rattle.slate_store.specs.declared.objects.TableId.{TableId}
 use Rattle.slate_store.specs.declared.objects.VersionedManifest.{VersionedManifest}
+use Rattle.slate_errors.specs.declared.errors.SlateError.TheVariants as errors
+use Rattle.slate_store.specs.declared.refusals.StoreRefusal.TheVariants as refusals
+use Rattle.slate_store.specs.declared.reader_modes.DbReaderMode.TheVariants as modes
+use Rattle.slate_store.specs.Refusals.{PlanIs}
 use Rattle.slate_errors.specs.declared.errors.SlateError.{SlateError}
 use Rattle.slate_model.specs.Catalogue.{Span, catalogue_of}
 use Rattle.slate_model.specs.Close.{closed, closed_follower, closing_flush, ended, recorded_fault, Closes}
@@ -24,16 +31,16 @@ use Rattle.slate_model.specs.declared.leases.Lease.{Lease}
 use Rattle.slate_model.specs.Followed.{can_follow}
 use Rattle.slate_model.specs.Knowledge.{Knowledge}
 use Rattle.slate_model.specs.Lease.{to_keep}
-use Rattle.slate_model.specs.Managed.{EndsLease, KeepsLease, PollsManaged, PutsPlanned, poll_result}
+use Rattle.slate_model.specs.Managed.{EndsLease, KeepRefusal, KeepsLease, PollsManaged, PutsPlanned, poll_result, unrefused}
 use Rattle.slate_model.proofs.Leased.{its-manifest, planned-latest, view-alike}
 use Rattle.slate_model.proofs.Maintained.{Maintained, delete-recheckpoints}
-use Rattle.slate_model.proofs.Planned.{end-maintains, keep-maintains, keep-recheckpoints, puts-known}
+use Rattle.slate_model.proofs.Planned.{end-maintains, keep-maintains, keep-recheckpoints, keep_refusal-known, puts-known, unrefused-known}
 use Rattle.slate_store.specs.Calls.{WhereModelled}
 use Rattle.slate_store.specs.Checkpoints.{to_delete}
 use Rattle.std.specs.Option.{IfSome, is_some, unwrap_or}
 use Rattle.slate_model.specs.Flush.{flush_result, grown, CanFlush, Flushes, IsFlushed, Stores}
-use Rattle.slate_model.specs.Follow.{Polls}
-use Rattle.slate_model.specs.Follower.{Follower, is_managed, is_pinned, kept_follower, number, rebuilt}
+use Rattle.slate_model.specs.Follow.{LacksSegment, Polls}
+use Rattle.slate_model.specs.Follower.{Follower, HasSegments, is_managed, is_pinned, kept_follower, number, rebuilt}
 use Rattle.slate_model.specs.Handle.{CloseResult, Handle, accepted, kept_handle, next_table}
 use Rattle.slate_model.specs.Known.{Known, Untouched}
 use Rattle.slate_model.specs.Object.{Handle as AHandle, Follower as AFollower}
@@ -44,9 +51,9 @@ use Rattle.slate_model.specs.Valid.{AreBefore, IsHeld, IsValidHandle, ReadsItsLi
 use Rattle.slate_model.proofs.Compacting.{compact-moved, refresh-moved, compact-rises, refresh-rises}
 use Rattle.slate_model.proofs.Flushing.{flush-moved, grown-zero}
 use Rattle.slate_model.proofs.Free.{flush-unset, joins}
-use Rattle.slate_model.proofs.Keeping.{accepted-kept, line_above-end, log_for-kept}
+use Rattle.slate_model.proofs.Keeping.{accepted-kept, line_above-end, line_above-twice, log_for-kept, segments-kept}
 use Rattle.slate_model.proofs.Moving.{Moved, known-stored, none-known, unmoved}
-use Rattle.slate_model.proofs.Reduced.{as_modelled, catalogued, closes-reduced, compacts-reduced, flushed-whole, flushes-reduced, holding, kept-whole, modelled, polled-whole, polls-reduced, reads-reduced, refreshes-reduced, some-same, stores-rises, untouched-known, whole}
+use Rattle.slate_model.proofs.Reduced.{as_modelled, catalogued, closes-reduced, compacts-reduced, flushed-whole, flushes-reduced, holding, kept-whole, modelled, polled-whole, polls-reduced, reads-reduced, refreshes-reduced, refuses-known, some-same, stores-rises, untouched-known, whole}
 use Rattle.slate_model.proofs.Writing.{rewritten, writes-whole, written-reads, written-valid}
 use Rattle.slate_script.specs.declared.replies.Reply.{Reply}
 use Rattle.slate_live.specs.declared.states.Write.{Write}
@@ -65,9 +72,9 @@ use Rattle.slate_errors.specs.declared.endings.Ended.{Ended}
 use Rattle.slate_model.specs.Refresh.{Compacts, Refreshes, fenced_result}
 use Rattle.slate_model.specs.declared.answers.PollAnswer.{PollAnswer}
 use Rattle.slate_model.specs.Write.{written}
-use Rattle.slate_live.proofs.Leasing.{leased-answers, leased-held, leased-kept, leased-sees, leased-stored, leased-valid, leased_whole}
+use Rattle.slate_live.proofs.Leasing.{leased-answers, leased-held, leased-kept, leased-sees, leased-segments, leased-stored, leased-valid, leased_whole}
 use Rattle.slate_live.proofs.Rising.{managed-free}
-use Rattle.slate_live.proofs.Following.{new-held, new-stored, new-valid, seen-kept, seen-mark}
+use Rattle.slate_live.proofs.Following.{new-held, new-stored, new-valid, seen-kept, seen-mark, with_segments}
 use Rattle.slate_live.specs.Represents.{IsLeased, IsValidFollower}
 use Rattle.slate_model.proofs.Owing.{owed_line}
 use Rattle.slate_errors.specs.declared.closing.CloseFault.{CloseFault}
@@ -124,13 +131,13 @@ type-kept (Some t) h = refl
 
 module _ (stored : Line) (o o' : Objects) (f f' : ℕ) (made : ℕ) (writes writes' : List Write) (reply : Reply) (sound : IsSound o) (holds : content o ≡ stored)
     (latest : VersionedManifest) (is : latest_manifest o ≡ Some latest) (h k : Handle) (v : IsValidHandle stored (catalogue_of o) h) (reads : ReadsItsLine o (AHandle h)) (before : AreBefore h h.view.manifest.tables)
-    (merge : Option Merge) (n : ℕ) (moment : ℤ) (second : Option ℤ) where
+    (settings : Settings) (n : ℕ) (moment : ℤ) (second : Option ℤ) where
   -- what the command leaves of the whole handle: it moved, and what is kept of it is what the code has
   pub record Led (call : Call) : Type 0 where
     pub new : Handle
     pub kept : k ≡ kept_handle new
     pub moved : Moved stored (grown_by call made stored (Some (AHandle h))) o o' latest h new
-    pub known : HandleActs (by_catalogue stored (catalogue_of o)) merge n moment second call made h (catalogued o f) writes reply new (catalogued o' f') writes'
+    pub known : HandleActs (by_catalogue stored (catalogue_of o)) settings n moment second call made h (catalogued o f) writes reply new (catalogued o' f') writes'
 
   low : h.view.manifest.last_l0_seq ≤ accepted h
   low = let t = v.tabled in let d = v.durable in omega (arith, t, d)
@@ -152,22 +159,22 @@ module _ (stored : Line) (o o' : Objects) (f f' : ℕ) (made : ℕ) (writes writ
   still-same : o' ≡ o → Moved stored stored o o' latest h h
   still-same same = still h same refl (omega arith) refl v reads
 
-  wrote : (ops : List KeyOp) (r : Result Written SlateError) → o' ≡ o → Moved stored stored o o' latest h (rewritten h v.tabled low ops r)
-  wrote ops (Ok w) same = still (written h ops w.create_ts) same refl (omega arith) refl (written-valid stored (catalogue_of o) h ops w.create_ts v) (written-reads stored (catalogue_of o) h ops w.create_ts v o reads)
-  wrote ops (Err e) same = still-same same
+  wrote : (x : Option Extractor) (ops : List KeyOp) (r : Result Written SlateError) → o' ≡ o → Moved stored stored o o' latest h (rewritten x h v.tabled low ops r)
+  wrote x ops (Ok w) same = still (written x h ops w.create_ts) same refl (omega arith) refl (written-valid x stored (catalogue_of o) h ops w.create_ts v) (written-reads x stored (catalogue_of o) h ops w.create_ts v o reads)
+  wrote x ops (Err e) same = still-same same
 
-  write-led : (ops : List KeyOp) → WritesTo n ops moment second (kept_handle h) writes reply k writes' → Untouched made (holding o f) (holding o' f') → (new : Handle) × (k ≡ kept_handle new) × Moved stored stored o o' latest h new × WritesTo n ops moment second h writes reply new writes'
-  write-led ops a u =
-      let w = writes-whole h v.tabled low ops moment second a.result k a.does in (
-        rewritten h v.tabled low ops a.result,
+  write-led : (x : Option Extractor) (ops : List KeyOp) → WritesTo x n ops moment second (kept_handle h) writes reply k writes' → Untouched made (holding o f) (holding o' f') → (new : Handle) × (k ≡ kept_handle new) × Moved stored stored o o' latest h new × WritesTo x n ops moment second h writes reply new writes'
+  write-led x ops a u =
+      let w = writes-whole x h v.tabled low ops moment second a.result k a.does in (
+        rewritten x h v.tabled low ops a.result,
         w.1,
-        wrote ops a.result (objects-same o o' f f' u.1),
+        wrote x ops a.result (objects-same o o' f f' u.1),
         record { result = a.result; replied = a.replied; does = w.0; noted = a.noted },
       )
 
-  merge-led : (merge : Option Merge) (op : KeyOp) → MergesTo merge n op moment second (kept_handle h) writes reply k writes' → Untouched made (holding o f) (holding o' f') → (new : Handle) × (k ≡ kept_handle new) × Moved stored stored o o' latest h new × MergesTo merge n op moment second h writes reply new writes'
-  merge-led None op a u = (h, a.1, still-same (objects-same o o' f f' u.1), (a.0, refl, a.2))
-  merge-led (Some function) op a u = write-led (op ∷ []) a u
+  merge-led : (merge : Option Merge) (x : Option Extractor) (op : KeyOp) → MergesTo merge x n op moment second (kept_handle h) writes reply k writes' → Untouched made (holding o f) (holding o' f') → (new : Handle) × (k ≡ kept_handle new) × Moved stored stored o o' latest h new × MergesTo merge x n op moment second h writes reply new writes'
+  merge-led None x op a u = (h, a.1, still-same (objects-same o o' f f' u.1), (a.0, refl, a.2))
+  merge-led (Some function) x op a u = write-led x (op ∷ []) a u
 
   -- a handle that changed only by what a command of another relation says
   whole-kept : k ≡ kept_handle h → k ≡ kept_handle (whole h k)
@@ -190,8 +197,9 @@ module _ (stored : Line) (o o' : Objects) (f f' : ℕ) (made : ℕ) (writes writ
   flushed-goes : (t : FlushType) (r : Result (Unit {0}) SlateError) (result : CloseResult) → (result ≡ None → result ≡ flush_result r) → CanFlush t (kept_handle h) → IsFlushed kept_handle made r result (kept_handle h) k → Stores (by_objects (Some o)) made t (kept_handle h) (holding o f) r k (holding o' f') → Goes (grown made stored h)
   flushed-goes t r result says can fl s =
       let step = modelled o o' s.objects in
-      let line = ap (λ (x : Handle). x.line) fl.same in (
-        kept-whole h k (stores-rises (Some o) stored (catalogue_of o) h o v.tabled ahead t step) line,
+      let line = ap (λ (x : Handle). x.line) fl.same in
+      let segments = ap (λ (x : Handle). x.segments) fl.same in (
+        kept-whole h k (stores-rises (Some o) stored (catalogue_of o) h o v.tabled ahead t step) line segments,
         flush-moved stored o o' latest t h k r result made sound holds is v reads before (can.0, sym (log_for-kept h t) ∙ can.1) step (flushed-whole made r result h k fl) says,
       )
 
@@ -219,7 +227,7 @@ module _ (stored : Line) (o o' : Objects) (f f' : ℕ) (made : ℕ) (writes writ
       let counter = ap (λ (x : Handle). x.counter) d.same in
       let same : whole h k ≡ record h { counter = k.counter; view = k.view; result = fenced_result r } =
       ap (whole h) d.same ∙ ap (λ c. record h { counter = c; view = k.view; result = fenced_result r }) (sym counter) in (
-        kept-whole h k (refresh-rises stored o o' latest h k r made sound holds is live v reads before same d.answer) (ap (λ (x : Handle). x.line) d.same),
+        kept-whole h k (refresh-rises stored o o' latest h k r made sound holds is live v reads before same d.answer) (ap (λ (x : Handle). x.line) d.same) (ap (λ (x : Handle). x.segments) d.same),
         subst (λ x. Moved stored stored o x latest h (whole h k)) (sym objects) (refresh-moved stored o o' latest h k r made sound holds is live v reads before same d.answer counter),
       ))
 
@@ -230,23 +238,23 @@ module _ (stored : Line) (o o' : Objects) (f f' : ℕ) (made : ℕ) (writes writ
       (λ live d.
       let same = ap (whole h) d.same in
       let step = modelled o o' d.objects in (
-        kept-whole h k (compact-rises stored o o' latest h k r made sound holds is live v reads before same step) (ap (λ (x : Handle). x.line) d.same),
+        kept-whole h k (compact-rises stored o o' latest h k r made sound holds is live v reads before same step) (ap (λ (x : Handle). x.line) d.same) (ap (λ (x : Handle). x.segments) d.same),
         compact-moved stored o o' latest h k r made sound holds is live v reads before same step,
       ))
 
-  taken-known : (range : ByteRange) (order : IterationOrder) (remote : Bool) (snapshot : Option ℕ) (taken : Iteration → Result (List KeyValue) SlateError) → TakesFrom (by_objects (Some o)) merge range order remote snapshot taken (kept_handle h) (holding o f) reply (holding o' f') → TakesFrom (by_catalogue stored (catalogue_of o)) merge range order remote snapshot taken h (catalogued o f) reply (catalogued o' f')
+  taken-known : (range : ByteRange) (order : IterationOrder) (remote : Bool) (snapshot : Option ℕ) (taken : Iteration → Result (List KeyValue) SlateError) → TakesFrom (by_objects (Some o)) settings.merge range order remote snapshot taken (kept_handle h) (holding o f) reply (holding o' f') → TakesFrom (by_catalogue stored (catalogue_of o)) settings.merge range order remote snapshot taken h (catalogued o f) reply (catalogued o' f')
   taken-known range order remote snapshot taken a = record {
     scan = a.scan;
     result = a.result;
-    scans = reads-reduced {has = kept_rows (Some o) (AHandle (kept_handle h))} {has' = world_rows stored (catalogue_of o) (AHandle h)} {P = Gives (IsPlainScan merge range order remote snapshot (kept_handle h))} {P' = Gives (IsPlainScan merge range order remote snapshot h)}
-        (λ rows q has plain. (rows, rows-known stored o h reads rows has, scan-known merge range order remote snapshot h rows q plain)) h.result h.view.manifest.tables a.scan o o' f f' a.scans;
+    scans = reads-reduced {has = kept_rows (Some o) (AHandle (kept_handle h))} {has' = world_rows stored (catalogue_of o) (AHandle h)} {P = Gives (IsPlainScan settings.merge range order remote snapshot (kept_handle h))} {P' = Gives (IsPlainScan settings.merge range order remote snapshot h)}
+        (λ rows q has plain. (rows, rows-known stored o h reads rows has, scan-known settings.merge range order remote snapshot h rows q plain)) h.result h.view.manifest.tables a.scan o o' f f' a.scans;
     takes = a.takes;
     replied = a.replied;
   }
 
-  pub handle-led : (call : Call) → HandleActs (by_objects (Some o)) merge n moment second call made (kept_handle h) (holding o f) writes reply k (holding o' f') writes' → Led call
-  handle-led (WriteCall ops) a = let w = write-led ops a.0 a.1 in record { new = w.0; kept = w.1; moved = w.2; known = (w.3, untouched-known made o o' f f' a.1) }
-  handle-led (MergeCall op) a = let w = merge-led merge op a.0 a.1 in record { new = w.0; kept = w.1; moved = w.2; known = (w.3, untouched-known made o o' f f' a.1) }
+  pub handle-led : (call : Call) → HandleActs (by_objects (Some o)) settings n moment second call made (kept_handle h) (holding o f) writes reply k (holding o' f') writes' → Led call
+  handle-led (WriteCall ops) a = let w = write-led settings.extractor ops a.0 a.1 in record { new = w.0; kept = w.1; moved = w.2; known = (w.3, untouched-known made o o' f f' a.1) }
+  handle-led (MergeCall op) a = let w = merge-led settings.merge settings.extractor op a.0 a.1 in record { new = w.0; kept = w.1; moved = w.2; known = (w.3, untouched-known made o o' f f' a.1) }
   handle-led (Flush flush_type) a =
       let t = flush_type_by flush_type h in
       let does = subst (λ t. Flushes (by_objects (Some o)) made t (kept_handle h) (holding o f) (a.0).result k (holding o' f')) (type-kept flush_type h) (a.0).does in
@@ -289,8 +297,8 @@ module _ (stored : Line) (o o' : Objects) (f f' : ℕ) (made : ℕ) (writes writ
       record {
         result = (a.0).result;
         replied = (a.0).replied;
-        does = reads-reduced {has = kept_rows (Some o) (AHandle (kept_handle h))} {has' = world_rows stored (catalogue_of o) (AHandle h)} {P = IsPlainRead merge key remote snapshot (kept_handle h)} {P' = IsPlainRead merge key remote snapshot h}
-            (λ rows q has plain. (rows, rows-known stored o h reads rows has, read-known merge key remote snapshot h rows q plain)) h.result h.view.manifest.tables (a.0).result o o' f f' (a.0).does;
+        does = reads-reduced {has = kept_rows (Some o) (AHandle (kept_handle h))} {has' = world_rows stored (catalogue_of o) (AHandle h)} {P = IsPlainRead settings.merge key remote snapshot (kept_handle h)} {P' = IsPlainRead settings.merge key remote snapshot h}
+            (λ rows q has plain. (rows, rows-known stored o h reads rows has, read-known settings.merge key remote snapshot h rows q plain)) h.result h.view.manifest.tables (a.0).result o o' f f' (a.0).does;
       },
       refl,
       a.2,
@@ -310,7 +318,7 @@ module _ (stored : Line) (o o' : Objects) (f f' : ℕ) (made : ℕ) (writes writ
     known = (taken-known range order remote snapshot (sought range take key) a.0, refl, a.2, a.3);
   }
   handle-led Poll a = record { new = h; kept = a.1; moved = still-same (objects-same o o' f f' a.2.1); known = (a.0, refl, untouched-known made o o' f f' a.2, a.3) }
-  handle-led Status a = record { new = h; kept = a.1; moved = still-same (objects-same o o' f f' a.2.1); known = (a.0, refl, untouched-known made o o' f f' a.2, a.3) }
+  handle-led Status a = record { new = h; kept = a.1; moved = still-same (objects-same o o' f f' a.2.1); known = (subst (λ segments. AnswersStatus (record (status_by h.durable h.view h.result) { memtable_segments = segments }) reply) (segments-kept h) a.0, refl, untouched-known made o o' f f' a.2, a.3) }
   handle-led (FindTime number find) a = record { new = h; kept = a.1; moved = still-same (objects-same o o' f f' a.2.1); known = (a.0, refl, untouched-known made o o' f f' a.2, a.3) }
   handle-led (FindNumber seconds find) a = record { new = h; kept = a.1; moved = still-same (objects-same o o' f f' a.2.1); known = (a.0, refl, untouched-known made o o' f f' a.2, a.3) }
   handle-led Nothing a = record { new = h; kept = a.1; moved = still-same (objects-same o o' f f' a.2.1); known = (a.0, refl, untouched-known made o o' f f' a.2, a.3) }
@@ -331,8 +339,8 @@ read-after result tables r o f store' s =
     by-option result (λ live. (o, (s.read live).kept))
     (λ q is. as-before o f store' (some-of (λ q. (r ≡ Err (closed_error q)) × (store' ≡ holding o f)) result q is s.closed).1)
 
-module _ (o : Objects) (f : ℕ) (made : ℕ) (writes writes' : List Write) (reply : Reply) (merge : Option Merge) (store' : Known (List Batch)) where
-  pub handle-after : (n : ℕ) (moment : ℤ) (second : Option ℤ) (call : Call) (h k : Handle) → HandleActs (by_objects (Some o)) merge n moment second call made h (holding o f) writes reply k store' writes' → AfterOf store'
+module _ (o : Objects) (f : ℕ) (made : ℕ) (writes writes' : List Write) (reply : Reply) (settings : Settings) (store' : Known (List Batch)) where
+  pub handle-after : (n : ℕ) (moment : ℤ) (second : Option ℤ) (call : Call) (h k : Handle) → HandleActs (by_objects (Some o)) settings n moment second call made h (holding o f) writes reply k store' writes' → AfterOf store'
   handle-after n moment second (WriteCall ops) h k a = as-before o f store' a.1.1
   handle-after n moment second (MergeCall op) h k a = as-before o f store' a.1.1
   handle-after n moment second (Flush flush_type) h k a =
@@ -358,7 +366,7 @@ module _ (o : Objects) (f : ℕ) (made : ℕ) (writes writes' : List Write) (rep
   handle-after n moment second (FindNumber seconds find) h k a = as-before o f store' a.2.1
   handle-after n moment second Nothing h k a = as-before o f store' a.2.1
 
-  polled-after : (r : Result PollAnswer SlateError) (g g' : Follower) → Polls (by_objects (Some o)) g (holding o f) r g' store' → AfterOf store'
+  polled-after : (r : Result PollAnswer SlateError) (g g' : Follower) → Polls (by_objects (Some o)) settings.extractor g (holding o f) r g' store' → AfterOf store'
   polled-after r g g' p =
       by-option g.result (λ live. by live (is_pinned g.mode) refl)
       (λ q is. as-before o f store' (some-of (λ q. (r ≡ Err (closed_error q)) × (store' ≡ holding o f)) g.result q is p.closed).1) where
@@ -367,13 +375,13 @@ module _ (o : Objects) (f : ℕ) (made : ℕ) (writes writes' : List Write) (rep
         by live false free = (o, (p.rebuilds live free).kept)
 
   -- what a poll of a reader that keeps a checkpoint leaves, and a close
-  managed-after : (moment : ℤ) (r : Result PollAnswer SlateError) (g g' : Follower) → is_managed g.mode ≡ true → IsLeased g → PollsManaged (by_objects (Some o)) made moment g (holding o f) r g' store' → AfterOf store'
+  managed-after : (moment : ℤ) (r : Result PollAnswer SlateError) (g g' : Follower) → is_managed g.mode ≡ true → IsLeased g → PollsManaged (by_objects (Some o)) settings.extractor made moment g (holding o f) r g' store' → AfterOf store'
   managed-after moment r g g' managed leased p =
       by-option g.result
       (λ live. leased-by g leased managed live (λ lease is. let t = ((p.keeps lease live is).puts).some o refl in (t.0, t.1)))
       (λ q is. as-before o f store' (some-of (λ q. (r ≡ Err (closed_error q)) × (g' ≡ g) × Untouched made (holding o f) store') g.result q is p.closed).2.1)
 
-  polls-after : (moment : ℤ) (r : Result PollAnswer SlateError) (g g' : Follower) (managed : Bool) → is_managed g.mode ≡ managed → IsLeased g → PollsAs (by_objects (Some o)) managed made moment g (holding o f) r g' store' → AfterOf store'
+  polls-after : (moment : ℤ) (r : Result PollAnswer SlateError) (g g' : Follower) (managed : Bool) → is_managed g.mode ≡ managed → IsLeased g → PollsAs (by_objects (Some o)) settings.extractor managed made moment g (holding o f) r g' store' → AfterOf store'
   polls-after moment r g g' true managed leased p = managed-after moment r g g' managed leased p
   polls-after moment r g g' false managed leased p = polled-after r g g' p.0
 
@@ -384,7 +392,7 @@ module _ (o : Objects) (f : ℕ) (made : ℕ) (writes writes' : List Write) (rep
       (λ q is. as-before o f store' (some-of (λ _. (answer ≡ ended (recorded_fault g.result)) × Untouched made (holding o f) store') g.result q is c.again).1.1)
   closes-after answer g g' false managed leased c = as-before o f store' c.2.1
 
-  pub follower-after : (moment : ℤ) (call : Call) (g g' : Follower) → IsLeased g → FollowerActs (by_objects (Some o)) merge moment call made g (holding o f) writes reply g' store' writes' → AfterOf store'
+  pub follower-after : (moment : ℤ) (call : Call) (g g' : Follower) → IsLeased g → FollowerActs (by_objects (Some o)) settings moment call made g (holding o f) writes reply g' store' writes' → AfterOf store'
   follower-after moment Poll g g' leased a = polls-after moment (a.0).result g g' (is_managed g.mode) refl leased (a.0).does
   follower-after moment (Get key remote snapshot) g g' leased a = read-after g.result g.view.manifest.tables (a.0).result o f store' (a.0).does
   follower-after moment (Scan range order remote snapshot) g g' leased a = read-after g.result g.view.manifest.tables (a.0).scan o f store' (a.0).scans
@@ -412,8 +420,12 @@ or-true false = refl
 kept-number : (g : Follower) → number (kept_follower g) ≡ number g
 kept-number g = line_above-end g.view.manifest.last_l0_seq g.line
 
+-- the segments of a whole follower are those of what is kept of it
+kept-segments : (x : Option Extractor) (g : Follower) → HasSegments x g → HasSegments x (kept_follower g)
+kept-segments x g had = had ∙ sym (ap (λ (l : Line). segments_of x l.batches) (line_above-twice g.view.manifest.last_l0_seq g.view.manifest.last_l0_seq g.line (omega arith)))
+
 module _ (stored : Line) (o o' : Objects) (f f' : ℕ) (made : ℕ) (writes writes' : List Write) (reply : Reply) (sound : IsSound o) (holds : content o ≡ stored) (numbered : IsLine stored)
-    (merge : Option Merge) (moment : ℤ) (g k : Follower) (mine : IsValidFollower stored (catalogue_of o) g) (held : IsHeld o (AFollower g)) where
+    (settings : Settings) (moment : ℤ) (g k : Follower) (mine : IsValidFollower stored (catalogue_of o) g) (held : IsHeld o (AFollower g)) where
   front : IsPrefix g.line stored
   front = mine.0
 
@@ -426,7 +438,7 @@ module _ (stored : Line) (o o' : Objects) (f f' : ℕ) (made : ℕ) (writes writ
     pub valid : IsValidFollower stored (catalogue_of o') g → IsValidFollower stored (catalogue_of o') new
     pub view : (new.view ≡ g.view) ⊎ AreStored o' new.view.manifest.tables
     pub holds_it : IsHeld o' (AFollower g) → IsHeld o' (AFollower new)
-    pub acts : FollowerActs (by_catalogue stored (catalogue_of o)) merge moment call made g (catalogued o f) writes reply new (catalogued o' f') writes'
+    pub acts : FollowerActs (by_catalogue stored (catalogue_of o)) settings moment call made g (catalogued o f) writes reply new (catalogued o' f') writes'
 
   unchanged : o' ≡ o → Maintained o o'
   unchanged same = unchanged-objects o o' sound same
@@ -438,46 +450,46 @@ module _ (stored : Line) (o o' : Objects) (f f' : ℕ) (made : ℕ) (writes writ
         r.2 ∙ (ap (λ bs. bs ++ batches_above g.view.manifest.last_l0_seq g.line.batches) all.1 ∙ held.0 all.0),
       )
 
-  read-follower : (key : List ℕ) (rows : List Batch) (a : Result (Option KeyValue) ReadFault) → kept_rows (Some o) (AFollower (kept_follower g)) rows → IsPlainReadAt merge key (kept_follower g) rows a → (rows' : List Batch) × world_rows stored (catalogue_of o) (AFollower g) rows' × IsPlainReadAt merge key g rows' a
+  read-follower : (key : List ℕ) (rows : List Batch) (a : Result (Option KeyValue) ReadFault) → kept_rows (Some o) (AFollower (kept_follower g)) rows → IsPlainReadAt settings.merge key (kept_follower g) rows a → (rows' : List Batch) × world_rows stored (catalogue_of o) (AFollower g) rows' × IsPlainReadAt settings.merge key g rows' a
   read-follower key rows a has plain =
       let line = rows-line rows has in (
         stored.batches,
         (line.0, refl),
-        plain ∙ (ap (λ n. read_at merge rows (Some n) key) (kept-number g) ∙ (ap (λ bs. read_at merge bs (Some (number g)) key) line.1 ∙ front-read merge g.line stored key front numbered)),
+        plain ∙ (ap (λ n. read_at settings.merge rows (Some n) key) (kept-number g) ∙ (ap (λ bs. read_at settings.merge bs (Some (number g)) key) line.1 ∙ front-read settings.merge g.line stored key front numbered)),
       )
 
-  scan-follower : (range : ByteRange) (order : IterationOrder) (rows : List Batch) (a : Result Iteration ReadFault) → kept_rows (Some o) (AFollower (kept_follower g)) rows → Gives (IsPlainScanAt merge range order (kept_follower g)) rows a → (rows' : List Batch) × world_rows stored (catalogue_of o) (AFollower g) rows' × Gives (IsPlainScanAt merge range order g) rows' a
+  scan-follower : (range : ByteRange) (order : IterationOrder) (rows : List Batch) (a : Result Iteration ReadFault) → kept_rows (Some o) (AFollower (kept_follower g)) rows → Gives (IsPlainScanAt settings.merge range order (kept_follower g)) rows a → (rows' : List Batch) × world_rows stored (catalogue_of o) (AFollower g) rows' × Gives (IsPlainScanAt settings.merge range order g) rows' a
   scan-follower range order rows (Ok it) has plain =
       let line = rows-line rows has in
-      let counted : BeginsScan merge rows (Some (number g)) range order it = subst (λ n. BeginsScan merge rows (Some n) range order it) (kept-number g) plain in (
+      let counted : BeginsScan settings.merge rows (Some (number g)) range order it = subst (λ n. BeginsScan settings.merge rows (Some n) range order it) (kept-number g) plain in (
         stored.batches,
         (line.0, refl),
-        front-scan merge g.line stored range order it front numbered (subst (λ bs. BeginsScan merge bs (Some (number g)) range order it) line.1 counted),
+        front-scan settings.merge g.line stored range order it front numbered (subst (λ bs. BeginsScan settings.merge bs (Some (number g)) range order it) line.1 counted),
       )
   scan-follower range order rows (Err fault) has plain = absurd plain
 
-  taken-follower : (range : ByteRange) (order : IterationOrder) (taken : Iteration → Result (List KeyValue) SlateError) → TakesFromFollower (by_objects (Some o)) merge range order taken (kept_follower g) (holding o f) reply (holding o' f') → TakesFromFollower (by_catalogue stored (catalogue_of o)) merge range order taken g (catalogued o f) reply (catalogued o' f')
+  taken-follower : (range : ByteRange) (order : IterationOrder) (taken : Iteration → Result (List KeyValue) SlateError) → TakesFromFollower (by_objects (Some o)) settings.merge range order taken (kept_follower g) (holding o f) reply (holding o' f') → TakesFromFollower (by_catalogue stored (catalogue_of o)) settings.merge range order taken g (catalogued o f) reply (catalogued o' f')
   taken-follower range order taken a = record {
     scan = a.scan;
     result = a.result;
-    scans = reads-reduced {has = kept_rows (Some o) (AFollower (kept_follower g))} {has' = world_rows stored (catalogue_of o) (AFollower g)} {P = Gives (IsPlainScanAt merge range order (kept_follower g))} {P' = Gives (IsPlainScanAt merge range order g)}
+    scans = reads-reduced {has = kept_rows (Some o) (AFollower (kept_follower g))} {has' = world_rows stored (catalogue_of o) (AFollower g)} {P = Gives (IsPlainScanAt settings.merge range order (kept_follower g))} {P' = Gives (IsPlainScanAt settings.merge range order g)}
         (scan-follower range order) g.result g.view.manifest.tables a.scan o o' f f' a.scans;
     takes = a.takes;
     replied = a.replied;
   }
 
   -- a follower that is as before
-  unled : (call : Call) → o' ≡ o → k ≡ kept_follower g → FollowerActs (by_catalogue stored (catalogue_of o)) merge moment call made g (catalogued o f) writes reply g (catalogued o' f') writes' → LedFollower call
+  unled : (call : Call) → o' ≡ o → k ≡ kept_follower g → FollowerActs (by_catalogue stored (catalogue_of o)) settings moment call made g (catalogued o f) writes reply g (catalogued o' f') writes' → LedFollower call
   unled call same kept known = record { new = g; kept = kept; maintained = unchanged same; valid = λ v. v; view = inl refl; holds_it = λ h. h; acts = known }
 
   abbrev PollsPlainly : (r : Result PollAnswer SlateError) → Follower → Type 0
-  PollsPlainly r new = Polls (by_catalogue stored (catalogue_of o)) g (catalogued o f) r new (catalogued o' f')
+  PollsPlainly r new = Polls (by_catalogue stored (catalogue_of o)) settings.extractor g (catalogued o f) r new (catalogued o' f')
 
   -- the poll of a world, by how the follower is polled
-  acts-by : (r : Result PollAnswer SlateError) (new : Follower) (managed : Bool) → is_managed g.mode ≡ managed → reply ≡ reply_to polled_reply r → writes' ≡ writes → PollsAs (by_catalogue stored (catalogue_of o)) managed made moment g (catalogued o f) r new (catalogued o' f') →
-      FollowerActs (by_catalogue stored (catalogue_of o)) merge moment Poll made g (catalogued o f) writes reply new (catalogued o' f') writes'
+  acts-by : (r : Result PollAnswer SlateError) (new : Follower) (managed : Bool) → is_managed g.mode ≡ managed → reply ≡ reply_to polled_reply r → writes' ≡ writes → PollsAs (by_catalogue stored (catalogue_of o)) settings.extractor managed made moment g (catalogued o f) r new (catalogued o' f') →
+      FollowerActs (by_catalogue stored (catalogue_of o)) settings moment Poll made g (catalogued o f) writes reply new (catalogued o' f') writes'
   acts-by r new managed is replied same_writes p = (
-    record { result = r; replied = replied; does = subst (λ b. PollsAs (by_catalogue stored (catalogue_of o)) b made moment g (catalogued o f) r new (catalogued o' f')) (sym is) p },
+    record { result = r; replied = replied; does = subst (λ b. PollsAs (by_catalogue stored (catalogue_of o)) settings.extractor b made moment g (catalogued o f) r new (catalogued o' f')) (sym is) p },
     same_writes,
   )
 
@@ -486,40 +498,42 @@ module _ (stored : Line) (o o' : Objects) (f f' : ℕ) (made : ℕ) (writes writ
   unpolled r unmanaged replied none same_writes same kept known = unled Poll same kept (acts-by r g false unmanaged replied same_writes (known, none))
 
   -- one that is open and doesn't stay at a checkpoint
-  free-led : (r : Result PollAnswer SlateError) → is_managed g.mode ≡ false → reply ≡ reply_to polled_reply r → made ≡ 0 → writes' ≡ writes → g.result ≡ None → is_pinned g.mode ≡ false → Polls (by_objects (Some o)) (kept_follower g) (holding o f) r k (holding o' f') → PollsPlainly r (polled-whole o stored None false g k r) → LedFollower Poll
+  free-led : (r : Result PollAnswer SlateError) → is_managed g.mode ≡ false → reply ≡ reply_to polled_reply r → made ≡ 0 → writes' ≡ writes → g.result ≡ None → is_pinned g.mode ≡ false → Polls (by_objects (Some o)) settings.extractor (kept_follower g) (holding o f) r k (holding o' f') → PollsPlainly r (polled-whole o stored None false g k r) → LedFollower Poll
   free-led (Ok answer) unmanaged replied none same_writes live free p known =
       let b = p.rebuilds live free in
       let v = b.can o refl in
       let all = b.sees o stored refl (o, refl, sound, sym holds) (g, refl, front, held.1 free) in
       let mark = seen-mark (Some o) stored g.mode g.skips o k answer all in
+      let new = with_segments k.segments (rebuilt g.mode g.skips k.view (owed_line g.mode g.skips o k.view stored) k.mark) in
+      let same = sym (some-same o' o b.kept) in
       record {
-        new = rebuilt g.mode g.skips k.view (owed_line g.mode g.skips o k.view stored) k.mark;
+        new = new;
         kept = seen-kept (Some o) stored g.mode g.skips o k answer all;
         maintained = unchanged (some-same o' o b.kept);
-        valid = λ _. subst (λ (x : Objects). IsValidFollower stored (catalogue_of x) (rebuilt g.mode g.skips k.view (owed_line g.mode g.skips o k.view stored) k.mark)) (sym (some-same o' o b.kept)) (new-valid stored g.mode g.skips false o k.view sound holds v k.mark mark unmanaged);
-        view = inr (subst (λ (x : Objects). AreStored x k.view.manifest.tables) (sym (some-same o' o b.kept)) (new-stored stored g.mode g.skips false o k.view sound holds v k.mark mark));
-        holds_it = λ _. subst (λ (x : Objects). IsHeld x (AFollower (rebuilt g.mode g.skips k.view (owed_line g.mode g.skips o k.view stored) k.mark))) (sym (some-same o' o b.kept)) (new-held stored g.mode g.skips false o k.view sound holds v k.mark mark);
-        acts = acts-by (Ok answer) _ false unmanaged replied same_writes (known, none);
+        valid = λ _. subst (λ (x : Objects). IsValidFollower stored (catalogue_of x) new) same (new-valid k.segments stored g.mode g.skips false o k.view sound holds v k.mark mark unmanaged);
+        view = inr (subst (λ (x : Objects). AreStored x k.view.manifest.tables) same (new-stored k.segments stored g.mode g.skips false o k.view sound holds v k.mark mark));
+        holds_it = λ _. subst (λ (x : Objects). IsHeld x (AFollower new)) same (new-held k.segments stored g.mode g.skips false o k.view sound holds v k.mark mark);
+        acts = acts-by (Ok answer) new false unmanaged replied same_writes (known, none);
       }
   free-led (Err e) unmanaged replied none same_writes live free p known = unpolled (Err e) unmanaged replied none same_writes (some-same o' o (p.rebuilds live free).kept) p.failed known
 
-  open-led : (r : Result PollAnswer SlateError) → is_managed g.mode ≡ false → reply ≡ reply_to polled_reply r → made ≡ 0 → writes' ≡ writes → g.result ≡ None → (pinned : Bool) → is_pinned g.mode ≡ pinned → Polls (by_objects (Some o)) (kept_follower g) (holding o f) r k (holding o' f') → PollsPlainly r (polled-whole o stored None pinned g k r) → LedFollower Poll
+  open-led : (r : Result PollAnswer SlateError) → is_managed g.mode ≡ false → reply ≡ reply_to polled_reply r → made ≡ 0 → writes' ≡ writes → g.result ≡ None → (pinned : Bool) → is_pinned g.mode ≡ pinned → Polls (by_objects (Some o)) settings.extractor (kept_follower g) (holding o f) r k (holding o' f') → PollsPlainly r (polled-whole o stored None pinned g k r) → LedFollower Poll
   open-led (Ok answer) unmanaged replied none same_writes live true stays p known =
       let q = p.pinned live stays in unpolled (Ok answer) unmanaged replied none same_writes (objects-same o o' f f' q.2) q.1 known
   open-led (Err e) unmanaged replied none same_writes live true stays p known =
       let q = p.pinned live stays in unpolled (Err e) unmanaged replied none same_writes (objects-same o o' f f' q.2) q.1 known
   open-led r unmanaged replied none same_writes live false free p known = free-led r unmanaged replied none same_writes live free p known
 
-  closed-led : (r : Result PollAnswer SlateError) (q : Result (Unit {0}) CloseFault) → is_managed g.mode ≡ false → reply ≡ reply_to polled_reply r → made ≡ 0 → writes' ≡ writes → g.result ≡ Some q → Polls (by_objects (Some o)) (kept_follower g) (holding o f) r k (holding o' f') → PollsPlainly r (polled-whole o stored (Some q) (is_pinned g.mode) g k r) → LedFollower Poll
+  closed-led : (r : Result PollAnswer SlateError) (q : Result (Unit {0}) CloseFault) → is_managed g.mode ≡ false → reply ≡ reply_to polled_reply r → made ≡ 0 → writes' ≡ writes → g.result ≡ Some q → Polls (by_objects (Some o)) settings.extractor (kept_follower g) (holding o f) r k (holding o' f') → PollsPlainly r (polled-whole o stored (Some q) (is_pinned g.mode) g k r) → LedFollower Poll
   closed-led (Ok answer) q unmanaged replied none same_writes is p known =
       let c = some-of (λ q. (Ok answer ≡ Err (closed_error q)) × (holding o' f' ≡ holding o f)) g.result q is p.closed in absurd (let e = c.0 in cc)
   closed-led (Err e) q unmanaged replied none same_writes is p known =
       unpolled (Err e) unmanaged replied none same_writes (objects-same o o' f f' (some-of (λ q. (Err e ≡ Err (closed_error q)) × (holding o' f' ≡ holding o f)) g.result q is p.closed).1) p.failed known
 
-  polled-led : (r : Result PollAnswer SlateError) → is_managed g.mode ≡ false → reply ≡ reply_to polled_reply r → Polls (by_objects (Some o)) (kept_follower g) (holding o f) r k (holding o' f') → made ≡ 0 → writes' ≡ writes → LedFollower Poll
+  polled-led : (r : Result PollAnswer SlateError) → is_managed g.mode ≡ false → reply ≡ reply_to polled_reply r → Polls (by_objects (Some o)) settings.extractor (kept_follower g) (holding o f) r k (holding o' f') → made ≡ 0 → writes' ≡ writes → LedFollower Poll
   polled-led r unmanaged replied p none same_writes = by (g.result) refl where
     known : PollsPlainly r (polled-whole o stored g.result (is_pinned g.mode) g k r)
-    known = polls-reduced stored r g k o o' f f' sound holds front held.1 p
+    known = polls-reduced settings.extractor stored r g k o o' f f' sound holds front held.1 p
 
     by : (closed : CloseResult) → g.result ≡ closed → LedFollower Poll
     by None live = open-led r unmanaged replied none same_writes live (is_pinned g.mode) refl p (subst (λ c. PollsPlainly r (polled-whole o stored c (is_pinned g.mode) g k r)) live known)
@@ -530,21 +544,32 @@ module _ (stored : Line) (o o' : Objects) (f f' : ℕ) (made : ℕ) (writes writ
   world = by_catalogue stored (catalogue_of o)
 
   -- what a poll puts, and what that leaves
-  keep-puts : (lease : Lease) (r : Result PollAnswer SlateError) → KeepsLease (by_objects (Some o)) made lease moment (kept_follower g) (holding o f) r k (holding o' f') → WhereModelled (λ c c'. PutsPlanned world.stands (to_keep g.view lease moment) c r made c') (Some (catalogue_of o)) (Some (catalogue_of o'))
-  keep-puts lease r p = as_modelled (catalogue_of o) (catalogue_of o') (puts-known (to_keep g.view lease moment) (keep-recheckpoints g.view lease moment) o sound stored r made o' (modelled o o' p.puts))
+  keep-puts : (lease : Lease) (r : Result PollAnswer SlateError) → KeepsLease (by_objects (Some o)) settings.extractor made lease moment (kept_follower g) (holding o f) r k (holding o' f') → WhereModelled (λ c c'. PutsPlanned world.stands (KeepRefusal settings.extractor) (to_keep g.view lease moment) c r made c') (Some (catalogue_of o)) (Some (catalogue_of o'))
+  keep-puts lease r p = as_modelled (catalogue_of o) (catalogue_of o') (puts-known (to_keep g.view lease moment) (keep-recheckpoints g.view lease moment) o sound stored (KeepRefusal settings.extractor) (KeepRefusal settings.extractor) (keep_refusal-known settings.extractor o) r made o' (modelled o o' p.puts))
 
-  keep-maintained : (lease : Lease) (r : Result PollAnswer SlateError) → KeepsLease (by_objects (Some o)) made lease moment (kept_follower g) (holding o f) r k (holding o' f') → Maintained o o'
+  keep-maintained : (lease : Lease) (r : Result PollAnswer SlateError) → KeepsLease (by_objects (Some o)) settings.extractor made lease moment (kept_follower g) (holding o f) r k (holding o' f') → Maintained o o'
   keep-maintained lease r p = subst (Maintained o) (sym (modelled o o' p.puts).after) (keep-maintains g.view lease moment made o sound)
 
+  -- a key that it lacks a segment for is one of the world
+  keeps-segmented : (lease : Lease) (r : Result PollAnswer SlateError) → is_managed g.mode ≡ true → KeepsLease (by_objects (Some o)) settings.extractor made lease moment (kept_follower g) (holding o f) r k (holding o' f') → (c : ObjectsOf Span) (line : Line) → Some (catalogue_of o) ≡ Some c → line ≡ stored → r ≡ Err errors.InvalidDBState →
+      PlanIs (to_keep g.view lease moment) c (Err refusals.InvalidDBState) ⊎ LacksSegment world settings.extractor modes.ManagedCheckpoint g.skips false c line
+  keeps-segmented lease r managed p c line at stored_is is_error =
+      subst (λ x. PlanIs (to_keep g.view lease moment) x (Err refusals.InvalidDBState) ⊎ LacksSegment world settings.extractor modes.ManagedCheckpoint g.skips false x line) (some-same (catalogue_of o) c at)
+      (subst (λ l. PlanIs (to_keep g.view lease moment) (catalogue_of o) (Err refusals.InvalidDBState) ⊎ LacksSegment world settings.extractor modes.ManagedCheckpoint g.skips false (catalogue_of o) l) (sym stored_is)
+      (by (p.segmented o stored refl (o, refl, sound, sym holds) (g, refl, front, held.1 (managed-free g.mode managed)) is_error))) where
+        by : PlanIs (to_keep g.view lease moment) o (Err refusals.InvalidDBState) ⊎ LacksSegment (by_objects (Some o)) settings.extractor modes.ManagedCheckpoint g.skips false o stored → PlanIs (to_keep g.view lease moment) (catalogue_of o) (Err refusals.InvalidDBState) ⊎ LacksSegment world settings.extractor modes.ManagedCheckpoint g.skips false (catalogue_of o) stored
+        by (inl plan) = inl plan
+        by (inr (key, lacks)) = inr (key, refuses-known settings.extractor stored (catalogue_of o) (Some o) modes.ManagedCheckpoint g.skips o sound holds false (Some (errors.EmptySegmentPrefix key)) lacks)
+
   -- the poll of the world, where it is open under this lease
-  keeps-known : (lease : Lease) (r : Result PollAnswer SlateError) (new : Follower) → g.result ≡ None → g.lease ≡ Some lease → KeepsLease world made lease moment g (catalogued o f) r new (catalogued o' f') → PollsManaged world made moment g (catalogued o f) r new (catalogued o' f')
+  keeps-known : (lease : Lease) (r : Result PollAnswer SlateError) (new : Follower) → g.result ≡ None → g.lease ≡ Some lease → KeepsLease world settings.extractor made lease moment g (catalogued o f) r new (catalogued o' f') → PollsManaged world settings.extractor made moment g (catalogued o f) r new (catalogued o' f')
   keeps-known lease r new live is p = record {
     closed = is-none _ g.result live;
-    keeps = λ other live' is'. let same : lease ≡ other = cc in subst (λ l. KeepsLease world made l moment g (catalogued o f) r new (catalogued o' f')) same p;
+    keeps = λ other live' is'. let same : lease ≡ other = cc in subst (λ l. KeepsLease world settings.extractor made l moment g (catalogued o f) r new (catalogued o' f')) same p;
   }
 
   -- a poll that answers an error: the lease is the old one, or the one that it committed
-  failed-led : (lease : Lease) (e : SlateError) → is_managed g.mode ≡ true → reply ≡ reply_to polled_reply (Err e) → writes' ≡ writes → g.result ≡ None → g.lease ≡ Some lease → KeepsLease (by_objects (Some o)) made lease moment (kept_follower g) (holding o f) (Err e) k (holding o' f') → LedFollower Poll
+  failed-led : (lease : Lease) (e : SlateError) → is_managed g.mode ≡ true → reply ≡ reply_to polled_reply (Err e) → writes' ≡ writes → g.result ≡ None → g.lease ≡ Some lease → KeepsLease (by_objects (Some o)) settings.extractor made lease moment (kept_follower g) (holding o f) (Err e) k (holding o' f') → LedFollower Poll
   failed-led lease e managed replied same_writes live is p =
       let new : Follower = record g { lease = k.lease; result = poll_result e } in
       let lapses = p.lapses in
@@ -570,11 +595,13 @@ module _ (stored : Line) (o o' : Objects) (f f' : ℕ) (made : ℕ) (writes writ
           keeps = tt;
           failed = refl;
           lapses = lapses;
+          segments = λ had. had;
+          segmented = λ c line at stored_is _ is_error. keeps-segmented lease (Err e) managed p c line at stored_is is_error;
         }));
       }
 
   -- one that answers
-  answered-led : (lease : Lease) (answer : PollAnswer) → is_managed g.mode ≡ true → reply ≡ reply_to polled_reply (Ok answer) → writes' ≡ writes → g.result ≡ None → g.lease ≡ Some lease → KeepsLease (by_objects (Some o)) made lease moment (kept_follower g) (holding o f) (Ok answer) k (holding o' f') → LedFollower Poll
+  answered-led : (lease : Lease) (answer : PollAnswer) → is_managed g.mode ≡ true → reply ≡ reply_to polled_reply (Ok answer) → writes' ≡ writes → g.result ≡ None → g.lease ≡ Some lease → KeepsLease (by_objects (Some o)) settings.extractor made lease moment (kept_follower g) (holding o f) (Ok answer) k (holding o' f') → LedFollower Poll
   answered-led lease answer managed replied same_writes live is p =
       let q = modelled o o' p.keeps in
       let puts = modelled o o' p.puts in
@@ -611,14 +638,16 @@ module _ (stored : Line) (o o' : Objects) (f f' : ℕ) (made : ℕ) (writes writ
           });
           failed = tt;
           lapses = tt;
+          segments = λ had. leased-segments stored g.skips false o' latest m.sound here found can k (Some o) answer all alike settings.extractor (p.segments (kept-segments settings.extractor g had));
+          segmented = λ c line at stored_is _ is_error. keeps-segmented lease (Ok answer) managed p c line at stored_is is_error;
         }));
       }
 
-  keeps-led : (lease : Lease) (r : Result PollAnswer SlateError) → is_managed g.mode ≡ true → reply ≡ reply_to polled_reply r → writes' ≡ writes → g.result ≡ None → g.lease ≡ Some lease → KeepsLease (by_objects (Some o)) made lease moment (kept_follower g) (holding o f) r k (holding o' f') → LedFollower Poll
+  keeps-led : (lease : Lease) (r : Result PollAnswer SlateError) → is_managed g.mode ≡ true → reply ≡ reply_to polled_reply r → writes' ≡ writes → g.result ≡ None → g.lease ≡ Some lease → KeepsLease (by_objects (Some o)) settings.extractor made lease moment (kept_follower g) (holding o f) r k (holding o' f') → LedFollower Poll
   keeps-led lease (Ok answer) managed replied same_writes live is p = answered-led lease answer managed replied same_writes live is p
   keeps-led lease (Err e) managed replied same_writes live is p = failed-led lease e managed replied same_writes live is p
 
-  managed-led : (r : Result PollAnswer SlateError) → is_managed g.mode ≡ true → reply ≡ reply_to polled_reply r → writes' ≡ writes → PollsManaged (by_objects (Some o)) made moment (kept_follower g) (holding o f) r k (holding o' f') → LedFollower Poll
+  managed-led : (r : Result PollAnswer SlateError) → is_managed g.mode ≡ true → reply ≡ reply_to polled_reply r → writes' ≡ writes → PollsManaged (by_objects (Some o)) settings.extractor made moment (kept_follower g) (holding o f) r k (holding o' f') → LedFollower Poll
   managed-led r managed replied same_writes p =
       by-option g.result
       (λ live. leased-by g mine.2 managed live (λ lease is. keeps-led lease r managed replied same_writes live is (p.keeps lease live is)))
@@ -629,7 +658,7 @@ module _ (stored : Line) (o o' : Objects) (f f' : ℕ) (made : ℕ) (writes writ
         keeps = λ lease live _. absurd (let no = sym is ∙ live in cc);
       })))
 
-  polls-led : (r : Result PollAnswer SlateError) (managed : Bool) → is_managed g.mode ≡ managed → reply ≡ reply_to polled_reply r → writes' ≡ writes → PollsAs (by_objects (Some o)) managed made moment (kept_follower g) (holding o f) r k (holding o' f') → LedFollower Poll
+  polls-led : (r : Result PollAnswer SlateError) (managed : Bool) → is_managed g.mode ≡ managed → reply ≡ reply_to polled_reply r → writes' ≡ writes → PollsAs (by_objects (Some o)) settings.extractor managed made moment (kept_follower g) (holding o f) r k (holding o' f') → LedFollower Poll
   polls-led r true is replied same_writes p = managed-led r is replied same_writes p
   polls-led r false is replied same_writes p = polled-led r is replied p.0 p.1 same_writes
 
@@ -661,7 +690,7 @@ module _ (stored : Line) (o o' : Objects) (f f' : ℕ) (made : ℕ) (writes writ
         ends = λ other live' is'.
             let same : lease ≡ other = cc in
             subst (λ (l : Lease). EndsLease world made l (catalogued o f) answer (catalogued o' f')) same
-            (record { faults = e.faults; puts = as_modelled (catalogue_of o) (catalogue_of o') (puts-known (to_delete lease.id) (delete-recheckpoints lease.id) o sound stored (closing_flush answer.fault) made o' puts) });
+            (record { faults = e.faults; puts = as_modelled (catalogue_of o) (catalogue_of o') (puts-known (to_delete lease.id) (delete-recheckpoints lease.id) o sound stored unrefused unrefused (unrefused-known o) (closing_flush answer.fault) made o' puts) });
       }))))
       (λ q is.
       let a = some-of (λ _. (answer ≡ ended (recorded_fault g.result)) × Untouched made (holding o f) (holding o' f')) g.result q is c.again in
@@ -674,13 +703,13 @@ module _ (stored : Line) (o o' : Objects) (f f' : ℕ) (made : ℕ) (writes writ
   closes-led flush_type answer false managed replied same_writes c =
       closed-it flush_type answer (unchanged (objects-same o o' f f' c.2.1)) c.1 replied same_writes (closes-as answer false managed (c.0, refl, untouched-known made o o' f f' c.2))
 
-  pub follower-led : (call : Call) → FollowerActs (by_objects (Some o)) merge moment call made (kept_follower g) (holding o f) writes reply k (holding o' f') writes' → LedFollower call
+  pub follower-led : (call : Call) → FollowerActs (by_objects (Some o)) settings moment call made (kept_follower g) (holding o f) writes reply k (holding o' f') writes' → LedFollower call
   follower-led Poll a = polls-led (a.0).result (is_managed g.mode) refl (a.0).replied a.1 (a.0).does
   follower-led (Get key remote snapshot) a = unled (Get key remote snapshot) (objects-read g.result g.view.manifest.tables (a.0).result o o' f f' (a.0).does) a.1 (
     record {
       result = (a.0).result;
       replied = (a.0).replied;
-      does = reads-reduced {has = kept_rows (Some o) (AFollower (kept_follower g))} {has' = world_rows stored (catalogue_of o) (AFollower g)} {P = IsPlainReadAt merge key (kept_follower g)} {P' = IsPlainReadAt merge key g}
+      does = reads-reduced {has = kept_rows (Some o) (AFollower (kept_follower g))} {has' = world_rows stored (catalogue_of o) (AFollower g)} {P = IsPlainReadAt settings.merge key (kept_follower g)} {P' = IsPlainReadAt settings.merge key g}
           (read-follower key) g.result g.view.manifest.tables (a.0).result o o' f f' (a.0).does;
     },
     refl,
@@ -690,7 +719,7 @@ module _ (stored : Line) (o o' : Objects) (f f' : ℕ) (made : ℕ) (writes writ
   follower-led (Scan range order remote snapshot) a = unled (Scan range order remote snapshot) (objects-read g.result g.view.manifest.tables (a.0).scan o o' f f' (a.0).scans) a.1 (taken-follower range order scanned a.0, refl, a.2, a.3)
   follower-led (Seek range take key order remote snapshot) a = unled (Seek range take key order remote snapshot) (objects-read g.result g.view.manifest.tables (a.0).scan o o' f f' (a.0).scans) a.1 (taken-follower range order (sought range take key) a.0, refl, a.2, a.3)
   follower-led (Close t) a = closes-led t (a.0).answer (is_managed g.mode) refl (a.0).replied a.1 (a.0).does
-  follower-led Status a = unled Status (objects-same o o' f f' a.2.1) a.1 (subst (λ n. AnswersStatus (status_by n g.view g.result) reply) (kept-number g) a.0, refl, untouched-known made o o' f f' a.2, a.3)
+  follower-led Status a = unled Status (objects-same o o' f f' a.2.1) a.1 (subst (λ n. AnswersStatus (record (status_by n g.view g.result) { memtable_segments = g.segments }) reply) (kept-number g) a.0, refl, untouched-known made o o' f f' a.2, a.3)
   follower-led (WriteCall ops) a = unled (WriteCall ops) (objects-same o o' f f' a.2.1) a.1 (a.0, refl, untouched-known made o o' f f' a.2, a.3)
   follower-led (MergeCall op) a = unled (MergeCall op) (objects-same o o' f f' a.2.1) a.1 (a.0, refl, untouched-known made o o' f f' a.2, a.3)
   follower-led (Flush t) a = unled (Flush t) (objects-same o o' f f' a.2.1) a.1 (a.0, refl, untouched-known made o o' f f' a.2, a.3)

@@ -1,5 +1,5 @@
 -- Over a run, a reader that is polled in time keeps its checkpoint.
-use Rattle.std.proofs.Common.{◌≡◌, ◌++◌, ◌∷◌, ◌/◌, ◌∙◌, ◌==◌, [], inl, inr, ℕ, ℤ, int_lt, Bool, true, false, if◌then◌else◌, List, Option, Some, None, Result, Ok, Err, refl, sym, subst, ap}
+use Rattle.std.proofs.Common.{◌≡◌, ◌++◌, ◌∷◌, ◌/◌, ◌∙◌, [], inl, inr, ℕ, ℤ, int_lt, Bool, true, false, if◌then◌else◌, List, Option, Some, None, Result, Ok, Err, refl, sym, subst, ap}
 use Rattle.std.proofs.lemmas.Bool.{eqb-true}
 use Rattle.std.proofs.lemmas.List.Elements.{All-head, All-tail, All-cons, All-nil}
 use Rattle.std.specs.List.{All, slice_get}
@@ -28,12 +28,9 @@ use Rattle.slate_live.proofs.Naming.{FollowerDid, follower-did}
 use Rattle.slate_types.specs.declared.read_faults.ReadFault.{ReadFault}
 use Rattle.slate_types.specs.declared.store_errors.StoreFault.TheVariants.{NotFound}
 use Rattle.slate_store.specs.Checkpoints.{lease_end}
-use Rattle.slate_store.specs.declared.objects.VersionedManifest.{VersionedManifest}
-use Rattle.slate_store.specs.declared.reader_modes.DbReaderMode.TheVariants as modes
 use Rattle.slate_store.specs.declared.objects.TableId.{TableId}
 use Rattle.slate_errors.specs.declared.errors.SlateError.{SlateError}
 use Rattle.slate_errors.specs.declared.errors.SlateError.TheVariants as errors
-use Rattle.slate_model.specs.Follower.{Follower}
 use Rattle.slate_model.specs.Tables.{AreStored}
 use Rattle.slate_script.specs.declared.commands.Action.{Action}
 use Rattle.slate_script.specs.declared.commands.Action.TheVariants as actions
@@ -158,11 +155,11 @@ module _ (settings : Settings) (w w' : World) (command : Command) (reply : Reply
   k = by_catalogue w.stored w.catalogue
 
   -- what is asked of the reader is what the command asks
-  asked : (m : ℕ) (action : Action) → command.action ≡ action → target_of action ≡ OfObject m → m ≡ n → FollowerDid k settings.merge m command (call_of action) next.made (state_of w) reply (state_of w') h.follower
+  asked : (m : ℕ) (action : Action) → command.action ≡ action → target_of action ≡ OfObject m → m ≡ n → FollowerDid k settings m command (call_of action) next.made (state_of w) reply (state_of w') h.follower
   asked m action is names same =
       let does = subst (λ t. DoesBy k settings command t next.made (state_of w) reply (state_of w')) (ap target_of is ∙ names) next.does in
-      let acts = subst (λ c. ActsOn k settings.merge m command c next.made (slice_get w.objects m) (state_of w) reply (state_of w')) (ap call_of is) does in
-      follower-did k settings.merge m command (call_of action) next.made (state_of w) reply (state_of w') (slice_get w.objects m) h.follower (subst (λ i. slice_get w.objects i ≡ Some (AFollower h.follower)) (sym same) h.at) acts
+      let acts = subst (λ c. ActsOn k settings m command c next.made (slice_get w.objects m) (state_of w) reply (state_of w')) (ap call_of is) does in
+      follower-did k settings m command (call_of action) next.made (state_of w) reply (state_of w') (slice_get w.objects m) h.follower (subst (λ i. slice_get w.objects i ≡ Some (AFollower h.follower)) (sym same) h.at) acts
 
   taken-missing : (range : ByteRange) (order : IterationOrder) (taken : Iteration → Result (List KeyValue) SlateError) → ((it : Iteration) → taken it ≡ Err (errors.ObjectStoreError NotFound) → ⊥) → TakesFromFollower k settings.merge range order taken h.follower (state_of w).store reply (state_of w').store → ⊥
   taken-missing range order taken never a =

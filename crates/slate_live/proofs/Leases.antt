@@ -1,8 +1,6 @@
 -- A reader that is polled in time keeps its checkpoint.
-use Rattle.std.proofs.Common.{◌≡◌, ◌≢◌, ◌⊎◌, ◌++◌, ◌∷◌, ◌+◌, ◌∙◌, ◌<◌, ◌≤◌, [], inl, inr, ℕ, ℤ, Bool, true, false, cond, not, length, List, map, find, Option, Some, None, Result, Ok, Err, refl, sym, subst, ap, arith}
-use Rattle.std.specs.List.{All, filter}
-use Rattle.std.proofs.lemmas.Bool.{false_from_ne_true}
-use Rattle.std.proofs.lemmas.Slice.Eq.{bytes_eq-Decides}
+use Rattle.std.proofs.Common.{◌≡◌, ◌≢◌, ◌⊎◌, ◌++◌, ◌∷◌, ◌+◌, ◌∙◌, ◌≤◌, [], inl, inr, ℕ, ℤ, Bool, true, false, cond, not, length, List, map, find, Option, Some, None, Ok, refl, sym, subst, ap, arith}
+use Rattle.std.specs.List.{filter}
 use Rattle.slate_store.specs.Checkpoints.{Plan, found, has_id, lease_end, new_checkpoint, refreshed, to_delete, to_end, to_refresh, to_take_out, to_write, with_checkpoints, without_id}
 use Rattle.slate_store.specs.declared.objects.VersionedManifest.{VersionedManifest}
 use Rattle.slate_model.specs.declared.leases.Lease.{Lease}
@@ -15,7 +13,7 @@ use Rattle.slate_store.specs.Content.{AreRising, HasItsTables, IsPinned}
 use Rattle.slate_store.specs.Objects.{Objects, entry_at, latest_manifest}
 use Rattle.slate_store.specs.Sweeps.{has_expired, without_expired}
 use Rattle.slate_store.specs.declared.objects.Manifest.{Manifest}
-use Rattle.slate_model.specs.Catalogue.{Catalogue, Span}
+use Rattle.slate_model.specs.Catalogue.{Catalogue}
 use Rattle.slate_model.specs.Follower.{Follower}
 use Rattle.slate_model.specs.Tables.{AreStored}
 use Rattle.slate_model.proofs.Carrying.{Has}
@@ -34,7 +32,6 @@ use Rattle.slate_model.specs.Write.{last_number}
 use Rattle.slate_live.proofs.Distinct.{ids-differ}
 use Rattle.slate_live.proofs.Fates.{NewLease, WasLease, fates}
 use Rattle.slate_live.proofs.Carrying.{Changes, Spares, does-carries, leased-is, put-is}
-use Rattle.std.proofs.lemmas.List.Elements.{All-head, All-tail}
 use Rattle.slate_store.specs.declared.objects.Checkpoint.{Checkpoint}
 
 pub refreshed-id : (id other : List ℕ) (end : ℤ) (x : Checkpoint) → has_id id (refreshed other end x) ≡ has_id id x
@@ -115,9 +112,12 @@ unexpired-found id c latest moment there lasts = by (has_expired moment latest) 
 
 -- A command leaves it that neither polls nor closes the reader that keeps it, at a moment at which it isn't over.
 pub spared : (w : World) (command : Command) (latest : VersionedManifest) (id : List ℕ) (c : Checkpoint) → found id latest ≡ Some c → is_expired command.moment c ≡ false →
-    ((n : ℕ) (f : Follower) (lease : Lease) → target_of command.action ≡ OfObject n → Disturbs (call_of command.action) → IsFollowerAt w.objects n f → f.lease ≡ Some lease → lease.id ≢ id) → Spares (Finds id c) w latest command
+    ((n : ℕ) (f : Follower) (lease : Lease) → target_of command.action ≡ OfObject n → Disturbs (call_of command.action) → IsFollowerAt w.objects n f → f.lease ≡ Some lease → lease.id ≢ id) → Spares (Has (Finds id c)) w latest command
 spared w command latest id c there lasts apart = record {
   kept = there;
+  flushed = λ handle last some. there;
+  compacted = λ table. there;
+  opened = λ name last. there;
   swept = λ sweeps. unexpired-found id c latest command.moment there lasts;
   added = λ checkpoint. find-append (has_id id) c latest.manifest.checkpoints (checkpoint ∷ []) there;
   polled = λ n f lease given next names asks at has gives. kept-stays id lease c f.view latest command.moment there (apart n f lease names (subst Disturbs (sym asks) tt) at has) next given gives;
@@ -156,26 +156,26 @@ module _ (settings : Settings) (w w' : World) (command : Command) (reply : Reply
   pub rising : AreRising (map (λ e. e.0) w.catalogue.manifests)
   rising = subst (λ (x : Catalogue). AreRising (map (λ e. e.0) x.manifests)) (reached.3).catalogue (reached.2).manifests
 
-  -- what the checkpoints of the latest manifest have, they have after it
-  module _ (Q : List Checkpoint → Type 0) (latest : VersionedManifest) (is : latest_manifest w.catalogue ≡ Some latest) (spares : Spares Q w latest command) where
-    made-of : Changes Q settings w reached.0 latest rising is command spares next.made reply (state_of w')
-    made-of = does-carries Q settings w reached.0 latest rising is command spares next.made reply (state_of w') next.does
+  -- what the latest manifest has, it has after it
+  module _ (P : Manifest → Type 0) (latest : VersionedManifest) (is : latest_manifest w.catalogue ≡ Some latest) (spares : Spares P w latest command) where
+    made-of : Changes P settings w reached.0 latest rising is command spares next.made reply (state_of w')
+    made-of = does-carries P settings w reached.0 latest rising is command spares next.made reply (state_of w') next.does
 
     catalogue-is : w'.catalogue ≡ after_part made-of.part made-of.all w.catalogue
     catalogue-is = some-same w'.catalogue (after_part made-of.part made-of.all w.catalogue) made-of.after
 
-    pub latest-after : Carried (Has Q) latest.id w'.catalogue
-    latest-after = subst (Carried (Has Q) latest.id) (sym catalogue-is) (carried (Has Q) made-of.part made-of.all w.catalogue latest rising is spares.kept made-of.carry)
+    pub latest-after : Carried P latest.id w'.catalogue
+    latest-after = subst (Carried P latest.id) (sym catalogue-is) (carried P made-of.part made-of.all w.catalogue latest rising is spares.kept made-of.carry)
 
     pub entry-after : (k : ℕ) → k ≤ latest.id → (entry_at k w'.catalogue.manifests ≡ None) ⊎ (entry_at k w'.catalogue.manifests ≡ entry_at k w.catalogue.manifests)
-    entry-after k low = subst (λ (x : Catalogue). (entry_at k x.manifests ≡ None) ⊎ (entry_at k x.manifests ≡ entry_at k w.catalogue.manifests)) (sym catalogue-is) (entry-carried (Has Q) k made-of.part made-of.all w.catalogue latest.id low made-of.carry)
+    entry-after k low = subst (λ (x : Catalogue). (entry_at k x.manifests ≡ None) ⊎ (entry_at k x.manifests ≡ entry_at k w.catalogue.manifests)) (sym catalogue-is) (entry-carried P k made-of.part made-of.all w.catalogue latest.id low made-of.carry)
 
   -- a checkpoint that it leaves keeps what it kept
-  pub still-has : (id : List ℕ) (c : Checkpoint) (kept : Manifest) (has : HasCheckpoint w id c kept) → Spares (Finds id c) w has.latest command → HasCheckpoint w' id c kept
+  pub still-has : (id : List ℕ) (c : Checkpoint) (kept : Manifest) (has : HasCheckpoint w id c kept) → Spares (Has (Finds id c)) w has.latest command → HasCheckpoint w' id c kept
   still-has id c kept has spares =
-      let l = latest-after (Finds id c) has.latest has.is spares in
+      let l = latest-after (Has (Finds id c)) has.latest has.is spares in
       let within = (its-pin w reached id c kept has).within in
-      elim (entry-after (Finds id c) has.latest has.is spares c.manifest_id within) [
+      elim (entry-after (Has (Finds id c)) has.latest has.is spares c.manifest_id within) [
         | inl gone ↦ absurd (not-gone l.latest l.is l.holds gone)
         | inr same ↦ record { latest = l.latest; is = l.is; there = l.holds; entry = same ∙ has.entry }
       ] where
@@ -199,8 +199,8 @@ abbrev pub AreApart : World → Type 0
 AreApart w =
     (m n : ℕ) (f g : Follower) (a b : Lease) → IsFollowerAt w.objects m f → IsFollowerAt w.objects n g → f.lease ≡ Some a → g.lease ≡ Some b → a.id ≡ b.id → m ≡ n
 
-pub nothing-spared : (w : World) (latest : VersionedManifest) (command : Command) → Spares (λ cs. Unit {0}) w latest command
-nothing-spared w latest command = record { kept = tt; swept = λ sweeps. tt; added = λ checkpoint. tt; polled = λ n f lease given next names asks at has gives. tt; closed = λ n f lease next flush_type names asks at live has gives. tt }
+pub nothing-spared : (w : World) (latest : VersionedManifest) (command : Command) → Spares (λ manifest. Unit {0}) w latest command
+nothing-spared w latest command = record { kept = tt; flushed = λ handle last some. tt; compacted = λ table. tt; opened = λ name last. tt; swept = λ sweeps. tt; added = λ checkpoint. tt; polled = λ n f lease given next names asks at has gives. tt; closed = λ n f lease next flush_type names asks at live has gives. tt }
 
 module _ (settings : Settings) (w w' : World) (command : Command) (reply : Reply) (reached : IsReached w) (reached' : IsReached w') (next : Next settings w command reply w') (past : ArePast w) (apart : AreApart w) where
   abbrev Fate : ℕ → Lease → Type 0
@@ -210,8 +210,8 @@ module _ (settings : Settings) (w w' : World) (command : Command) (reply : Reply
   fate n f lease at has = fates settings w reached.0 (rising settings w w' command reply reached reached' next) command next.made reply (state_of w') next.does n f lease at has
 
   -- the latest manifest has no lower id
-  later : (latest : VersionedManifest) → latest_manifest w.catalogue ≡ Some latest → Carried (Has (λ cs. Unit {0})) latest.id w'.catalogue
-  later latest is = latest-after settings w w' command reply reached reached' next (λ cs. Unit {0}) latest is (nothing-spared w latest command)
+  later : (latest : VersionedManifest) → latest_manifest w.catalogue ≡ Some latest → Carried (λ manifest. Unit {0}) latest.id w'.catalogue
+  later latest is = latest-after settings w w' command reply reached reached' next (λ manifest. Unit {0}) latest is (nothing-spared w latest command)
 
   pub past-after : ArePast w'
   past-after n f lease at has = elim (fate n f lease at has) [

@@ -12,23 +12,24 @@ use Rattle.slate_model.specs.declared.answers.PollAnswer.{PollAnswer}
 use Rattle.slate_model.specs.declared.answers.PollAnswer.TheVariants.{Whole}
 use Rattle.slate_model.specs.Follow.{AnswersAt, HasAllLogs, SeesOwed}
 use Rattle.slate_model.specs.Followed.{IsView, can_follow, last_read}
-use Rattle.slate_model.specs.Follower.{Follower, kept_follower, number, rebuilt}
+use Rattle.slate_model.specs.Follower.{Follower, HasSegments, kept_follower, number, rebuilt}
 use Rattle.slate_model.specs.Handle.{line_above}
 use Rattle.slate_model.specs.Managed.{SeesLatest, follower_under}
 use Rattle.slate_model.specs.Object.{Follower as AFollower}
+use Rattle.slate_model.specs.Segments.{Extractor}
 use Rattle.slate_model.specs.Stores.{by_catalogue, by_objects}
 use Rattle.slate_model.specs.Tables.{AreStored}
 use Rattle.slate_model.specs.Valid.{IsHeld}
 use Rattle.slate_model.proofs.Leased.{AreAlike}
 use Rattle.slate_model.proofs.Owing.{owed-is, owed_line}
-use Rattle.slate_model.proofs.Reduced.{logs-known, sees-known}
+use Rattle.slate_model.proofs.Reduced.{logs-known, sees-known, segments-whole}
 use Rattle.slate_live.specs.Represents.{IsValidFollower}
 use Rattle.slate_live.proofs.Following.{new-begins, new-held, new-stored, new-tabled, seen-kept, seen-mark}
 
 -- it sees what is owed under the latest manifest, and goes by its view under its lease
 abbrev pub leased_whole : Objects → Line → (skips : Bool) → (latest : VersionedManifest) → Follower → Follower
 leased_whole o stored skips latest f =
-    record (rebuilt modes.ManagedCheckpoint skips latest (owed_line modes.ManagedCheckpoint skips o latest stored) f.mark) { view = f.view; lease = f.lease }
+    record (rebuilt modes.ManagedCheckpoint skips latest (owed_line modes.ManagedCheckpoint skips o latest stored) f.mark) { view = f.view; segments = f.segments; lease = f.lease }
 
 module _ (stored : Line) (skips opening : Bool) (o : Objects) (latest : VersionedManifest) (sound : IsSound o) (holds : content o ≡ stored) (found : latest_manifest o ≡ Some latest) (can : can_follow opening latest ≡ true)
     (f : Follower) (t : Option Objects) (answer : PollAnswer) (all : SeesOwed (by_objects t) modes.ManagedCheckpoint skips o stored (follower_under latest f) answer) (alike : AreAlike f.view latest) where
@@ -47,27 +48,31 @@ module _ (stored : Line) (skips opening : Bool) (o : Objects) (latest : Versione
   pub leased-kept : f ≡ kept_follower whole
   leased-kept =
       ap (λ (x : Follower). record x { view = f.view; lease = f.lease }) (seen-kept t stored modes.ManagedCheckpoint skips o (follower_under latest f) answer all)
-      ∙ ap (λ n. record { mode = modes.ManagedCheckpoint; skips = skips; view = f.view; line = line_above n owed; mark = f.mark; lease = f.lease; result = None }) (sym alike.1)
+      ∙ ap (λ n. record { mode = modes.ManagedCheckpoint; skips = skips; view = f.view; line = line_above n owed; segments = f.segments; mark = f.mark; lease = f.lease; result = None }) (sym alike.1)
 
   pub leased-valid : is_some f.lease ≡ true → IsValidFollower stored (catalogue_of o) whole
   leased-valid leased = (
-    new-begins stored modes.ManagedCheckpoint skips opening o latest sound holds v f.mark mark,
-    new-tabled stored modes.ManagedCheckpoint skips opening o latest sound holds v f.mark mark,
+    new-begins f.segments stored modes.ManagedCheckpoint skips opening o latest sound holds v f.mark mark,
+    new-tabled f.segments stored modes.ManagedCheckpoint skips opening o latest sound holds v f.mark mark,
     λ managed live. leased,
   )
 
   pub leased-stored : AreStored o f.view.manifest.tables
-  leased-stored = subst (AreStored o) (sym alike.0) (new-stored stored modes.ManagedCheckpoint skips opening o latest sound holds v f.mark mark)
+  leased-stored = subst (AreStored o) (sym alike.0) (new-stored f.segments stored modes.ManagedCheckpoint skips opening o latest sound holds v f.mark mark)
 
   abbrev Reads : List TableId → ℕ → Type 0
   Reads tables n = AreStored o tables → table_batches o tables ++ batches_above n owed.batches ≡ owed.batches
 
   pub leased-held : IsHeld o (AFollower whole)
   leased-held =
-      let held = new-held stored modes.ManagedCheckpoint skips opening o latest sound holds v f.mark mark in (
+      let held = new-held f.segments stored modes.ManagedCheckpoint skips opening o latest sound holds v f.mark mark in (
         subst (λ tables. Reads tables f.view.manifest.last_l0_seq) (sym alike.0) (subst (Reads latest.manifest.tables) (sym alike.1) held.0),
         λ free. let seen = held.1 free in record { mark = seen.mark; logs = seen.logs },
       )
+
+  -- its segments are those of what it sees, where those of what is kept are
+  pub leased-segments : (x : Option Extractor) → HasSegments x f → HasSegments x whole
+  leased-segments x has = segments-whole x f.view.manifest.last_l0_seq f.line owed f.segments (ap (λ (g : Follower). g.line) leased-kept) has
 
   pub leased-answers : AnswersAt (number whole) answer
   leased-answers = inl (all.3 ∙ ap (λ l. Whole (end l)) (owed-is t o modes.ManagedCheckpoint skips latest stored all.0 all.1))

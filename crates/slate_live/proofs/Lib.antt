@@ -28,6 +28,7 @@ pub mod Reading
 pub mod Representing
 pub mod Rising
 pub mod Seeing
+pub mod Segmented
 pub mod Snapshots
 pub mod Staying
 pub mod Taking

@@ -26,11 +26,13 @@ use Rattle.slate_live.specs.State.{Live, State, running}
 use Rattle.slate_live.specs.Valid.{Link}
 use Rattle.slate_live.specs.World.{Next, World, grown_by}
 use Rattle.slate_live.proofs.Completing.{completes}
+use Rattle.slate_live.proofs.Chains.{reached}
 use Rattle.slate_live.proofs.Confirming.{confirms}
 use Rattle.slate_live.proofs.Prefixes.{prefix-after, prefix-same}
 use Rattle.slate_live.proofs.Representing.{leads}
 use Rattle.slate_live.proofs.Rising.{rises}
 use Rattle.slate_live.proofs.Seeing.{sees}
+use Rattle.slate_live.proofs.Segmented.{segmented-next}
 
 -- what is stored stays stored
 grown-grows : (made : ℕ) (stored : Line) (handle : Handle) → IsPrefix stored (grown made stored handle)
@@ -45,13 +47,13 @@ grows : (settings : Settings) (w : World) (command : Command) (reply : Reply) (w
 grows settings w command reply w' next =
     subst (IsPrefix w.stored) (sym next.stored) (call-grows (call_of command.action) next.made w.stored (named w.objects (target_of command.action)))
 
-pub linked : (settings : Settings) (command : Command) (live live' : Live) (store store' : Known (List Batch)) (made : ℕ) (reply : Reply) → Does (by_objects store.objects) settings made (running live store) command reply (running live' store') → Links (λ w reply w'. Link settings w command reply w') live store reply live' store'
-linked settings command live live' store store' made reply does w r =
+pub linked : (settings : Settings) (command : Command) (live live' : Live) (store store' : Known (List Batch)) (made : ℕ) (reply : Reply) → Does (by_objects store.objects) settings made (running live store) command reply (running live' store') → Links settings.extractor (λ w reply w'. Link settings w command reply w') live store reply live' store'
+linked settings command live live' store store' made reply does w r segments =
     let l = leads settings live live' store store' w command made reply r does in (
       l.0,
       record {
         next = l.1;
-        completes = completes settings w command reply l.0 r.valid l.1;
+        completes = completes settings w command reply l.0 r.valid segments l.1;
         grows = grows settings w command reply l.0 l.1;
         durable = λ n handle at. (l.2.valid.handles n handle at).confirmed;
         rises = rises settings w command reply l.0 r.valid l.1;
@@ -59,6 +61,7 @@ linked settings command live live' store store' made reply does w r =
         sees = sees settings w command reply l.0 r.valid l.1;
       },
       l.2,
+      segmented-next settings w l.0 command reply (reached live store w r) (reached live' store' l.0 l.2) l.1 segments,
     )
 
 -- a command does what is said of its target

@@ -1,5 +1,6 @@
 -- What an opening leaves of a world: the handles that were opened before, and the one that it gives.
-use Rattle.std.proofs.Common.{◌≡◌, ℕ, zero, suc, ◌+◌, ◌<◌, ◌≤◌, ◌⊎◌, inl, inr, length, [], ◌∷◌, ◌++◌, Some, Bool, sym, subst, ap, ◌∙◌, arith}
+use Rattle.slate_model.specs.Segments.{Extractor, extractor_name}
+use Rattle.std.proofs.Common.{◌≡◌, ℕ, zero, suc, ◌+◌, ◌<◌, ◌≤◌, ◌⊎◌, inl, inr, length, [], ◌∷◌, ◌++◌, Some, Bool, sym, subst, ap, ◌∙◌, arith, Option}
 use Rattle.std.specs.List.{slice_get}
 use Rattle.slate_store.specs.Content.{IsSound}
 use Rattle.slate_store.specs.Objects.{Objects}
@@ -18,9 +19,9 @@ use Rattle.slate_live.proofs.Following.{follower-follows}
 use Rattle.slate_live.proofs.Leading.{Leads, followers-over, leads-same, past-follows, past-over, still-held, stored-before, stored-past, valid-over}
 use Rattle.slate_live.proofs.Places.{get-push}
 
-module _ (w : World) (o : Objects) (is_sound : IsSound o) (holds : Holds o w) (valid : IsValid w) (reads : (n : ℕ) (x : Object) → slice_get w.objects n ≡ Some x → IsHeld o x) where
+module _ (extractor : Option Extractor) (w : World) (o : Objects) (is_sound : IsSound o) (holds : Holds o w) (valid : IsValid w) (reads : (n : ℕ) (x : Object) → slice_get w.objects n ≡ Some x → IsHeld o x) where
   abbrev after : ℕ → Objects
-  after made = after_part made (open_changes (λ xs. xs) o) o
+  after made = after_part made (open_changes (extractor_name extractor) (λ xs. xs) o) o
 
   over : (m : ℕ) (a : Handle) → IsHandleAt w.objects m a → IsValidHandle w.stored (catalogue_of o) a
   over m a at = valid-over w o is_sound holds valid reads m a at
@@ -30,27 +31,27 @@ module _ (w : World) (o : Objects) (is_sound : IsSound o) (holds : Holds o w) (v
   unopened-leads zero few = leads-same w o is_sound holds valid reads
   unopened-leads (suc made) few =
       let some : 0 < suc made = omega arith in
-      let b = opened o (suc made) is_sound some few in
+      let b = opened (extractor_name extractor) o (suc made) is_sound some few in
       record {
         sound = b.sound;
         content = b.content ∙ holds.stored;
-        handles = λ m a at. fenced w.stored o (suc made) is_sound holds.stored some few a (over m a at);
+        handles = λ m a at. fenced extractor w.stored o (suc made) is_sound holds.stored some few a (over m a at);
         followers = λ n g at.
             let p = past-over w o is_sound holds valid reads n (AFollower g) at in
-            follower-follows w.stored w.stored o (after (suc made)) p.0 (opened_manifest o) p.1 (opened-follows w.stored o (suc made) is_sound holds.stored some few p.0 p.1) g (followers-over w o is_sound holds valid reads n g at);
+            follower-follows w.stored w.stored o (after (suc made)) p.0 (opened_manifest (extractor_name extractor) o) p.1 (opened-follows extractor w.stored o (suc made) is_sound holds.stored some few p.0 p.1) g (followers-over w o is_sound holds valid reads n g at);
         named = valid.named;
         past = λ n x at.
             let p = past-over w o is_sound holds valid reads n x at in
-            past-follows o (after (suc made)) p.0 (opened_manifest o) p.1 b.latest (opened-follows w.stored o (suc made) is_sound holds.stored some few p.0 p.1).epochs (tables_of x) p;
+            past-follows o (after (suc made)) p.0 (opened_manifest (extractor_name extractor) o) p.1 b.latest (opened-follows extractor w.stored o (suc made) is_sound holds.stored some few p.0 p.1).epochs (tables_of x) p;
         distinct = valid.distinct;
         reads = λ n x at.
             let p = past-over w o is_sound holds valid reads n x at in
-            still-held o (after (suc made)) p.0 (opened_manifest o) p.1 b.latest (opened-follows w.stored o (suc made) is_sound holds.stored some few p.0 p.1).logs x (λ k d less there. same-table_at w.stored o (suc made) is_sound holds.stored some few _) (reads n x at);
+            still-held o (after (suc made)) p.0 (opened_manifest (extractor_name extractor) o) p.1 b.latest (opened-follows extractor w.stored o (suc made) is_sound holds.stored some few p.0 p.1).logs x (λ k d less there. same-table_at extractor w.stored o (suc made) is_sound holds.stored some few _) (reads n x at);
       }
 
   module _ (keeps_log : Bool) (limit : ℕ) where
     abbrev new : Handle
-    new = opened_handle keeps_log limit (opened_manifest o) w.stored
+    new = opened_handle extractor keeps_log limit (opened_manifest (extractor_name extractor) o) w.stored
 
     same_handle : (h : Handle) → AHandle new ≡ AHandle h → new ≡ h
     same_handle h is = cc
@@ -58,7 +59,7 @@ module _ (w : World) (o : Objects) (is_sound : IsSound o) (holds : Holds o w) (v
     module _ (made : ℕ) (some : 0 < made) (few : made ≤ 2) where
       newer : (m : ℕ) (a b : Handle) → IsHandleAt w.objects m a → new ≡ b → a.epoch ≡ b.epoch → ⊥
       newer m a b at is epochs =
-          let below = older w.stored o made is_sound holds.stored some few a (over m a at) in
+          let below = older extractor w.stored o made is_sound holds.stored some few a (over m a at) in
           let epoch = ap (λ (h : Handle). h.epoch) is in
           omega (arith, below, epoch, epochs)
 
@@ -73,20 +74,20 @@ module _ (w : World) (o : Objects) (is_sound : IsSound o) (holds : Holds o w) (v
       l = unopened-leads made few
 
       mine-valid : IsValidHandle w.stored (catalogue_of (after made)) new
-      mine-valid = opened-valid w.stored o made is_sound holds.stored some few keeps_log limit valid.line
+      mine-valid = opened-valid extractor w.stored o made is_sound holds.stored some few keeps_log limit valid.line
 
       mine-stored : AreStored (after made) new.view.manifest.tables
-      mine-stored = latest-stored (after made) (opened_manifest o) l.sound (opened o made is_sound some few).latest
+      mine-stored = latest-stored (after made) (opened_manifest (extractor_name extractor) o) l.sound (opened (extractor_name extractor) o made is_sound some few).latest
 
       mine-past : AreOfPast (catalogue_of (after made)) new.view.manifest.tables
-      mine-past = stored-past (after made) (opened_manifest o) l.sound (opened o made is_sound some few).latest new.view.manifest.tables mine-stored
+      mine-past = stored-past (after made) (opened_manifest (extractor_name extractor) o) l.sound (opened (extractor_name extractor) o made is_sound some few).latest new.view.manifest.tables mine-stored
 
       -- no view that was there names a table of its epoch
       unnamed : (n : ℕ) (x : Object) → slice_get w.objects n ≡ Some x → AreBefore new (tables_of x)
       unnamed n x at k d less epoch =
           let p = past-over w o is_sound holds valid reads n x at in
           let low = p.2 k d less in
-          let above : (opened_manifest o).manifest.writer_epoch ≡ p.0.manifest.writer_epoch + 1 = ap (λ y. (next_manifest y (found_log o)).manifest.writer_epoch) p.1 in
+          let above : (opened_manifest (extractor_name extractor) o).manifest.writer_epoch ≡ p.0.manifest.writer_epoch + 1 = ap (λ y. (next_manifest (extractor_name extractor) y (found_log o)).manifest.writer_epoch) p.1 in
           absurd (omega (arith, low, above, epoch))
 
       named-by : (m n : ℕ) (a : Handle) (x : Object) → IsHandleAt w.objects m a ⊎ ((m ≡ length w.objects) × (AHandle new ≡ AHandle a)) → (slice_get w.objects n ≡ Some x) ⊎ ((n ≡ length w.objects) × (AHandle new ≡ x)) → AreBefore a (tables_of x)
@@ -105,7 +106,7 @@ module _ (w : World) (o : Objects) (is_sound : IsSound o) (holds : Holds o w) (v
 
       reads-by : (n : ℕ) (x : Object) → (slice_get w.objects n ≡ Some x) ⊎ ((n ≡ length w.objects) × (AHandle new ≡ x)) → IsHeld (after made) x
       reads-by n x (inl old) = l.reads n x old
-      reads-by n x (inr last_one) = subst (IsHeld (after made)) last_one.1 (opened-reads w.stored o made is_sound holds.stored some few keeps_log limit valid.line, tt)
+      reads-by n x (inr last_one) = subst (IsHeld (after made)) last_one.1 (opened-reads extractor w.stored o made is_sound holds.stored some few keeps_log limit valid.line, tt)
 
       -- one that gives a handle
       pub opened-leads : Leads w.stored (after made) (w.objects ++ AHandle new ∷ [])

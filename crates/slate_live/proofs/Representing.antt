@@ -1,4 +1,5 @@
 -- A command over an honest store leads to a world that the live state and the store represent.
+use Rattle.slate_model.specs.Segments.{extractor_name}
 use Rattle.std.proofs.Common.{◌≡◌, ◌≢◌, ℕ, ◌≤◌, Bool, true, false, length, List, [], ◌∷◌, ◌++◌, set, map, option_map, Option, Some, None, Result, Ok, Err, refl, sym, subst, ap, ◌∙◌, arith, zero, suc, inl, inr, ◌<◌}
 use Rattle.std.proofs.lemmas.List.{append-nil, length-map, map-append}
 use Rattle.std.proofs.lemmas.List.Elements.{All-nil}
@@ -6,8 +7,7 @@ use Rattle.std.specs.List.{slice_get}
 use Rattle.slate_types.specs.declared.batches.Batch.{Batch}
 use Rattle.slate_types.specs.Line.{IsLine, Line}
 use Rattle.slate_store.specs.Content.{IsSound}
-use Rattle.slate_store.specs.Objects.{Objects, latest_manifest, table_at}
-use Rattle.slate_store.specs.declared.objects.VersionedManifest.{VersionedManifest}
+use Rattle.slate_store.specs.Objects.{Objects, table_at}
 use Rattle.slate_errors.specs.declared.errors.SlateError.{SlateError}
 use Rattle.slate_model.specs.Catalogue.{catalogue_of}
 use Rattle.slate_model.specs.declared.answers.PollAnswer.{PollAnswer}
@@ -16,9 +16,8 @@ use Rattle.slate_model.specs.Follower.{Follower, is_managed, kept_follower, rebu
 use Rattle.slate_model.specs.Handle.{Handle, kept_handle}
 use Rattle.slate_model.specs.Known.{Known}
 use Rattle.slate_model.specs.Maintain.{Checkpoints, Sweeps}
-use Rattle.slate_model.specs.Tables.{AreStored}
 use Rattle.slate_model.specs.declared.snapshots.HandleSnapshot.{HandleSnapshot}
-use Rattle.slate_model.specs.Object.{Object, Handle as AHandle, Snapshot as ASnapshot, Follower as AFollower, kept, tables_of}
+use Rattle.slate_model.specs.Object.{Object, Handle as AHandle, Snapshot as ASnapshot, Follower as AFollower, kept}
 use Rattle.slate_model.specs.Snapshot.{unless_closed, snapshot_number}
 use Rattle.slate_model.proofs.Keeping.{accepted-kept}
 use Rattle.slate_live.specs.Handles.{TakesSnapshot}
@@ -36,22 +35,22 @@ use Rattle.slate_live.specs.Calls.{Call, Write as WriteCall, Merge as MergeCall,
 use Rattle.slate_live.specs.Commands.{Acts, ActsAt, ActsOn, Adds, Does, DoesBy, DoesToStore, OpensSnapshot, ReadsSnapshot, added, asked_reply, interval_of, lifetime_of, write_reply}
 use Rattle.slate_live.specs.Maintenance.{CommitsTo, SweepsTo}
 use Rattle.slate_live.specs.Replies.{followed_reply, reply_to}
-use Rattle.slate_live.specs.Represents.{AreBefore, AreOfPast, IsHeld, Holds, IsHandleAt, IsValid, IsValidFollower, Represents}
+use Rattle.slate_live.specs.Represents.{IsHeld, Holds, IsValid, Represents}
 use Rattle.slate_live.specs.Settings.{Settings}
 use Rattle.slate_live.specs.State.{Live, State, running}
 use Rattle.slate_live.specs.World.{Next, World, grown_by, state_of, stored_after}
-use Rattle.slate_live.proofs.Following.{new-held, new-stored, new-valid, seen-kept, seen-mark}
+use Rattle.slate_live.proofs.Following.{new-held, new-stored, new-valid, seen-kept, seen-mark, with_segments}
 use Rattle.slate_live.proofs.Knowing.{AfterOf, follower-after, follower-led, handle-after, handle-led}
 use Rattle.slate_model.proofs.Owing.{owed_line}
 use Rattle.slate_store.specs.declared.reader_modes.DbReaderMode.{DbReaderMode}
 use Rattle.slate_store.specs.declared.reader_modes.DbReaderMode.TheVariants as modes
 use Rattle.slate_model.specs.Managed.{OpensManaged}
-use Rattle.slate_live.proofs.Leading.{followed-leads, followers-over, Leads, follower-leads, pushed-leads, is_latest, leads-same, moved-leads, past-over, stored-before, stored-past, the_latest, valid-over}
+use Rattle.slate_live.proofs.Leading.{followed-leads, followers-over, Leads, follower-leads, pushed-leads, is_latest, leads-same, moved-leads, the_latest, valid-over}
 use Rattle.slate_live.proofs.Leasing.{leased_whole}
 use Rattle.slate_live.proofs.Maintaining.{after, after-holds, after-valid, maintained-leads}
 use Rattle.slate_live.proofs.Taking.{Taken, taken, taken-after}
 use Rattle.slate_live.proofs.Opening.{opened-leads, unopened-leads}
-use Rattle.slate_live.proofs.Places.{get-map, get-push}
+use Rattle.slate_live.proofs.Places.{get-map}
 use Rattle.slate_live.proofs.Snapshots.{snapshots-kept}
 
 -- what is kept of objects of which one was set
@@ -203,15 +202,15 @@ module _ (settings : Settings) (w : World) (o : Objects) (is_sound : IsSound o) 
 
   -- a handle is asked this; what that does is what the command does
   led-handle : (n : ℕ) (call : Call) (h k : Handle) → slice_get w.objects n ≡ Some (AHandle h) → stored' ≡ grown_by call made w.stored (Some (AHandle h)) →
-      ((after : Objects) (objects : List Object) → ActsAt (by_catalogue w.stored w.catalogue) settings.merge n command call made (AHandle h) (state_of w) reply (state_of (world after objects)) →
+      ((after : Objects) (objects : List Object) → ActsAt (by_catalogue w.stored w.catalogue) settings n command call made (AHandle h) (state_of w) reply (state_of (world after objects)) →
       Does (by_catalogue w.stored w.catalogue) settings made (state_of w) command reply (state_of (world after objects))) →
-      Acts (by_objects (Some o)) settings.merge n command call made (AHandle (kept_handle h)) (holding o w.faults) w.writes reply (AHandle k) store writes → live_objects ≡ set (map kept w.objects) n (AHandle k) → Led
+      Acts (by_objects (Some o)) settings n command call made (AHandle (kept_handle h)) (holding o w.faults) w.writes reply (AHandle k) store writes → live_objects ≡ set (map kept w.objects) n (AHandle k) → Led
   led-handle n call h k at grows does a objects =
-      let o' = handle-after o w.faults made w.writes writes reply settings.merge store n command.moment command.second call (kept_handle h) k a in
+      let o' = handle-after o w.faults made w.writes writes reply settings store n command.moment command.second call (kept_handle h) k a in
       let v = valid-over w o is_sound holds valid reads n h at in
-      let by_held = subst (λ x. Acts (by_objects (Some o)) settings.merge n command call made (AHandle (kept_handle h)) (holding o w.faults) w.writes reply (AHandle k) x writes) (store-is o'.0 o'.1) a in
+      let by_held = subst (λ x. Acts (by_objects (Some o)) settings n command call made (AHandle (kept_handle h)) (holding o w.faults) w.writes reply (AHandle k) x writes) (store-is o'.0 o'.1) a in
       let latest = the_latest w o is_sound holds valid reads n h at in
-      let l = handle-led w.stored o o'.0 w.faults store.faults made w.writes writes reply is_sound holds.stored latest (is_latest w o is_sound holds valid reads n h at) h k v (reads n (AHandle h) at).0 (valid.named n n h (AHandle h) at at) settings.merge n command.moment command.second call by_held in
+      let l = handle-led w.stored o o'.0 w.faults store.faults made w.writes writes reply is_sound holds.stored latest (is_latest w o is_sound holds valid reads n h at) h k v (reads n (AHandle h) at).0 (valid.named n n h (AHandle h) at at) settings n command.moment command.second call by_held in
       let objects' = set w.objects n (AHandle l.new) in
       record {
         after = o'.0;
@@ -221,28 +220,28 @@ module _ (settings : Settings) (w : World) (o : Objects) (is_sound : IsSound o) 
         leads = subst (λ x. Leads x o'.0 objects') (sym grows) (moved-leads w o is_sound holds valid reads n h at (grown_by call made w.stored (Some (AHandle h))) o'.0 l.new l.moved);
         does = does o'.0 objects' (record {
           new = AHandle l.new;
-          acts = subst (λ c. Acts (by_catalogue w.stored c) settings.merge n command call made (AHandle h) (record { objects = Some c; faults = w.faults }) w.writes reply (AHandle l.new) (catalogued o'.0 store.faults) writes) holds.catalogue l.known;
+          acts = subst (λ c. Acts (by_catalogue w.stored c) settings n command call made (AHandle h) (record { objects = Some c; faults = w.faults }) w.writes reply (AHandle l.new) (catalogued o'.0 store.faults) writes) holds.catalogue l.known;
           objects = refl;
         });
       }
 
   -- what a handle did that is asked this, by what is kept of it
   led-asked : (n : ℕ) (call : Call) (h : Handle) → slice_get w.objects n ≡ Some (AHandle h) → stored' ≡ grown_by call made w.stored (Some (AHandle h)) →
-      ((after : Objects) (objects : List Object) → ActsAt (by_catalogue w.stored w.catalogue) settings.merge n command call made (AHandle h) (state_of w) reply (state_of (world after objects)) →
+      ((after : Objects) (objects : List Object) → ActsAt (by_catalogue w.stored w.catalogue) settings n command call made (AHandle h) (state_of w) reply (state_of (world after objects)) →
       Does (by_catalogue w.stored w.catalogue) settings made (state_of w) command reply (state_of (world after objects))) →
-      ActsAt (by_objects (Some o)) settings.merge n command call made (AHandle (kept_handle h)) s reply s' → Led
+      ActsAt (by_objects (Some o)) settings n command call made (AHandle (kept_handle h)) s reply s' → Led
   led-asked n call h at grows does a =
-      let d = handle-acted (by_objects (Some o)) settings.merge n command call made s reply s' (kept_handle h) a in
+      let d = handle-acted (by_objects (Some o)) settings n command call made s reply s' (kept_handle h) a in
       led-handle n call h d.new at grows does d.acts d.objects
 
   -- a follower's command
   led-follower : (n : ℕ) (g k : Follower) → target_of command.action ≡ OfObject n → slice_get w.objects n ≡ Some (AFollower g) →
-      Acts (by_objects (Some o)) settings.merge n command (call_of command.action) made (AFollower (kept_follower g)) (holding o w.faults) w.writes reply (AFollower k) store writes → live_objects ≡ set (map kept w.objects) n (AFollower k) → Led
+      Acts (by_objects (Some o)) settings n command (call_of command.action) made (AFollower (kept_follower g)) (holding o w.faults) w.writes reply (AFollower k) store writes → live_objects ≡ set (map kept w.objects) n (AFollower k) → Led
   led-follower n g k is at a objects =
       let mine = followers-over w o is_sound holds valid reads n g at in
-      let o' = follower-after o w.faults made w.writes writes reply settings.merge store command.moment (call_of command.action) (kept_follower g) k mine.2 a in
-      let by_held = subst (λ x. Acts (by_objects (Some o)) settings.merge n command (call_of command.action) made (AFollower (kept_follower g)) (holding o w.faults) w.writes reply (AFollower k) x writes) (store-is o'.0 o'.1) a in
-      let l = follower-led w.stored o o'.0 w.faults store.faults made w.writes writes reply is_sound holds.stored valid.line settings.merge command.moment g k mine (reads n (AFollower g) at) (call_of command.action) by_held in
+      let o' = follower-after o w.faults made w.writes writes reply settings store command.moment (call_of command.action) (kept_follower g) k mine.2 a in
+      let by_held = subst (λ x. Acts (by_objects (Some o)) settings n command (call_of command.action) made (AFollower (kept_follower g)) (holding o w.faults) w.writes reply (AFollower k) x writes) (store-is o'.0 o'.1) a in
+      let l = follower-led w.stored o o'.0 w.faults store.faults made w.writes writes reply is_sound holds.stored valid.line settings command.moment g k mine (reads n (AFollower g) at) (call_of command.action) by_held in
       let grows = named-is (OfObject n) is (Some (AFollower g)) at ∙ follower-growth (call_of command.action) made w.stored g in
       let objects' = set w.objects n (AFollower l.new) in
       let m = maintained-leads w o is_sound holds valid reads o'.0 l.maintained in
@@ -255,27 +254,27 @@ module _ (settings : Settings) (w : World) (o : Objects) (is_sound : IsSound o) 
         kept = objects ∙ (ap (λ x. set (map kept w.objects) n (AFollower x)) l.kept ∙ sym (map-set kept w.objects n (AFollower l.new)));
         leads = over grows leads;
         does = does-at (OfObject n) is o'.0 objects'
-            (subst (λ found. ActsOn (by_catalogue w.stored w.catalogue) settings.merge n command (call_of command.action) made found (state_of w) reply (state_of (world o'.0 objects'))) (sym at)
+            (subst (λ found. ActsOn (by_catalogue w.stored w.catalogue) settings n command (call_of command.action) made found (state_of w) reply (state_of (world o'.0 objects'))) (sym at)
             (record {
               new = AFollower l.new;
-              acts = subst (λ c. Acts (by_catalogue w.stored c) settings.merge n command (call_of command.action) made (AFollower g) (record { objects = Some c; faults = w.faults }) w.writes reply (AFollower l.new) (catalogued o'.0 store.faults) writes) holds.catalogue l.acts;
+              acts = subst (λ c. Acts (by_catalogue w.stored c) settings n command (call_of command.action) made (AFollower g) (record { objects = Some c; faults = w.faults }) w.writes reply (AFollower l.new) (catalogued o'.0 store.faults) writes) holds.catalogue l.acts;
               objects = refl;
             }));
       }
 
   -- what the command does, by the object that it names
   abbrev Acted : ℕ → Option Object → Objects → List Object → Type 0
-  Acted n found after objects = ActsOn (by_catalogue w.stored w.catalogue) settings.merge n command (call_of command.action) made found (state_of w) reply (state_of (world after objects))
+  Acted n found after objects = ActsOn (by_catalogue w.stored w.catalogue) settings n command (call_of command.action) made found (state_of w) reply (state_of (world after objects))
 
   acted : (n : ℕ) (found : Option Object) → target_of command.action ≡ OfObject n → slice_get w.objects n ≡ found → (after : Objects) (objects : List Object) → Acted n found after objects → Does (by_catalogue w.stored w.catalogue) settings made (state_of w) command reply (state_of (world after objects))
   acted n found is at after objects a = does-at (OfObject n) is after objects (subst (λ found. Acted n found after objects) (sym at) a)
 
   -- a snapshot is read by its handle
   abbrev SnapshotRead : HandleSnapshot → Option Object → Objects → List Object → Type 0
-  SnapshotRead x found after objects = ReadsSnapshot (by_catalogue w.stored w.catalogue) settings.merge x command (call_of command.action) made found (state_of w) reply (state_of (world after objects))
+  SnapshotRead x found after objects = ReadsSnapshot (by_catalogue w.stored w.catalogue) settings x command (call_of command.action) made found (state_of w) reply (state_of (world after objects))
 
   led-snapshot : (n : ℕ) (x : HandleSnapshot) (found : Option Object) → target_of command.action ≡ OfObject n → slice_get w.objects n ≡ Some (ASnapshot x) → slice_get w.objects x.handle ≡ found →
-      ReadsSnapshot (by_objects (Some o)) settings.merge x command (call_of command.action) made (option_map kept found) s reply s' → Led
+      ReadsSnapshot (by_objects (Some o)) settings x command (call_of command.action) made (option_map kept found) s reply s' → Led
   led-snapshot n x found is at there a = by found there a where
     same : stored' ≡ w.stored
     same = named-is (OfObject n) is (Some (ASnapshot x)) at ∙ unnamed-growth (call_of command.action) made w.stored x
@@ -283,7 +282,7 @@ module _ (settings : Settings) (w : World) (o : Objects) (is_sound : IsSound o) 
     does : (found : Option Object) → slice_get w.objects x.handle ≡ found → (after : Objects) (objects : List Object) → SnapshotRead x found after objects → Does (by_catalogue w.stored w.catalogue) settings made (state_of w) command reply (state_of (world after objects))
     does found there after objects a = acted n (Some (ASnapshot x)) is at after objects (subst (λ found. SnapshotRead x found after objects) (sym there) a)
 
-    by : (found : Option Object) → slice_get w.objects x.handle ≡ found → ReadsSnapshot (by_objects (Some o)) settings.merge x command (call_of command.action) made (option_map kept found) s reply s' → Led
+    by : (found : Option Object) → slice_get w.objects x.handle ≡ found → ReadsSnapshot (by_objects (Some o)) settings x command (call_of command.action) made (option_map kept found) s reply s' → Led
     by (Some (AHandle h)) there a =
         led-asked x.handle (at_snapshot x.number (call_of command.action)) h there (same ∙ sym (snapshot-growth x.number (call_of command.action) made w.stored h))
         (does (Some (AHandle h)) there) a
@@ -291,19 +290,19 @@ module _ (settings : Settings) (w : World) (o : Objects) (is_sound : IsSound o) 
     by (Some (AFollower g)) there a = led-only _ same a (λ only. does (Some (AFollower g)) there o w.objects only)
     by None there a = led-only _ same a (λ only. does None there o w.objects only)
 
-  led-on : (n : ℕ) (found : Option Object) → target_of command.action ≡ OfObject n → slice_get w.objects n ≡ found → ActsOn (by_objects (Some o)) settings.merge n command (call_of command.action) made (option_map kept found) s reply s' → Led
+  led-on : (n : ℕ) (found : Option Object) → target_of command.action ≡ OfObject n → slice_get w.objects n ≡ found → ActsOn (by_objects (Some o)) settings n command (call_of command.action) made (option_map kept found) s reply s' → Led
   led-on n None is at a = led-only _ (unnamed (OfObject n) is at) a (λ only. acted n None is at o w.objects only)
   led-on n (Some (AHandle h)) is at a =
       led-asked n (call_of command.action) h at (named-is (OfObject n) is (Some (AHandle h)) at) (acted n (Some (AHandle h)) is at) a
   led-on n (Some (ASnapshot x)) is at a =
       led-snapshot n x (slice_get w.objects x.handle) is at refl
-      (subst (λ found. ReadsSnapshot (by_objects (Some o)) settings.merge x command (call_of command.action) made found s reply s') (get-map kept w.objects x.handle) a)
+      (subst (λ found. ReadsSnapshot (by_objects (Some o)) settings x command (call_of command.action) made found s reply s') (get-map kept w.objects x.handle) a)
   led-on n (Some (AFollower g)) is at a =
-      let d = follower-did (by_objects (Some o)) settings.merge n command (call_of command.action) made s reply s' (Some (AFollower (kept_follower g))) (kept_follower g) refl a in
+      let d = follower-did (by_objects (Some o)) settings n command (call_of command.action) made s reply s' (Some (AFollower (kept_follower g))) (kept_follower g) refl a in
       led-follower n g d.new is at d.acts d.objects
 
   -- an opening of a handle
-  led-opened : (keeps_log : Bool) → target_of command.action ≡ NewHandle keeps_log → (r : Result Handle SlateError) → OpensHandle (by_objects (Some o)) made keeps_log settings.options.max_unflushed_bytes (holding o w.faults) r store →
+  led-opened : (keeps_log : Bool) → target_of command.action ≡ NewHandle keeps_log → (r : Result Handle SlateError) → OpensHandle (by_objects (Some o)) settings.extractor made keeps_log settings.options.max_unflushed_bytes (holding o w.faults) r store →
       reply ≡ reply_to (λ _. replies.Handle (length (map kept w.objects))) r → live_objects ≡ map kept w.objects ++ added AHandle r → writes ≡ w.writes → Led
   led-opened keeps_log is (Ok k) d replied objects same_writes =
       let limit = settings.options.max_unflushed_bytes in
@@ -311,20 +310,20 @@ module _ (settings : Settings) (w : World) (o : Objects) (is_sound : IsSound o) 
       let step = t.2 in
       let few : made ≤ 2 = part_le {A = Handle} (Ok k) 2 made step.part in
       let some : 0 < made = (let all = step.part in omega (arith, all)) in
-      let by_held = subst (λ x. OpensHandle (by_objects (Some o)) made keeps_log limit (holding o w.faults) (Ok k) x) (store-is t.0 t.1) d in
-      let known = opens-reduced w.stored made keeps_log limit (Ok k) o t.0 w.faults store.faults is_sound holds.stored by_held in
-      let new = opened_handle keeps_log limit (opened_manifest o) w.stored in
+      let by_held = subst (λ x. OpensHandle (by_objects (Some o)) settings.extractor made keeps_log limit (holding o w.faults) (Ok k) x) (store-is t.0 t.1) d in
+      let known = opens-reduced settings.extractor w.stored made keeps_log limit (Ok k) o t.0 w.faults store.faults is_sound holds.stored by_held in
+      let new = opened_handle settings.extractor keeps_log limit (opened_manifest (extractor_name settings.extractor) o) w.stored in
       let objects' = w.objects ++ AHandle new ∷ [] in
       record {
         after = t.0;
         objects = objects';
         modelled = t.1;
         kept = objects ∙ (ap (λ x. map kept w.objects ++ AHandle x ∷ []) (d.handle o w.stored refl (o, refl, is_sound, sym holds.stored)) ∙ sym (map-append kept w.objects (AHandle new ∷ [])));
-        leads = subst (λ x. Leads stored' x objects') (sym step.after) (over (unnamed (NewHandle keeps_log) is refl) (opened-leads w o is_sound holds valid reads keeps_log limit made some few));
+        leads = subst (λ x. Leads stored' x objects') (sym step.after) (over (unnamed (NewHandle keeps_log) is refl) (opened-leads settings.extractor w o is_sound holds valid reads keeps_log limit made some few));
         does = does-at (NewHandle keeps_log) is t.0 objects' (record {
           result = Ok new;
           replied = replied ∙ ap replies.Handle (length-map w.objects kept);
-          does = subst (λ c. OpensHandle (by_catalogue w.stored c) made keeps_log limit (record { objects = Some c; faults = w.faults }) (Ok new) (catalogued t.0 store.faults)) holds.catalogue known;
+          does = subst (λ c. OpensHandle (by_catalogue w.stored c) settings.extractor made keeps_log limit (record { objects = Some c; faults = w.faults }) (Ok new) (catalogued t.0 store.faults)) holds.catalogue known;
           objects = refl;
           writes = same_writes;
         });
@@ -334,18 +333,18 @@ module _ (settings : Settings) (w : World) (o : Objects) (is_sound : IsSound o) 
       let t = (d.opens).some o refl in
       let step = t.2 in
       let few : made ≤ 2 = part_le {A = Handle} (Err e) 2 made step.part in
-      let by_held = subst (λ x. OpensHandle (by_objects (Some o)) made keeps_log limit (holding o w.faults) (Err e) x) (store-is t.0 t.1) d in
-      let known = opens-reduced w.stored made keeps_log limit (Err e) o t.0 w.faults store.faults is_sound holds.stored by_held in
+      let by_held = subst (λ x. OpensHandle (by_objects (Some o)) settings.extractor made keeps_log limit (holding o w.faults) (Err e) x) (store-is t.0 t.1) d in
+      let known = opens-reduced settings.extractor w.stored made keeps_log limit (Err e) o t.0 w.faults store.faults is_sound holds.stored by_held in
       record {
         after = t.0;
         objects = w.objects;
         modelled = t.1;
         kept = objects ∙ append-nil (map kept w.objects);
-        leads = subst (λ x. Leads stored' x w.objects) (sym step.after) (over (unnamed (NewHandle keeps_log) is refl) (unopened-leads w o is_sound holds valid reads made few));
+        leads = subst (λ x. Leads stored' x w.objects) (sym step.after) (over (unnamed (NewHandle keeps_log) is refl) (unopened-leads settings.extractor w o is_sound holds valid reads made few));
         does = does-at (NewHandle keeps_log) is t.0 w.objects (record {
           result = Err e;
           replied = replied;
-          does = subst (λ c. OpensHandle (by_catalogue w.stored c) made keeps_log limit (record { objects = Some c; faults = w.faults }) (Err e) (catalogued t.0 store.faults)) holds.catalogue known;
+          does = subst (λ c. OpensHandle (by_catalogue w.stored c) settings.extractor made keeps_log limit (record { objects = Some c; faults = w.faults }) (Err e) (catalogued t.0 store.faults)) holds.catalogue known;
           objects = sym (append-nil w.objects);
           writes = same_writes;
         });
@@ -413,29 +412,29 @@ module _ (settings : Settings) (w : World) (o : Objects) (is_sound : IsSound o) 
 
   -- an opening of a follower that keeps no checkpoint
   led-followed : (mode : DbReaderMode) (managed : Option (ℕ × ℕ)) (skips : Bool) → is_managed mode ≡ false → target_of command.action ≡ NewFollower mode managed skips →
-      ((after : Objects) (objects : List Object) → Adds (Rebuilds (by_catalogue w.stored w.catalogue) mode skips true unseen) (λ (b : Follower × PollAnswer). AFollower b.0) (λ n (b : Follower × PollAnswer). followed_reply n b.1) (state_of w) reply (state_of (world after objects)) × (made ≡ 0) →
-      Does (by_catalogue w.stored w.catalogue) settings made (state_of w) command reply (state_of (world after objects))) → (r : Result (Follower × PollAnswer) SlateError) → Rebuilds (by_objects (Some o)) mode skips true unseen (holding o w.faults) r store → made ≡ 0 →
+      ((after : Objects) (objects : List Object) → Adds (Rebuilds (by_catalogue w.stored w.catalogue) settings.extractor mode skips true unseen) (λ (b : Follower × PollAnswer). AFollower b.0) (λ n (b : Follower × PollAnswer). followed_reply n b.1) (state_of w) reply (state_of (world after objects)) × (made ≡ 0) →
+      Does (by_catalogue w.stored w.catalogue) settings made (state_of w) command reply (state_of (world after objects))) → (r : Result (Follower × PollAnswer) SlateError) → Rebuilds (by_objects (Some o)) settings.extractor mode skips true unseen (holding o w.faults) r store → made ≡ 0 →
       reply ≡ reply_to (λ (b : Follower × PollAnswer). followed_reply (length (map kept w.objects)) b.1) r → live_objects ≡ map kept w.objects ++ added (λ (b : Follower × PollAnswer). AFollower b.0) r → writes ≡ w.writes → Led
   led-followed mode managed skips unmanaged is does (Ok b) d none replied objects same_writes =
-      let by_held = subst (λ x. Rebuilds (by_objects (Some o)) mode skips true unseen (holding o w.faults) (Ok b) x) (store-is o d.kept) d in
-      let known = rebuilds-reduced w.stored mode skips true unseen unseen o o w.faults store.faults is_sound holds.stored tt (Ok b) by_held in
+      let by_held = subst (λ x. Rebuilds (by_objects (Some o)) settings.extractor mode skips true unseen (holding o w.faults) (Ok b) x) (store-is o d.kept) d in
+      let known = rebuilds-reduced settings.extractor w.stored mode skips true unseen unseen o o w.faults store.faults is_sound holds.stored tt (Ok b) by_held in
       let all = d.sees o w.stored refl (o, refl, is_sound, sym holds.stored) tt in
       let v = d.can o refl in
       let mark = seen-mark (Some o) w.stored mode skips o b.0 b.1 all in
-      let new = rebuilt mode skips (b.0).view (owed_line mode skips o (b.0).view w.stored) (b.0).mark in
-      let there = new-stored w.stored mode skips true o (b.0).view is_sound holds.stored v (b.0).mark mark in
+      let new = with_segments (b.0).segments (rebuilt mode skips (b.0).view (owed_line mode skips o (b.0).view w.stored) (b.0).mark) in
+      let there = new-stored (b.0).segments w.stored mode skips true o (b.0).view is_sound holds.stored v (b.0).mark mark in
       let objects' = w.objects ++ AFollower new ∷ [] in
       record {
         after = o;
         objects = objects';
         modelled = d.kept;
         kept = objects ∙ (ap (λ x. map kept w.objects ++ AFollower x ∷ []) (seen-kept (Some o) w.stored mode skips o b.0 b.1 all) ∙ sym (map-append kept w.objects (AFollower new ∷ [])));
-        leads = over (unnamed (NewFollower mode managed skips) is refl) (followed-leads w o is_sound holds valid reads new v.0 v.1 there (new-valid w.stored mode skips true o (b.0).view is_sound holds.stored v (b.0).mark mark unmanaged) (new-held w.stored mode skips true o (b.0).view is_sound holds.stored v (b.0).mark mark));
+        leads = over (unnamed (NewFollower mode managed skips) is refl) (followed-leads w o is_sound holds valid reads new v.0 v.1 there (new-valid (b.0).segments w.stored mode skips true o (b.0).view is_sound holds.stored v (b.0).mark mark unmanaged) (new-held (b.0).segments w.stored mode skips true o (b.0).view is_sound holds.stored v (b.0).mark mark));
         does = does o objects' (
           record {
             result = Ok (new, b.1);
             replied = replied ∙ ap (λ n. followed_reply n b.1) (length-map w.objects kept);
-            does = subst (λ c. Rebuilds (by_catalogue w.stored c) mode skips true unseen (record { objects = Some c; faults = w.faults }) (Ok (new, b.1)) (catalogued o store.faults)) holds.catalogue known;
+            does = subst (λ c. Rebuilds (by_catalogue w.stored c) settings.extractor mode skips true unseen (record { objects = Some c; faults = w.faults }) (Ok (new, b.1)) (catalogued o store.faults)) holds.catalogue known;
             objects = refl;
             writes = same_writes;
           },
@@ -443,8 +442,8 @@ module _ (settings : Settings) (w : World) (o : Objects) (is_sound : IsSound o) 
         );
       }
   led-followed mode managed skips unmanaged is does (Err e) d none replied objects same_writes =
-      let by_held = subst (λ x. Rebuilds (by_objects (Some o)) mode skips true unseen (holding o w.faults) (Err e) x) (store-is o d.kept) d in
-      let known = rebuilds-reduced w.stored mode skips true unseen unseen o o w.faults store.faults is_sound holds.stored tt (Err e) by_held in
+      let by_held = subst (λ x. Rebuilds (by_objects (Some o)) settings.extractor mode skips true unseen (holding o w.faults) (Err e) x) (store-is o d.kept) d in
+      let known = rebuilds-reduced settings.extractor w.stored mode skips true unseen unseen o o w.faults store.faults is_sound holds.stored tt (Err e) by_held in
       record {
         after = o;
         objects = w.objects;
@@ -455,7 +454,7 @@ module _ (settings : Settings) (w : World) (o : Objects) (is_sound : IsSound o) 
           record {
             result = Err e;
             replied = replied;
-            does = subst (λ c. Rebuilds (by_catalogue w.stored c) mode skips true unseen (record { objects = Some c; faults = w.faults }) (Err e) (catalogued o store.faults)) holds.catalogue known;
+            does = subst (λ c. Rebuilds (by_catalogue w.stored c) settings.extractor mode skips true unseen (record { objects = Some c; faults = w.faults }) (Err e) (catalogued o store.faults)) holds.catalogue known;
             objects = sym (append-nil w.objects);
             writes = same_writes;
           },
@@ -465,7 +464,7 @@ module _ (settings : Settings) (w : World) (o : Objects) (is_sound : IsSound o) 
 
   -- an opening of one that does
   led-leased : (managed : Option (ℕ × ℕ)) (skips : Bool) → target_of command.action ≡ NewFollower modes.ManagedCheckpoint managed skips → (r : Result (Follower × PollAnswer) SlateError) →
-      OpensManaged (by_objects (Some o)) made (lifetime_of managed) (interval_of managed) skips command.moment (holding o w.faults) r store →
+      OpensManaged (by_objects (Some o)) settings.extractor made (lifetime_of managed) (interval_of managed) skips command.moment (holding o w.faults) r store →
       reply ≡ reply_to (λ (b : Follower × PollAnswer). followed_reply (length (map kept w.objects)) b.1) r → live_objects ≡ map kept w.objects ++ added (λ (b : Follower × PollAnswer). AFollower b.0) r → writes ≡ w.writes → Led
   led-leased managed skips is r d replied objects same_writes = by r d replied objects where
     lifetime : ℕ
@@ -475,17 +474,17 @@ module _ (settings : Settings) (w : World) (o : Objects) (is_sound : IsSound o) 
     interval = interval_of managed
 
     o' : AfterOf store
-    o' = taken-after w.stored o w.faults made lifetime interval skips command.moment r store d
+    o' = taken-after settings.extractor w.stored o w.faults made lifetime interval skips command.moment r store d
 
-    took : (r : Result (Follower × PollAnswer) SlateError) → OpensManaged (by_objects (Some o)) made lifetime interval skips command.moment (holding o w.faults) r store → Taken w.stored o w.faults made lifetime interval skips command.moment o'.0 store.faults is_sound holds.stored r
-    took r d = taken w.stored o w.faults made lifetime interval skips command.moment o'.0 store.faults is_sound holds.stored r
-        (subst (λ x. OpensManaged (by_objects (Some o)) made lifetime interval skips command.moment (holding o w.faults) r x) (store-is o'.0 o'.1) d)
+    took : (r : Result (Follower × PollAnswer) SlateError) → OpensManaged (by_objects (Some o)) settings.extractor made lifetime interval skips command.moment (holding o w.faults) r store → Taken settings.extractor w.stored o w.faults made lifetime interval skips command.moment o'.0 store.faults is_sound holds.stored r
+    took r d = taken settings.extractor w.stored o w.faults made lifetime interval skips command.moment o'.0 store.faults is_sound holds.stored r
+        (subst (λ x. OpensManaged (by_objects (Some o)) settings.extractor made lifetime interval skips command.moment (holding o w.faults) r x) (store-is o'.0 o'.1) d)
 
-    opens : (r : Result (Follower × PollAnswer) SlateError) → OpensManaged (by_catalogue w.stored (catalogue_of o)) made lifetime interval skips command.moment (catalogued o w.faults) r (catalogued o'.0 store.faults) →
-        OpensManaged (by_catalogue w.stored w.catalogue) made lifetime interval skips command.moment (state_of w).store r (catalogued o'.0 store.faults)
-    opens r known = subst (λ c. OpensManaged (by_catalogue w.stored c) made lifetime interval skips command.moment (record { objects = Some c; faults = w.faults }) r (catalogued o'.0 store.faults)) holds.catalogue known
+    opens : (r : Result (Follower × PollAnswer) SlateError) → OpensManaged (by_catalogue w.stored (catalogue_of o)) settings.extractor made lifetime interval skips command.moment (catalogued o w.faults) r (catalogued o'.0 store.faults) →
+        OpensManaged (by_catalogue w.stored w.catalogue) settings.extractor made lifetime interval skips command.moment (state_of w).store r (catalogued o'.0 store.faults)
+    opens r known = subst (λ c. OpensManaged (by_catalogue w.stored c) settings.extractor made lifetime interval skips command.moment (record { objects = Some c; faults = w.faults }) r (catalogued o'.0 store.faults)) holds.catalogue known
 
-    by : (r : Result (Follower × PollAnswer) SlateError) → OpensManaged (by_objects (Some o)) made lifetime interval skips command.moment (holding o w.faults) r store →
+    by : (r : Result (Follower × PollAnswer) SlateError) → OpensManaged (by_objects (Some o)) settings.extractor made lifetime interval skips command.moment (holding o w.faults) r store →
         reply ≡ reply_to (λ (b : Follower × PollAnswer). followed_reply (length (map kept w.objects)) b.1) r → live_objects ≡ map kept w.objects ++ added (λ (b : Follower × PollAnswer). AFollower b.0) r → Led
     by (Ok b) d replied objects =
         let l = took (Ok b) d in
@@ -586,7 +585,7 @@ module _ (settings : Settings) (w : World) (o : Objects) (is_sound : IsSound o) 
       let answer = write_reply w.objects (slice_get w.writes n) in
       led-only answer (unnamed (OfWrite n) is refl) (d.0, d.1 ∙ write-kept w.objects (slice_get w.writes n), d.2) (λ only. does-at (OfWrite n) is o w.objects only)
   led-by (OfObject n) is d =
-      led-on n (slice_get w.objects n) is refl (subst (λ found. ActsOn (by_objects (Some o)) settings.merge n command (call_of command.action) made found s reply s') (get-map kept w.objects n) d)
+      led-on n (slice_get w.objects n) is refl (subst (λ found. ActsOn (by_objects (Some o)) settings n command (call_of command.action) made found s reply s') (get-map kept w.objects n) d)
 
 -- from a world that is represented, a command leads to one that is
 pub leads : (settings : Settings) (live live' : Live) (store store' : Known (List Batch)) (w : World) (command : Command) (made : ℕ) (reply : Reply) → Represents live store w → Does (by_objects store.objects) settings made (running live store) command reply (running live' store') →

@@ -8,6 +8,7 @@ use Rattle.std.proofs.lemmas.Bool.{cases_eq, le-ltb}
 use Rattle.slate_types.specs.declared.batches.KeyOp.{KeyOp}
 use Rattle.slate_types.specs.Line.{Line}
 use Rattle.slate_types.specs.Operator.{Merge}
+use Rattle.slate_model.specs.Segments.{Extractor}
 use Rattle.slate_errors.specs.declared.errors.SlateError.{SlateError}
 use Rattle.slate_errors.specs.declared.errors.SlateError.TheVariants as errors
 use Rattle.slate_errors.specs.Errors.{closed_error}
@@ -76,8 +77,8 @@ accepted-late : (tick moment : ℤ) (second : Option ℤ) (at : ℤ) → accepte
 accepted-late tick moment None at h = let c = chosen (int_lt moment tick) moment at h in subst (λ x. int_lt x tick ≡ false) c.1 c.0
 accepted-late tick moment (Some second) at h = accepted-second (int_lt moment tick) tick moment second at refl h
 
-write-rises : (h h' : Handle) (ops : List KeyOp) (moment : ℤ) (second : Option ℤ) (r : Result Written SlateError) → Writes h ops moment second r h' → HandleRises h h'
-write-rises h h' ops moment second (Ok w) s =
+write-rises : (extractor : Option Extractor) (h h' : Handle) (ops : List KeyOp) (moment : ℤ) (second : Option ℤ) (r : Result Written SlateError) → Writes extractor h ops moment second r h' → HandleRises h h'
+write-rises extractor h h' ops moment second (Ok w) s =
     subst (HandleRises h) (sym s.accepted.3) (record {
       line = (_, refl);
       durable = omega arith;
@@ -85,7 +86,7 @@ write-rises h h' ops moment second (Ok w) s =
       epoch = refl;
       result = stays h.result;
     })
-write-rises h h' ops moment second (Err e) s = rises-same h h' s.refused.1
+write-rises extractor h h' ops moment second (Err e) s = rises-same h h' s.refused.1
 
 -- the durable number of a flush doesn't fall
 durable-rises : (stored : Bool) (h : Handle) (r : Result (Unit {0}) SlateError) (d : ℕ) → h.durable ≤ accepted h → DurableAfter stored h r d → h.durable ≤ d
@@ -119,49 +120,49 @@ moved-rises h h' counter result live same =
 closed-rises : (h g : Handle) → h.result ≡ None → HandleRises h g → HandleRises h (closed g)
 closed-rises h g live r = record { line = r.line; durable = r.durable; tick = r.tick; epoch = r.epoch; result = is-none (λ q. Some (Ok tt) ≡ Some q) h.result live }
 
-merge-rises : (merge : Option Merge) (n : ℕ) (op : KeyOp) (moment : ℤ) (second : Option ℤ) (h : Handle) (writes : List Write) (reply : Reply) (h' : Handle) (writes' : List Write) → MergesTo merge n op moment second h writes reply h' writes' → HandleRises h h'
-merge-rises None n op moment second h writes reply h' writes' a = rises-same h h' a.1
-merge-rises (Some merge) n op moment second h writes reply h' writes' a = write-rises h h' _ moment second a.result a.does
+merge-rises : (merge : Option Merge) (extractor : Option Extractor) (n : ℕ) (op : KeyOp) (moment : ℤ) (second : Option ℤ) (h : Handle) (writes : List Write) (reply : Reply) (h' : Handle) (writes' : List Write) → MergesTo merge extractor n op moment second h writes reply h' writes' → HandleRises h h'
+merge-rises None extractor n op moment second h writes reply h' writes' a = rises-same h h' a.1
+merge-rises (Some merge) extractor n op moment second h writes reply h' writes' a = write-rises extractor h h' _ moment second a.result a.does
 
-pub handle-rises : (stored : Line) (catalogue : Catalogue) (merge : Option Merge) (n : ℕ) (moment : ℤ) (second : Option ℤ) (call : Call) (made : ℕ) (h : Handle) (before : Known Span) (writes : List Write) (reply : Reply) (h' : Handle) (after : Known Span) (writes' : List Write) → h.durable ≤ accepted h → HandleActs (by_catalogue stored catalogue) merge n moment second call made h before writes reply h' after writes' → HandleRises h h'
-handle-rises stored catalogue merge n moment second (WriteCall ops) made h before writes reply h' after writes' low a = write-rises h h' _ moment second (a.0).result (a.0).does
-handle-rises stored catalogue merge n moment second (MergeCall op) made h before writes reply h' after writes' low a = merge-rises merge n op moment second h writes reply h' writes' a.0
-handle-rises stored catalogue merge n moment second (Flush t) made h before writes reply h' after writes' low a =
+pub handle-rises : (stored : Line) (catalogue : Catalogue) (settings : Settings) (n : ℕ) (moment : ℤ) (second : Option ℤ) (call : Call) (made : ℕ) (h : Handle) (before : Known Span) (writes : List Write) (reply : Reply) (h' : Handle) (after : Known Span) (writes' : List Write) → h.durable ≤ accepted h → HandleActs (by_catalogue stored catalogue) settings n moment second call made h before writes reply h' after writes' → HandleRises h h'
+handle-rises stored catalogue settings n moment second (WriteCall ops) made h before writes reply h' after writes' low a = write-rises settings.extractor h h' _ moment second (a.0).result (a.0).does
+handle-rises stored catalogue settings n moment second (MergeCall op) made h before writes reply h' after writes' low a = merge-rises settings.merge settings.extractor n op moment second h writes reply h' writes' a.0
+handle-rises stored catalogue settings n moment second (Flush t) made h before writes reply h' after writes' low a =
     flush-by (by_catalogue stored catalogue) made h before h' after (HandleRises h h') _ (a.0).result (a.0).does
     (λ q is error same store. rises-same h h' same)
     (λ live without error same store. rises-same h h' same)
     (λ can is stores. flushed-rises made _ _ h h' can.0 low is)
-handle-rises stored catalogue merge n moment second (Close t) made h before writes reply h' after writes' low a =
+handle-rises stored catalogue settings n moment second (Close t) made h before writes reply h' after writes' low a =
     close-by (by_catalogue stored catalogue) made h before h' after (HandleRises h h') _ (a.0).ended (a.0).does
     (λ q is error same store. rises-same h h' same)
     (λ live none error is store. subst (HandleRises h) (sym is) (closed-rises h h live (rises-same h h refl)))
     (λ t live some without error is store. subst (HandleRises h) (sym is) (closed-rises h h live (rises-same h h refl)))
     (λ t can some tasks is stores. flushed-rises made _ _ h h' can.0 low is)
-handle-rises stored catalogue merge n moment second Refresh made h before writes reply h' after writes' low a =
+handle-rises stored catalogue settings n moment second Refresh made h before writes reply h' after writes' low a =
     refresh-by (by_catalogue stored catalogue) 0 h before h' after (HandleRises h h') (a.0).result (a.0).does
     (λ q is error same store. rises-same h h' same)
     (λ live reads. moved-rises h h' h.counter _ live reads.same)
-handle-rises stored catalogue merge n moment second Compact made h before writes reply h' after writes' low a =
+handle-rises stored catalogue settings n moment second Compact made h before writes reply h' after writes' low a =
     compact-by (by_catalogue stored catalogue) made h before h' after (HandleRises h h') (a.0).result (a.0).does
     (λ q is error same store. rises-same h h' same)
     (λ live joins. moved-rises h h' h'.counter _ live joins.same)
-handle-rises stored catalogue merge n moment second (Get key remote snapshot) made h before writes reply h' after writes' low a = rises-same h h' a.1
-handle-rises stored catalogue merge n moment second (Scan range order remote snapshot) made h before writes reply h' after writes' low a = rises-same h h' a.1
-handle-rises stored catalogue merge n moment second (Seek range take key order remote snapshot) made h before writes reply h' after writes' low a = rises-same h h' a.1
-handle-rises stored catalogue merge n moment second Poll made h before writes reply h' after writes' low a = rises-same h h' a.1
-handle-rises stored catalogue merge n moment second Status made h before writes reply h' after writes' low a = rises-same h h' a.1
-handle-rises stored catalogue merge n moment second (FindTime number find) made h before writes reply h' after writes' low a = rises-same h h' a.1
-handle-rises stored catalogue merge n moment second (FindNumber seconds find) made h before writes reply h' after writes' low a = rises-same h h' a.1
-handle-rises stored catalogue merge n moment second Nothing made h before writes reply h' after writes' low a = rises-same h h' a.1
+handle-rises stored catalogue settings n moment second (Get key remote snapshot) made h before writes reply h' after writes' low a = rises-same h h' a.1
+handle-rises stored catalogue settings n moment second (Scan range order remote snapshot) made h before writes reply h' after writes' low a = rises-same h h' a.1
+handle-rises stored catalogue settings n moment second (Seek range take key order remote snapshot) made h before writes reply h' after writes' low a = rises-same h h' a.1
+handle-rises stored catalogue settings n moment second Poll made h before writes reply h' after writes' low a = rises-same h h' a.1
+handle-rises stored catalogue settings n moment second Status made h before writes reply h' after writes' low a = rises-same h h' a.1
+handle-rises stored catalogue settings n moment second (FindTime number find) made h before writes reply h' after writes' low a = rises-same h h' a.1
+handle-rises stored catalogue settings n moment second (FindNumber seconds find) made h before writes reply h' after writes' low a = rises-same h h' a.1
+handle-rises stored catalogue settings n moment second Nothing made h before writes reply h' after writes' low a = rises-same h h' a.1
 
 follower-same : (f f' : Follower) → f' ≡ f → FollowerRises f f'
 follower-same f f' same = subst (FollowerRises f) (sym same) (record { mode = refl; skips = refl; number = omega arith; result = stays f.result })
 
 -- what a poll leaves: the follower as it was, or one that sees what it is owed
-polled-rises : (stored : Line) (catalogue : Catalogue) (f f' : Follower) (before after : Known Span) (r : Result PollAnswer SlateError) → before.objects ≡ Some catalogue → IsValidFollower stored catalogue f → f.result ≡ None → (pinned : Bool) → is_pinned f.mode ≡ pinned → Polls (by_catalogue stored catalogue) f before r f' after → FollowerRises f f'
-polled-rises stored catalogue f f' before after r at mine live true stays_at p = follower-same f f' (p.pinned live stays_at).1
-polled-rises stored catalogue f f' before after (Err e) at mine live false free p = follower-same f f' p.failed
-polled-rises stored catalogue f f' before after (Ok answer) at mine live false free p =
+polled-rises : (ext : Option Extractor) (stored : Line) (catalogue : Catalogue) (f f' : Follower) (before after : Known Span) (r : Result PollAnswer SlateError) → before.objects ≡ Some catalogue → IsValidFollower stored catalogue f → f.result ≡ None → (pinned : Bool) → is_pinned f.mode ≡ pinned → Polls (by_catalogue stored catalogue) ext f before r f' after → FollowerRises f f'
+polled-rises ext stored catalogue f f' before after r at mine live true stays_at p = follower-same f f' (p.pinned live stays_at).1
+polled-rises ext stored catalogue f f' before after (Err e) at mine live false free p = follower-same f f' p.failed
+polled-rises ext stored catalogue f f' before after (Ok answer) at mine live false free p =
     let b = p.rebuilds live free in
     let all = b.sees catalogue stored at refl tt in
     record {
@@ -174,10 +175,10 @@ polled-rises stored catalogue f f' before after (Ok answer) at mine live false f
 poll-same : {A : Type 0} (r : Result A SlateError) (e : SlateError) (P : SlateError → Type 0) → r ≡ Err e → IfErr r P → P e
 poll-same {A} r e P is h = subst (λ x. IfErr x P) is h
 
-poll-rises : (stored : Line) (catalogue : Catalogue) (f f' : Follower) (before after : Known Span) (r : Result PollAnswer SlateError) → before.objects ≡ Some catalogue → IsValidFollower stored catalogue f → Polls (by_catalogue stored catalogue) f before r f' after → FollowerRises f f'
-poll-rises stored catalogue f f' before after r at mine p =
+poll-rises : (ext : Option Extractor) (stored : Line) (catalogue : Catalogue) (f f' : Follower) (before after : Known Span) (r : Result PollAnswer SlateError) → before.objects ≡ Some catalogue → IsValidFollower stored catalogue f → Polls (by_catalogue stored catalogue) ext f before r f' after → FollowerRises f f'
+poll-rises ext stored catalogue f f' before after r at mine p =
     by-option f.result
-    (λ live. polled-rises stored catalogue f f' before after r at mine live (is_pinned f.mode) refl p)
+    (λ live. polled-rises ext stored catalogue f f' before after r at mine live (is_pinned f.mode) refl p)
     (λ q is. let c = some-of (λ q. (r ≡ Err (closed_error q)) × (after ≡ before)) f.result q is p.closed in follower-same f f' (poll-same r _ (λ e. f' ≡ f) c.0 p.failed))
 
 closed-follower-rises : (f : Follower) (r : CloseResult) → f.result ≡ r → FollowerRises f (closed_follower f)
@@ -194,9 +195,9 @@ managed-free (modes.Checkpoint id) managed = absurd (cc)
 managed-free modes.FollowLatest managed = refl
 managed-free modes.ManagedCheckpoint managed = refl
 
-module _ (stored : Line) (catalogue : Catalogue) (made : ℕ) (moment : ℤ) (f f' : Follower) (before after : Known Span) (at : before.objects ≡ Some catalogue) (mine : IsValidFollower stored catalogue f) where
+module _ (ext : Option Extractor) (stored : Line) (catalogue : Catalogue) (made : ℕ) (moment : ℤ) (f f' : Follower) (before after : Known Span) (at : before.objects ≡ Some catalogue) (mine : IsValidFollower stored catalogue f) where
   -- what a poll leaves of one that keeps a checkpoint
-  leased-rises : (lease : Lease) (r : Result PollAnswer SlateError) → is_managed f.mode ≡ true → f.result ≡ None → KeepsLease (by_catalogue stored catalogue) made lease moment f before r f' after → FollowerRises f f'
+  leased-rises : (lease : Lease) (r : Result PollAnswer SlateError) → is_managed f.mode ≡ true → f.result ≡ None → KeepsLease (by_catalogue stored catalogue) ext made lease moment f before r f' after → FollowerRises f f'
   leased-rises lease (Err e) managed live p = subst (FollowerRises f) (sym p.failed) (record { mode = refl; skips = refl; number = omega arith; result = is-none (λ q. poll_result e ≡ Some q) f.result live })
   leased-rises lease (Ok answer) managed live p =
       let t = (p.keeps).some catalogue at in
@@ -213,7 +214,7 @@ module _ (stored : Line) (catalogue : Catalogue) (made : ℕ) (moment : ℤ) (f 
         result = is-none (λ q. f'.result ≡ Some q) f.result live;
       }
 
-  managed-rises : (r : Result PollAnswer SlateError) → is_managed f.mode ≡ true → PollsManaged (by_catalogue stored catalogue) made moment f before r f' after → FollowerRises f f'
+  managed-rises : (r : Result PollAnswer SlateError) → is_managed f.mode ≡ true → PollsManaged (by_catalogue stored catalogue) ext made moment f before r f' after → FollowerRises f f'
   managed-rises r managed p =
       by-option f.result
       (λ live. by-option f.lease
@@ -221,29 +222,29 @@ module _ (stored : Line) (catalogue : Catalogue) (made : ℕ) (moment : ℤ) (f 
       (λ lease is. leased-rises lease r managed live (p.keeps lease live is)))
       (λ q is. follower-same f f' (some-of (λ q. (r ≡ Err (closed_error q)) × (f' ≡ f) × Untouched made before after) f.result q is p.closed).1)
 
-  polls-rises : (r : Result PollAnswer SlateError) (managed : Bool) → is_managed f.mode ≡ managed → PollsAs (by_catalogue stored catalogue) managed made moment f before r f' after → FollowerRises f f'
+  polls-rises : (r : Result PollAnswer SlateError) (managed : Bool) → is_managed f.mode ≡ managed → PollsAs (by_catalogue stored catalogue) ext managed made moment f before r f' after → FollowerRises f f'
   polls-rises r true is p = managed-rises r is p
-  polls-rises r false is p = poll-rises stored catalogue f f' before after r at mine p.0
+  polls-rises r false is p = poll-rises ext stored catalogue f f' before after r at mine p.0
 
   closes-rises : (managed : Bool) (answer : Ended) → ClosesAs (by_catalogue stored catalogue) managed made f before answer f' after → FollowerRises f f'
   closes-rises true answer c = subst (FollowerRises f) (sym c.closed) (closed-follower-rises f f.result refl)
   closes-rises false answer c = subst (FollowerRises f) (sym c.1) (closed-follower-rises f f.result refl)
 
-pub follower-rises : (stored : Line) (catalogue : Catalogue) (merge : Option Merge) (moment : ℤ) (call : Call) (made : ℕ) (f : Follower) (before : Known Span) (writes : List Write) (reply : Reply) (f' : Follower) (after : Known Span) (writes' : List Write) → before.objects ≡ Some catalogue → IsValidFollower stored catalogue f → FollowerActs (by_catalogue stored catalogue) merge moment call made f before writes reply f' after writes' → FollowerRises f f'
-follower-rises stored catalogue merge moment Poll made f before writes reply f' after writes' at front a = polls-rises stored catalogue made moment f f' before after at front (a.0).result (is_managed f.mode) refl (a.0).does
-follower-rises stored catalogue merge moment (Close t) made f before writes reply f' after writes' at front a = closes-rises stored catalogue made moment f f' before after at front (is_managed f.mode) (a.0).answer (a.0).does
-follower-rises stored catalogue merge moment (Get key remote snapshot) made f before writes reply f' after writes' at front a = follower-same f f' a.1
-follower-rises stored catalogue merge moment (Scan range order remote snapshot) made f before writes reply f' after writes' at front a = follower-same f f' a.1
-follower-rises stored catalogue merge moment (Seek range take key order remote snapshot) made f before writes reply f' after writes' at front a = follower-same f f' a.1
-follower-rises stored catalogue merge moment (WriteCall ops) made f before writes reply f' after writes' at front a = follower-same f f' a.1
-follower-rises stored catalogue merge moment (MergeCall op) made f before writes reply f' after writes' at front a = follower-same f f' a.1
-follower-rises stored catalogue merge moment (Flush t) made f before writes reply f' after writes' at front a = follower-same f f' a.1
-follower-rises stored catalogue merge moment Refresh made f before writes reply f' after writes' at front a = follower-same f f' a.1
-follower-rises stored catalogue merge moment Compact made f before writes reply f' after writes' at front a = follower-same f f' a.1
-follower-rises stored catalogue merge moment Status made f before writes reply f' after writes' at front a = follower-same f f' a.1
-follower-rises stored catalogue merge moment (FindTime number find) made f before writes reply f' after writes' at front a = follower-same f f' a.1
-follower-rises stored catalogue merge moment (FindNumber seconds find) made f before writes reply f' after writes' at front a = follower-same f f' a.1
-follower-rises stored catalogue merge moment Nothing made f before writes reply f' after writes' at front a = follower-same f f' a.1
+pub follower-rises : (stored : Line) (catalogue : Catalogue) (settings : Settings) (moment : ℤ) (call : Call) (made : ℕ) (f : Follower) (before : Known Span) (writes : List Write) (reply : Reply) (f' : Follower) (after : Known Span) (writes' : List Write) → before.objects ≡ Some catalogue → IsValidFollower stored catalogue f → FollowerActs (by_catalogue stored catalogue) settings moment call made f before writes reply f' after writes' → FollowerRises f f'
+follower-rises stored catalogue settings moment Poll made f before writes reply f' after writes' at front a = polls-rises settings.extractor stored catalogue made moment f f' before after at front (a.0).result (is_managed f.mode) refl (a.0).does
+follower-rises stored catalogue settings moment (Close t) made f before writes reply f' after writes' at front a = closes-rises settings.extractor stored catalogue made moment f f' before after at front (is_managed f.mode) (a.0).answer (a.0).does
+follower-rises stored catalogue settings moment (Get key remote snapshot) made f before writes reply f' after writes' at front a = follower-same f f' a.1
+follower-rises stored catalogue settings moment (Scan range order remote snapshot) made f before writes reply f' after writes' at front a = follower-same f f' a.1
+follower-rises stored catalogue settings moment (Seek range take key order remote snapshot) made f before writes reply f' after writes' at front a = follower-same f f' a.1
+follower-rises stored catalogue settings moment (WriteCall ops) made f before writes reply f' after writes' at front a = follower-same f f' a.1
+follower-rises stored catalogue settings moment (MergeCall op) made f before writes reply f' after writes' at front a = follower-same f f' a.1
+follower-rises stored catalogue settings moment (Flush t) made f before writes reply f' after writes' at front a = follower-same f f' a.1
+follower-rises stored catalogue settings moment Refresh made f before writes reply f' after writes' at front a = follower-same f f' a.1
+follower-rises stored catalogue settings moment Compact made f before writes reply f' after writes' at front a = follower-same f f' a.1
+follower-rises stored catalogue settings moment Status made f before writes reply f' after writes' at front a = follower-same f f' a.1
+follower-rises stored catalogue settings moment (FindTime number find) made f before writes reply f' after writes' at front a = follower-same f f' a.1
+follower-rises stored catalogue settings moment (FindNumber seconds find) made f before writes reply f' after writes' at front a = follower-same f f' a.1
+follower-rises stored catalogue settings moment Nothing made f before writes reply f' after writes' at front a = follower-same f f' a.1
 
 rises-refl : (x : Object) → Rises x x
 rises-refl (AHandle h) = rises-same h h refl
@@ -274,25 +275,25 @@ module _ (settings : Settings) (w : World) (valid : IsValid w) (command : Comman
   only-rises : (answer : Reply) → OnlyAnswers answer made (state_of w) reply s' → Rise w.objects s'.objects
   only-rises answer a = rise-same w.objects s'.objects (ap (λ (s : State Span). s.objects) a.2)
 
-  handle-rise : (n : ℕ) (call : Call) (h : Handle) → slice_get w.objects n ≡ Some (AHandle h) → ActsAt k settings.merge n command call made (AHandle h) (state_of w) reply s' → Rise w.objects s'.objects
+  handle-rise : (n : ℕ) (call : Call) (h : Handle) → slice_get w.objects n ≡ Some (AHandle h) → ActsAt k settings n command call made (AHandle h) (state_of w) reply s' → Rise w.objects s'.objects
   handle-rise n call h at a =
-      let d = handle-acted k settings.merge n command call made (state_of w) reply s' h a in
+      let d = handle-acted k settings n command call made (state_of w) reply s' h a in
       rise-set w.objects s'.objects n (AHandle h) (AHandle d.new) at
-      (handle-rises w.stored w.catalogue settings.merge n command.moment command.second call made h _ w.writes reply d.new _ _ (valid.handles n h at).durable d.acts) d.objects
+      (handle-rises w.stored w.catalogue settings n command.moment command.second call made h _ w.writes reply d.new _ _ (valid.handles n h at).durable d.acts) d.objects
 
-  snapshot-rises : (x : HandleSnapshot) (call : Call) (found : Option Object) → slice_get w.objects x.handle ≡ found → ReadsSnapshot k settings.merge x command call made found (state_of w) reply s' → Rise w.objects s'.objects
+  snapshot-rises : (x : HandleSnapshot) (call : Call) (found : Option Object) → slice_get w.objects x.handle ≡ found → ReadsSnapshot k settings x command call made found (state_of w) reply s' → Rise w.objects s'.objects
   snapshot-rises x call (Some (AHandle h)) at a = handle-rise x.handle (at_snapshot x.number call) h at a
   snapshot-rises x call (Some (ASnapshot y)) at a = only-rises _ a
   snapshot-rises x call (Some (AFollower f)) at a = only-rises _ a
   snapshot-rises x call None at a = only-rises _ a
 
-  on-rises : (n : ℕ) (call : Call) (found : Option Object) → slice_get w.objects n ≡ found → ActsOn k settings.merge n command call made found (state_of w) reply s' → Rise w.objects s'.objects
+  on-rises : (n : ℕ) (call : Call) (found : Option Object) → slice_get w.objects n ≡ found → ActsOn k settings n command call made found (state_of w) reply s' → Rise w.objects s'.objects
   on-rises n call None at a = only-rises _ a
   on-rises n call (Some (AHandle h)) at a = handle-rise n call h at a
   on-rises n call (Some (ASnapshot x)) at a = snapshot-rises x call (slice_get w.objects x.handle) refl a
   on-rises n call (Some (AFollower f)) at a =
-      let d = follower-did k settings.merge n command call made (state_of w) reply s' (Some (AFollower f)) f refl a in
-      rise-set w.objects s'.objects n (AFollower f) (AFollower d.new) at (follower-rises w.stored w.catalogue settings.merge command.moment call made f _ w.writes reply d.new _ _ refl (valid.followers n f at) d.acts) d.objects
+      let d = follower-did k settings n command call made (state_of w) reply s' (Some (AFollower f)) f refl a in
+      rise-set w.objects s'.objects n (AFollower f) (AFollower d.new) at (follower-rises w.stored w.catalogue settings command.moment call made f _ w.writes reply d.new _ _ refl (valid.followers n f at) d.acts) d.objects
 
   opened-rises : (n : ℕ) (found : Option Object) → OpensSnapshot n made found (state_of w) reply s' → Rise w.objects s'.objects
   opened-rises n (Some (AHandle h)) d = rise-push w.objects s'.objects _ (d.0).objects

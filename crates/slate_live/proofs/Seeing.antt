@@ -1,4 +1,5 @@
 -- What is stored is seen by each opening and each poll.
+use Rattle.slate_model.specs.Segments.{Extractor}
 use Rattle.std.proofs.Common.{◌≡◌, ℕ, ℤ, ◌≤◌, Bool, true, false, not, ◌&&◌, set, ◌++◌, ◌∙◌, length, Option, Some, None, Result, Ok, Err, refl, sym, subst, arith, ap}
 use Rattle.std.specs.List.{slice_get}
 use Rattle.std.proofs.lemmas.Option.{slice_get_within}
@@ -32,8 +33,8 @@ use Rattle.slate_live.specs.Calls.{Poll, at_snapshot, call_of, target_of}
 use Rattle.slate_live.specs.Commands.{ActsOn, DoesBy, OpensFollowerIn, ReadsSnapshot, added, interval_of, lifetime_of}
 use Rattle.slate_live.specs.Followers.{PollsAs}
 use Rattle.slate_live.proofs.Rising.{managed-mode}
-use Rattle.slate_live.specs.Confirmed.{Sees, StandsIn, follows_all}
-use Rattle.slate_live.specs.Represents.{IsFollowerAt, IsLeased, IsValid}
+use Rattle.slate_live.specs.Confirmed.{Sees, StandsIn}
+use Rattle.slate_live.specs.Represents.{IsFollowerAt, IsLeased, IsValid, follows_all}
 use Rattle.slate_live.proofs.Following.{owed-all}
 use Rattle.slate_live.specs.Replies.{followed_reply, polled_reply, refusal, reply_to}
 use Rattle.slate_live.specs.Settings.{Settings}
@@ -76,41 +77,41 @@ sees-refusal batch action (errors.Backpressure unflushed limit) w = sees-held-up
 sees-refusal batch action e w = sees-error batch action e w
 
 -- the handle of an opening has it in its line
-open-sees : (batch : Batch) (w w' : World) (wal : Bool) (made limit : ℕ) (r : Result Handle SlateError) → OpensHandle (by_catalogue w.stored w.catalogue) made wal limit (state_of w).store r (state_of w').store → w'.objects ≡ w.objects ++ added AHandle r → StandsIn batch w.stored → Sees batch (actions.Open wal) (reply_to (λ _. replies.Handle (length w.objects)) r) w'
-open-sees batch w w' wal made limit (Ok h) opens is stands =
+open-sees : (extractor : Option Extractor) (batch : Batch) (w w' : World) (wal : Bool) (made limit : ℕ) (r : Result Handle SlateError) → OpensHandle (by_catalogue w.stored w.catalogue) extractor made wal limit (state_of w).store r (state_of w').store → w'.objects ≡ w.objects ++ added AHandle r → StandsIn batch w.stored → Sees batch (actions.Open wal) (reply_to (λ _. replies.Handle (length w.objects)) r) w'
+open-sees extractor batch w w' wal made limit (Ok h) opens is stands =
     let sees = opens.handle w.catalogue w.stored refl refl in (
       h,
       subst (λ os. slice_get os (length w.objects) ≡ Some (AHandle h)) (sym is) (get-seam w.objects (AHandle h)),
       subst (λ (x : Handle). StandsIn batch x.line) (sym sees) stands,
     )
-open-sees batch w w' wal made limit (Err e) opens is stands = sees-refusal batch (actions.Open wal) e w'
+open-sees extractor batch w w' wal made limit (Err e) opens is stands = sees-refusal batch (actions.Open wal) e w'
 
 -- a follower that is opened, or polled while it doesn't stay at a checkpoint, answers the end of what it is owed; where it
 -- follows all that is stored, that is a number at or above its own
-follow-sees : (batch : Batch) (w w' : World) (n : ℕ) (mode : DbReaderMode) (managed : Option (ℕ × ℕ)) (skips : Bool) (r : Result (Follower × PollAnswer) SlateError) → Rebuilds (by_catalogue w.stored w.catalogue) mode skips true unseen (state_of w).store r (state_of w').store → StandsIn batch w.stored →
+follow-sees : (ext : Option Extractor) (batch : Batch) (w w' : World) (n : ℕ) (mode : DbReaderMode) (managed : Option (ℕ × ℕ)) (skips : Bool) (r : Result (Follower × PollAnswer) SlateError) → Rebuilds (by_catalogue w.stored w.catalogue) ext mode skips true unseen (state_of w).store r (state_of w').store → StandsIn batch w.stored →
     Sees batch (actions.Follow mode managed skips) (reply_to (λ (b : Follower × PollAnswer). followed_reply n b.1) r) w'
-follow-sees batch w w' n mode managed skips (Ok b) built stands =
+follow-sees ext batch w w' n mode managed skips (Ok b) built stands =
     let all = built.sees w.catalogue w.stored refl refl tt in
     let low = stands-end batch w.stored stands in
     subst (λ a. Sees batch (actions.Follow mode managed skips) (followed_reply n a) w') (sym all.3)
     (λ whole. let same = owed-all w.catalogue w.catalogue mode skips (b.0).view w.stored all.0 whole all.1 in subst (λ l. batch.number ≤ end l) (sym same) low)
-follow-sees batch w w' n mode managed skips (Err e) built stands = sees-refusal batch (actions.Follow mode managed skips) e w'
+follow-sees ext batch w w' n mode managed skips (Err e) built stands = sees-refusal batch (actions.Follow mode managed skips) e w'
 
 -- so does one that keeps a checkpoint
-taken-sees : (batch : Batch) (w w' : World) (n made lifetime : ℕ) (managed : Option (ℕ × ℕ)) (skips : Bool) (moment : ℤ) (r : Result (Follower × PollAnswer) SlateError) → TakesLease (by_catalogue w.stored w.catalogue) made lifetime skips moment (state_of w).store r (state_of w').store → StandsIn batch w.stored →
+taken-sees : (ext : Option Extractor) (batch : Batch) (w w' : World) (n made lifetime : ℕ) (managed : Option (ℕ × ℕ)) (skips : Bool) (moment : ℤ) (r : Result (Follower × PollAnswer) SlateError) → TakesLease (by_catalogue w.stored w.catalogue) ext made lifetime skips moment (state_of w).store r (state_of w').store → StandsIn batch w.stored →
     Sees batch (actions.Follow modes.ManagedCheckpoint managed skips) (reply_to (λ (b : Follower × PollAnswer). followed_reply n b.1) r) w'
-taken-sees batch w w' n made lifetime managed skips moment (Ok b) taken stands =
+taken-sees ext batch w w' n made lifetime managed skips moment (Ok b) taken stands =
     let all = ((modelled w.catalogue w'.catalogue taken.takes).sees).sees w.stored refl tt in
     let low = stands-end batch w.stored stands in
     subst (λ a. Sees batch (actions.Follow modes.ManagedCheckpoint managed skips) (followed_reply n a) w') (sym all.3)
     (λ whole. let same = owed-all w.catalogue w'.catalogue modes.ManagedCheckpoint skips (b.0).view w.stored all.0 whole all.1 in subst (λ l. batch.number ≤ end l) (sym same) low)
-taken-sees batch w w' n made lifetime managed skips moment (Err e) taken stands = sees-refusal batch (actions.Follow modes.ManagedCheckpoint managed skips) e w'
+taken-sees ext batch w w' n made lifetime managed skips moment (Err e) taken stands = sees-refusal batch (actions.Follow modes.ManagedCheckpoint managed skips) e w'
 
-take-sees : (batch : Batch) (w w' : World) (n made lifetime interval : ℕ) (managed : Option (ℕ × ℕ)) (skips : Bool) (moment : ℤ) (r : Result (Follower × PollAnswer) SlateError) → OpensManaged (by_catalogue w.stored w.catalogue) made lifetime interval skips moment (state_of w).store r (state_of w').store → StandsIn batch w.stored →
+take-sees : (ext : Option Extractor) (batch : Batch) (w w' : World) (n made lifetime interval : ℕ) (managed : Option (ℕ × ℕ)) (skips : Bool) (moment : ℤ) (r : Result (Follower × PollAnswer) SlateError) → OpensManaged (by_catalogue w.stored w.catalogue) ext made lifetime interval skips moment (state_of w).store r (state_of w').store → StandsIn batch w.stored →
     Sees batch (actions.Follow modes.ManagedCheckpoint managed skips) (reply_to (λ (b : Follower × PollAnswer). followed_reply n b.1) r) w'
-take-sees batch w w' n made lifetime interval managed skips moment r d stands =
+take-sees ext batch w w' n made lifetime interval managed skips moment r d stands =
     by-option (lease_refusal lifetime interval)
-    (λ none. taken-sees batch w w' n made lifetime managed skips moment r (d.takes none) stands)
+    (λ none. taken-sees ext batch w w' n made lifetime managed skips moment r (d.takes none) stands)
     (λ error is.
     let c = some-of (λ error. (r ≡ Err error) × Untouched made (state_of w).store (state_of w').store) (lease_refusal lifetime interval) error is d.refused in
     subst (λ x. Sees batch (actions.Follow modes.ManagedCheckpoint managed skips) (reply_to (λ (b : Follower × PollAnswer). followed_reply n b.1) x) w') (sym c.0) (sees-refusal batch (actions.Follow modes.ManagedCheckpoint managed skips) error w'))
@@ -122,8 +123,8 @@ polled-at w w' n f f' at is g there =
     let now : slice_get (set w.objects n (AFollower f')) n ≡ Some (AFollower g) = subst (λ os. slice_get os n ≡ Some (AFollower g)) is there in
     cc
 
-module _ (n : ℕ) (batch : Batch) (w w' : World) (f f' : Follower) (at : IsFollowerAt w.objects n f) (is : w'.objects ≡ set w.objects n (AFollower f')) (stands : StandsIn batch w.stored) where
-  polled-sees : (r : Result PollAnswer SlateError) → is_pinned f.mode ≡ false → Rebuilds (by_catalogue w.stored w.catalogue) f.mode f.skips false (λ objects line. Unit {0}) (state_of w).store (built f' r) (state_of w').store → Sees batch (actions.Poll n) (reply_to polled_reply r) w'
+module _ (ext : Option Extractor) (n : ℕ) (batch : Batch) (w w' : World) (f f' : Follower) (at : IsFollowerAt w.objects n f) (is : w'.objects ≡ set w.objects n (AFollower f')) (stands : StandsIn batch w.stored) where
+  polled-sees : (r : Result PollAnswer SlateError) → is_pinned f.mode ≡ false → Rebuilds (by_catalogue w.stored w.catalogue) ext f.mode f.skips false (λ objects line. Unit {0}) (state_of w).store (built f' r) (state_of w').store → Sees batch (actions.Poll n) (reply_to polled_reply r) w'
   polled-sees (Ok answer) free b =
       let all = b.sees w.catalogue w.stored refl refl tt in
       let low = stands-end batch w.stored stands in
@@ -147,7 +148,7 @@ module _ (n : ℕ) (batch : Batch) (w w' : World) (f f' : Follower) (at : IsFoll
         not-all true skips is whole = cc
         not-all false skips is whole = cc
 
-  poll-sees : (r : Result PollAnswer SlateError) → Polls (by_catalogue w.stored w.catalogue) f (state_of w).store r f' (state_of w').store → Sees batch (actions.Poll n) (reply_to polled_reply r) w'
+  poll-sees : (r : Result PollAnswer SlateError) → Polls (by_catalogue w.stored w.catalogue) ext f (state_of w).store r f' (state_of w').store → Sees batch (actions.Poll n) (reply_to polled_reply r) w'
   poll-sees r p =
       by-option f.result
       (λ live. by live (is_pinned f.mode) refl)
@@ -161,7 +162,7 @@ module _ (n : ℕ) (batch : Batch) (w w' : World) (f f' : Follower) (at : IsFoll
         by live false free = polled-sees r free (p.rebuilds live free)
 
   -- and one that keeps a checkpoint
-  keep-sees : (made : ℕ) (lease : Lease) (moment : ℤ) (r : Result PollAnswer SlateError) → f.mode ≡ modes.ManagedCheckpoint → KeepsLease (by_catalogue w.stored w.catalogue) made lease moment f (state_of w).store r f' (state_of w').store → Sees batch (actions.Poll n) (reply_to polled_reply r) w'
+  keep-sees : (made : ℕ) (lease : Lease) (moment : ℤ) (r : Result PollAnswer SlateError) → f.mode ≡ modes.ManagedCheckpoint → KeepsLease (by_catalogue w.stored w.catalogue) ext made lease moment f (state_of w).store r f' (state_of w').store → Sees batch (actions.Poll n) (reply_to polled_reply r) w'
   keep-sees made lease moment (Ok answer) managed p =
       let keeps = modelled w.catalogue w'.catalogue p.keeps in
       let all = (keeps.sees).sees w.stored refl tt in
@@ -176,7 +177,7 @@ module _ (n : ℕ) (batch : Batch) (w w' : World) (f f' : Follower) (at : IsFoll
       subst (λ l. batch.number ≤ end l) (sym line) low)
   keep-sees made lease moment (Err e) managed p = sees-refusal batch (actions.Poll n) e w'
 
-  managed-sees : (made : ℕ) (moment : ℤ) (r : Result PollAnswer SlateError) → is_managed f.mode ≡ true → IsLeased f → PollsManaged (by_catalogue w.stored w.catalogue) made moment f (state_of w).store r f' (state_of w').store → Sees batch (actions.Poll n) (reply_to polled_reply r) w'
+  managed-sees : (made : ℕ) (moment : ℤ) (r : Result PollAnswer SlateError) → is_managed f.mode ≡ true → IsLeased f → PollsManaged (by_catalogue w.stored w.catalogue) ext made moment f (state_of w).store r f' (state_of w').store → Sees batch (actions.Poll n) (reply_to polled_reply r) w'
   managed-sees made moment r managed leased p =
       by-option f.result
       (λ live. by-option f.lease
@@ -186,44 +187,44 @@ module _ (n : ℕ) (batch : Batch) (w w' : World) (f f' : Follower) (at : IsFoll
       let c = some-of (λ q. (r ≡ Err (closed_error q)) × (f' ≡ f) × Untouched made (state_of w).store (state_of w').store) f.result q closed_is p.closed in
       subst (λ x. Sees batch (actions.Poll n) (reply_to polled_reply x) w') (sym c.0) (sees-refusal batch (actions.Poll n) (closed_error q) w'))
 
-  polls-see : (made : ℕ) (moment : ℤ) (r : Result PollAnswer SlateError) (managed : Bool) → is_managed f.mode ≡ managed → IsLeased f → PollsAs (by_catalogue w.stored w.catalogue) managed made moment f (state_of w).store r f' (state_of w').store → Sees batch (actions.Poll n) (reply_to polled_reply r) w'
+  polls-see : (made : ℕ) (moment : ℤ) (r : Result PollAnswer SlateError) (managed : Bool) → is_managed f.mode ≡ managed → IsLeased f → PollsAs (by_catalogue w.stored w.catalogue) ext managed made moment f (state_of w).store r f' (state_of w').store → Sees batch (actions.Poll n) (reply_to polled_reply r) w'
   polls-see made moment r true managed leased p = managed-sees made moment r managed leased p
   polls-see made moment r false managed leased p = poll-sees r p.0
 
-snapshot-sees : (settings : Settings) (batch : Batch) (w w' : World) (command : Command) (made n : ℕ) (reply : Reply) (x : HandleSnapshot) (found : Option Object) → ReadsSnapshot (by_catalogue w.stored w.catalogue) settings.merge x command Poll made found (state_of w) reply (state_of w') → Sees batch (actions.Poll n) reply w'
+snapshot-sees : (settings : Settings) (batch : Batch) (w w' : World) (command : Command) (made n : ℕ) (reply : Reply) (x : HandleSnapshot) (found : Option Object) → ReadsSnapshot (by_catalogue w.stored w.catalogue) settings x command Poll made found (state_of w) reply (state_of w') → Sees batch (actions.Poll n) reply w'
 snapshot-sees settings batch w w' command made n reply x (Some (AHandle h)) d =
-    let a = handle-acted (by_catalogue w.stored w.catalogue) settings.merge x.handle command (at_snapshot x.number Poll) made (state_of w) reply (state_of w') h d in
+    let a = handle-acted (by_catalogue w.stored w.catalogue) settings x.handle command (at_snapshot x.number Poll) made (state_of w) reply (state_of w') h d in
     sees-by batch (actions.Poll n) w' (a.acts).0 tt
 snapshot-sees settings batch w w' command made n reply x (Some (ASnapshot y)) d = sees-by batch (actions.Poll n) w' d.1 tt
 snapshot-sees settings batch w w' command made n reply x (Some (AFollower f)) d = sees-by batch (actions.Poll n) w' d.1 tt
 snapshot-sees settings batch w w' command made n reply x None d = sees-by batch (actions.Poll n) w' d.1 tt
 
-sees-on : (settings : Settings) (batch : Batch) (w w' : World) (valid : IsValid w) (command : Command) (made n : ℕ) (reply : Reply) (found : Option Object) → StandsIn batch w.stored → slice_get w.objects n ≡ found → ActsOn (by_catalogue w.stored w.catalogue) settings.merge n command Poll made found (state_of w) reply (state_of w') → Sees batch (actions.Poll n) reply w'
+sees-on : (settings : Settings) (batch : Batch) (w w' : World) (valid : IsValid w) (command : Command) (made n : ℕ) (reply : Reply) (found : Option Object) → StandsIn batch w.stored → slice_get w.objects n ≡ found → ActsOn (by_catalogue w.stored w.catalogue) settings n command Poll made found (state_of w) reply (state_of w') → Sees batch (actions.Poll n) reply w'
 sees-on settings batch w w' valid command made n reply None stands at d = sees-by batch (actions.Poll n) w' d.1 tt
 sees-on settings batch w w' valid command made n reply (Some (AHandle h)) stands at d =
-    let a = handle-acted (by_catalogue w.stored w.catalogue) settings.merge n command Poll made (state_of w) reply (state_of w') h d in
+    let a = handle-acted (by_catalogue w.stored w.catalogue) settings n command Poll made (state_of w) reply (state_of w') h d in
     sees-by batch (actions.Poll n) w' (a.acts).0 tt
 sees-on settings batch w w' valid command made n reply (Some (ASnapshot x)) stands at d = snapshot-sees settings batch w w' command made n reply x (slice_get w.objects x.handle) d
 sees-on settings batch w w' valid command made n reply (Some (AFollower f)) stands at d =
-    let a = follower-did (by_catalogue w.stored w.catalogue) settings.merge n command Poll made (state_of w) reply (state_of w') (Some (AFollower f)) f refl d in
-    sees-by batch (actions.Poll n) w' (a.acts).0.replied (polls-see n batch w w' f a.new at a.objects stands made command.moment (a.acts).0.result (is_managed f.mode) refl (valid.followers n f at).2 (a.acts).0.does)
+    let a = follower-did (by_catalogue w.stored w.catalogue) settings n command Poll made (state_of w) reply (state_of w') (Some (AFollower f)) f refl d in
+    sees-by batch (actions.Poll n) w' (a.acts).0.replied (polls-see settings.extractor n batch w w' f a.new at a.objects stands made command.moment (a.acts).0.result (is_managed f.mode) refl (valid.followers n f at).2 (a.acts).0.does)
 
 follows-see : (settings : Settings) (batch : Batch) (w w' : World) (command : Command) (made : ℕ) (mode : DbReaderMode) (managed : Option (ℕ × ℕ)) (skips : Bool) (reply : Reply) → StandsIn batch w.stored → OpensFollowerIn (by_catalogue w.stored w.catalogue) settings mode managed skips command.moment made (state_of w) reply (state_of w') → Sees batch (actions.Follow mode managed skips) reply w'
 follows-see settings batch w w' command made modes.FollowLatest managed skips reply stands d =
-    sees-by batch (actions.Follow modes.FollowLatest managed skips) w' (d.0).replied (follow-sees batch w w' (length w.objects) modes.FollowLatest managed skips (d.0).result (d.0).does stands)
+    sees-by batch (actions.Follow modes.FollowLatest managed skips) w' (d.0).replied (follow-sees settings.extractor batch w w' (length w.objects) modes.FollowLatest managed skips (d.0).result (d.0).does stands)
 follows-see settings batch w w' command made (modes.Checkpoint id) managed skips reply stands d =
-    sees-by batch (actions.Follow (modes.Checkpoint id) managed skips) w' (d.0).replied (follow-sees batch w w' (length w.objects) (modes.Checkpoint id) managed skips (d.0).result (d.0).does stands)
+    sees-by batch (actions.Follow (modes.Checkpoint id) managed skips) w' (d.0).replied (follow-sees settings.extractor batch w w' (length w.objects) (modes.Checkpoint id) managed skips (d.0).result (d.0).does stands)
 follows-see settings batch w w' command made modes.ManagedCheckpoint managed skips reply stands d =
-    sees-by batch (actions.Follow modes.ManagedCheckpoint managed skips) w' d.replied (take-sees batch w w' (length w.objects) made (lifetime_of managed) (interval_of managed) managed skips command.moment d.result d.does stands)
+    sees-by batch (actions.Follow modes.ManagedCheckpoint managed skips) w' d.replied (take-sees settings.extractor batch w w' (length w.objects) made (lifetime_of managed) (interval_of managed) managed skips command.moment d.result d.does stands)
 
 sees-action : (settings : Settings) (batch : Batch) (w w' : World) (valid : IsValid w) (command : Command) (made : ℕ) (action : Action) (reply : Reply) → command.action ≡ action → StandsIn batch w.stored → DoesBy (by_catalogue w.stored w.catalogue) settings command (target_of action) made (state_of w) reply (state_of w') → Sees batch action reply w'
 sees-action settings batch w w' valid command made (actions.Open wal) reply is stands d =
-    sees-by batch (actions.Open wal) w' d.replied (open-sees batch w w' wal made settings.options.max_unflushed_bytes d.result d.does d.objects stands)
+    sees-by batch (actions.Open wal) w' d.replied (open-sees settings.extractor batch w w' wal made settings.options.max_unflushed_bytes d.result d.does d.objects stands)
 sees-action settings batch w w' valid command made (actions.Follow mode managed skip) reply is stands d =
     follows-see settings batch w w' command made mode managed skip reply stands d
 sees-action settings batch w w' valid command made (actions.Poll n) reply is stands d =
     sees-on settings batch w w' valid command made n reply (slice_get w.objects n) stands refl
-    (subst (λ a. ActsOn (by_catalogue w.stored w.catalogue) settings.merge n command (call_of a) made (slice_get w.objects n) (state_of w) reply (state_of w')) is d)
+    (subst (λ a. ActsOn (by_catalogue w.stored w.catalogue) settings n command (call_of a) made (slice_get w.objects n) (state_of w) reply (state_of w')) is d)
 sees-action settings batch w w' valid command made (actions.Put n key value expire) reply is stands d = tt
 sees-action settings batch w w' valid command made (actions.Merge n key value expire) reply is stands d = tt
 sees-action settings batch w w' valid command made (actions.Delete n key) reply is stands d = tt

@@ -90,23 +90,23 @@ module _ (settings : Settings) (w : World) (valid : IsValid w) (command : Comman
         | inr elsewhere ↦ valid.snapshots n x elsewhere.1
       ]
 
-  were-handle : (n : ℕ) (call : Call) (h : Handle) → slice_get w.objects n ≡ Some (AHandle h) → ActsAt k settings.merge n command call made (AHandle h) (state_of w) reply s' → Were
+  were-handle : (n : ℕ) (call : Call) (h : Handle) → slice_get w.objects n ≡ Some (AHandle h) → ActsAt k settings n command call made (AHandle h) (state_of w) reply s' → Were
   were-handle n call h at a =
-      let d = handle-acted k settings.merge n command call made (state_of w) reply s' h a in
+      let d = handle-acted k settings n command call made (state_of w) reply s' h a in
       were-set n (AHandle h) (AHandle d.new) at d.objects (λ x same. absurd (cc))
 
-  were-read : (x : HandleSnapshot) (call : Call) (found : Option Object) → slice_get w.objects x.handle ≡ found → ReadsSnapshot k settings.merge x command call made found (state_of w) reply s' → Were
+  were-read : (x : HandleSnapshot) (call : Call) (found : Option Object) → slice_get w.objects x.handle ≡ found → ReadsSnapshot k settings x command call made found (state_of w) reply s' → Were
   were-read x call (Some (AHandle h)) at a = were-handle x.handle _ h at a
   were-read x call (Some (ASnapshot y)) at a = were-same (ap (λ (s : State Span). s.objects) a.2)
   were-read x call (Some (AFollower f)) at a = were-same (ap (λ (s : State Span). s.objects) a.2)
   were-read x call None at a = were-same (ap (λ (s : State Span). s.objects) a.2)
 
-  were-on : (n : ℕ) (call : Call) (found : Option Object) → slice_get w.objects n ≡ found → ActsOn k settings.merge n command call made found (state_of w) reply s' → Were
+  were-on : (n : ℕ) (call : Call) (found : Option Object) → slice_get w.objects n ≡ found → ActsOn k settings n command call made found (state_of w) reply s' → Were
   were-on n call None at a = were-same (ap (λ (s : State Span). s.objects) a.2)
   were-on n call (Some (AHandle h)) at a = were-handle n call h at a
   were-on n call (Some (ASnapshot x)) at a = were-read x call (slice_get w.objects x.handle) refl a
   were-on n call (Some (AFollower f)) at a =
-      let d = follower-did k settings.merge n command call made (state_of w) reply s' (Some (AFollower f)) f refl a in
+      let d = follower-did k settings n command call made (state_of w) reply s' (Some (AFollower f)) f refl a in
       were-set n (AFollower f) (AFollower d.new) at d.objects (λ x same. absurd (cc))
 
   taken-now : (n : ℕ) (h : Handle) (r : Result ℕ SlateError) (number : ℕ) (x : HandleSnapshot) → IsHandleAt w.objects n h → TakesSnapshot h (state_of w).store r s'.store → r ≡ Ok number → ASnapshot (record { handle = n; number = number }) ≡ ASnapshot x → IsOfHandle w.objects x
@@ -212,7 +212,7 @@ read-of {has_rows = has_rows} {is_plain = is_plain} closed tables r x is does =
     (λ live. subst (AnswersRead has_rows is_plain) is (does.read live).plain)
     (λ q shut. absurd (let c = some-of (λ q. (r ≡ Err (closed_error q)) × _) closed q shut does.closed in let never : ◌≡◌ {A = Result _ SlateError} (Ok x) (Err (closed_error q)) = sym is ∙ c.0 in cc))
 
-module _ (merge : Option Merge) (catalogue : Catalogue) (stored : Line) (x : HandleSnapshot) (h : Handle) (numbered : IsLine h.line) (low : h.line.floor ≤ x.number) (high : x.number ≤ accepted h) where
+module _ (settings : Settings) (catalogue : Catalogue) (stored : Line) (x : HandleSnapshot) (h : Handle) (numbered : IsLine h.line) (low : h.line.floor ≤ x.number) (high : x.number ≤ accepted h) where
   abbrev front : Line
   front = up_to x.number h.line
 
@@ -222,36 +222,36 @@ module _ (merge : Option Merge) (catalogue : Catalogue) (stored : Line) (x : Han
   cut-is : cut h false (Some x.number) ≡ Some (end front)
   cut-is = let e = ends in let least : min x.number (accepted h) ≡ end front = omega (arith, high, e) in ap Some least
 
-  get-gives : (n : ℕ) (key : List ℕ) (before after : Known Span) (reply : Reply) → is_answer reply ≡ true → GetsFrom (by_catalogue stored catalogue) merge key false (Some x.number) h before reply after → Gives merge (actions.Get n key false) front reply
+  get-gives : (n : ℕ) (key : List ℕ) (before after : Known Span) (reply : Reply) → is_answer reply ≡ true → GetsFrom (by_catalogue stored catalogue) settings.merge key false (Some x.number) h before reply after → Gives settings.merge (actions.Get n key false) front reply
   get-gives n key before after reply answered a =
       let ok = answered-ok found_reply a.result reply a.replied answered in
       let read = read-of h.result h.view.manifest.tables a.result ok.0 ok.1 a.does in
-      let plain : ◌≡◌ {A = Result (Option KeyValue) ReadFault} (Ok ok.0) (read_at merge h.line.batches (Some (end front)) key) =
-      read.2 ∙ (ap (λ bs. read_at merge bs (cut h false (Some x.number)) key) read.1.1 ∙ ap (λ c. read_at merge h.line.batches c key) cut-is) in
-      (ok.0, plain ∙ sym (front-read merge front h.line key (front-prefix x.number h.line) numbered), a.replied ∙ ap (reply_to found_reply) ok.1)
+      let plain : ◌≡◌ {A = Result (Option KeyValue) ReadFault} (Ok ok.0) (read_at settings.merge h.line.batches (Some (end front)) key) =
+      read.2 ∙ (ap (λ bs. read_at settings.merge bs (cut h false (Some x.number)) key) read.1.1 ∙ ap (λ c. read_at settings.merge h.line.batches c key) cut-is) in
+      (ok.0, plain ∙ sym (front-read settings.merge front h.line key (front-prefix x.number h.line) numbered), a.replied ∙ ap (reply_to found_reply) ok.1)
 
   -- of the scan that a read begins, this is taken
-  take-gives : (range : ByteRange) (order : IterationOrder) (taken : Iteration → Result (List KeyValue) SlateError) (before after : Known Span) (reply : Reply) → is_answer reply ≡ true → TakesFrom (by_catalogue stored catalogue) merge range order false (Some x.number) taken h before reply after →
-      (it : Iteration) × BeginsScan merge front.batches (Some (end front)) range order it × (rows : List KeyValue) × (taken it ≡ Ok rows) × (reply ≡ replies.Rows rows)
+  take-gives : (range : ByteRange) (order : IterationOrder) (taken : Iteration → Result (List KeyValue) SlateError) (before after : Known Span) (reply : Reply) → is_answer reply ≡ true → TakesFrom (by_catalogue stored catalogue) settings.merge range order false (Some x.number) taken h before reply after →
+      (it : Iteration) × BeginsScan settings.merge front.batches (Some (end front)) range order it × (rows : List KeyValue) × (taken it ≡ Ok rows) × (reply ≡ replies.Rows rows)
   take-gives range order taken before after reply answered a = by a.scan refl (subst (λ r. Takes taken a.scan r) ok.1 a.takes) where
     ok : (rows : List KeyValue) × (a.result ≡ Ok rows)
     ok = answered-ok replies.Rows a.result reply a.replied answered
 
-    by : (scan : Result Iteration SlateError) → a.scan ≡ scan → Takes taken scan (Ok ok.0) → (it : Iteration) × BeginsScan merge front.batches (Some (end front)) range order it × (rows : List KeyValue) × (taken it ≡ Ok rows) × (reply ≡ replies.Rows rows)
+    by : (scan : Result Iteration SlateError) → a.scan ≡ scan → Takes taken scan (Ok ok.0) → (it : Iteration) × BeginsScan settings.merge front.batches (Some (end front)) range order it × (rows : List KeyValue) × (taken it ≡ Ok rows) × (reply ≡ replies.Rows rows)
     by (Ok it) is (inl memory) = absurd (cc)
     by (Ok it) is (inr all) =
         let read = read-of h.result h.view.manifest.tables a.scan it is a.scans in
-        let begins = subst (λ c. BeginsScan merge h.line.batches c range order it) cut-is (subst (λ bs. BeginsScan merge bs (cut h false (Some x.number)) range order it) read.1.1 read.2) in
-        (it, scan-front merge front h.line range order it (front-prefix x.number h.line) numbered begins, ok.0, sym all, a.replied ∙ ap (reply_to replies.Rows) ok.1)
+        let begins = subst (λ c. BeginsScan settings.merge h.line.batches c range order it) cut-is (subst (λ bs. BeginsScan settings.merge bs (cut h false (Some x.number)) range order it) read.1.1 read.2) in
+        (it, scan-front settings.merge front h.line range order it (front-prefix x.number h.line) numbered begins, ok.0, sym all, a.replied ∙ ap (reply_to replies.Rows) ok.1)
     by (Err e) is refused = absurd (cc)
 
   -- a handle that is asked this for a snapshot
-  asked-gives : (settings : Settings) (action : Action) (n m : ℕ) (moment : ℤ) (second : Option ℤ) (made : ℕ) (before after : Known Span) (writes writes' : List Write) (new : Handle) (reply : Reply) → reads_all action ≡ Some n → is_answer reply ≡ true →
-      HandleActs (by_catalogue stored catalogue) merge m moment second (at_snapshot x.number (call_of action)) made h before writes reply new after writes' → Gives merge action front reply
-  asked-gives settings (actions.Get o key false) n m moment second made before after writes writes' new reply is answered a = get-gives o key before after reply answered a.0
-  asked-gives settings (actions.Scan o range order false) n m moment second made before after writes writes' new reply is answered a = take-gives range order scanned before after reply answered a.0
-  asked-gives settings (actions.Seek o range count key order false) n m moment second made before after writes writes' new reply is answered a = take-gives range order (sought range count key) before after reply answered a.0
-  asked-gives settings action n m moment second made before after writes writes' new reply is answered a = absurd (cc)
+  asked-gives : (action : Action) (n m : ℕ) (moment : ℤ) (second : Option ℤ) (made : ℕ) (before after : Known Span) (writes writes' : List Write) (new : Handle) (reply : Reply) → reads_all action ≡ Some n → is_answer reply ≡ true →
+      HandleActs (by_catalogue stored catalogue) settings m moment second (at_snapshot x.number (call_of action)) made h before writes reply new after writes' → Gives settings.merge action front reply
+  asked-gives (actions.Get o key false) n m moment second made before after writes writes' new reply is answered a = get-gives o key before after reply answered a.0
+  asked-gives (actions.Scan o range order false) n m moment second made before after writes writes' new reply is answered a = take-gives range order scanned before after reply answered a.0
+  asked-gives (actions.Seek o range count key order false) n m moment second made before after writes writes' new reply is answered a = take-gives range order (sought range count key) before after reply answered a.0
+  asked-gives action n m moment second made before after writes writes' new reply is answered a = absurd (cc)
 
 -- what reads an object names it
 read-names : (action : Action) (n : ℕ) → reads_all action ≡ Some n → target_of action ≡ OfObject n
@@ -302,14 +302,14 @@ module _ (settings : Settings) where
       let c = step.command in
       let k = by_catalogue w.stored w.catalogue in
       let does = subst (λ t. DoesBy k settings c t link.next.made (state_of w) step.reply (state_of step.world)) (read-names c.action n is) link.next.does in
-      let read = subst (λ found. ActsOn k settings.merge n c (call_of c.action) link.next.made found (state_of w) step.reply (state_of step.world)) at does in
-      let acts = subst (λ found. ReadsSnapshot k settings.merge x c (call_of c.action) link.next.made found (state_of w) step.reply (state_of step.world)) there read in
-      let d = handle-acted k settings.merge x.handle c (at_snapshot x.number (call_of c.action)) link.next.made (state_of w) step.reply (state_of step.world) h acts in
+      let read = subst (λ found. ActsOn k settings n c (call_of c.action) link.next.made found (state_of w) step.reply (state_of step.world)) at does in
+      let acts = subst (λ found. ReadsSnapshot k settings x c (call_of c.action) link.next.made found (state_of w) step.reply (state_of step.world)) there read in
+      let d = handle-acted k settings x.handle c (at_snapshot x.number (call_of c.action)) link.next.made (state_of w) step.reply (state_of step.world) h acts in
       let mine = all.0 n x at in
       let same : mine.0 ≡ h = let other = mine.1 in cc in
       let low = subst (λ (a : Handle). a.line.floor ≤ x.number) same mine.2 in
       let high = subst (λ (a : Handle). x.number ≤ accepted a) same mine.3 in
-      asked-gives settings.merge w.catalogue w.stored x h (all.1 x.handle h there) low high settings c.action n x.handle c.moment c.second link.next.made _ _ w.writes _ d.new step.reply is answered d.acts
+      asked-gives settings w.catalogue w.stored x h (all.1 x.handle h there) low high c.action n x.handle c.moment c.second link.next.made _ _ w.writes _ d.new step.reply is answered d.acts
 
   -- a later read of a snapshot that was there before
   later-gives : (w : World) (steps : List Step) (n : ℕ) (x : HandleSnapshot) (h : Handle) → Sampled w → Chain settings w steps → All (λ step. IsReached step.world) steps → slice_get w.objects n ≡ Some (ASnapshot x) → IsHandleAt w.objects x.handle h → x.number ≤ accepted h →
@@ -336,7 +336,7 @@ module _ (settings : Settings) where
         let c = step.command in
         let k = by_catalogue w.stored w.catalogue in
         let does = subst (λ t. DoesBy k settings c t link.next.made (state_of w) step.reply (state_of step.world)) (read-names c.action n is) link.next.does in
-        let only = subst (λ found. ActsOn k settings.merge n c (call_of c.action) link.next.made found (state_of w) step.reply (state_of step.world)) at does in
+        let only = subst (λ found. ActsOn k settings n c (call_of c.action) link.next.made found (state_of w) step.reply (state_of step.world)) at does in
         absurd (unknown-not step.reply only.1 answered)
     by (Some (AHandle h)) at = let new = link.rises n (AHandle h) at in absurd (not-handle h x new.0 new.2 (let there = new.1 in cc))
     by (Some (ASnapshot y)) at = let new = link.rises n (ASnapshot y) at in at ∙ ap (λ x. Some (ASnapshot x)) (same-snapshot y x new.0 new.2 (let there = new.1 in cc))

@@ -1,4 +1,5 @@
 -- What opening a reader that keeps a checkpoint of its own does to an honest store it does to what the world knows of that.
+use Rattle.slate_model.specs.Segments.{Extractor}
 use Rattle.std.proofs.Common.{◌≡◌, ◌∙◌, ◌||◌, ℕ, ℤ, List, Bool, true, false, not, cond, Option, Some, None, Result, Ok, Err, IfOk, refl, sym, subst, ap}
 use Rattle.std.specs.Option.{IfSome, is_some}
 use Rattle.slate_types.specs.Line.{Line}
@@ -13,24 +14,26 @@ use Rattle.slate_errors.specs.declared.errors.SlateError.{SlateError}
 use Rattle.slate_model.specs.Catalogue.{Span, catalogue_of}
 use Rattle.slate_model.specs.declared.answers.PollAnswer.{PollAnswer}
 use Rattle.slate_model.specs.declared.leases.Lease.{Lease}
-use Rattle.slate_model.specs.Followed.{can_follow}
+use Rattle.slate_model.specs.Follow.{AreFollowed}
+use Rattle.slate_model.specs.Followed.{RefusesLatest, can_follow}
 use Rattle.slate_model.specs.Follower.{Follower, kept_follower}
 use Rattle.slate_model.specs.Knowledge.{Knowledge}
 use Rattle.slate_model.specs.Known.{Known, Untouched}
 use Rattle.slate_model.specs.Lease.{lease_refusal, to_take}
-use Rattle.slate_model.specs.Managed.{OpensManaged, TakesLease, unseen_line}
+use Rattle.slate_model.specs.Managed.{OpensManaged, TakeRefusal, TakesLease, unseen_line}
+use Rattle.slate_store.specs.declared.reader_modes.DbReaderMode.TheVariants as modes
 use Rattle.slate_model.specs.Object.{Follower as AFollower}
 use Rattle.slate_model.specs.Stores.{by_catalogue, by_objects}
 use Rattle.slate_model.specs.Tables.{AreStored}
 use Rattle.slate_model.specs.Valid.{IsHeld}
 use Rattle.slate_model.proofs.Leased.{its-manifest, planned-latest}
 use Rattle.slate_model.proofs.Maintained.{Maintained}
-use Rattle.slate_model.proofs.Planned.{puts-known, take-maintains, take-recheckpoints}
-use Rattle.slate_model.proofs.Reduced.{as_modelled, catalogued, holding, modelled, untouched-known}
+use Rattle.slate_model.proofs.Planned.{puts-known, take-maintains, take-recheckpoints, take_refusal-known}
+use Rattle.slate_model.proofs.Reduced.{as_modelled, catalogued, followed-err, followed-ok, holding, modelled, some-same, untouched-known}
 use Rattle.slate_live.specs.Represents.{IsValidFollower}
 use Rattle.slate_live.proofs.Cases.{by-option, is-none, some-of}
 use Rattle.slate_live.proofs.Knowing.{AfterOf, objects-same, unchanged-objects}
-use Rattle.slate_live.proofs.Leasing.{leased-answers, leased-held, leased-kept, leased-sees, leased-stored, leased-valid, leased_whole}
+use Rattle.slate_live.proofs.Leasing.{leased-answers, leased-held, leased-kept, leased-sees, leased-segments, leased-stored, leased-valid, leased_whole}
 
 -- a plan that takes a lease is of a database that is initialised
 taken-initialized : (lifetime : ℕ) (moment : ℤ) (latest : VersionedManifest) (given : Option VersionedManifest × Lease) → to_take lifetime moment latest ≡ Ok given → latest.manifest.initialized ≡ true
@@ -43,12 +46,12 @@ or-opening : (b : Bool) → b ≡ true → (b || not true) ≡ true
 or-opening true is = refl
 or-opening false is = absurd (cc)
 
-module _ (stored : Line) (o : Objects) (f made lifetime interval : ℕ) (skips : Bool) (moment : ℤ) where
+module _ (ext : Option Extractor) (stored : Line) (o : Objects) (f made lifetime interval : ℕ) (skips : Bool) (moment : ℤ) where
   abbrev world : Knowledge Span
   world = by_catalogue stored (catalogue_of o)
 
   -- the objects after it
-  pub taken-after : (r : Result (Follower × PollAnswer) SlateError) (store' : Known (List Batch)) → OpensManaged (by_objects (Some o)) made lifetime interval skips moment (holding o f) r store' → AfterOf store'
+  pub taken-after : (r : Result (Follower × PollAnswer) SlateError) (store' : Known (List Batch)) → OpensManaged (by_objects (Some o)) ext made lifetime interval skips moment (holding o f) r store' → AfterOf store'
   taken-after r store' d =
       by-option (lease_refusal lifetime interval)
       (λ none. let t = ((d.takes none).puts).some o refl in (t.0, t.1))
@@ -71,13 +74,13 @@ module _ (stored : Line) (o : Objects) (f made lifetime interval : ℕ) (skips :
     pub record Taken (r : Result (Follower × PollAnswer) SlateError) : Type 0 where
       pub maintained : Maintained o o'
       pub new : IfOk r IsTaken
-      pub known : OpensManaged world made lifetime interval skips moment (catalogued o f) (taken_whole r) (catalogued o' f')
+      pub known : OpensManaged world ext made lifetime interval skips moment (catalogued o f) (taken_whole r) (catalogued o' f')
 
     -- the opening of the world, where the options pass
-    passes : (r : Result (Follower × PollAnswer) SlateError) → lease_refusal lifetime interval ≡ None → TakesLease world made lifetime skips moment (catalogued o f) r (catalogued o' f') → OpensManaged world made lifetime interval skips moment (catalogued o f) r (catalogued o' f')
+    passes : (r : Result (Follower × PollAnswer) SlateError) → lease_refusal lifetime interval ≡ None → TakesLease world ext made lifetime skips moment (catalogued o f) r (catalogued o' f') → OpensManaged world ext made lifetime interval skips moment (catalogued o f) r (catalogued o' f')
     passes r none t = record { refused = is-none _ (lease_refusal lifetime interval) none; takes = λ _. t }
 
-    by-taking : (r : Result (Follower × PollAnswer) SlateError) → lease_refusal lifetime interval ≡ None → TakesLease (by_objects (Some o)) made lifetime skips moment (holding o f) r (holding o' f') → Taken r
+    by-taking : (r : Result (Follower × PollAnswer) SlateError) → lease_refusal lifetime interval ≡ None → TakesLease (by_objects (Some o)) ext made lifetime skips moment (holding o f) r (holding o' f') → Taken r
     by-taking (Err e) none t =
         let puts = modelled o o' t.puts in
         record {
@@ -85,9 +88,16 @@ module _ (stored : Line) (o : Objects) (f made lifetime interval : ℕ) (skips :
           new = tt;
           known = passes (Err e) none (record {
             faults = t.faults;
-            puts = as_modelled (catalogue_of o) (catalogue_of o') (puts-known (to_take lifetime moment) (take-recheckpoints lifetime moment) o sound stored (taken_whole (Err e)) made o' puts);
+            puts = as_modelled (catalogue_of o) (catalogue_of o') (puts-known (to_take lifetime moment) (take-recheckpoints lifetime moment) o sound stored (TakeRefusal ext) (TakeRefusal ext) (take_refusal-known ext o) (taken_whole (Err e)) made o' puts);
             answers = tt;
             takes = tt;
+            fits = tt;
+            segmented = λ c line at stored_is.
+                subst (λ x. AreFollowed {A = Follower × PollAnswer} world ext modes.ManagedCheckpoint skips true x line (Err e)) (some-same (catalogue_of o) c at)
+                (subst (λ l. AreFollowed {A = Follower × PollAnswer} world ext modes.ManagedCheckpoint skips true (catalogue_of o) l (Err e)) (sym stored_is)
+                (followed-err ext stored (catalogue_of o) (Some o) modes.ManagedCheckpoint skips o sound holds (Follower × PollAnswer) (Follower × PollAnswer) true e (t.segmented o stored refl (o, refl, sound, sym holds))));
+            segments = tt;
+            whole = t.whole;
           });
         }
     by-taking (Ok b) none t =
@@ -114,7 +124,7 @@ module _ (stored : Line) (o : Objects) (f made lifetime interval : ℕ) (skips :
           };
           known = passes (taken_whole (Ok b)) none (record {
             faults = record { count = t.faults.count; unavailable = λ no. absurd (cc); none_missing = λ no. absurd (cc) };
-            puts = as_modelled (catalogue_of o) (catalogue_of o') (puts-known (to_take lifetime moment) (take-recheckpoints lifetime moment) o sound stored (taken_whole (Ok b)) made o' (record { cause = tt; part = puts.part; after = puts.after }));
+            puts = as_modelled (catalogue_of o) (catalogue_of o') (puts-known (to_take lifetime moment) (take-recheckpoints lifetime moment) o sound stored (TakeRefusal ext) (TakeRefusal ext) (take_refusal-known ext o) (taken_whole (Ok b)) made o' (record { cause = tt; part = puts.part; after = puts.after }));
             answers = (refl, refl, refl, leased-answers stored skips true o' view m.sound here found can b.0 (Some o) b.1 all (refl, refl));
             takes = as_modelled (catalogue_of o) (catalogue_of o') (record {
               given = q.given;
@@ -122,6 +132,13 @@ module _ (stored : Line) (o : Objects) (f made lifetime interval : ℕ) (skips :
               leased = q.leased;
               sees = leased-sees stored skips true o' view m.sound here found can b.0 (Some o) b.1 all (refl, refl) (catalogue_of o) unseen_line (q.sees).logs;
             });
+            fits = λ c at. subst (λ x. RefusesLatest ext true x None) (some-same (catalogue_of o) c at) (t.fits o refl);
+            segmented = λ c line at stored_is.
+                subst (λ x. AreFollowed world ext modes.ManagedCheckpoint skips true x line (taken_whole (Ok b))) (some-same (catalogue_of o) c at)
+                (subst (λ l. AreFollowed world ext modes.ManagedCheckpoint skips true (catalogue_of o) l (taken_whole (Ok b))) (sym stored_is)
+                (followed-ok ext stored (catalogue_of o) (Some o) modes.ManagedCheckpoint skips o sound holds {A = Follower × PollAnswer} {B = Follower × PollAnswer} true b (leased_whole o' stored skips b.0.view b.0, b.1) (t.segmented o stored refl (o, refl, sound, sym holds))));
+            segments = leased-segments stored skips true o' view m.sound here found can b.0 (Some o) b.1 all (refl, refl) ext t.segments;
+            whole = λ key is. absurd (cc);
           });
         }
 
@@ -137,7 +154,7 @@ module _ (stored : Line) (o : Objects) (f made lifetime interval : ℕ) (skips :
       };
     }
 
-    pub taken : (r : Result (Follower × PollAnswer) SlateError) → OpensManaged (by_objects (Some o)) made lifetime interval skips moment (holding o f) r (holding o' f') → Taken r
+    pub taken : (r : Result (Follower × PollAnswer) SlateError) → OpensManaged (by_objects (Some o)) ext made lifetime interval skips moment (holding o f) r (holding o' f') → Taken r
     taken r d =
         by-option (lease_refusal lifetime interval)
         (λ none. by-taking r none (d.takes none))

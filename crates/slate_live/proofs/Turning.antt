@@ -1,5 +1,5 @@
 -- A reader holds its checkpoint after its opening, and after each poll that took all log files.
-use Rattle.std.proofs.Common.{◌≡◌, ◌++◌, ◌∷◌, ◌+◌, ◌/◌, ◌∙◌, ◌<◌, ◌≤◌, ◌==◌, [], ℕ, ℤ, int_lt, Bool, true, false, find, length, List, set, Option, Some, None, Result, Ok, Err, refl, sym, subst, ap, arith}
+use Rattle.std.proofs.Common.{◌≡◌, ◌++◌, ◌∷◌, ◌/◌, ◌∙◌, [], ℕ, ℤ, int_lt, Bool, true, false, find, length, Option, Some, None, Result, Ok, Err, refl, sym, subst, ap, arith}
 use Rattle.std.proofs.lemmas.Bool.{eqb-true}
 use Rattle.std.specs.Bool.{MatchBool}
 use Rattle.std.specs.List.{slice_get}
@@ -21,7 +21,7 @@ use Rattle.slate_model.specs.Knowledge.{Knowledge}
 use Rattle.slate_model.specs.Known.{Untouched}
 use Rattle.slate_model.specs.Lease.{lease_of, lease_refusal, replaces, to_keep, to_take}
 use Rattle.slate_model.specs.Managed.{KeepsLease, OpensManaged, TakesLease}
-use Rattle.slate_model.specs.Object.{Object, Follower as AFollower}
+use Rattle.slate_model.specs.Object.{Follower as AFollower}
 use Rattle.slate_model.specs.Stores.{by_catalogue}
 use Rattle.slate_model.proofs.Leased.{put-entry, put-id, put-latest_is, puts-one}
 use Rattle.slate_model.proofs.Planned.{take-recheckpoints}
@@ -31,7 +31,7 @@ use Rattle.slate_script.specs.declared.commands.Action.TheVariants as actions
 use Rattle.slate_script.specs.declared.commands.Command.{Command}
 use Rattle.slate_script.specs.declared.replies.Reply.{Reply}
 use Rattle.slate_script.specs.declared.replies.Reply.TheVariants as replies
-use Rattle.slate_live.specs.Calls.{Poll, OfObject, call_of, target_of}
+use Rattle.slate_live.specs.Calls.{Poll, call_of, target_of}
 use Rattle.slate_live.specs.Commands.{ActsOn, Adds, DoesBy, added, interval_of, lifetime_of}
 use Rattle.slate_live.specs.Followers.{PollsAs}
 use Rattle.slate_live.specs.Leases.{is_whole, polls}
@@ -62,7 +62,7 @@ module _ (settings : Settings) (w w' : World) (command : Command) (reply : Reply
   k = by_catalogue w.stored w.catalogue
 
   -- a poll that was answered
-  answered-holds : (f' : Follower) (answer : PollAnswer) → IsFollowerAt w'.objects n f' → KeepsLease k next.made h.lease command.moment h.follower (state_of w).store (Ok answer) f' (state_of w').store → Holds n lifetime command.moment w'
+  answered-holds : (f' : Follower) (answer : PollAnswer) → IsFollowerAt w'.objects n f' → KeepsLease k settings.extractor next.made h.lease command.moment h.follower (state_of w).store (Ok answer) f' (state_of w').store → Holds n lifetime command.moment w'
   answered-holds f' answer at' p =
       let puts = (p.puts).some w.catalogue refl in
       let q = ((p.keeps).some w.catalogue refl).2 in
@@ -76,13 +76,13 @@ module _ (settings : Settings) (w w' : World) (command : Command) (reply : Reply
   poll-holds asks whole =
       let is = polls-is n command.action asks in
       let does = subst (λ t. DoesBy k settings command t next.made (state_of w) reply (state_of w')) (ap target_of is) next.does in
-      let acts = subst (λ c. ActsOn k settings.merge n command c next.made (slice_get w.objects n) (state_of w) reply (state_of w')) (ap call_of is) does in
-      let d = follower-did k settings.merge n command Poll next.made (state_of w) reply (state_of w') (slice_get w.objects n) h.follower h.at acts in
+      let acts = subst (λ c. ActsOn k settings n command c next.made (slice_get w.objects n) (state_of w) reply (state_of w')) (ap call_of is) does in
+      let d = follower-did k settings n command Poll next.made (state_of w) reply (state_of w') (slice_get w.objects n) h.follower h.at acts in
       let p = d.acts.0 in
       let at' : IsFollowerAt w'.objects n d.new = subst (λ os. slice_get os n ≡ Some (AFollower d.new)) (sym d.objects) (get-set_same w.objects n (AFollower d.new) (AFollower h.follower) h.at) in
-      let managed = subst (λ m. PollsAs k (is_managed m) next.made command.moment h.follower (state_of w).store p.result d.new (state_of w').store) h.managed p.does in
+      let managed = subst (λ m. PollsAs k settings.extractor (is_managed m) next.made command.moment h.follower (state_of w).store p.result d.new (state_of w').store) h.managed p.does in
       by d.new p.result p.replied at' (managed.keeps h.lease h.live h.leased) where
-        by : (f' : Follower) (r : Result PollAnswer SlateError) → reply ≡ reply_to polled_reply r → IsFollowerAt w'.objects n f' → KeepsLease k next.made h.lease command.moment h.follower (state_of w).store r f' (state_of w').store → Holds n lifetime command.moment w'
+        by : (f' : Follower) (r : Result PollAnswer SlateError) → reply ≡ reply_to polled_reply r → IsFollowerAt w'.objects n f' → KeepsLease k settings.extractor next.made h.lease command.moment h.follower (state_of w).store r f' (state_of w').store → Holds n lifetime command.moment w'
         by f' (Ok answer) replied at' p = answered-holds f' answer at' p
         by f' (Err e) replied at' p = absurd (refusal-not_whole e (sym (ap is_whole replied) ∙ whole))
 
@@ -104,9 +104,9 @@ module _ (settings : Settings) (w w' : World) (command : Command) (reply : Reply
   lifetime = lifetime_of managed
 
   abbrev Opens : Result (Follower × PollAnswer) SlateError → Type 0
-  Opens r = OpensManaged known next.made lifetime (interval_of managed) skips command.moment (state_of w).store r (state_of w').store
+  Opens r = OpensManaged known settings.extractor next.made lifetime (interval_of managed) skips command.moment (state_of w).store r (state_of w').store
 
-  taken-holds : (b : Follower × PollAnswer) → TakesLease known next.made lifetime skips command.moment (state_of w).store (Ok b) (state_of w').store → IsFollowerAt w'.objects n b.0 → Holds n (lifetime / 2) command.moment w'
+  taken-holds : (b : Follower × PollAnswer) → TakesLease known settings.extractor next.made lifetime skips command.moment (state_of w).store (Ok b) (state_of w').store → IsFollowerAt w'.objects n b.0 → Holds n (lifetime / 2) command.moment w'
   taken-holds b t at' =
       let puts = (t.puts).some w.catalogue refl in
       let q = ((t.takes).some w.catalogue refl).2 in
@@ -147,7 +147,7 @@ module _ (settings : Settings) (w w' : World) (command : Command) (reply : Reply
 
   pub opening-holds : Holds n (lifetime / 2) command.moment w'
   opening-holds = by d.result d.replied d.does d.objects where
-    d : Adds (OpensManaged known next.made lifetime (interval_of managed) skips command.moment) (λ (b : Follower × PollAnswer). AFollower b.0) (λ n (b : Follower × PollAnswer). followed_reply n b.1) (state_of w) reply (state_of w')
+    d : Adds (OpensManaged known settings.extractor next.made lifetime (interval_of managed) skips command.moment) (λ (b : Follower × PollAnswer). AFollower b.0) (λ n (b : Follower × PollAnswer). followed_reply n b.1) (state_of w) reply (state_of w')
     d = subst (λ t. DoesBy known settings command t next.made (state_of w) reply (state_of w')) (ap target_of is) next.does
 
     by : (r : Result (Follower × PollAnswer) SlateError) → reply ≡ reply_to (λ (b : Follower × PollAnswer). followed_reply (length w.objects) b.1) r → Opens r → w'.objects ≡ w.objects ++ added (λ (b : Follower × PollAnswer). AFollower b.0) r → Holds n (lifetime / 2) command.moment w'

@@ -1,9 +1,8 @@
 -- A reader that a command neither polls nor closes is as before.
-use Rattle.std.proofs.Common.{◌≡◌, ◌≢◌, ◌++◌, ◌∙◌, inl, inr, ℕ, Bool, true, false, List, set, Option, Some, None, Result, Ok, Err, refl, sym, subst, ap}
+use Rattle.std.proofs.Common.{◌≡◌, ◌≢◌, ◌++◌, ◌∙◌, inl, inr, ℕ, false, List, set, Option, Some, None, refl, sym, subst, ap}
 use Rattle.std.proofs.lemmas.Bool.{cases_eq, eq-eqb}
 use Rattle.std.specs.List.{slice_get}
 use Rattle.slate_store.specs.declared.reader_modes.DbReaderMode.TheVariants as modes
-use Rattle.slate_errors.specs.declared.errors.SlateError.{SlateError}
 use Rattle.slate_model.specs.Catalogue.{Span}
 use Rattle.slate_model.specs.Follower.{Follower}
 use Rattle.slate_model.specs.Handle.{Handle}
@@ -56,19 +55,19 @@ module _ (settings : Settings) (w : World) (command : Command) (made : ℕ) (rep
   not-handle : (m : ℕ) (h : Handle) → slice_get w.objects m ≡ Some (AHandle h) → n ≢ m
   not-handle m h there same = absurd (let here = subst (λ i. slice_get w.objects i ≡ Some (AFollower f)) same at in let no : ◌≡◌ {A = Option Object} (Some (AFollower f)) (Some (AHandle h)) = sym here ∙ there in cc)
 
-  handle-acts : (m : ℕ) (call : Call) (h : Handle) → slice_get w.objects m ≡ Some (AHandle h) → ActsAt k settings.merge m command call made (AHandle h) (state_of w) reply s' → Stays
+  handle-acts : (m : ℕ) (call : Call) (h : Handle) → slice_get w.objects m ≡ Some (AHandle h) → ActsAt k settings m command call made (AHandle h) (state_of w) reply s' → Stays
   handle-acts m call h there a =
-      let d = handle-acted k settings.merge m command call made (state_of w) reply s' h a in
+      let d = handle-acted k settings m command call made (state_of w) reply s' h a in
       other-object m (AHandle d.new) (not-handle m h there) d.objects
 
-  snapshot-acts : (x : HandleSnapshot) (call : Call) (found : Option Object) → slice_get w.objects x.handle ≡ found → ReadsSnapshot k settings.merge x command call made found (state_of w) reply s' → Stays
+  snapshot-acts : (x : HandleSnapshot) (call : Call) (found : Option Object) → slice_get w.objects x.handle ≡ found → ReadsSnapshot k settings x command call made found (state_of w) reply s' → Stays
   snapshot-acts x call (Some (AHandle h)) there a = handle-acts x.handle (at_snapshot x.number call) h there a
   snapshot-acts x call (Some (ASnapshot y)) there a = same-state a.2
   snapshot-acts x call (Some (AFollower g)) there a = same-state a.2
   snapshot-acts x call None there a = same-state a.2
 
   -- it is as before, where it isn't polled or closed
-  unchanged : (call : Call) (g g' : Follower) (before after : Known Span) (writes writes' : List Write) → (Disturbs call → ⊥) → FollowerActs k settings.merge command.moment call made g before writes reply g' after writes' → g' ≡ g
+  unchanged : (call : Call) (g g' : Follower) (before after : Known Span) (writes writes' : List Write) → (Disturbs call → ⊥) → FollowerActs k settings command.moment call made g before writes reply g' after writes' → g' ≡ g
   unchanged Poll g g' before after writes writes' never a = absurd (never tt)
   unchanged (Close t) g g' before after writes writes' never a = absurd (never tt)
   unchanged (Get key remote snapshot) g g' before after writes writes' never a = a.1
@@ -84,13 +83,13 @@ module _ (settings : Settings) (w : World) (command : Command) (made : ℕ) (rep
   unchanged (FindNumber seconds find) g g' before after writes writes' never a = a.1
   unchanged Nothing g g' before after writes writes' never a = a.1
 
-  on-stays : (m : ℕ) (found : Option Object) → target_of command.action ≡ OfObject m → slice_get w.objects m ≡ found → ActsOn k settings.merge m command (call_of command.action) made found (state_of w) reply s' → Stays
+  on-stays : (m : ℕ) (found : Option Object) → target_of command.action ≡ OfObject m → slice_get w.objects m ≡ found → ActsOn k settings m command (call_of command.action) made found (state_of w) reply s' → Stays
   on-stays m None names there a = same-state a.2
   on-stays m (Some (AHandle h)) names there a = handle-acts m (call_of command.action) h there a
   on-stays m (Some (ASnapshot x)) names there a = snapshot-acts x (call_of command.action) (slice_get w.objects x.handle) refl a
   on-stays m (Some (AFollower g)) names there a = elim (cases_eq n m) [
     | inl same ↦
-        let d = follower-did k settings.merge m command (call_of command.action) made (state_of w) reply s' (Some (AFollower g)) g refl a in
+        let d = follower-did k settings m command (call_of command.action) made (state_of w) reply s' (Some (AFollower g)) g refl a in
         let mine : target_of command.action ≡ OfObject n = names ∙ ap OfObject (sym same) in
         let kept = unchanged (call_of command.action) g d.new _ _ _ _ (quiet mine) d.acts in
         let here = subst (λ i. slice_get w.objects i ≡ Some (AFollower f)) same at in
@@ -99,7 +98,7 @@ module _ (settings : Settings) (w : World) (command : Command) (made : ℕ) (rep
         subst (λ i. slice_get s'.objects i ≡ Some (AFollower f)) (sym same)
         (subst (λ xs. slice_get xs m ≡ Some (AFollower f)) (sym d.objects) (get-set_same w.objects m (AFollower d.new) (AFollower g) there ∙ ap Some is))
     | inr other ↦
-        let d = follower-did k settings.merge m command (call_of command.action) made (state_of w) reply s' (Some (AFollower g)) g refl a in
+        let d = follower-did k settings m command (call_of command.action) made (state_of w) reply s' (Some (AFollower g)) g refl a in
         other-object m (AFollower d.new) other d.objects
   ]
 

@@ -1,7 +1,6 @@
 -- What a command does: it opens an object, or it names one, which does what is asked, or it goes to the store alone, or
 -- it asks for a write.
 use Rattle.std.specs.Prelude.{◌≡◌, ℕ, ℤ, Bool, List, [], ◌∷◌, ◌++◌, length, slice_get, slice_set, Option, Some, None, Result, Ok, Err, true}
-use Rattle.slate_types.specs.Operator.{Merge}
 use Rattle.slate_store.specs.declared.reader_modes.DbReaderMode.{DbReaderMode}
 use Rattle.slate_errors.specs.declared.errors.SlateError.{SlateError}
 use Rattle.slate_model.specs.Follow.{Rebuilds, unseen}
@@ -49,31 +48,31 @@ pub record DoesToStore {L : Type 0} (did : Known L → Reply → Known L → Typ
   pub writes : s'.writes ≡ s.writes
 
 -- what an object does that a command asks this, by its kind
-abbrev pub Acts : {L : Type 0} → Knowledge L → Option Merge → ℕ → Command → Call → ℕ → Object → Known L → List Write → Reply → Object → Known L → List Write → Type 0
-Acts k merge n command call made (Handle old) before writes reply (Handle new) after writes' =
-    HandleActs k merge n command.moment command.second call made old before writes reply new after writes'
-Acts k merge n command call made (Follower old) before writes reply (Follower new) after writes' =
-    FollowerActs k merge command.moment call made old before writes reply new after writes'
-Acts k merge n command call made old before writes reply new after writes' = ⊥
+abbrev pub Acts : {L : Type 0} → Knowledge L → Settings → ℕ → Command → Call → ℕ → Object → Known L → List Write → Reply → Object → Known L → List Write → Type 0
+Acts k settings n command call made (Handle old) before writes reply (Handle new) after writes' =
+    HandleActs k settings n command.moment command.second call made old before writes reply new after writes'
+Acts k settings n command call made (Follower old) before writes reply (Follower new) after writes' =
+    FollowerActs k settings command.moment call made old before writes reply new after writes'
+Acts k settings n command call made old before writes reply new after writes' = ⊥
 
 -- The object with number n does what is asked of it. All others are as before.
-pub record ActsAt {L : Type 0} (k : Knowledge L) (merge : Option Merge) (n : ℕ) (command : Command) (call : Call) (made : ℕ) (old : Object) (s : State L) (reply : Reply) (s' : State L) : Type 0 where
+pub record ActsAt {L : Type 0} (k : Knowledge L) (settings : Settings) (n : ℕ) (command : Command) (call : Call) (made : ℕ) (old : Object) (s : State L) (reply : Reply) (s' : State L) : Type 0 where
   pub new : Object
-  pub acts : Acts k merge n command call made old s.store s.writes reply new s'.store s'.writes
+  pub acts : Acts k settings n command call made old s.store s.writes reply new s'.store s'.writes
   pub objects : s'.objects ≡ slice_set s.objects n new
 
 -- a snapshot is read by its handle, up to the snapshot's number
-abbrev pub ReadsSnapshot : {L : Type 0} → Knowledge L → Option Merge → HandleSnapshot → Command → Call → ℕ → Option Object → State L → Reply → State L → Type 0
-ReadsSnapshot k merge snapshot command call made (Some (Handle handle)) s reply s' =
-    ActsAt k merge snapshot.handle command (at_snapshot snapshot.number call) made (Handle handle) s reply s'
-ReadsSnapshot k merge snapshot command call made found s reply s' = OnlyAnswers replies.Unknown made s reply s'
+abbrev pub ReadsSnapshot : {L : Type 0} → Knowledge L → Settings → HandleSnapshot → Command → Call → ℕ → Option Object → State L → Reply → State L → Type 0
+ReadsSnapshot k settings snapshot command call made (Some (Handle handle)) s reply s' =
+    ActsAt k settings snapshot.handle command (at_snapshot snapshot.number call) made (Handle handle) s reply s'
+ReadsSnapshot k settings snapshot command call made found s reply s' = OnlyAnswers replies.Unknown made s reply s'
 
 -- what a command does that names the object with a number and asks this; one that isn't there is unknown
-abbrev pub ActsOn : {L : Type 0} → Knowledge L → Option Merge → ℕ → Command → Call → ℕ → Option Object → State L → Reply → State L → Type 0
-ActsOn k merge n command call made None s reply s' = OnlyAnswers replies.Unknown made s reply s'
-ActsOn k merge n command call made (Some (Snapshot snapshot)) s reply s' =
-    ReadsSnapshot k merge snapshot command call made (slice_get s.objects snapshot.handle) s reply s'
-ActsOn k merge n command call made (Some old) s reply s' = ActsAt k merge n command call made old s reply s'
+abbrev pub ActsOn : {L : Type 0} → Knowledge L → Settings → ℕ → Command → Call → ℕ → Option Object → State L → Reply → State L → Type 0
+ActsOn k settings n command call made None s reply s' = OnlyAnswers replies.Unknown made s reply s'
+ActsOn k settings n command call made (Some (Snapshot snapshot)) s reply s' =
+    ReadsSnapshot k settings snapshot command call made (slice_get s.objects snapshot.handle) s reply s'
+ActsOn k settings n command call made (Some old) s reply s' = ActsAt k settings n command call made old s reply s'
 
 -- a snapshot of the object with number n, where that is a handle
 abbrev pub OpensSnapshot : {L : Type 0} → (n : ℕ) → (made : ℕ) → Option Object → State L → Reply → State L → Type 0
@@ -102,13 +101,13 @@ interval_of (Some given) = given.1
 module _ {L : Type 0} (k : Knowledge L) (settings : Settings) where
   abbrev pub OpensHandleIn : Bool → ℕ → State L → Reply → State L → Type 0
   OpensHandleIn keeps_log made s reply s' =
-      Adds (OpensHandle k made keeps_log settings.options.max_unflushed_bytes) Handle (λ n _. replies.Handle n) s reply s'
+      Adds (OpensHandle k settings.extractor made keeps_log settings.options.max_unflushed_bytes) Handle (λ n _. replies.Handle n) s reply s'
 
   abbrev pub OpensFollowerIn : DbReaderMode → (managed : Option (ℕ × ℕ)) → (skips : Bool) → ℤ → ℕ → State L → Reply → State L → Type 0
   OpensFollowerIn ManagedCheckpoint managed skips moment made s reply s' =
-      Adds (OpensManaged k made (lifetime_of managed) (interval_of managed) skips moment) (λ b. Follower b.0) (λ n b. followed_reply n b.1) s reply s'
+      Adds (OpensManaged k settings.extractor made (lifetime_of managed) (interval_of managed) skips moment) (λ b. Follower b.0) (λ n b. followed_reply n b.1) s reply s'
   OpensFollowerIn mode managed skips moment made s reply s' =
-      Adds (Rebuilds k mode skips true unseen) (λ b. Follower b.0) (λ n b. followed_reply n b.1) s reply s' × (made ≡ 0)
+      Adds (Rebuilds k settings.extractor mode skips true unseen) (λ b. Follower b.0) (λ n b. followed_reply n b.1) s reply s' × (made ≡ 0)
 
   -- what a command does, by where it goes; so many of its changes were made
   abbrev pub DoesBy : Command → Target → ℕ → State L → Reply → State L → Type 0
@@ -118,7 +117,7 @@ module _ {L : Type 0} (k : Knowledge L) (settings : Settings) where
   DoesBy command (NewCheckpoint lifetime) made s reply s' = DoesToStore (CommitsTo k made lifetime command.moment) s reply s'
   DoesBy command WholeStore made s reply s' = DoesToStore (SweepsTo k made command.moment) s reply s'
   DoesBy command (OfWrite n) made s reply s' = OnlyAnswers (write_reply s.objects (slice_get s.writes n)) made s reply s'
-  DoesBy command (OfObject n) made s reply s' = ActsOn k settings.merge n command (call_of command.action) made (slice_get s.objects n) s reply s'
+  DoesBy command (OfObject n) made s reply s' = ActsOn k settings n command (call_of command.action) made (slice_get s.objects n) s reply s'
 
   abbrev pub Does : ℕ → State L → Command → Reply → State L → Type 0
   Does made s command reply s' = DoesBy command (target_of command.action) made s reply s'

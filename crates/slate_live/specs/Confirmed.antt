@@ -1,21 +1,16 @@
 -- What is seen of a batch once it is stored.
-use Rattle.std.specs.Prelude.{◌≡◌, ℕ, ◌≤◌, ◌&&◌, Bool, not, true, slice_get, Some}
+use Rattle.std.specs.Prelude.{◌≡◌, ℕ, ◌≤◌, true, slice_get, Some}
 use Rattle.slate_types.specs.declared.batches.Batch.{Batch}
 pub use Rattle.slate_store.specs.Logs.{StandsIn}
-use Rattle.slate_store.specs.declared.reader_modes.DbReaderMode.{DbReaderMode}
-use Rattle.slate_model.specs.Follower.{Follower, is_pinned}
+use Rattle.slate_model.specs.Follower.{Follower}
 use Rattle.slate_model.specs.Handle.{Handle}
 use Rattle.slate_script.specs.declared.commands.Action.{Action}
 use Rattle.slate_script.specs.declared.commands.Action.TheVariants as actions
 use Rattle.slate_script.specs.declared.replies.Reply.{Reply}
 use Rattle.slate_script.specs.declared.replies.Reply.TheVariants as replies
 use Rattle.slate_live.specs.declared.states.Write.{Write}
-use Rattle.slate_live.specs.Represents.{IsFollowerAt, IsHandleAt}
+use Rattle.slate_live.specs.Represents.{IsFollowerAt, IsHandleAt, follows_all}
 use Rattle.slate_live.specs.World.{World}
-
--- whether a reader follows all that is stored: it doesn't stay at a checkpoint, and reads the log files
-abbrev pub follows_all : DbReaderMode → (skips : Bool) → Bool
-follows_all mode skips = not (is_pinned mode) && not skips
 
 -- What an opening or a poll answers and leaves that begins after this batch was stored: a handle that is opened has it
 -- in its line, and a reader of all that is stored that is opened or polled answers a number at or above its own.

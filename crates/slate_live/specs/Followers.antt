@@ -17,14 +17,15 @@ use Rattle.slate_model.specs.Follow.{Polls}
 use Rattle.slate_model.specs.Follower.{Follower, is_managed, number}
 use Rattle.slate_model.specs.Managed.{ClosesManaged, PollsManaged}
 use Rattle.slate_model.specs.Knowledge.{Knowledge}
+use Rattle.slate_model.specs.Segments.{Extractor}
+use Rattle.slate_model.specs.Status.{follower_status}
 use Rattle.slate_model.specs.Known.{Known, Untouched}
 use Rattle.slate_model.specs.Object.{Follower as AFollower}
-use Rattle.slate_status.specs.declared.statuses.DbStatus.{DbStatus}
-use Rattle.slate_status.specs.Records.{status_by}
 use Rattle.slate_script.specs.declared.replies.Reply.{Reply}
 use Rattle.slate_script.specs.declared.replies.Reply.TheVariants as replies
 use Rattle.slate_live.specs.declared.states.Write.{Write}
 use Rattle.slate_live.specs.Calls.{Call, Get, Scan, Seek, Close, Poll, Status}
+use Rattle.slate_live.specs.Settings.{Settings}
 use Rattle.slate_live.specs.Scans.{IsTaken, scanned, sought}
 use Rattle.slate_live.specs.Replies.{AnswersStatus, IsRead, follower_ended_reply, found_reply, polled_reply, reply_to}
 
@@ -45,19 +46,15 @@ module _ {L : Type 0} (k : Knowledge L) (merge : Option Merge) where
   TakesFromFollower range order taken follower =
       IsTaken follower.result follower.view.manifest.tables (k.rows (AFollower follower)) (IsPlainScanAt merge range order follower) taken
 
--- the status of a follower: the number of the last batch that it sees, the manifest that it goes by, and why it closed
-abbrev pub follower_status : Follower → DbStatus
-follower_status follower = status_by (number follower) follower.view follower.result
-
 -- a poll at a moment, by whether the follower keeps a checkpoint of its own
-abbrev pub PollsAs : {L : Type 0} → Knowledge L → (managed : Bool) → ℕ → ℤ → Follower → Known L → Result PollAnswer SlateError → Follower → Known L → Type 0
-PollsAs k true made moment old before result new after = PollsManaged k made moment old before result new after
-PollsAs k false made moment old before result new after = Polls k old before result new after × (made ≡ 0)
+abbrev pub PollsAs : {L : Type 0} → Knowledge L → Option Extractor → (managed : Bool) → ℕ → ℤ → Follower → Known L → Result PollAnswer SlateError → Follower → Known L → Type 0
+PollsAs k extractor true made moment old before result new after = PollsManaged k extractor made moment old before result new after
+PollsAs k extractor false made moment old before result new after = Polls k extractor old before result new after × (made ≡ 0)
 
-pub record PollsFollower {L : Type 0} (k : Knowledge L) (made : ℕ) (moment : ℤ) (old : Follower) (before : Known L) (reply : Reply) (new : Follower) (after : Known L) : Type 0 where
+pub record PollsFollower {L : Type 0} (k : Knowledge L) (extractor : Option Extractor) (made : ℕ) (moment : ℤ) (old : Follower) (before : Known L) (reply : Reply) (new : Follower) (after : Known L) : Type 0 where
   pub result : Result PollAnswer SlateError
   pub replied : reply ≡ reply_to polled_reply result
-  pub does : PollsAs k (is_managed old.mode) made moment old before result new after
+  pub does : PollsAs k extractor (is_managed old.mode) made moment old before result new after
 
 -- and a close
 abbrev pub ClosesAs : {L : Type 0} → Knowledge L → (managed : Bool) → ℕ → Follower → Known L → Ended → Follower → Known L → Type 0
@@ -72,18 +69,18 @@ pub record ClosesFollower {L : Type 0} (k : Knowledge L) (made : ℕ) (old : Fol
 
 -- What a command that asks this at a moment does to a follower; one that keeps no checkpoint makes no change to the store. What isn't for a follower is answered
 -- that it is unknown.
-module _ {L : Type 0} (k : Knowledge L) (merge : Option Merge) (moment : ℤ) where
+module _ {L : Type 0} (k : Knowledge L) (settings : Settings) (moment : ℤ) where
   abbrev pub FollowerActs : Call → ℕ → Follower → Known L → List Write → Reply → Follower → Known L → List Write → Type 0
   FollowerActs (Get key remote snapshot) made old before writes reply new after writes' =
-      GetsFromFollower k merge key old before reply after × (new ≡ old) × (made ≡ 0) × (writes' ≡ writes)
+      GetsFromFollower k settings.merge key old before reply after × (new ≡ old) × (made ≡ 0) × (writes' ≡ writes)
   FollowerActs (Scan range order remote snapshot) made old before writes reply new after writes' =
-      TakesFromFollower k merge range order scanned old before reply after × (new ≡ old) × (made ≡ 0) × (writes' ≡ writes)
+      TakesFromFollower k settings.merge range order scanned old before reply after × (new ≡ old) × (made ≡ 0) × (writes' ≡ writes)
   FollowerActs (Seek range take key order remote snapshot) made old before writes reply new after writes' =
-      TakesFromFollower k merge range order (sought range take key) old before reply after × (new ≡ old) × (made ≡ 0) × (writes' ≡ writes)
+      TakesFromFollower k settings.merge range order (sought range take key) old before reply after × (new ≡ old) × (made ≡ 0) × (writes' ≡ writes)
   FollowerActs (Close flush_type) made old before writes reply new after writes' =
       ClosesFollower k made old before reply new after × (writes' ≡ writes)
   FollowerActs Poll made old before writes reply new after writes' =
-      PollsFollower k made moment old before reply new after × (writes' ≡ writes)
+      PollsFollower k settings.extractor made moment old before reply new after × (writes' ≡ writes)
   FollowerActs Status made old before writes reply new after writes' =
       AnswersStatus (follower_status old) reply × (new ≡ old) × Untouched made before after × (writes' ≡ writes)
   FollowerActs call made old before writes reply new after writes' =

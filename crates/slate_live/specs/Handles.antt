@@ -26,6 +26,9 @@ use Rattle.slate_errors.specs.Errors.{closed_error}
 use Rattle.slate_model.specs.Close.{Closes}
 use Rattle.slate_model.specs.declared.answers.Written.{Written}
 use Rattle.slate_model.specs.Flush.{Flushes}
+use Rattle.slate_model.specs.Segments.{Extractor}
+use Rattle.slate_model.specs.Status.{handle_status}
+use Rattle.slate_live.specs.Settings.{Settings}
 use Rattle.slate_model.specs.Handle.{CloseResult, Handle, accepted}
 use Rattle.slate_model.specs.Snapshot.{snapshot_number}
 use Rattle.slate_model.specs.Knowledge.{Knowledge}
@@ -33,8 +36,6 @@ use Rattle.slate_model.specs.Known.{Known, Untouched}
 use Rattle.slate_model.specs.Object.{Handle as AHandle}
 use Rattle.slate_model.specs.Refresh.{Compacts, Refreshes}
 use Rattle.slate_model.specs.Write.{Writes}
-use Rattle.slate_status.specs.declared.statuses.DbStatus.{DbStatus}
-use Rattle.slate_status.specs.Records.{status_by}
 use Rattle.slate_script.specs.declared.replies.Reply.{Reply}
 use Rattle.slate_script.specs.declared.replies.Reply.TheVariants as replies
 use Rattle.slate_live.specs.declared.states.Write.{Write}
@@ -56,10 +57,10 @@ noted handle (Ok written) = record { handle = handle; number = written.number } 
 noted handle (Err error) = []
 
 -- a write of operations to the handle n: one that is accepted is noted
-pub record WritesTo (n : ℕ) (ops : List KeyOp) (moment : ℤ) (second : Option ℤ) (old : Handle) (writes : List Write) (reply : Reply) (new : Handle) (writes' : List Write) : Type 0 where
+pub record WritesTo (extractor : Option Extractor) (n : ℕ) (ops : List KeyOp) (moment : ℤ) (second : Option ℤ) (old : Handle) (writes : List Write) (reply : Reply) (new : Handle) (writes' : List Write) : Type 0 where
   pub result : Result Written SlateError
   pub replied : reply ≡ reply_to (λ written. replies.Written (length writes) written.number) result
-  pub does : Writes old ops moment second result new
+  pub does : Writes extractor old ops moment second result new
   pub noted : writes' ≡ writes ++ noted n result
 
 -- the type of a flush: without one, to the log where the handle keeps one, and else to a table
@@ -105,10 +106,6 @@ module _ {L : Type 0} (k : Knowledge L) (merge : Option MergeFunction) where
   TakesFrom range order remote snapshot taken handle =
       IsTaken handle.result handle.view.manifest.tables (k.rows (AHandle handle)) (IsPlainScan merge range order remote snapshot handle) taken
 
--- the status of a handle: its durable number, the manifest that it goes by, and why it closed
-abbrev pub handle_status : Handle → DbStatus
-handle_status handle = status_by handle.durable handle.view handle.result
-
 -- when a batch was written, by the tracker: the time of the tracked one with this number, or with the next one up or down
 abbrev pub FindsTime : Tracker → (number : ℕ) → FindOption → Reply → Type 0
 FindsTime tracker number find reply =
@@ -121,10 +118,10 @@ FindsNumber tracker seconds find reply =
     (number : Option ℕ) × IsPartner int_cmp find seconds (times_of tracker) (numbers_of tracker) number × (reply ≡ replies.Number number)
 
 -- a merge of one operand: without an operator it is refused before all else
-abbrev pub MergesTo : Option MergeFunction → ℕ → KeyOp → ℤ → Option ℤ → Handle → List Write → Reply → Handle → List Write → Type 0
-MergesTo None n op moment second old writes reply new writes' =
+abbrev pub MergesTo : Option MergeFunction → Option Extractor → ℕ → KeyOp → ℤ → Option ℤ → Handle → List Write → Reply → Handle → List Write → Type 0
+MergesTo None extractor n op moment second old writes reply new writes' =
     (reply ≡ replies.Refused MergeOperatorMissing) × (new ≡ old) × (writes' ≡ writes)
-MergesTo (Some merge) n op moment second old writes reply new writes' = WritesTo n (op ∷ []) moment second old writes reply new writes'
+MergesTo (Some merge) extractor n op moment second old writes reply new writes' = WritesTo extractor n (op ∷ []) moment second old writes reply new writes'
 
 -- a snapshot of a handle sees the batches that it accepted, unless memory runs out or the handle is closed
 abbrev pub TakesSnapshot : {L : Type 0} → Handle → Known L → Result ℕ SlateError → Known L → Type 0
@@ -132,12 +129,12 @@ TakesSnapshot handle before result after = ((result ≡ Err NoMemory) ⊎ (resul
 
 -- What a command that asks this does to the handle with number n, of which so many changes were made. What isn't for a
 -- handle is answered that it is unknown.
-module _ {L : Type 0} (k : Knowledge L) (merge : Option MergeFunction) (n : ℕ) (moment : ℤ) (second : Option ℤ) where
+module _ {L : Type 0} (k : Knowledge L) (settings : Settings) (n : ℕ) (moment : ℤ) (second : Option ℤ) where
   abbrev pub HandleActs : Call → ℕ → Handle → Known L → List Write → Reply → Handle → Known L → List Write → Type 0
   HandleActs (WriteCall ops) made old before writes reply new after writes' =
-      WritesTo n ops moment second old writes reply new writes' × Untouched made before after
+      WritesTo settings.extractor n ops moment second old writes reply new writes' × Untouched made before after
   HandleActs (MergeCall op) made old before writes reply new after writes' =
-      MergesTo merge n op moment second old writes reply new writes' × Untouched made before after
+      MergesTo settings.merge settings.extractor n op moment second old writes reply new writes' × Untouched made before after
   HandleActs (Flush flush_type) made old before writes reply new after writes' =
       FlushesHandle k made (flush_type_by flush_type old) old before reply new after × (writes' ≡ writes)
   HandleActs Refresh made old before writes reply new after writes' =
@@ -145,11 +142,11 @@ module _ {L : Type 0} (k : Knowledge L) (merge : Option MergeFunction) (n : ℕ)
   HandleActs Compact made old before writes reply new after writes' =
       CompactsHandle k made old before reply new after × (writes' ≡ writes)
   HandleActs (Get key remote snapshot) made old before writes reply new after writes' =
-      GetsFrom k merge key remote snapshot old before reply after × (new ≡ old) × (made ≡ 0) × (writes' ≡ writes)
+      GetsFrom k settings.merge key remote snapshot old before reply after × (new ≡ old) × (made ≡ 0) × (writes' ≡ writes)
   HandleActs (Scan range order remote snapshot) made old before writes reply new after writes' =
-      TakesFrom k merge range order remote snapshot scanned old before reply after × (new ≡ old) × (made ≡ 0) × (writes' ≡ writes)
+      TakesFrom k settings.merge range order remote snapshot scanned old before reply after × (new ≡ old) × (made ≡ 0) × (writes' ≡ writes)
   HandleActs (Seek range take key order remote snapshot) made old before writes reply new after writes' =
-      TakesFrom k merge range order remote snapshot (sought range take key) old before reply after × (new ≡ old) × (made ≡ 0) × (writes' ≡ writes)
+      TakesFrom k settings.merge range order remote snapshot (sought range take key) old before reply after × (new ≡ old) × (made ≡ 0) × (writes' ≡ writes)
   HandleActs (Close flush_type) made old before writes reply new after writes' =
       ClosesHandle k made flush_type old before reply new after × (writes' ≡ writes)
   HandleActs Status made old before writes reply new after writes' =

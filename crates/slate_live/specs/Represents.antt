@@ -1,5 +1,5 @@
 -- When a live state and a store represent a world.
-use Rattle.std.specs.Prelude.{◌≡◌, ℕ, ◌≤◌, List, map, slice_get, true, false, Some, None, is_some}
+use Rattle.std.specs.Prelude.{◌≡◌, ℕ, ◌≤◌, ◌&&◌, Bool, not, List, map, slice_get, true, false, Option, Some, None, is_some}
 use Rattle.slate_types.specs.declared.batches.Batch.{Batch}
 use Rattle.slate_types.specs.Line.{Line, IsLine, IsPrefix}
 use Rattle.slate_store.specs.declared.objects.VersionedManifest.{VersionedManifest}
@@ -7,8 +7,11 @@ use Rattle.slate_store.specs.Objects.{Objects, latest_manifest}
 use Rattle.slate_store.specs.Content.{IsSound, content}
 use Rattle.slate_model.specs.Catalogue.{Catalogue, catalogue_of}
 use Rattle.slate_model.specs.Follower.{Follower, is_managed, is_pinned, number}
-use Rattle.slate_model.specs.Handle.{Handle, accepted}
+use Rattle.slate_model.specs.Handle.{Handle, accepted, unstored}
 use Rattle.slate_model.specs.Known.{Known}
+use Rattle.slate_model.specs.Open.{replayed}
+use Rattle.slate_model.specs.Segments.{Extractor, ops_of, unsegmented_refusal}
+use Rattle.slate_store.specs.declared.reader_modes.DbReaderMode.{DbReaderMode}
 use Rattle.slate_model.specs.declared.snapshots.HandleSnapshot.{HandleSnapshot}
 use Rattle.slate_model.specs.Object.{Object, Handle as AHandle, Snapshot as ASnapshot, Follower as AFollower, kept, tables_of}
 pub use Rattle.slate_model.specs.Valid.{AreBefore, AreOfPast, IsHeld, IsValidHandle, ReadsItsLine, up_to}
@@ -71,7 +74,31 @@ pub record Represents (live : Live) (store : Known (List Batch)) (w : World) : T
   pub writes : live.writes ≡ w.writes
   pub valid : IsValid w
 
--- For every world that the live state and the store represent before, they represent one after that `next` leads to.
-abbrev pub Links : (World → Reply → World → Type 0) → Live → Known (List Batch) → Reply → Live → Known (List Batch) → Type 0
-Links next live store reply live' store' =
-    (w : World) → Represents live store w → (w' : World) × next w reply w' × Represents live' store' w'
+-- whether a reader follows all that is stored: it doesn't stay at a checkpoint, and reads the log files
+abbrev pub follows_all : DbReaderMode → (skips : Bool) → Bool
+follows_all mode skips = not (is_pinned mode) && not skips
+
+-- whether an object, when it was opened, replayed all that is stored and isn't in the latest manifest's tables
+abbrev pub replays_all : Object → Bool
+replays_all (AHandle handle) = true
+replays_all (ASnapshot snapshot) = false
+replays_all (AFollower follower) = follows_all follower.mode follower.skips
+
+-- each key of these batches has a segment
+abbrev pub HaveSegments : Option Extractor → List Batch → Type 0
+HaveSegments extractor batches = unsegmented_refusal extractor (ops_of batches) ≡ None
+
+-- What holds of the keys of every world that commands lead to which are run with one extractor: those have segments that a
+-- handle accepted and that aren't stored, and, once an object replayed them, those that are stored and aren't in tables. So no
+-- poll finds a key without one.
+pub record AreInSegments (extractor : Option Extractor) (w : World) : Type 0 where
+  pub unstored : (n : ℕ) (handle : Handle) → IsHandleAt w.objects n handle → HaveSegments extractor (unstored handle)
+  pub stored : (n : ℕ) (object : Object) (latest : VersionedManifest) → slice_get w.objects n ≡ Some object → replays_all object ≡ true → latest_manifest w.catalogue ≡ Some latest →
+      HaveSegments extractor (replayed latest w.stored)
+
+-- For every world that the live state and the store represent before, whose keys are in segments, they represent one after that
+-- `next` leads to, whose keys are.
+abbrev pub Links : Option Extractor → (World → Reply → World → Type 0) → Live → Known (List Batch) → Reply → Live → Known (List Batch) → Type 0
+Links extractor next live store reply live' store' =
+    (w : World) → Represents live store w → AreInSegments extractor w →
+    (w' : World) × next w reply w' × Represents live' store' w' × AreInSegments extractor w'

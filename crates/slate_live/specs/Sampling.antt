@@ -1,6 +1,6 @@
 -- Snapshots among the live objects.
 use Rattle.std.specs.Prelude.{◌≡◌, ◌⊎◌, ◌++◌, ◌∷◌, [], ℕ, List, length, Option, Some, None, Result}
-use Rattle.slate_types.specs.Operator.{Merge}
+use Rattle.slate_live.specs.Settings.{Settings}
 use Rattle.slate_errors.specs.declared.errors.SlateError.{SlateError}
 use Rattle.slate_model.specs.declared.snapshots.HandleSnapshot.{HandleSnapshot}
 use Rattle.slate_model.specs.Knowledge.{Knowledge}
@@ -27,10 +27,10 @@ taken_of (Snapshot snapshot) = None
 taken_of (Follower follower) = None
 
 -- what an object does of which a snapshot is asked this: a handle answers, and anything else is unknown; neither changes
-abbrev pub ActsAsOf : {L : Type 0} → Knowledge L → Option Merge → (handle : ℕ) → Command → Call → Object → Known L → List Write → Reply → Known L → Type 0
-ActsAsOf k merge n command call (Handle handle) before writes reply after =
-    HandleActs k merge n command.moment command.second call 0 handle before writes reply handle after writes
-ActsAsOf k merge n command call object before writes reply after = (reply ≡ replies.Unknown) × (after ≡ before)
+abbrev pub ActsAsOf : {L : Type 0} → Knowledge L → Settings → (handle : ℕ) → Command → Call → Object → Known L → List Write → Reply → Known L → Type 0
+ActsAsOf k settings n command call (Handle handle) before writes reply after =
+    HandleActs k settings n command.moment command.second call 0 handle before writes reply handle after writes
+ActsAsOf k settings n command call object before writes reply after = (reply ≡ replies.Unknown) × (after ≡ before)
 
 -- a snapshot is added to objects, and answered with its place, unless memory runs out
 abbrev pub Pushes : List Object → HandleSnapshot → Reply → List Object → Type 0

@@ -1,11 +1,14 @@
 -- What a session did, by how it ended.
-use Rattle.std.specs.Prelude.{◌≡◌, ℕ, ◌<◌, ◌≤◌, ◌⊎◌, List, [], ◌++◌, length, take, Option, Some, None, option_map, Result, Ok, Err}
+use Rattle.std.specs.Prelude.{◌≡◌, ℕ, ◌<◌, ◌≤◌, ◌⊎◌, List, [], ◌++◌, codes, length, take, Option, Some, None, option_map, Result, Ok, Err}
 use Rattle.std.specs.Global.{Vec}
 use Rattle.slate_types.specs.Counts.{HasRisen}
 use Rattle.slate_types.specs.Modelled.{WhereModelled}
+use Rattle.std.specs.Fmt.{decimal}
 use Rattle.slate_types.specs.Operator.{concat}
+use Rattle.slate_types.specs.Prefix.{fixed_prefix}
 use Rattle.slate_types.specs.declared.batches.Batch.{Batch}
 use Rattle.slate_model.specs.Known.{Known, known}
+use Rattle.slate_model.specs.Segments.{Extractor}
 use Rattle.slate_store.specs.Objects.{Objects}
 use Rattle.slate_script.specs.declared.scripts.TheConstants.{MAX_SCRIPT}
 use Rattle.slate_streams.specs.declared.whole.InputFault.{InputFault}
@@ -70,9 +73,15 @@ pub record WasRead (bytes : List ℕ) (left left' : Option (List ℕ)) : Type 0 
   pub limit : length bytes ≤ MAX_SCRIPT
   pub where_modelled : WhereModelled (λ old new. (old ≡ bytes) × (new ≡ [])) left left'
 
--- what the commands of a session are run with, by its words: the operator that appends, where they ask for it
+-- the extractor of prefixes of a length
+abbrev pub fixed_extractor : ℕ → Extractor
+fixed_extractor length = record { name = codes "fixed-" ++ decimal length; prefix_of = fixed_prefix length }
+
+-- what the commands of a session are run with, by its words: the operator that appends and the extractor of prefixes of a length,
+-- where they ask for them
 abbrev pub settings_of : RunOptions → Settings
-settings_of words = record { merge = option_map (λ operator. concat) words.operator; options = words.options }
+settings_of words =
+    record { merge = option_map (λ operator. concat) words.operator; extractor = option_map fixed_extractor words.segments; options = words.options }
 
 -- why no script came of a source
 abbrev pub StopsReading : Outcome → (left left' : Option (List ℕ)) → (faults faults' : ℕ) → Type 0

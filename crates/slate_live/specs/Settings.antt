@@ -1,9 +1,11 @@
 -- What a run is given for all its commands.
 use Rattle.std.specs.Prelude.{Option}
 use Rattle.slate_types.specs.Operator.{Merge}
+use Rattle.slate_model.specs.Segments.{Extractor}
 use Rattle.slate_script.specs.declared.options.Options.{Options}
 
--- what commands are run with: the operator, where there is one, and the options of the handles
+-- what commands are run with: the operator and the extractor, where there are any, and the options of the handles
 pub record Settings : Type 0 where
   pub merge : Option Merge
+  pub extractor : Option Extractor
   pub options : Options

@@ -6,7 +6,6 @@ use Rattle.slate_types.specs.declared.batches.KeyValue.{KeyValue}
 use Rattle.slate_types.specs.declared.read_faults.ReadFault.{ReadFault}
 use Rattle.slate_types.specs.Counts.{HasRisen}
 use Rattle.slate_types.specs.Line.{IsPrefix, end}
-use Rattle.slate_types.specs.Operator.{Merge as MergeFunction}
 use Rattle.slate_rows.specs.Iteration.{Iteration}
 use Rattle.slate_store.specs.declared.objects.VersionedManifest.{VersionedManifest}
 use Rattle.slate_store.specs.Objects.{latest_manifest, last_log}
@@ -15,8 +14,10 @@ use Rattle.slate_types.specs.declared.options.FlushType.{FlushType}
 use Rattle.slate_errors.specs.declared.errors.SlateError.{SlateError}
 use Rattle.slate_errors.specs.declared.errors.SlateError.TheVariants as errors
 use Rattle.slate_model.specs.Flush.{has_ids, has_log_for}
-use Rattle.slate_model.specs.Handle.{CloseResult, Handle, accepted}
-use Rattle.slate_model.specs.Followed.{IsView}
+use Rattle.slate_model.specs.Handle.{CloseResult, Handle, accepted, known_segments}
+use Rattle.slate_model.specs.Followed.{IsView, RefusesLatest}
+use Rattle.slate_model.specs.Follow.{ReplayRefuses}
+use Rattle.slate_model.specs.Stores.{by_catalogue}
 use Rattle.slate_model.specs.Follower.{Follower, is_managed, is_pinned}
 use Rattle.slate_model.specs.Lease.{lease_refusal, to_keep, to_take}
 use Rattle.slate_store.specs.Checkpoints.{Plan, to_delete}
@@ -25,7 +26,8 @@ use Rattle.slate_live.specs.Commands.{interval_of, lifetime_of}
 use Rattle.slate_store.specs.declared.reader_modes.DbReaderMode.{DbReaderMode}
 use Rattle.slate_model.specs.Close.{recorded_fault}
 use Rattle.slate_live.specs.declared.states.Write.{Write}
-use Rattle.slate_model.specs.Open.{can_open}
+use Rattle.slate_model.specs.Open.{open_refusal, opened_manifest, replayed}
+use Rattle.slate_model.specs.Segments.{Extractor, extractor_name, ops_of, segment_refusal, unsegmented_refusal}
 use Rattle.slate_model.specs.Unflushed.{unflushed}
 use Rattle.slate_model.specs.Write.{accepted_moment, last_number, merge_expiry}
 use Rattle.slate_script.specs.declared.commands.Action.TheVariants as actions
@@ -57,9 +59,12 @@ AtObject (Some (AFollower follower)) of_handle of_snapshot of_follower = of_foll
 abbrev pub AtHandle : World → ℕ → (Handle → Type 0) → Type 0
 AtHandle w n of_handle = AtObject (slice_get w.objects n) of_handle (λ snapshot. ⊥) (λ follower. ⊥)
 
--- an opening: an existing manifest is initialised, and the ids and the epoch that it uses are left
-abbrev pub CanOpen : World → Type 0
-CanOpen w = can_open w.catalogue ≡ true
+-- an opening: an existing manifest is initialised and fits the extractor, the ids and the epoch that it uses are left, and each
+-- key that it replays has a segment
+abbrev pub CanOpen : Option Extractor → World → Type 0
+CanOpen extractor w =
+    (open_refusal extractor w.catalogue ≡ None)
+    × (unsegmented_refusal extractor (ops_of (replayed (opened_manifest (extractor_name extractor) w.catalogue) w.stored)) ≡ None)
 
 -- Operations that a handle may accept as one batch: there is one, each key has a byte, and no key is merged under two
 -- times of expiry.
@@ -69,10 +74,12 @@ pub record AreWritable (ops : List KeyOp) : Type 0 where
   pub expiries : (i j : ℕ) (a b : KeyOp) (x y : Option ℤ) → slice_get ops i ≡ Some a → slice_get ops j ≡ Some b → a.key ≡ b.key →
       merge_expiry a.op ≡ Some x → merge_expiry b.op ≡ Some y → x ≡ y
 
--- a write to a handle: the operations may be accepted, less than the limit isn't stored yet, a number is left, and one of the moments isn't below the tick
-pub record CanWrite (ops : List KeyOp) (moment : ℤ) (second : Option ℤ) (handle : Handle) : Type 0 where
+-- a write to a handle: the operations may be accepted, their keys have segments that fit the known ones, less than the limit isn't
+-- stored yet, a number is left, and one of the moments isn't below the tick
+pub record CanWrite (extractor : Option Extractor) (ops : List KeyOp) (moment : ℤ) (second : Option ℤ) (handle : Handle) : Type 0 where
   pub unclosed : handle.result ≡ None
   pub writable : AreWritable ops
+  pub segmented : segment_refusal extractor (known_segments handle) ops ≡ None
   pub room : unflushed handle < handle.limit
   pub number : accepted handle < last_number
   pub moments : (at : ℤ) × (accepted_moment handle.tick moment second ≡ Some at)
@@ -108,6 +115,11 @@ CanClose (Some (Err fault)) flush_type w handle = Unit {0}
 CanClose None None w handle = Unit {0}
 CanClose None (Some flush_type) w handle = CanStore w flush_type handle
 
+-- an opening of a follower: the extractor fits the latest manifest, and each key that it replays has a segment
+abbrev pub CanReplay : Option Extractor → DbReaderMode → (skips : Bool) → World → Type 0
+CanReplay extractor mode skips w =
+    RefusesLatest extractor true w.catalogue None × ReplayRefuses (by_catalogue w.stored w.catalogue) extractor mode skips true w.catalogue w.stored None
+
 -- an opening of a follower, or a poll: there is a manifest that it can go by
 abbrev pub CanFollow : DbReaderMode → (opening : Bool) → World → Type 0
 CanFollow mode opening w = (view : VersionedManifest) × IsView mode opening w.catalogue view
@@ -117,10 +129,10 @@ abbrev pub CanPut : {A : Type 0} → (VersionedManifest → Plan A) → World �
 CanPut {A} plan w = (latest : VersionedManifest) × (latest_manifest w.catalogue ≡ Some latest) × (given : Option VersionedManifest × A) × (plan latest ≡ Ok given)
 
 -- an opening of a follower, by its mode: one that keeps a checkpoint has options that pass, and can put it
-abbrev pub CanOpenFollower : DbReaderMode → Option (ℕ × ℕ) → World → ℤ → Type 0
-CanOpenFollower ManagedCheckpoint managed w moment =
-    (lease_refusal (lifetime_of managed) (interval_of managed) ≡ None) × CanPut (to_take (lifetime_of managed) moment) w
-CanOpenFollower mode managed w moment = CanFollow mode true w
+abbrev pub CanOpenFollower : Option Extractor → DbReaderMode → Option (ℕ × ℕ) → (skips : Bool) → World → ℤ → Type 0
+CanOpenFollower extractor ManagedCheckpoint managed skips w moment =
+    (lease_refusal (lifetime_of managed) (interval_of managed) ≡ None) × CanPut (to_take (lifetime_of managed) moment) w × CanReplay extractor ManagedCheckpoint skips w
+CanOpenFollower extractor mode managed skips w moment = CanFollow mode true w × CanReplay extractor mode skips w
 
 -- a poll of an open follower: one that keeps a checkpoint can keep its lease
 abbrev pub CanPoll : World → ℤ → Follower → Type 0
@@ -163,58 +175,58 @@ abbrev pub ByStored : World → Follower → (List Batch → Type 0) → Type 0
 ByStored w follower can = ReadsBy w follower.view w.stored.batches can
 
 -- what a handle may be asked; its status and its tracker always
-abbrev pub CanAsk : Option MergeFunction → World → ℤ → Option ℤ → Call → Handle → Type 0
-CanAsk merge w moment second (WriteCall ops) handle = CanWrite ops moment second handle
-CanAsk merge w moment second (Merge op) handle = (merge ≢ None) × CanWrite (op ∷ []) moment second handle
-CanAsk merge w moment second (Flush flush_type) handle = (handle.result ≡ None) × CanStore w (flush_type_by flush_type handle) handle
-CanAsk merge w moment second Refresh handle = (handle.result ≡ None) × CanRefresh w handle
-CanAsk merge w moment second Compact handle = (handle.result ≡ None) × CanCompact w handle
-CanAsk merge w moment second (Get key remote snapshot) handle = ByLine w handle (CanRead handle.result (IsPlainRead merge key remote snapshot handle))
-CanAsk merge w moment second (Scan range order remote snapshot) handle =
-    ByLine w handle (CanTake handle.result (IsPlainScan merge range order remote snapshot handle) scanned)
-CanAsk merge w moment second (Seek range take key order remote snapshot) handle =
-    ByLine w handle (CanTake handle.result (IsPlainScan merge range order remote snapshot handle) (sought range take key))
-CanAsk merge w moment second (Close flush_type) handle = CanClose handle.result flush_type w handle
-CanAsk merge w moment second Status handle = Unit {0}
-CanAsk merge w moment second (FindTime number find) handle = Unit {0}
-CanAsk merge w moment second (FindNumber seconds find) handle = Unit {0}
-CanAsk merge w moment second call handle = ⊥
+abbrev pub CanAsk : Settings → World → ℤ → Option ℤ → Call → Handle → Type 0
+CanAsk settings w moment second (WriteCall ops) handle = CanWrite settings.extractor ops moment second handle
+CanAsk settings w moment second (Merge op) handle = (settings.merge ≢ None) × CanWrite settings.extractor (op ∷ []) moment second handle
+CanAsk settings w moment second (Flush flush_type) handle = (handle.result ≡ None) × CanStore w (flush_type_by flush_type handle) handle
+CanAsk settings w moment second Refresh handle = (handle.result ≡ None) × CanRefresh w handle
+CanAsk settings w moment second Compact handle = (handle.result ≡ None) × CanCompact w handle
+CanAsk settings w moment second (Get key remote snapshot) handle = ByLine w handle (CanRead handle.result (IsPlainRead settings.merge key remote snapshot handle))
+CanAsk settings w moment second (Scan range order remote snapshot) handle =
+    ByLine w handle (CanTake handle.result (IsPlainScan settings.merge range order remote snapshot handle) scanned)
+CanAsk settings w moment second (Seek range take key order remote snapshot) handle =
+    ByLine w handle (CanTake handle.result (IsPlainScan settings.merge range order remote snapshot handle) (sought range take key))
+CanAsk settings w moment second (Close flush_type) handle = CanClose handle.result flush_type w handle
+CanAsk settings w moment second Status handle = Unit {0}
+CanAsk settings w moment second (FindTime number find) handle = Unit {0}
+CanAsk settings w moment second (FindNumber seconds find) handle = Unit {0}
+CanAsk settings w moment second call handle = ⊥
 
 -- what a follower may be asked; its status always
-abbrev pub CanAskFollower : Option MergeFunction → World → ℤ → Call → Follower → Type 0
-CanAskFollower merge w moment (Get key remote snapshot) follower = ByStored w follower (CanRead follower.result (IsPlainReadAt merge key follower))
-CanAskFollower merge w moment (Scan range order remote snapshot) follower =
-    ByStored w follower (CanTake follower.result (IsPlainScanAt merge range order follower) scanned)
-CanAskFollower merge w moment (Seek range take key order remote snapshot) follower =
-    ByStored w follower (CanTake follower.result (IsPlainScanAt merge range order follower) (sought range take key))
-CanAskFollower merge w moment (Close flush_type) follower = CanEnd w follower
-CanAskFollower merge w moment Poll follower = (follower.result ≡ None) × CanPoll w moment follower
-CanAskFollower merge w moment Status follower = Unit {0}
-CanAskFollower merge w moment call follower = ⊥
+abbrev pub CanAskFollower : Settings → World → ℤ → Call → Follower → Type 0
+CanAskFollower settings w moment (Get key remote snapshot) follower = ByStored w follower (CanRead follower.result (IsPlainReadAt settings.merge key follower))
+CanAskFollower settings w moment (Scan range order remote snapshot) follower =
+    ByStored w follower (CanTake follower.result (IsPlainScanAt settings.merge range order follower) scanned)
+CanAskFollower settings w moment (Seek range take key order remote snapshot) follower =
+    ByStored w follower (CanTake follower.result (IsPlainScanAt settings.merge range order follower) (sought range take key))
+CanAskFollower settings w moment (Close flush_type) follower = CanEnd w follower
+CanAskFollower settings w moment Poll follower = (follower.result ≡ None) × CanPoll w moment follower
+CanAskFollower settings w moment Status follower = Unit {0}
+CanAskFollower settings w moment call follower = ⊥
 
 -- what a snapshot may be asked: what its handle may be, up to the snapshot's number
-abbrev pub CanAskSnapshot : Option MergeFunction → World → ℤ → Option ℤ → Call → HandleSnapshot → Type 0
-CanAskSnapshot merge w moment second call snapshot =
-    AtHandle w snapshot.handle (CanAsk merge w moment second (at_snapshot snapshot.number call))
+abbrev pub CanAskSnapshot : Settings → World → ℤ → Option ℤ → Call → HandleSnapshot → Type 0
+CanAskSnapshot settings w moment second call snapshot =
+    AtHandle w snapshot.handle (CanAsk settings w moment second (at_snapshot snapshot.number call))
 
 -- a write that is durable
 abbrev pub IsDurable : World → Option Write → Type 0
 IsDurable w None = ⊥
 IsDurable w (Some write) = AtHandle w write.handle (λ handle. write.number ≤ handle.durable)
 
-abbrev pub IsValidAt : Option MergeFunction → World → ℤ → Option ℤ → Call → Target → Type 0
-IsValidAt merge w moment second call (NewHandle keeps_log) = CanOpen w
-IsValidAt merge w moment second call (NewSnapshot n) = AtHandle w n (λ handle. handle.result ≡ None)
-IsValidAt merge w moment second call (NewFollower mode managed skips) = CanOpenFollower mode managed w moment
-IsValidAt merge w moment second call (NewCheckpoint lifetime) = CanCheckpoint w
-IsValidAt merge w moment second call WholeStore = CanSweep w moment
-IsValidAt merge w moment second call (OfWrite n) = IsDurable w (slice_get w.writes n)
-IsValidAt merge w moment second call (OfObject n) =
-    AtObject (slice_get w.objects n) (CanAsk merge w moment second call) (CanAskSnapshot merge w moment second call) (CanAskFollower merge w moment call)
+abbrev pub IsValidAt : Settings → World → ℤ → Option ℤ → Call → Target → Type 0
+IsValidAt settings w moment second call (NewHandle keeps_log) = CanOpen settings.extractor w
+IsValidAt settings w moment second call (NewSnapshot n) = AtHandle w n (λ handle. handle.result ≡ None)
+IsValidAt settings w moment second call (NewFollower mode managed skips) = CanOpenFollower settings.extractor mode managed skips w moment
+IsValidAt settings w moment second call (NewCheckpoint lifetime) = CanCheckpoint w
+IsValidAt settings w moment second call WholeStore = CanSweep w moment
+IsValidAt settings w moment second call (OfWrite n) = IsDurable w (slice_get w.writes n)
+IsValidAt settings w moment second call (OfObject n) =
+    AtObject (slice_get w.objects n) (CanAsk settings w moment second call) (CanAskSnapshot settings w moment second call) (CanAskFollower settings w moment call)
 
 -- nothing in this world stands against the command
-abbrev pub IsValidCommand : Option MergeFunction → World → Command → Type 0
-IsValidCommand merge w command = IsValidAt merge w command.moment command.second (call_of command.action) (target_of command.action)
+abbrev pub IsValidCommand : Settings → World → Command → Type 0
+IsValidCommand settings w command = IsValidAt settings w command.moment command.second (call_of command.action) (target_of command.action)
 
 -- a reply that refuses nothing, or want of memory
 abbrev pub IsOkOrNoMemory : Reply → Type 0
@@ -241,7 +253,7 @@ pub record IsConfirmed (w : World) (n : ℕ) : Type 0 where
 -- seen by each opening and each poll.
 pub record Link (settings : Settings) (w : World) (command : Command) (reply : Reply) (w' : World) : Type 0 where
   pub next : Next settings w command reply w'
-  pub completes : IsValidCommand settings.merge w command → (HasRisen w.faults w'.faults → ⊥) → IsOkOrNoMemory reply
+  pub completes : IsValidCommand settings w command → (HasRisen w.faults w'.faults → ⊥) → IsOkOrNoMemory reply
   pub grows : IsPrefix w.stored w'.stored
   pub durable : (n : ℕ) (handle : Handle) → slice_get w'.objects n ≡ Some (AHandle handle) → IsPrefix (up_to handle.durable handle.line) w'.stored
   pub rises : Rise w.objects w'.objects

@@ -6,10 +6,13 @@ ghost use Rattle.slate_reads.specs.Read.{IsOperator};
 ghost use Rattle.slate_model.specs.Known.{known};
 ghost use Rattle.slate_model.specs.Follower.{is_managed};
 ghost use Rattle.slate_model.specs.Object.{Follower as AFollower};
+ghost use Rattle.slate_model.specs.Status.{follower_status};
 ghost use Rattle.slate_model.specs.Stores.{by_objects};
 ghost use Rattle.slate_live.specs.declared.states.Write.{Write};
+ghost use Rattle.slate_model.specs.Segments.{Extractor, IsExtractor};
+ghost use Rattle.slate_live.specs.Settings.{Settings};
 ghost use Rattle.slate_live.specs.Calls.{call_of, end_calls, most_asked, poll_calls};
-ghost use Rattle.slate_live.specs.Followers.{ClosesFollower, FollowerActs, GetsFromFollower, PollsFollower, TakesFromFollower, follower_status};
+ghost use Rattle.slate_live.specs.Followers.{ClosesFollower, FollowerActs, GetsFromFollower, PollsFollower, TakesFromFollower};
 ghost use Rattle.slate_live.specs.Replies.{AnswersStatus, follower_closed_reply};
 ghost use Rattle.slate_live.specs.Scans.{scanned, sought};
 
@@ -32,11 +35,10 @@ pub(crate) fn act<S: Store, M: MergeOperator, E: PrefixExtractor>(
     extractor: Option<&E>,
     command: &Command,
 ) -> Reply
-    requires { extractor ≡ None }
     ensures faults { S.faults store.old ≤ S.faults store.new }
     ensures calls { IfSome (S.objects store.old) (λ o. S.calls store.new ≤ S.calls store.old + most_asked o (Some (AFollower follower.old)) (call_of command.now.action)) }
-    ensures does { (merge : Option Merge) (writes : List Write) → IsOperator M.may_answer (option_copied operator.entry) merge →
-        (made : ℕ) × FollowerActs (by_objects (S.objects store.old)) merge command.now.moment (call_of command.now.action) made
+    ensures does { (settings : Settings) (writes : List Write) → IsOperator M.may_answer (option_copied operator.entry) settings.merge → IsExtractor E.may_name E.may_extract (option_copied extractor.entry) settings.extractor →
+        (made : ℕ) × FollowerActs (by_objects (S.objects store.old)) settings command.now.moment (call_of command.now.action) made
         follower.old (known S.objects S.faults store.old) writes result follower.new (known S.objects S.faults store.new) writes }
 {
     match &command.action {
@@ -130,10 +132,10 @@ fn poll<S: Store, E: PrefixExtractor>(
     extractor: Option<&E>,
     moment: i64,
 ) -> Reply
-    requires { extractor ≡ None }
     ensures faults { S.faults store.old ≤ S.faults store.new }
     ensures calls { IfSome (S.objects store.old) (λ o. S.calls store.new ≤ S.calls store.old + poll_calls (is_managed follower.old.mode) o) }
-    ensures does { (made : ℕ) × PollsFollower (by_objects (S.objects store.old)) made moment follower.old (known S.objects S.faults store.old) result follower.new (known S.objects S.faults store.new) }
+    ensures does { (x : Option Extractor) → IsExtractor E.may_name E.may_extract (option_copied extractor.entry) x →
+        (made : ℕ) × PollsFollower (by_objects (S.objects store.old)) x made moment follower.old (known S.objects S.faults store.old) result follower.new (known S.objects S.faults store.new) }
 {
     match follower.poll(alloc, store, extractor, moment) {
         Ok(PollAnswer::Whole { at }) => Reply::Polled { whole: true, at },

@@ -8,11 +8,14 @@ ghost use Rattle.slate_model.specs.Known.{known};
 ghost use Rattle.slate_model.specs.Object.{Handle as AHandle};
 ghost use Rattle.slate_model.specs.Read.{Gives, Reads};
 ghost use Rattle.slate_model.specs.Stores.{by_objects, kept_rows};
+ghost use Rattle.slate_model.specs.Segments.{Extractor, IsExtractor};
+ghost use Rattle.slate_model.specs.Status.{handle_status};
 ghost use Rattle.slate_model.specs.Write.{Writes};
+ghost use Rattle.slate_live.specs.Settings.{Settings};
 ghost use Rattle.slate_live.specs.Calls.{at_snapshot, call_of, flush_of_close, most_asked, ops_of};
 ghost use Rattle.slate_live.specs.declared.states.Write.{Write as AWrite};
 ghost use Rattle.slate_live.specs.Handles.{ClosesHandle, CompactsHandle, FlushesHandle, GetsFrom, HandleActs, IsPlainScan, RefreshesHandle};
-ghost use Rattle.slate_live.specs.Handles.{TakesFrom, WritesTo, durable_reply, flush_type_by, handle_status, level_of, noted};
+ghost use Rattle.slate_live.specs.Handles.{TakesFrom, WritesTo, durable_reply, flush_type_by, level_of, noted};
 ghost use Rattle.slate_live.specs.Replies.{AnswersStatus, ended_reply, found_reply, refusal, reply_to};
 ghost use Rattle.slate_live.specs.Scans.{scanned, sought};
 
@@ -42,12 +45,11 @@ pub(crate) fn act<S: Store, M: MergeOperator, E: PrefixExtractor>(
     extractor: Option<&E>,
     command: &Command,
 ) -> Reply
-    requires { extractor ≡ None }
     ensures faults { S.faults store.old ≤ S.faults store.new }
     ensures calls { IfSome (S.objects store.old) (λ o.
         S.calls store.new ≤ S.calls store.old + most_asked o (Some (AHandle writer.old)) (call_of command.now.action)) }
-    ensures does { (merge : Option Merge) → IsOperator M.may_answer (option_copied operator.entry) merge →
-        (made : ℕ) × HandleActs (by_objects (S.objects store.old)) merge number command.now.moment command.now.second (call_of command.now.action) made
+    ensures does { (settings : Settings) → IsOperator M.may_answer (option_copied operator.entry) settings.merge → IsExtractor E.may_name E.may_extract (option_copied extractor.entry) settings.extractor →
+        (made : ℕ) × HandleActs (by_objects (S.objects store.old)) settings number command.now.moment command.now.second (call_of command.now.action) made
         writer.old (known S.objects S.faults store.old) writes.old.items result writer.new (known S.objects S.faults store.new) writes.new.items }
 {
     match &command.action {
@@ -106,8 +108,8 @@ pub(crate) fn act_at<S: Store, M: MergeOperator>(
     ensures faults { S.faults store.old ≤ S.faults store.new }
     ensures calls { IfSome (S.objects store.old) (λ o.
         S.calls store.new ≤ S.calls store.old + most_asked o (Some (AHandle writer.now)) (call_of command.now.action)) }
-    ensures does { (merge : Option Merge) (handle : ℕ) (writes : List AWrite) → IsOperator M.may_answer (option_copied operator.entry) merge →
-        HandleActs (by_objects (S.objects store.old)) merge handle command.now.moment command.now.second (at_snapshot snapshot (call_of command.now.action)) 0
+    ensures does { (settings : Settings) (handle : ℕ) (writes : List AWrite) → IsOperator M.may_answer (option_copied operator.entry) settings.merge →
+        HandleActs (by_objects (S.objects store.old)) settings handle command.now.moment command.now.second (at_snapshot snapshot (call_of command.now.action)) 0
         writer.now (known S.objects S.faults store.old) writes result writer.now (known S.objects S.faults store.new) writes }
 {
     match &command.action {
@@ -163,8 +165,7 @@ fn write<E: PrefixExtractor>(
     command: &Command,
     extractor: Option<&E>,
 ) -> Reply
-    requires { extractor ≡ None }
-    ensures { WritesTo number (ops_of command.now.action) command.now.moment command.now.second
+    ensures { (x : Option Extractor) → IsExtractor E.may_name E.may_extract (option_copied extractor.entry) x → WritesTo x number (ops_of command.now.action) command.now.moment command.now.second
         writer.old writes.old.items result writer.new writes.new.items }
 {
     let write = writes.len() as u64;
@@ -186,8 +187,7 @@ fn write_noted<E: PrefixExtractor>(
     command: &Command,
     extractor: Option<&E>,
 ) -> Result<Written, SlateError>
-    requires { extractor ≡ None }
-    ensures does { Writes writer.old (ops_of command.now.action) command.now.moment command.now.second result writer.new }
+    ensures does { (x : Option Extractor) → IsExtractor E.may_name E.may_extract (option_copied extractor.entry) x → Writes x writer.old (ops_of command.now.action) command.now.moment command.now.second result writer.new }
     ensures noted { writes.new.items ≡ writes.old.items ++ noted handle result }
 {
     writes.reserve(1).map_err(NoMemory::from)?;

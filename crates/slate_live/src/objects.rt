@@ -1,13 +1,14 @@
 // What commands name by a number, and what it does when a command names it.
 ghost use Rattle.std.specs.Prelude.{◌≡◌, ◌≤◌, ◌+◌, ℕ, None, Some, List, Option, IfSome};
 ghost use Rattle.std.specs.Option.{option_copied};
-ghost use Rattle.slate_types.specs.Operator.{Merge};
 ghost use Rattle.slate_reads.specs.Read.{IsOperator};
 ghost use Rattle.slate_model.specs.Known.{known};
 ghost use Rattle.slate_model.specs.Stores.{by_objects};
 ghost use Rattle.slate_live.specs.Calls.{at_snapshot, call_of, most_asked};
 ghost use Rattle.slate_live.specs.Commands.{Acts, asked_reply};
 ghost use Rattle.slate_live.specs.Objects.{object_of};
+ghost use Rattle.slate_model.specs.Segments.{IsExtractor};
+ghost use Rattle.slate_live.specs.Settings.{Settings};
 ghost use Rattle.slate_live.specs.Sampling.{ActsAsOf, snapshot_of, taken_of};
 ghost use Rattle.slate_live.specs.declared.states.Write.{Write as AWrite};
 
@@ -45,13 +46,12 @@ impl Object {
         extractor: Option<&E>,
         command: &Command,
     ) -> Reply
-        requires extractor { extractor ≡ None }
         requires itself { snapshot_of (object_of self.old) ≡ None }
         ensures faults { S.faults store.old ≤ S.faults store.new }
         ensures calls { IfSome (S.objects store.old) (λ o.
             S.calls store.new ≤ S.calls store.old + most_asked o (Some (object_of self.old)) (call_of command.now.action)) }
-        ensures does { (merge : Option Merge) → IsOperator M.may_answer (option_copied operator.entry) merge →
-            (made : ℕ) × Acts (by_objects (S.objects store.old)) merge number command.now (call_of command.now.action) made
+        ensures does { (settings : Settings) → IsOperator M.may_answer (option_copied operator.entry) settings.merge → IsExtractor E.may_name E.may_extract (option_copied extractor.entry) settings.extractor →
+            (made : ℕ) × Acts (by_objects (S.objects store.old)) settings number command.now (call_of command.now.action) made
             (object_of self.old) (known S.objects S.faults store.old) writes.old.items result (object_of self.new) (known S.objects S.faults store.new) writes.new.items }
     {
         match self {
@@ -77,8 +77,8 @@ impl Object {
         ensures faults { S.faults store.old ≤ S.faults store.new }
         ensures calls { IfSome (S.objects store.old) (λ o.
             S.calls store.new ≤ S.calls store.old + most_asked o (Some (object_of self.now)) (call_of command.now.action)) }
-        ensures does { (merge : Option Merge) (handle : ℕ) (writes : List AWrite) → IsOperator M.may_answer (option_copied operator.entry) merge →
-            ActsAsOf (by_objects (S.objects store.old)) merge handle command.now (at_snapshot snapshot (call_of command.now.action))
+        ensures does { (settings : Settings) (handle : ℕ) (writes : List AWrite) → IsOperator M.may_answer (option_copied operator.entry) settings.merge →
+            ActsAsOf (by_objects (S.objects store.old)) settings handle command.now (at_snapshot snapshot (call_of command.now.action))
             (object_of self.now) (known S.objects S.faults store.old) writes result (known S.objects S.faults store.new) }
     {
         match self {

@@ -10,7 +10,7 @@ use slate_script::{
 };
 use slate_store::Store;
 use slate_streams::{InputFault, Sink, Source, read_whole, write_whole};
-use slate_types::{FixedPrefix, Seq};
+use slate_types::{FixedPrefix, NoMemory, Seq};
 use std::alloc::Global;
 use thiserror::Error;
 
@@ -157,6 +157,16 @@ fn write_replies<O: Sink>(alloc: Global, sink: &mut O, replies: &[Reply]) -> Out
     }
 }
 
+/// The extractor of prefixes of this length, where there is one.
+fn extractor_of(alloc: Global, length: Option<u8>) -> Result<Option<FixedPrefix>, NoMemory>
+    ensures { IfOk result (λ extractor. extractor ≡ length) }
+{
+    match length {
+        None => Ok(None),
+        Some(length) => Ok(Some(FixedPrefix::new(alloc, length)?)),
+    }
+}
+
 /// Does a script over a store: reads it from the source to its end, runs its commands one after another, and writes
 /// the text of the replies to the sink, a line or a few for each. The words are those of the command line.
 ///
@@ -192,13 +202,15 @@ pub fn session<I: Source, O: Sink, S: Store>(
         Ok(commands) => commands,
         Err(ending) => return ending.finished(Vec::new(alloc)),
     };
-    let extractor: Option<&FixedPrefix> = None;
+    let Ok(extractor) = extractor_of(alloc, words.segments) else {
+        return Outcome::NoMemory.finished(Vec::new(alloc));
+    };
     let Ok(replies) = run(
         alloc,
         store,
         &words.options,
         words.operator.as_ref(),
-        extractor,
+        extractor.as_ref(),
         commands.as_slice(),
     ) else {
         return Outcome::NoMemory.finished(Vec::new(alloc));

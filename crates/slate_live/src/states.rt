@@ -2,7 +2,6 @@
 ghost use Rattle.std.specs.Prelude.{◌≡◌, ◌≤◌, ◌+◌, ℕ, [], true, None, List, Option, slice_get, IfSome};
 ghost use Rattle.slate_types.specs.declared.batches.Batch.{Batch as AnyBatch};
 ghost use Rattle.std.specs.Option.{option_copied};
-ghost use Rattle.slate_types.specs.Operator.{Merge};
 ghost use Rattle.slate_reads.specs.Read.{IsOperator};
 ghost use Rattle.slate_model.specs.Known.{Known, known};
 ghost use Rattle.slate_model.specs.Open.{replayed_logs};
@@ -13,6 +12,8 @@ ghost use Rattle.slate_live.specs.Sampling.{Pushes};
 ghost use Rattle.slate_live.specs.Replies.{followed_reply};
 ghost use Rattle.slate_live.specs.Represents.{Links};
 ghost use Rattle.slate_live.specs.State.{running};
+ghost use Rattle.slate_model.specs.Segments.{IsExtractor};
+ghost use Rattle.slate_live.specs.Settings.{Settings};
 ghost use Rattle.slate_live.specs.Valid.{Link};
 
 use crate::handles::refusal;
@@ -71,7 +72,8 @@ impl LiveState {
     /// Over any store the command does what is said of it: the object that it names answers and changes by its own
     /// call, and all others are as before. Over an honest store the reply is one that the command may have, and the
     /// state and the store represent afterwards the world that the command then leads to. A valid command that meets no
-    /// fault of the store is refused nothing.
+    /// fault of the store is refused nothing. That is said of a state whose commands were all done with one lawful
+    /// extractor, or without one.
     pub fn apply<S: Store, M: MergeOperator, E: PrefixExtractor>(
         &mut self,
         alloc: Global,
@@ -80,15 +82,14 @@ impl LiveState {
         extractor: Option<&E>,
         command: &Command,
     ) -> Reply
-        requires extractor { extractor ≡ None }
         ensures options { self.new.options ≡ self.old.options }
         ensures faults { S.faults store.old ≤ S.faults store.new }
         ensures calls { IfSome (S.objects store.old) (λ o. S.calls store.new ≤ S.calls store.old + most_calls o self.old.objects command.now) }
-        ensures does { (merge : Option Merge) → IsOperator M.may_answer (option_copied operator.entry) merge →
-            (made : ℕ) × Does (by_objects (S.objects store.old)) (record { merge = merge; options = self.old.options }) made
+        ensures does { (settings : Settings) → IsOperator M.may_answer (option_copied operator.entry) settings.merge → IsExtractor E.may_name E.may_extract (option_copied extractor.entry) settings.extractor → settings.options ≡ self.old.options →
+            (made : ℕ) × Does (by_objects (S.objects store.old)) settings made
             (running self.old (known S.objects S.faults store.old)) command.now result (running self.new (known S.objects S.faults store.new)) }
-        ensures link { (merge : Option Merge) → IsOperator M.may_answer (option_copied operator.entry) merge →
-            Links (λ w reply w'. Link (record { merge = merge; options = self.old.options }) w command.now reply w')
+        ensures link { (settings : Settings) → IsOperator M.may_answer (option_copied operator.entry) settings.merge → IsExtractor E.may_name E.may_extract (option_copied extractor.entry) settings.extractor → settings.options ≡ self.old.options →
+            Links settings.extractor (λ w reply w'. Link settings w command.now reply w')
             self.old (known S.objects S.faults store.old) result self.new (known S.objects S.faults store.new) }
     {
         match &command.action {
@@ -133,11 +134,11 @@ impl LiveState {
         wal: bool,
         extractor: Option<&E>,
     ) -> Reply
-        requires { extractor ≡ None }
         ensures options { self.new.options ≡ self.old.options }
         ensures faults { S.faults store.old ≤ S.faults store.new }
         ensures calls { IfSome (S.objects store.old) (λ o. S.calls store.new ≤ S.calls store.old + (replayed_logs o + 5)) }
-        ensures does { (merge : Option Merge) → (made : ℕ) × OpensHandleIn (by_objects (S.objects store.old)) (record { merge = merge; options = self.old.options }) wal made
+        ensures does { (settings : Settings) → IsExtractor E.may_name E.may_extract (option_copied extractor.entry) settings.extractor → settings.options ≡ self.old.options →
+            (made : ℕ) × OpensHandleIn (by_objects (S.objects store.old)) settings wal made
             (running self.old (known S.objects S.faults store.old)) result (running self.new (known S.objects S.faults store.new)) }
     {
         if self.objects.reserve(1).is_err() {
@@ -212,12 +213,11 @@ impl LiveState {
         moment: i64,
         extractor: Option<&E>,
     ) -> Reply
-        requires extractor { extractor ≡ None }
         ensures options { self.new.options ≡ self.old.options }
         ensures faults { S.faults store.old ≤ S.faults store.new }
         ensures calls { IfSome (S.objects store.old) (λ o. S.calls store.new ≤ S.calls store.old + follow_calls mode options.now.skip_wal_replay o) }
-        ensures does { (merge : Option Merge) → (managed : Option (ℕ × ℕ)) → options.now.checkpoint_lifetime_ms ≡ lifetime_of managed → options.now.manifest_poll_interval_ms ≡ interval_of managed →
-            (made : ℕ) × OpensFollowerIn (by_objects (S.objects store.old)) (record { merge = merge; options = self.old.options }) mode managed options.now.skip_wal_replay moment made
+        ensures does { (settings : Settings) (managed : Option (ℕ × ℕ)) → IsExtractor E.may_name E.may_extract (option_copied extractor.entry) settings.extractor → options.now.checkpoint_lifetime_ms ≡ lifetime_of managed → options.now.manifest_poll_interval_ms ≡ interval_of managed →
+            (made : ℕ) × OpensFollowerIn (by_objects (S.objects store.old)) settings mode managed options.now.skip_wal_replay moment made
             (running self.old (known S.objects S.faults store.old)) result (running self.new (known S.objects S.faults store.new)) }
     {
         let object = self.objects.len() as u64;
@@ -243,13 +243,12 @@ impl LiveState {
         extractor: Option<&E>,
         command: &Command,
     ) -> Reply
-        requires { extractor ≡ None }
         ensures options { self.new.options ≡ self.old.options }
         ensures faults { S.faults store.old ≤ S.faults store.new }
         ensures calls { IfSome (S.objects store.old) (λ o.
             S.calls store.new ≤ S.calls store.old + most_asked o (read_by self.old.objects (slice_get self.old.objects number)) (call_of command.now.action)) }
-        ensures does { (merge : Option Merge) → IsOperator M.may_answer (option_copied operator.entry) merge →
-            (made : ℕ) × ActsOn (by_objects (S.objects store.old)) merge number command.now (call_of command.now.action) made (slice_get self.old.objects number)
+        ensures does { (settings : Settings) → IsOperator M.may_answer (option_copied operator.entry) settings.merge → IsExtractor E.may_name E.may_extract (option_copied extractor.entry) settings.extractor →
+            (made : ℕ) × ActsOn (by_objects (S.objects store.old)) settings number command.now (call_of command.now.action) made (slice_get self.old.objects number)
             (running self.old (known S.objects S.faults store.old)) result (running self.new (known S.objects S.faults store.new)) }
     {
         let place = number as usize;
@@ -283,8 +282,8 @@ impl LiveState {
         ensures faults { S.faults store.old ≤ S.faults store.new }
         ensures calls { IfSome (S.objects store.old) (λ o.
             S.calls store.new ≤ S.calls store.old + most_asked o (slice_get self.now.objects snapshot.handle) (call_of command.now.action)) }
-        ensures does { (merge : Option Merge) → IsOperator M.may_answer (option_copied operator.entry) merge →
-            ReadsSnapshot (by_objects (S.objects store.old)) merge snapshot command.now (call_of command.now.action) 0 (slice_get self.now.objects snapshot.handle)
+        ensures does { (settings : Settings) → IsOperator M.may_answer (option_copied operator.entry) settings.merge →
+            ReadsSnapshot (by_objects (S.objects store.old)) settings snapshot command.now (call_of command.now.action) 0 (slice_get self.now.objects snapshot.handle)
             (running self.now (known S.objects S.faults store.old)) result (running self.now (known S.objects S.faults store.new)) }
     {
         let place = snapshot.handle as usize;

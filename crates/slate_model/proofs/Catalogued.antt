@@ -14,7 +14,9 @@ use Rattle.slate_errors.specs.declared.errors.SlateError.{SlateError}
 use Rattle.slate_errors.specs.declared.errors.SlateError.TheVariants as errors
 use Rattle.slate_model.specs.Catalogue.{Span, span, catalogue_of, greatest_in, greatest_of, joined_span, joined_two}
 use Rattle.slate_model.specs.Changes.{after_part}
-use Rattle.slate_model.specs.Open.{open_changes, next_manifest, mark_of, can_open, can_open_by, opened_manifest, Opens, OpenAnswer, OpenCause}
+use Rattle.std.specs.Option.{option_or}
+use Rattle.slate_model.specs.Open.{open_changes, next_manifest, mark_of, can_open, can_open_by, log_refusal, manifest_refusal, open_refusal, opened_manifest, Opens, OpenAnswer, OpenCause}
+use Rattle.slate_model.specs.Segments.{Extractor, extractor_name}
 use Rattle.slate_types.specs.declared.options.FlushType.{FlushType}
 use Rattle.slate_types.specs.declared.options.FlushType.TheVariants.{Wal, MemTable}
 use Rattle.slate_model.specs.Flush.{ManifestCause, flush_changes, flush_changes_by, flush_changes_under, has_untabled, log_changes, table_changes, tables_put}
@@ -185,14 +187,18 @@ pub compact_changes-known : (id : TableId) (o : Objects) → map reduced (compac
 compact_changes-known id o = compact_by-known id o (latest_manifest o)
 
 -- and those of an opening
-pub open_changes-known : (o : Objects) → map reduced (open_changes (λ xs. xs) o) ≡ open_changes span (catalogue_of o)
-open_changes-known o =
-    ap (λ last. PutManifest (next_manifest (latest_manifest o) last).id (next_manifest (latest_manifest o) last).manifest ∷ PutLog (last + 1) None ∷ [])
+pub open_changes-known : (name : Option (List ℕ)) (o : Objects) → map reduced (open_changes name (λ xs. xs) o) ≡ open_changes name span (catalogue_of o)
+open_changes-known name o =
+    ap (λ last. PutManifest (next_manifest name (latest_manifest o) last).id (next_manifest name (latest_manifest o) last).manifest ∷ PutLog (last + 1) None ∷ [])
     (sym (last_log-catalogue (mark_of (latest_manifest o)) o))
 
 -- whether a store can be opened is known
 pub can_open-known : (o : Objects) → can_open (catalogue_of o) ≡ can_open o
 can_open-known o = ap (can_open_by (latest_manifest o)) (last_log-catalogue (mark_of (latest_manifest o)) o)
+
+-- and why it isn't
+pub open_refusal-known : (x : Option Extractor) (o : Objects) → open_refusal x (catalogue_of o) ≡ open_refusal x o
+open_refusal-known x o = ap (λ last. option_or (manifest_refusal x (latest_manifest o)) (log_refusal last)) (last_log-catalogue (mark_of (latest_manifest o)) o)
 
 pub manifest_cause-known : (epoch : ℕ) (o : Objects) (e : SlateError) → ManifestCause epoch o e → ManifestCause epoch (catalogue_of o) e
 manifest_cause-known epoch o errors.LatestTransactionalObjectVersionMissing h = h
@@ -201,27 +207,31 @@ manifest_cause-known epoch o (errors.ObjectStoreError Unavailable) h = tt
 manifest_cause-known epoch o errors.NoMemory h = tt
 manifest_cause-known epoch o e h = absurd h
 
-open_cause-known : (unsound : SlateError → Type 0) (o : Objects) (e : SlateError) → (unsound e → ⊥) → OpenCause unsound o e → OpenCause (λ _. ⊥) (catalogue_of o) e
-open_cause-known unsound o errors.InvalidDBState none h = can_open-known o ∙ h
-open_cause-known unsound o (errors.ObjectStoreError Unavailable) none h = tt
-open_cause-known unsound o errors.NoMemory none h = tt
-open_cause-known unsound o e none h = absurd (none h)
+open_cause-known : (x : Option Extractor) (unsound : SlateError → Type 0) (o : Objects) (e : SlateError) → (unsound e → ⊥) → OpenCause x unsound o e → OpenCause x (λ _. ⊥) (catalogue_of o) e
+open_cause-known x unsound o errors.InvalidDBState none h = open_refusal-known x o ∙ h
+open_cause-known x unsound o (errors.SegmentExtractorMismatch persisted configured) none h = open_refusal-known x o ∙ h
+open_cause-known x unsound o (errors.SegmentPrefixNotRecognized prefix name) none h = open_refusal-known x o ∙ h
+open_cause-known x unsound o (errors.EmptySegmentPrefix key) none h = open_refusal-known x o ∙ h
+open_cause-known x unsound o (errors.ObjectStoreError Unavailable) none h = tt
+open_cause-known x unsound o errors.NoMemory none h = tt
+open_cause-known x unsound o e none h = absurd (none h)
 
-open_answer-known : {A : Type 0} (unsound : SlateError → Type 0) (o : Objects) (r : Result A SlateError) → ((e : SlateError) → unsound e → ⊥) → OpenAnswer unsound o r → OpenAnswer (λ _. ⊥) (catalogue_of o) r
-open_answer-known unsound o (Ok x) none h = can_open-known o ∙ h
-open_answer-known unsound o (Err e) none h = open_cause-known unsound o e (none e) h
+open_answer-known : {A : Type 0} (x : Option Extractor) (unsound : SlateError → Type 0) (o : Objects) (r : Result A SlateError) → ((e : SlateError) → unsound e → ⊥) → OpenAnswer x unsound o r → OpenAnswer x (λ _. ⊥) (catalogue_of o) r
+open_answer-known x unsound o (Ok a) none h = open_refusal-known x o ∙ h
+open_answer-known x unsound o (Err e) none h = open_cause-known x unsound o e (none e) h
 
 -- an opening of sound objects is an opening of what is known of them
-pub opens-known : {A : Type 0} (unsound : SlateError → Type 0) (o : Objects) (r : Result A SlateError) (made : ℕ) (o' : Objects) → ((e : SlateError) → unsound e → ⊥) → Opens (λ xs. xs) unsound o r made o' → Opens span (λ _. ⊥) (catalogue_of o) r made (catalogue_of o')
-opens-known unsound o r made o' none s =
+pub opens-known : {A : Type 0} (x : Option Extractor) (unsound : SlateError → Type 0) (o : Objects) (r : Result A SlateError) (made : ℕ) (o' : Objects) → ((e : SlateError) → unsound e → ⊥) → Opens x (λ xs. xs) unsound o r made o' → Opens x span (λ _. ⊥) (catalogue_of o) r made (catalogue_of o')
+opens-known x unsound o r made o' none s =
+    let name = extractor_name x in
     record {
-      answer = open_answer-known unsound o r none s.answer;
+      answer = open_answer-known x unsound o r none s.answer;
       part = s.part;
       only = s.only;
-      can = λ some. can_open-known o ∙ s.can some;
-      after = ap catalogue_of s.after ∙ (catalogue-after made (open_changes (λ xs. xs) o) o ∙ ap (λ cs. after_part made cs (catalogue_of o)) (open_changes-known o));
+      can = λ some. open_refusal-known x o ∙ s.can some;
+      after = ap catalogue_of s.after ∙ (catalogue-after made (open_changes name (λ xs. xs) o) o ∙ ap (λ cs. after_part made cs (catalogue_of o)) (open_changes-known name o));
     }
 
 -- the manifest of an opening is known
-pub opened_manifest-known : (o : Objects) → opened_manifest (catalogue_of o) ≡ opened_manifest o
-opened_manifest-known o = ap (next_manifest (latest_manifest o)) (last_log-catalogue (mark_of (latest_manifest o)) o)
+pub opened_manifest-known : (name : Option (List ℕ)) (o : Objects) → opened_manifest name (catalogue_of o) ≡ opened_manifest name o
+opened_manifest-known name o = ap (next_manifest name (latest_manifest o)) (last_log-catalogue (mark_of (latest_manifest o)) o)

@@ -1,6 +1,6 @@
 -- What the code keeps of a handle stores and answers as the whole handle does.
-use Rattle.std.proofs.Common.{◌≡◌, ℕ, ◌-◌, ◌≤◌, List, [], ◌∷◌, length, cond, Bool, true, false, refl, ap, ◌∙◌, sym, ltb, arith}
-use Rattle.std.proofs.lemmas.Bool.{ltb-false, le-ltb}
+use Rattle.std.proofs.Common.{◌≡◌, ℕ, ◌-◌, ◌<◌, ◌≤◌, List, [], ◌∷◌, length, cond, Bool, true, false, refl, ap, ◌∙◌, sym, ltb, arith}
+use Rattle.std.proofs.lemmas.Bool.{ltb-false, ltb-true, lt-ltb, le-ltb}
 use Rattle.slate_types.specs.declared.batches.Batch.{Batch}
 use Rattle.slate_types.specs.declared.options.FlushType.{FlushType}
 use Rattle.slate_types.specs.declared.options.FlushType.TheVariants.{Wal, MemTable}
@@ -8,7 +8,7 @@ use Rattle.slate_types.specs.Line.{Line, batches_above, end}
 use Rattle.slate_store.specs.declared.objects.Manifest.{Manifest}
 use Rattle.slate_store.specs.declared.objects.VersionedManifest.{VersionedManifest}
 use Rattle.slate_model.specs.Flush.{flush_changes_under, flush_view, has_ids, has_log_for}
-use Rattle.slate_model.specs.Handle.{Handle, accepted, kept_handle, line_above, to_log, unstored, untabled}
+use Rattle.slate_model.specs.Handle.{Handle, accepted, kept_handle, line_above, to_log, unstored, untabled, untabled_segments}
 
 -- of the batches above a number, those above a greater one
 pub above-twice : (n m : ℕ) (bs : List Batch) → n ≤ m → batches_above m (batches_above n bs) ≡ batches_above m bs
@@ -39,9 +39,23 @@ line_above-twice n m line le =
     let from : ℕ → List Batch → Line = λ e xs. record { floor = e - length xs; batches = xs } in
     ap (λ e. from e again) (line_above-end n line) ∙ ap (from (end line)) (above-twice n m line.batches le)
 
+-- what is there above a number, and above a greater one
+pub cond-twice : {X : Type 0} (n m end : ℕ) (xs : List X) → n ≤ m → cond (ltb m end) (cond (ltb n end) xs []) [] ≡ cond (ltb m end) xs []
+cond-twice {X} n m end xs le = by (ltb m end) refl where
+  by : (c : Bool) → ltb m end ≡ c → cond c (cond (ltb n end) xs []) [] ≡ cond c xs []
+  by true is =
+      let above : m < end = ltb-true m end is in
+      ap (λ c. cond c xs []) (lt-ltb n end (omega (arith, above, le)))
+  by false is = refl
+
 module _ (h : Handle) where
   pub accepted-kept : accepted (kept_handle h) ≡ accepted h
   accepted-kept = line_above-end h.view.manifest.last_l0_seq h.line
+
+  pub segments-kept : untabled_segments (kept_handle h) ≡ untabled_segments h
+  segments-kept =
+      let n = h.view.manifest.last_l0_seq in
+      ap (λ end. cond (ltb n end) (untabled_segments h) []) accepted-kept ∙ cond-twice n n (accepted h) h.segments (omega arith)
 
   -- what a flush needs
   pub log_for-kept : (t : FlushType) → has_log_for t (kept_handle h) ≡ has_log_for t h
@@ -61,7 +75,7 @@ module _ (h : Handle) where
     module _ (latest : VersionedManifest) (last : ℕ) (ahead : h.view.manifest.last_l0_seq ≤ latest.manifest.last_l0_seq) where
       pub changes-kept : {L : Type 0} (summary : List Batch → L) (t : FlushType) → flush_changes_under summary t (kept_handle h) latest last ≡ flush_changes_under summary t h latest last
       changes-kept summary Wal = rw to_log-kept refl
-      changes-kept summary MemTable = rw to_log-kept (rw (untabled-kept latest.manifest ahead) (rw accepted-kept refl))
+      changes-kept summary MemTable = rw segments-kept (rw to_log-kept (rw (untabled-kept latest.manifest ahead) (rw accepted-kept refl)))
 
       pub ids-kept : (t : FlushType) → has_ids t (kept_handle h) latest last ≡ has_ids t h latest last
       ids-kept Wal = rw to_log-kept refl
@@ -69,4 +83,4 @@ module _ (h : Handle) where
 
       pub view-kept : (t : FlushType) → flush_view t (kept_handle h) latest last ≡ flush_view t h latest last
       view-kept Wal = refl
-      view-kept MemTable = rw to_log-kept (rw (untabled-kept latest.manifest ahead) (rw accepted-kept refl))
+      view-kept MemTable = rw segments-kept (rw to_log-kept (rw (untabled-kept latest.manifest ahead) (rw accepted-kept refl)))

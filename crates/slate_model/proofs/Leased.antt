@@ -1,6 +1,6 @@
 -- A reader that keeps a checkpoint: what its plan leaves as the latest manifest, and the whole follower of which the code keeps
 -- a part.
-use Rattle.std.proofs.Common.{◌≡◌, ℕ, ℤ, cond, not, Bool, true, false, List, [], ◌∷◌, ◌+◌, length, map, Option, Some, None, Result, Ok, Err, refl, sym, subst, ap, ◌∙◌, inl, inr}
+use Rattle.std.proofs.Common.{◌≡◌, ℕ, ℤ, Bool, true, false, List, [], ◌∷◌, ◌+◌, length, map, Option, Some, None, Ok, refl, sym, subst, ap, ◌∙◌}
 use Rattle.std.proofs.lemmas.Bool.{and_parts, eqb-true, not-false, or_parts}
 use Rattle.std.proofs.lemmas.Cmp.{nat_cmp_total, tied_itself}
 use Rattle.std.proofs.lemmas.Slice.Eq.{slice_eq-Decides}
@@ -19,7 +19,6 @@ use Rattle.slate_store.specs.declared.objects.Checkpoint.{Checkpoint}
 use Rattle.slate_store.specs.declared.objects.Manifest.{Manifest}
 use Rattle.slate_store.specs.declared.objects.TableId.{TableId}
 use Rattle.slate_store.specs.declared.objects.VersionedManifest.{VersionedManifest}
-use Rattle.slate_types.specs.declared.batches.Batch.{Batch}
 use Rattle.slate_model.specs.declared.leases.Lease.{Lease}
 use Rattle.slate_model.specs.Changes.{after_part}
 use Rattle.slate_model.specs.Lease.{differs, replaces}

@@ -17,6 +17,7 @@ pub mod Owing
 pub mod Prefixes
 pub mod Reopened
 pub mod Reduced
+pub mod Serial
 pub mod Tabled
 pub mod Viewing
 pub mod Writing

@@ -57,16 +57,16 @@ last-insert k x [] = record { entry = (k, x); is = refl; which = inl refl }
 last-insert k x (e ∷ es) = chosen (nat_cmp k e.0) k x e es (insert_entry nat_cmp es k x) (last-insert k x es)
 
 -- the next manifest has no lower epoch than the latest
-next-epoch : (found : Option VersionedManifest) (old : VersionedManifest) (last : ℕ) → found ≡ Some old → old.manifest.writer_epoch ≤ (next_manifest found last).manifest.writer_epoch
-next-epoch None old last h = absurd (cc)
-next-epoch (Some latest) old last h =
+next-epoch : (name : Option (List ℕ)) (found : Option VersionedManifest) (old : VersionedManifest) (last : ℕ) → found ≡ Some old → old.manifest.writer_epoch ≤ (next_manifest name found last).manifest.writer_epoch
+next-epoch name None old last h = absurd (cc)
+next-epoch name (Some latest) old last h =
     let same : latest ≡ old = cc in
     subst (λ (o : VersionedManifest). o.manifest.writer_epoch ≤ latest.manifest.writer_epoch + 1) same (omega arith)
 
 -- after the changes of an opening the latest manifest has no greater epoch than the opening's
-pub newest : (o : Objects) (latest : VersionedManifest) → latest_manifest (after_part 2 (open_changes (λ xs. xs) o) o) ≡ Some latest → latest.manifest.writer_epoch ≤ (opened_manifest o).manifest.writer_epoch
-newest o latest is =
-    let v = opened_manifest o in
+pub newest : (name : Option (List ℕ)) (o : Objects) (latest : VersionedManifest) → latest_manifest (after_part 2 (open_changes name (λ xs. xs) o) o) ≡ Some latest → latest.manifest.writer_epoch ≤ (opened_manifest name o).manifest.writer_epoch
+newest name o latest is =
+    let v = opened_manifest name o in
     let l = last-insert v.id v.manifest o.manifests in
     let found : Some (versioned l.entry) ≡ Some latest = sym (ap (option_map versioned) l.is) ∙ is in
     let same : versioned l.entry ≡ latest = cc in
@@ -74,5 +74,5 @@ newest o latest is =
       | inl new ↦
           let same_manifest : latest.manifest ≡ v.manifest = sym (ap (λ (m : VersionedManifest). m.manifest) same) ∙ new in
           subst (λ (m : Manifest). m.writer_epoch ≤ v.manifest.writer_epoch) (sym same_manifest) (omega arith)
-      | inr old ↦ next-epoch (latest_manifest o) latest (found_log o) (ap (option_map versioned) old ∙ found)
+      | inr old ↦ next-epoch name (latest_manifest o) latest (found_log o) (ap (option_map versioned) old ∙ found)
     ]

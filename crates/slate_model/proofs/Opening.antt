@@ -17,6 +17,7 @@ use Rattle.slate_store.specs.declared.objects.VersionedManifest.{VersionedManife
 use Rattle.slate_model.specs.Catalogue.{catalogue_of}
 use Rattle.slate_model.specs.Changes.{after_part}
 use Rattle.slate_model.specs.Handle.{Handle, unstored}
+use Rattle.slate_model.specs.Segments.{Extractor, extractor_name}
 use Rattle.slate_model.specs.Open.{found_log, mark_of, next_manifest, open_changes, opened_handle, opened_manifest}
 use Rattle.slate_model.specs.Valid.{IsValidHandle, ReadsLine}
 use Rattle.slate_model.proofs.Adding.{none-put}
@@ -36,25 +37,25 @@ absent-table n q (e ∷ es) above low =
     rw apart (absent-table n q es above (All-tail (λ (table : TableId × List Batch). table.0.epoch ≤ n) e es low))
 
 -- the epoch of an opening is above that of each table
-new-epoch : (o : Objects) (latest : Option VersionedManifest) (last : ℕ) (q : TableId) → IsSound o → latest_manifest o ≡ latest → q.epoch ≡ (next_manifest latest last).manifest.writer_epoch → table_at q o ≡ None
-new-epoch o None last q sound is epoch = subst (λ x. table_at q x ≡ None) (sym (nothing_there o sound is)) refl
-new-epoch o (Some latest) last q sound is epoch = absent-table latest.manifest.writer_epoch q o.tables (omega (arith, epoch)) (its-objects o latest sound is).epochs
+new-epoch : (name : Option (List ℕ)) (o : Objects) (latest : Option VersionedManifest) (last : ℕ) (q : TableId) → IsSound o → latest_manifest o ≡ latest → q.epoch ≡ (next_manifest name latest last).manifest.writer_epoch → table_at q o ≡ None
+new-epoch name o None last q sound is epoch = subst (λ x. table_at q x ≡ None) (sym (nothing_there o sound is)) refl
+new-epoch name o (Some latest) last q sound is epoch = absent-table latest.manifest.writer_epoch q o.tables (omega (arith, epoch)) (its-objects o latest sound is).epochs
 
-module _ (stored : Line) (o : Objects) (made : ℕ) (sound : IsSound o) (holds : content o ≡ stored) (some : 0 < made) (few : made ≤ 2) where
+module _ (x : Option Extractor) (stored : Line) (o : Objects) (made : ℕ) (sound : IsSound o) (holds : content o ≡ stored) (some : 0 < made) (few : made ≤ 2) where
   abbrev o' : Objects
-  o' = after_part made (open_changes (λ xs. xs) o) o
+  o' = after_part made (open_changes (extractor_name x) (λ xs. xs) o) o
 
   abbrev v : VersionedManifest
-  v = opened_manifest o
+  v = opened_manifest (extractor_name x) o
 
   same-tables : o'.tables ≡ o.tables
-  same-tables = (none-put made (open_changes (λ xs. xs) o) o tt).0
+  same-tables = (none-put made (open_changes (extractor_name x) (λ xs. xs) o) o tt).0
 
   pub same-table_at : (q : TableId) → table_at q o' ≡ table_at q o
   same-table_at q = ap (lookup (is_at (table_cmp q))) same-tables
 
   content-is : content o' ≡ stored
-  content-is = (opened o made sound some few).content ∙ holds
+  content-is = (opened (extractor_name x) o made sound some few).content ∙ holds
 
   -- the fence comes after the last log file
   before-fence : (latest : VersionedManifest) → latest_manifest o ≡ Some latest → last_log latest.manifest.replay_after_wal_id o < found_log o + 1
@@ -62,10 +63,10 @@ module _ (stored : Line) (o : Objects) (made : ℕ) (sound : IsSound o) (holds :
 
   pub opened-follows : (latest : VersionedManifest) → latest_manifest o ≡ Some latest → Follows stored stored o o' latest v
   opened-follows latest is =
-      let b = opened o made sound some few in
-      let epoch : v.manifest.writer_epoch ≡ latest.manifest.writer_epoch + 1 = ap (λ x. (next_manifest x (found_log o)).manifest.writer_epoch) is in
-      let mark : v.manifest.replay_after_wal_id ≡ latest.manifest.replay_after_wal_id = ap (λ x. (next_manifest x (found_log o)).manifest.replay_after_wal_id) is in
-      let number : v.manifest.last_l0_seq ≡ latest.manifest.last_l0_seq = ap (λ x. (next_manifest x (found_log o)).manifest.last_l0_seq) is in
+      let b = opened (extractor_name x) o made sound some few in
+      let epoch : v.manifest.writer_epoch ≡ latest.manifest.writer_epoch + 1 = ap (λ m. (next_manifest (extractor_name x) m (found_log o)).manifest.writer_epoch) is in
+      let mark : v.manifest.replay_after_wal_id ≡ latest.manifest.replay_after_wal_id = ap (λ m. (next_manifest (extractor_name x) m (found_log o)).manifest.replay_after_wal_id) is in
+      let number : v.manifest.last_l0_seq ≡ latest.manifest.last_l0_seq = ap (λ m. (next_manifest (extractor_name x) m (found_log o)).manifest.last_l0_seq) is in
       record {
         sound = b.sound;
         content = content-is;
@@ -73,7 +74,7 @@ module _ (stored : Line) (o : Objects) (made : ℕ) (sound : IsSound o) (holds :
         latest_is = b.latest;
         epochs = omega (arith, epoch);
         tabled = omega (arith, number);
-        logs = stay-follow o o' latest.manifest.replay_after_wal_id v.manifest.replay_after_wal_id (sym mark) (part-logs latest.manifest.replay_after_wal_id (last_log latest.manifest.replay_after_wal_id o) made (open_changes (λ xs. xs) o) o (before-fence latest is, tt));
+        logs = stay-follow o o' latest.manifest.replay_after_wal_id v.manifest.replay_after_wal_id (sym mark) (part-logs latest.manifest.replay_after_wal_id (last_log latest.manifest.replay_after_wal_id o) made (open_changes (extractor_name x) (λ xs. xs) o) o (before-fence latest is, tt));
       }
 
   -- a handle that was opened before is fenced
@@ -81,8 +82,8 @@ module _ (stored : Line) (o : Objects) (made : ℕ) (sound : IsSound o) (holds :
   fenced g valid =
       let latest = valid.behind.0 in
       let is = valid.behind.1 in
-      let b = opened o made sound some few in
-      let epoch : v.manifest.writer_epoch ≡ latest.manifest.writer_epoch + 1 = ap (λ x. (next_manifest x (found_log o)).manifest.writer_epoch) is in
+      let b = opened (extractor_name x) o made sound some few in
+      let epoch : v.manifest.writer_epoch ≡ latest.manifest.writer_epoch + 1 = ap (λ m. (next_manifest (extractor_name x) m (found_log o)).manifest.writer_epoch) is in
       let low = valid.behind.2 in
       still-valid stored stored o o' latest v is (opened-follows latest is) g (λ index high none. same-table_at (record { epoch = g.epoch; index = index }) ∙ none)
       (λ found live at current.
@@ -93,13 +94,13 @@ module _ (stored : Line) (o : Objects) (made : ℕ) (sound : IsSound o) (holds :
   -- so its epoch is lower than that of the opening
   pub older : (g : Handle) → IsValidHandle stored (catalogue_of o) g → g.epoch < v.manifest.writer_epoch
   older g valid =
-      let epoch : v.manifest.writer_epoch ≡ valid.behind.0.manifest.writer_epoch + 1 = ap (λ x. (next_manifest x (found_log o)).manifest.writer_epoch) valid.behind.1 in
+      let epoch : v.manifest.writer_epoch ≡ valid.behind.0.manifest.writer_epoch + 1 = ap (λ m. (next_manifest (extractor_name x) m (found_log o)).manifest.writer_epoch) valid.behind.1 in
       let low = valid.behind.2 in
       omega (arith, epoch, low)
 
   module _ (keeps_log : Bool) (limit : ℕ) (line : IsLine stored) where
     abbrev new : Handle
-    new = opened_handle keeps_log limit v stored
+    new = opened_handle x keeps_log limit v stored
 
     whole-line : stored ≡ extended (content o') []
     whole-line = sym content-is ∙ sym (extended-nil (content o'))
@@ -107,7 +108,7 @@ module _ (stored : Line) (o : Objects) (made : ℕ) (sound : IsSound o) (holds :
     -- the handle of the opening sees all that is stored
     pub opened-valid : IsValidHandle stored (catalogue_of o') new
     opened-valid =
-        let b = opened o made sound some few in
+        let b = opened (extractor_name x) o made sound some few in
         let none : unstored new ≡ [] = above-none stored.floor (end stored) stored.batches line (omega arith) in
         record {
           numbered = line;
@@ -117,7 +118,7 @@ module _ (stored : Line) (o : Objects) (made : ℕ) (sound : IsSound o) (holds :
           confirmed = subst (λ l. IsPrefix l stored) (sym (up_to-all (end stored) stored (omega arith))) (prefix-same stored);
           unused = λ index high. known-none (record { epoch = v.manifest.writer_epoch; index = index }) o'
               (same-table_at (record { epoch = v.manifest.writer_epoch; index = index })
-              ∙ new-epoch o (latest_manifest o) (found_log o) (record { epoch = v.manifest.writer_epoch; index = index }) sound refl refl);
+              ∙ new-epoch (extractor_name x) o (latest_manifest o) (found_log o) (record { epoch = v.manifest.writer_epoch; index = index }) sound refl refl);
           behind = (v, b.latest, omega arith, omega arith);
           current = λ found live at current.
               let same : v ≡ found = (let a = b.latest in cc) in
@@ -125,4 +126,4 @@ module _ (stored : Line) (o : Objects) (made : ℕ) (sound : IsSound o) (holds :
         }
 
     pub opened-reads : ReadsLine o' new.view new.line
-    opened-reads there = let b = opened o made sound some few in joined-line o' v stored [] b.sound b.latest whole-line line
+    opened-reads there = let b = opened (extractor_name x) o made sound some few in joined-line o' v stored [] b.sound b.latest whole-line line

@@ -1,16 +1,16 @@
 -- What openings, polls and closes of readers that keep a checkpoint of their own put: what it leaves of sound objects, and what
 -- a world knows of it.
-use Rattle.std.proofs.Common.{◌≡◌, ℕ, ℤ, cond, Bool, true, false, List, [], length, Option, Some, None, Result, Ok, Err, refl, sym, subst, ap, ◌∙◌}
+use Rattle.std.proofs.Common.{◌≡◌, ℕ, ℤ, ◌⊎◌, inl, inr, cond, Bool, true, false, List, [], Option, Some, None, Result, Ok, Err, refl, sym, subst}
 use Rattle.std.specs.Prelude.{IfErr}
 use Rattle.slate_types.specs.Line.{Line}
 use Rattle.slate_types.specs.declared.batches.Batch.{Batch}
-use Rattle.slate_types.specs.declared.store_errors.StoreFault.TheVariants.{NotFound, Unavailable}
+use Rattle.slate_types.specs.declared.store_errors.StoreFault.TheVariants.{Unavailable}
 use Rattle.slate_store.proofs.Checkpointed.{delete-keeps, refresh-keeps, write-keeps}
 use Rattle.slate_store.proofs.Kept.{pins-kept}
 use Rattle.slate_store.proofs.Parts.{part-none}
-use Rattle.slate_store.specs.Checkpoints.{Plan, found, to_delete, to_refresh, to_write}
+use Rattle.slate_store.specs.Checkpoints.{Plan, to_delete, to_refresh, to_write}
 use Rattle.slate_store.specs.Content.{IsSound}
-use Rattle.slate_store.specs.Objects.{ChangeOf, Objects, latest_manifest}
+use Rattle.slate_store.specs.Objects.{Objects, latest_manifest}
 use Rattle.slate_store.specs.Refusals.{KeepsContent, checkpoint_changes, planned, planned_after}
 use Rattle.slate_store.specs.declared.objects.Checkpoint.{Checkpoint}
 use Rattle.slate_store.specs.declared.objects.VersionedManifest.{VersionedManifest}
@@ -18,10 +18,11 @@ use Rattle.slate_store.specs.declared.refusals.StoreRefusal.TheVariants as refus
 use Rattle.slate_errors.specs.declared.errors.SlateError.{SlateError}
 use Rattle.slate_errors.specs.declared.errors.SlateError.TheVariants as errors
 use Rattle.slate_model.specs.declared.leases.Lease.{Lease}
-use Rattle.slate_model.specs.Catalogue.{catalogue_of}
+use Rattle.slate_model.specs.Catalogue.{Catalogue, catalogue_of}
 use Rattle.slate_model.specs.Changes.{after_part}
-use Rattle.slate_model.specs.Lease.{differs, is_due, leased, replaces, to_keep, to_renew, to_take}
-use Rattle.slate_model.specs.Managed.{PlanCause, PutsPlanned}
+use Rattle.slate_model.specs.Lease.{is_due, leased, replaces, to_keep, to_take}
+use Rattle.slate_model.specs.Managed.{KeepRefusal, PlanCause, PutsPlanned, TakeRefusal, unrefused}
+use Rattle.slate_model.specs.Segments.{Extractor}
 use Rattle.slate_model.specs.Stores.{Stands, by_catalogue, by_objects}
 use Rattle.slate_model.proofs.Maintained.{Maintained, Recheckpoints, after-known, checkpoint_changes-known, delete-recheckpoints, none-stands, part-known, planned-maintains, refresh-recheckpoints, write-recheckpoints}
 
@@ -117,16 +118,33 @@ module _ {A : Type 0} (plan : VersionedManifest → Plan A) (puts : (latest : Ve
   cause-known errors.NoMemory c = tt
   cause-known e c = absurd c
 
-  cause-of : {B : Type 0} (r : Result B SlateError) → IfErr r (PlanCause (Stands (checkpoint_changes plan o) o) plan o) → IfErr r (PlanCause ⊥ plan (catalogue_of o))
-  cause-of (Ok x) c = tt
-  cause-of (Err e) c = cause-known e c
+  cause-of : {B : Type 0} (refused : Objects → SlateError → Type 0) (refused' : Catalogue → SlateError → Type 0) → ((e : SlateError) → refused o e → refused' (catalogue_of o) e) → (r : Result B SlateError) →
+      IfErr r (λ e. PlanCause (Stands (checkpoint_changes plan o) o) plan o e ⊎ refused o e) → IfErr r (λ e. PlanCause ⊥ plan (catalogue_of o) e ⊎ refused' (catalogue_of o) e)
+  cause-of refused refused' known (Ok x) c = tt
+  cause-of refused refused' known (Err e) (inl c) = inl (cause-known e c)
+  cause-of refused refused' known (Err e) (inr c) = inr (known e c)
 
   -- what a plan puts over sound objects
-  pub puts-known : {B : Type 0} (stored : Line) (r : Result B SlateError) (made : ℕ) (o' : Objects) → PutsPlanned (by_objects (Some o)).stands plan o r made o' → PutsPlanned (by_catalogue stored (catalogue_of o)).stands plan (catalogue_of o) r made (catalogue_of o')
-  puts-known stored r made o' p =
+  pub puts-known : {B : Type 0} (stored : Line) (refused : Objects → SlateError → Type 0) (refused' : Catalogue → SlateError → Type 0) → ((e : SlateError) → refused o e → refused' (catalogue_of o) e) → (r : Result B SlateError) (made : ℕ) (o' : Objects) →
+      PutsPlanned (by_objects (Some o)).stands refused plan o r made o' → PutsPlanned (by_catalogue stored (catalogue_of o)).stands refused' plan (catalogue_of o) r made (catalogue_of o')
+  puts-known stored refused refused' known r made o' p =
       let same = checkpoint_changes-known plan o in
       record {
-        cause = cause-of r p.cause;
+        cause = cause-of refused refused' known r p.cause;
         part = part-known r (checkpoint_changes plan o) (checkpoint_changes plan (catalogue_of o)) made same p.part;
         after = after-known (checkpoint_changes plan o) (checkpoint_changes plan (catalogue_of o)) made o o' same p.after;
       }
+
+-- ---- what refuses an opening and a poll, but for their plans, is known by the catalogue
+pub take_refusal-known : (x : Option Extractor) (o : Objects) (e : SlateError) → TakeRefusal x o e → TakeRefusal x (catalogue_of o) e
+take_refusal-known x o (errors.SegmentExtractorMismatch persisted configured) c = c
+take_refusal-known x o (errors.SegmentPrefixNotRecognized prefix name) c = c
+take_refusal-known x o (errors.EmptySegmentPrefix key) c = c
+take_refusal-known x o e c = absurd c
+
+pub keep_refusal-known : (x : Option Extractor) (o : Objects) (e : SlateError) → KeepRefusal x o e → KeepRefusal x (catalogue_of o) e
+keep_refusal-known x o errors.InvalidDBState c = c
+keep_refusal-known x o e c = absurd c
+
+pub unrefused-known : (o : Objects) (e : SlateError) → unrefused o e → unrefused (catalogue_of o) e
+unrefused-known o e c = c

@@ -1,10 +1,10 @@
 -- What an operation does to the objects of a store it does to what a world knows of them.
-use Rattle.std.proofs.Common.{◌≡◌, ℕ, Bool, true, false, List, Option, Some, None, Result, Ok, Err, refl, sym, subst, ap, ◌∙◌, ◌≤◌, ◌+◌, inl, inr, length, map, take, cond, ltb, flat_map, option_map, arith}
+use Rattle.std.proofs.Common.{◌≡◌, ℕ, Bool, true, false, List, [], Option, Some, None, Result, Ok, Err, refl, sym, subst, ap, ◌∙◌, ◌≤◌, ◌+◌, inl, inr, length, map, take, cond, ltb, flat_map, option_map, arith}
 use Rattle.std.specs.Option.{IfSome}
 use Rattle.std.specs.Result.{IfOk, IfErr}
 use Rattle.slate_types.specs.declared.batches.Batch.{Batch}
 use Rattle.slate_types.specs.declared.options.FlushType.{FlushType}
-use Rattle.slate_types.specs.Line.{IsPrefix, Line, end}
+use Rattle.slate_types.specs.Line.{IsPrefix, Line, batches_above, end}
 use Rattle.slate_types.specs.declared.store_errors.StoreFault.TheVariants.{Unavailable, NotFound}
 use Rattle.slate_store.specs.Calls.{WhereModelled}
 use Rattle.slate_store.specs.declared.objects.VersionedManifest.{VersionedManifest}
@@ -18,21 +18,22 @@ use Rattle.slate_errors.specs.Errors.{closed_error}
 use Rattle.slate_model.specs.Catalogue.{Span, catalogue_of, span, Catalogue, joined_span}
 use Rattle.slate_model.specs.declared.answers.PollAnswer.{PollAnswer}
 use Rattle.slate_model.specs.Close.{Closes, ended, fault_again, closing_flush}
-use Rattle.slate_model.specs.Follow.{FollowCause, HasAllLogs, IsOwed, Polls, Rebuilds, SeesOwed, built}
-use Rattle.slate_model.specs.Followed.{IsView, kept_by, last_read, view_under}
-use Rattle.slate_model.specs.Follower.{Follower, is_pinned, kept_follower, rebuilt}
+use Rattle.slate_model.specs.Follow.{AreFollowed, FollowCause, HasAllLogs, IsOwed, Polls, Rebuilds, ReplayRefuses, SeesOwed, built}
+use Rattle.slate_model.specs.Followed.{IsView, RefusesLatest, kept_by, last_read, view_under}
+use Rattle.slate_model.specs.Follower.{Follower, HasSegments, is_pinned, kept_follower, rebuilt}
 use Rattle.slate_store.specs.Checkpoints.{found}
 use Rattle.slate_store.specs.declared.objects.Checkpoint.{Checkpoint}
 use Rattle.slate_store.specs.declared.reader_modes.DbReaderMode.{DbReaderMode}
 use Rattle.slate_store.specs.declared.reader_modes.DbReaderMode.TheVariants as modes
 use Rattle.slate_model.proofs.Owing.{Owed, not-unpinned, owed-is, owed-known, owed_line, owing}
 use Rattle.slate_model.specs.declared.answers.PollAnswer.TheVariants.{Whole, Truncated}
-use Rattle.slate_model.specs.Handle.{Handle, CloseResult, accepted, kept_handle, line_above, next_table}
+use Rattle.slate_model.specs.Handle.{Handle, CloseResult, accepted, kept_handle, line_above, next_table, untabled_segments}
+use Rattle.slate_model.specs.Segments.{Extractor, extractor_name, segments_of}
 use Rattle.slate_model.specs.Known.{Known, Untouched}
 use Rattle.slate_model.proofs.Reopened.{no-fault}
 use Rattle.slate_model.proofs.Catalogued.{reduced, catalogue-after, flush_changes-known, last_log-catalogue, tables_part-known, tables_put-known, compact_changes-known, manifest_cause-known, table-known, opens-known, opened_manifest-known}
 use Rattle.slate_model.specs.Flush.{CanFlush, DurableAfter, FlushAnswer, FlushCause, Flushes, FlushesOnly, IsFlushed, StoresBatches, Stores, flush_changes, flush_changes_by, flush_result, flush_view, grows, has_ids, next_flushed, tables_put}
-use Rattle.slate_model.specs.Open.{IsFresh, OpenFault, OpensHandle, opened_handle, opened_manifest, Opens}
+use Rattle.slate_model.specs.Open.{AreSegmented, IsFresh, OpenFault, OpensHandle, opened_handle, opened_manifest, Opens, replayed}
 use Rattle.slate_store.specs.declared.objects.TableId.{TableId}
 use Rattle.slate_types.specs.declared.read_faults.ReadFault.{ReadFault}
 use Rattle.slate_model.specs.Seen.{HasSeen}
@@ -41,7 +42,7 @@ use Rattle.slate_model.specs.Knowledge.{Knowledge}
 use Rattle.slate_model.specs.Refresh.{CompactAnswer, CompactCause, Compacts, JoinsTables, RefreshAnswer, Refreshes}
 use Rattle.slate_model.specs.Read.{AnswersRead, Reads}
 use Rattle.slate_model.specs.Tables.{AreStored}
-use Rattle.slate_model.proofs.Keeping.{accepted-kept, changes-kept, ids-kept, line_above-end, line_above-twice, view-kept, log_for-kept}
+use Rattle.slate_model.proofs.Keeping.{accepted-kept, changes-kept, cond-twice, ids-kept, line_above-end, line_above-twice, view-kept, log_for-kept}
 use Rattle.slate_model.specs.Changes.{PartMade, after_part}
 use Rattle.slate_types.specs.declared.options.FlushType.TheVariants.{Wal, MemTable}
 use Rattle.std.proofs.lemmas.List.{length-map}
@@ -91,7 +92,7 @@ if_ok (Err e) f h = tt
 
 -- the handle of a world that the code keeps as this one, where this one was a part of that
 abbrev pub whole : Handle → Handle → Handle
-whole h k = record k { line = h.line }
+whole h k = record k { line = h.line; segments = h.segments }
 
 -- What is said of the handle that the code keeps is said of the whole one, and is known of the objects.
 module _ (x : Option Objects) (stored : Line) (c : Catalogue) (h : Handle) (o : Objects) (tabled : h.view.manifest.last_l0_seq ≤ h.durable)
@@ -159,9 +160,13 @@ module _ (x : Option Objects) (stored : Line) (c : Catalogue) (h : Handle) (o : 
   ]
 
 -- A handle that is as the kept one moved it is kept of the whole one that moved so.
-pub kept-whole : (h k : Handle) → h.view.manifest.last_l0_seq ≤ k.view.manifest.last_l0_seq → k.line ≡ line_above k.view.manifest.last_l0_seq (kept_handle h).line → k ≡ kept_handle (whole h k)
-kept-whole h k rises line =
-    ap (λ l. record k { line = l }) (line ∙ line_above-twice h.view.manifest.last_l0_seq k.view.manifest.last_l0_seq h.line rises)
+pub kept-whole : (h k : Handle) → h.view.manifest.last_l0_seq ≤ k.view.manifest.last_l0_seq → k.line ≡ line_above k.view.manifest.last_l0_seq (kept_handle h).line
+    → k.segments ≡ untabled_segments (record (kept_handle h) { view = k.view }) → k ≡ kept_handle (whole h k)
+kept-whole h k rises line segments =
+    let n = h.view.manifest.last_l0_seq in
+    let m = k.view.manifest.last_l0_seq in
+    let stay : k.segments ≡ cond (ltb m (accepted h)) h.segments [] = segments ∙ (ap (λ end. cond (ltb m end) (untabled_segments h) []) (accepted-kept h) ∙ cond-twice n m (accepted h) h.segments rises) in
+    ap (λ l. record k { line = l }) (line ∙ line_above-twice n m h.line rises) ∙ ap (λ s. record k { line = line_above m h.line; segments = s }) stay
 
 durable-whole : (made : ℕ) (h : Handle) (r : Result (Unit {0}) SlateError) (durable : ℕ) → DurableAfter (nat_le (grows h) made) (kept_handle h) r durable → DurableAfter (nat_le (grows h) made) h r durable
 durable-whole made h (Ok _) durable d = d ∙ accepted-kept h
@@ -173,7 +178,7 @@ durable-whole made h (Err e) durable d = elim d [
 
 pub flushed-whole : (made : ℕ) (r : Result (Unit {0}) SlateError) (closed : CloseResult) (h k : Handle) → IsFlushed kept_handle made r closed (kept_handle h) k → IsFlushed (λ a. a) made r closed h (whole h k)
 flushed-whole made r closed h k s = record {
-  same = ap (λ (a : Handle). record a { line = h.line }) s.same;
+  same = ap (λ (a : Handle). record a { line = h.line; segments = h.segments }) s.same;
   durable = durable-whole made h r k.durable s.durable;
   counter = s.counter;
 }
@@ -306,46 +311,61 @@ reads-reduced reads_as closed tables r o o' f f' s = record {
 }
 
 -- the whole handle that an opening gave of which the code keeps a part
-abbrev pub opened-whole : Bool → ℕ → Line → VersionedManifest → Result Handle SlateError → Result Handle SlateError
-opened-whole keeps_log limit stored view (Ok k) = Ok (opened_handle keeps_log limit view stored)
-opened-whole keeps_log limit stored view (Err e) = Err e
+abbrev pub opened-whole : Option Extractor → Bool → ℕ → Line → VersionedManifest → Result Handle SlateError → Result Handle SlateError
+opened-whole x keeps_log limit stored view (Ok k) = Ok (opened_handle x keeps_log limit view stored)
+opened-whole x keeps_log limit stored view (Err e) = Err e
 
-fresh-opened : (keeps_log : Bool) (limit : ℕ) (stored : Line) (view : VersionedManifest) → IsFresh keeps_log limit (kept_handle (opened_handle keeps_log limit view stored)) → IsFresh keeps_log limit (opened_handle keeps_log limit view stored)
-fresh-opened keeps_log limit stored view fresh =
+fresh-opened : (x : Option Extractor) (keeps_log : Bool) (limit : ℕ) (stored : Line) (view : VersionedManifest) → IsFresh keeps_log limit (kept_handle (opened_handle x keeps_log limit view stored)) → IsFresh keeps_log limit (opened_handle x keeps_log limit view stored)
+fresh-opened x keeps_log limit stored view fresh =
     record { keeps = refl; limit_is = refl; unclosed = refl; epoch = refl; counter = refl; durable = refl; tabled = fresh.tabled }
 
-opened-known : (keeps_log : Bool) (limit : ℕ) (stored : Line) (k : Handle) (made : ℕ) (o o' : Objects) → IsSound o → Opens (λ xs. xs) (OpenFault o) o (Ok k) made o' → Opens span (λ _. ⊥) (catalogue_of o) (Ok (opened_handle keeps_log limit (opened_manifest o) stored)) made (catalogue_of o')
-opened-known keeps_log limit stored k made o o' sound q =
-    opens-known (OpenFault o) o (Ok (opened_handle keeps_log limit (opened_manifest o) stored)) made o' (λ e. no-fault o e sound)
+opened-known : (x : Option Extractor) (keeps_log : Bool) (limit : ℕ) (stored : Line) (k : Handle) (made : ℕ) (o o' : Objects) → IsSound o → Opens x (λ xs. xs) (OpenFault o) o (Ok k) made o' →
+    Opens x span (λ _. ⊥) (catalogue_of o) (Ok (opened_handle x keeps_log limit (opened_manifest (extractor_name x) o) stored)) made (catalogue_of o')
+opened-known x keeps_log limit stored k made o o' sound q =
+    opens-known x (OpenFault o) o (Ok (opened_handle x keeps_log limit (opened_manifest (extractor_name x) o) stored)) made o' (λ e. no-fault o e sound)
     (record { answer = q.answer; part = q.part; only = q.only; can = q.can; after = q.after })
 
+-- what an opening replays of sound objects is what a world knows of it
+segmented-known : (x : Option Extractor) (stored : Line) (r : Result Handle SlateError) (o : Objects) → AreSegmented x (replayed (opened_manifest (extractor_name x) o) stored) r → (c : Catalogue) (line : Line) →
+    Some (catalogue_of o) ≡ Some c → line ≡ stored → AreSegmented x (replayed (opened_manifest (extractor_name x) c) line) r
+segmented-known x stored r o s c line at stored_is =
+    let name = extractor_name x in
+    let view : opened_manifest name o ≡ opened_manifest name c = sym (opened_manifest-known name o) ∙ ap (opened_manifest name) (some-same (catalogue_of o) c at) in
+    subst (λ v. AreSegmented x (replayed v line) r) view (subst (λ l. AreSegmented x (replayed (opened_manifest name o) l) r) (sym stored_is) s)
+
 -- an opening of sound objects, whose handle sees what is stored
-pub opens-reduced : (stored : Line) (made : ℕ) (keeps_log : Bool) (limit : ℕ) (r : Result Handle SlateError) (o o' : Objects) (f f' : ℕ) → IsSound o → content o ≡ stored → OpensHandle (by_objects (Some o)) made keeps_log limit (holding o f) r (holding o' f') → OpensHandle (by_catalogue stored (catalogue_of o)) made keeps_log limit (catalogued o f) (opened-whole keeps_log limit stored (opened_manifest o) r) (catalogued o' f')
-opens-reduced stored made keeps_log limit (Ok k) o o' f f' sound is s = record {
-  opens = as_modelled (catalogue_of o) (catalogue_of o') (opened-known keeps_log limit stored k made o o' sound (modelled o o' s.opens));
+pub opens-reduced : (x : Option Extractor) (stored : Line) (made : ℕ) (keeps_log : Bool) (limit : ℕ) (r : Result Handle SlateError) (o o' : Objects) (f f' : ℕ) → IsSound o → content o ≡ stored → OpensHandle (by_objects (Some o)) x made keeps_log limit (holding o f) r (holding o' f') →
+    OpensHandle (by_catalogue stored (catalogue_of o)) x made keeps_log limit (catalogued o f) (opened-whole x keeps_log limit stored (opened_manifest (extractor_name x) o) r) (catalogued o' f')
+opens-reduced x stored made keeps_log limit (Ok k) o o' f f' sound is s = record {
+  opens = as_modelled (catalogue_of o) (catalogue_of o') (opened-known x keeps_log limit stored k made o o' sound (modelled o o' s.opens));
   faults = record { count = s.faults.count; unavailable = λ no. absurd (cc); none_missing = λ no. absurd (cc) };
-  fresh = fresh-opened keeps_log limit stored (opened_manifest o) (subst (λ (k : Handle). IsFresh keeps_log limit k) (s.handle o stored refl (o, refl, sound, sym is)) s.fresh);
-  view = λ c at. sym (opened_manifest-known o) ∙ ap opened_manifest (some-same (catalogue_of o) c at);
+  fresh = fresh-opened x keeps_log limit stored (opened_manifest (extractor_name x) o) (subst (λ (k : Handle). IsFresh keeps_log limit k) (s.handle o stored refl (o, refl, sound, sym is)) s.fresh);
+  view = λ c at. sym (opened_manifest-known (extractor_name x) o) ∙ ap (opened_manifest (extractor_name x)) (some-same (catalogue_of o) c at);
+  segmented = segmented-known x stored (Ok (opened_handle x keeps_log limit (opened_manifest (extractor_name x) o) stored)) o (s.segmented o stored refl (o, refl, sound, sym is));
   handle = λ c line at stored_is.
-      ap (λ l. opened_handle keeps_log limit (opened_manifest o) l) (sym stored_is)
-      ∙ ap (λ m. opened_handle keeps_log limit m line) (sym (opened_manifest-known o) ∙ ap opened_manifest (some-same (catalogue_of o) c at));
+      ap (λ l. opened_handle x keeps_log limit (opened_manifest (extractor_name x) o) l) (sym stored_is)
+      ∙ ap (λ m. opened_handle x keeps_log limit m line) (sym (opened_manifest-known (extractor_name x) o) ∙ ap (opened_manifest (extractor_name x)) (some-same (catalogue_of o) c at));
 }
-opens-reduced stored made keeps_log limit (Err e) o o' f f' sound is s = record {
-  opens = as_modelled (catalogue_of o) (catalogue_of o') (opens-known (OpenFault o) o (Err e) made o' (λ e. no-fault o e sound) (modelled o o' s.opens));
+opens-reduced x stored made keeps_log limit (Err e) o o' f f' sound is s = record {
+  opens = as_modelled (catalogue_of o) (catalogue_of o') (opens-known x (OpenFault o) o (Err e) made o' (λ e. no-fault o e sound) (modelled o o' s.opens));
   faults = s.faults;
   fresh = tt;
   view = tt;
+  segmented = segmented-known x stored (Err e) o (s.segmented o stored refl (o, refl, sound, sym is));
   handle = tt;
 }
 
-follow_cause-known : (mode : DbReaderMode) (opening : Bool) (o : Objects) (e : SlateError) → IsSound o → FollowCause mode opening (Unpinned mode o) o e → FollowCause mode opening ⊥ (catalogue_of o) e
-follow_cause-known mode opening o errors.LatestTransactionalObjectVersionMissing sound h = h
-follow_cause-known mode opening o errors.InvalidDBState sound h = h
-follow_cause-known mode opening o (errors.CheckpointMissing id) sound h = h
-follow_cause-known mode opening o (errors.ObjectStoreError Unavailable) sound h = tt
-follow_cause-known mode opening o (errors.ObjectStoreError NotFound) sound h = not-unpinned o mode sound h
-follow_cause-known mode opening o errors.NoMemory sound h = tt
-follow_cause-known mode opening o e sound h = absurd h
+follow_cause-known : (x : Option Extractor) (mode : DbReaderMode) (opening : Bool) (o : Objects) (e : SlateError) → IsSound o → FollowCause x mode opening (Unpinned mode o) o e → FollowCause x mode opening ⊥ (catalogue_of o) e
+follow_cause-known x mode opening o errors.LatestTransactionalObjectVersionMissing sound h = h
+follow_cause-known x mode opening o errors.InvalidDBState sound h = h
+follow_cause-known x mode opening o (errors.SegmentExtractorMismatch persisted configured) sound h = h
+follow_cause-known x mode opening o (errors.SegmentPrefixNotRecognized prefix name) sound h = h
+follow_cause-known x mode opening o (errors.EmptySegmentPrefix key) sound h = h
+follow_cause-known x mode opening o (errors.CheckpointMissing id) sound h = h
+follow_cause-known x mode opening o (errors.ObjectStoreError Unavailable) sound h = tt
+follow_cause-known x mode opening o (errors.ObjectStoreError NotFound) sound h = not-unpinned o mode sound h
+follow_cause-known x mode opening o errors.NoMemory sound h = tt
+follow_cause-known x mode opening o e sound h = absurd h
 
 if_err : {A : Type 0} {P Q : SlateError → Type 0} (r : Result A SlateError) → ((e : SlateError) → P e → Q e) → IfErr r P → IfErr r Q
 if_err (Ok x) f h = tt
@@ -353,7 +373,7 @@ if_err (Err e) f h = f e h
 
 -- the whole follower that was rebuilt under a manifest, of which the code keeps a part
 abbrev pub rebuilt-whole : DbReaderMode → Bool → Objects → Line → Result (Follower × PollAnswer) SlateError → Result (Follower × PollAnswer) SlateError
-rebuilt-whole mode skips o stored (Ok b) = Ok (rebuilt mode skips b.0.view (owed_line mode skips o b.0.view stored) b.0.mark, b.1)
+rebuilt-whole mode skips o stored (Ok b) = Ok (record (rebuilt mode skips b.0.view (owed_line mode skips o b.0.view stored) b.0.mark) { segments = b.0.segments }, b.1)
 rebuilt-whole mode skips o stored (Err e) = Err e
 
 -- a catalogue has the manifests
@@ -393,7 +413,7 @@ logs-known o f g (Truncated at) same all = tt
 
 -- what is seen of objects is seen of their catalogue
 pub sees-known : (stored : Line) (c : Catalogue) (t : Option Objects) (mode : DbReaderMode) (skips opening : Bool) (o : Objects) (b : Follower) (answer : PollAnswer) → IsSound o → content o ≡ stored → IsView mode opening o b.view → SeesOwed (by_objects t) mode skips o stored b answer →
-    SeesOwed (by_catalogue stored c) mode skips (catalogue_of o) stored (rebuilt mode skips b.view (owed_line mode skips o b.view stored) b.mark) answer
+    SeesOwed (by_catalogue stored c) mode skips (catalogue_of o) stored (record (rebuilt mode skips b.view (owed_line mode skips o b.view stored) b.mark) { segments = b.segments }) answer
 sees-known stored c t mode skips opening o b answer sound is v all =
     let owed = owed_line mode skips o b.view stored in
     let line = owed-is t o mode skips b.view stored all.0 all.1 in
@@ -404,14 +424,37 @@ sees-known stored c t mode skips opening o b answer sound is v all =
       all.3 ∙ ap (λ l. Whole (end l)) line,
     )
 
-module _ (stored : Line) (mode : DbReaderMode) (skips opening : Bool) (seen : Objects → Line → Type 0) (seen' : ObjectsOf Span → Line → Type 0) (o o' : Objects) (f f' : ℕ) (sound : IsSound o) (is : content o ≡ stored) (was_seen : seen o stored) where
+-- which keys it replays of objects without a segment is known by their catalogue
+module _ (x : Option Extractor) (stored : Line) (c : Catalogue) (t : Option Objects) (mode : DbReaderMode) (skips : Bool) (o : Objects) (sound : IsSound o) (is : content o ≡ stored) where
+  pub refuses-known : (opening : Bool) (refusal : Option SlateError) → ReplayRefuses (by_objects t) x mode skips opening o stored refusal → ReplayRefuses (by_catalogue stored c) x mode skips opening (catalogue_of o) stored refusal
+  refuses-known opening refusal (view, owed, v, owes, refused) =
+      (view, owed, view-known mode opening o view v, owed-known stored c t o mode skips opening view owed sound is v owes, refused)
+
+  pub followed-ok : {A B : Type 0} (opening : Bool) (a : A) (b : B) → AreFollowed (by_objects t) x mode skips opening o stored (Ok a) → AreFollowed (by_catalogue stored c) x mode skips opening (catalogue_of o) stored (Ok b)
+  followed-ok true a b h = refuses-known true None h
+  followed-ok false a b h = tt
+
+  pub followed-err : (A B : Type 0) (opening : Bool) (e : SlateError) → AreFollowed {A = A} (by_objects t) x mode skips opening o stored (Err e) → AreFollowed {A = B} (by_catalogue stored c) x mode skips opening (catalogue_of o) stored (Err e)
+  followed-err A B true (errors.EmptySegmentPrefix key) h = refuses-known true (Some (errors.EmptySegmentPrefix key)) h
+  followed-err A B true e h = tt
+  followed-err A B false errors.InvalidDBState (key, h) = (key, refuses-known false (Some (errors.EmptySegmentPrefix key)) h)
+  followed-err A B false e h = tt
+
+-- the segments of what is kept of a line are those of the line
+pub segments-whole : (x : Option Extractor) (number : ℕ) (kept line : Line) (segments : List (List ℕ)) → kept ≡ line_above number line → segments ≡ segments_of x (batches_above number kept.batches) → segments ≡ segments_of x (batches_above number line.batches)
+segments-whole x number kept line segments is has =
+    has ∙ (ap (λ (l : Line). segments_of x (batches_above number l.batches)) is ∙ ap (λ (l : Line). segments_of x l.batches) (line_above-twice number number line (omega arith)))
+
+module _ (x : Option Extractor) (stored : Line) (mode : DbReaderMode) (skips opening : Bool) (seen : Objects → Line → Type 0) (seen' : ObjectsOf Span → Line → Type 0) (o o' : Objects) (f f' : ℕ) (sound : IsSound o) (is : content o ≡ stored) (was_seen : seen o stored) where
   -- a follower that takes what is stored of sound objects sees what it is owed
-  pub rebuilds-reduced : (r : Result (Follower × PollAnswer) SlateError) → Rebuilds (by_objects (Some o)) mode skips opening seen (holding o f) r (holding o' f') → Rebuilds (by_catalogue stored (catalogue_of o)) mode skips opening seen' (catalogued o f) (rebuilt-whole mode skips o stored r) (catalogued o' f')
+  pub rebuilds-reduced : (r : Result (Follower × PollAnswer) SlateError) → Rebuilds (by_objects (Some o)) x mode skips opening seen (holding o f) r (holding o' f') → Rebuilds (by_catalogue stored (catalogue_of o)) x mode skips opening seen' (catalogued o f) (rebuilt-whole mode skips o stored r) (catalogued o' f')
   rebuilds-reduced (Ok b) s =
       let all = s.sees o stored refl (o, refl, sound, sym is) was_seen in
       let v = s.can o refl in
       let k = by_catalogue stored (catalogue_of o) in
-      let whole = rebuilt mode skips b.0.view (owed_line mode skips o b.0.view stored) b.0.mark in
+      let whole = record (rebuilt mode skips b.0.view (owed_line mode skips o b.0.view stored) b.0.mark) { segments = b.0.segments } in
+      let line : b.0.line ≡ line_above b.0.view.manifest.last_l0_seq (owed_line mode skips o b.0.view stored) =
+      ap (λ (f : Follower). f.line) all.2 ∙ ap (line_above b.0.view.manifest.last_l0_seq) (owed-is (Some o) o mode skips b.0.view stored all.0 all.1) in
       let known = sees-known stored (catalogue_of o) (Some o) mode skips opening o b.0 b.1 sound is v all in
       record {
         kept = kept-known o o' f f' s.kept;
@@ -424,30 +467,45 @@ module _ (stored : Line) (mode : DbReaderMode) (skips opening : Bool) (seen : Ob
         sees = λ c line at stored_is seen_before.
             subst (λ x. SeesOwed k mode skips x line whole b.1) (some-same (catalogue_of o) c at)
             (subst (λ l. SeesOwed k mode skips (catalogue_of o) l whole b.1) (sym stored_is) known);
+        fits = λ c at. subst (λ x'. RefusesLatest x opening x' None) (some-same (catalogue_of o) c at) (s.fits o refl);
+        segmented = λ c line at stored_is _.
+            let answer : Follower × PollAnswer = (whole, b.1) in
+            subst (λ x'. AreFollowed k x mode skips opening x' line (Ok answer)) (some-same (catalogue_of o) c at)
+            (subst (λ l. AreFollowed k x mode skips opening (catalogue_of o) l (Ok answer)) (sym stored_is)
+            (followed-ok x stored (catalogue_of o) (Some o) mode skips o sound is opening b answer (s.segmented o stored refl (o, refl, sound, sym is) was_seen)));
+        segments = λ opens. segments-whole x b.0.view.manifest.last_l0_seq b.0.line (owed_line mode skips o b.0.view stored) b.0.segments line (s.segments opens);
       }
   rebuilds-reduced (Err e) s = record {
     kept = kept-known o o' f f' s.kept;
     faults = s.faults;
     missing = s.missing;
-    cause = follow_cause-known mode opening o e sound s.cause;
+    cause = follow_cause-known x mode opening o e sound s.cause;
+    fits = tt;
     answer = tt;
     can = tt;
     logs = tt;
     sees = tt;
+    segmented = λ c line at stored_is _.
+        let k = by_catalogue stored (catalogue_of o) in
+        subst (λ x'. AreFollowed {A = Follower × PollAnswer} k x mode skips opening x' line (Err e)) (some-same (catalogue_of o) c at)
+        (subst (λ l. AreFollowed {A = Follower × PollAnswer} k x mode skips opening (catalogue_of o) l (Err e)) (sym stored_is)
+        (followed-err x stored (catalogue_of o) (Some o) mode skips o sound is (Follower × PollAnswer) (Follower × PollAnswer) opening e (s.segmented o stored refl (o, refl, sound, sym is) was_seen)));
+    segments = tt;
   }
 
 -- the whole follower after a poll, of which the code keeps a part
 abbrev pub polled-whole : Objects → Line → CloseResult → (pinned : Bool) → Follower → Follower → Result PollAnswer SlateError → Follower
-polled-whole o stored None false a b (Ok answer) = rebuilt a.mode a.skips b.view (owed_line a.mode a.skips o b.view stored) b.mark
+polled-whole o stored None false a b (Ok answer) = record (rebuilt a.mode a.skips b.view (owed_line a.mode a.skips o b.view stored) b.mark) { segments = b.segments }
 polled-whole o stored closed pinned a b r = a
 
-pub polls-reduced : (stored : Line) (r : Result PollAnswer SlateError) (a b : Follower) (o o' : Objects) (f f' : ℕ) → IsSound o → content o ≡ stored → IsPrefix a.line stored → (is_pinned a.mode ≡ false → HasSeen o a) → Polls (by_objects (Some o)) (kept_follower a) (holding o f) r b (holding o' f') → Polls (by_catalogue stored (catalogue_of o)) a (catalogued o f) r (polled-whole o stored a.result (is_pinned a.mode) a b r) (catalogued o' f')
-polls-reduced stored r a b o o' f f' sound is front seen s = record {
+pub polls-reduced : (x : Option Extractor) (stored : Line) (r : Result PollAnswer SlateError) (a b : Follower) (o o' : Objects) (f f' : ℕ) → IsSound o → content o ≡ stored → IsPrefix a.line stored → (is_pinned a.mode ≡ false → HasSeen o a) → Polls (by_objects (Some o)) x (kept_follower a) (holding o f) r b (holding o' f') → Polls (by_catalogue stored (catalogue_of o)) x a (catalogued o f) r (polled-whole o stored a.result (is_pinned a.mode) a b r) (catalogued o' f')
+polls-reduced x stored r a b o o' f f' sound is front seen s = record {
   closed = if_some {Q = λ q. (r ≡ Err (closed_error q)) × (catalogued o' f' ≡ catalogued o f)} a.result (λ q c. (c.0, same-known o o' f f' c.1)) s.closed;
   failed = failed-by r;
   pinned = λ live stays. let p = s.pinned live stays in
       (p.0 ∙ ap (λ n. Ok (Whole n)) (line_above-end a.view.manifest.last_l0_seq a.line), pinned-same live stays r, same-known o o' f f' p.2);
   rebuilds = λ live free. rebuilt-by r live free (s.rebuilds live free);
+  segments = λ had. segments-by had r (λ live free. s.rebuilds live free) (s.segments (had ∙ sym (ap (λ (l : Line). segments_of x l.batches) (line_above-twice a.view.manifest.last_l0_seq a.view.manifest.last_l0_seq a.line (omega arith)))));
 } where
   failed-by : (r : Result PollAnswer SlateError) → IfErr r (λ e. polled-whole o stored a.result (is_pinned a.mode) a b r ≡ a)
   failed-by (Ok answer) = tt
@@ -466,11 +524,24 @@ polls-reduced stored r a b o o' f f' sound is front seen s = record {
   Seen : ObjectsOf Span → Line → Type 0
   Seen objects line = Unit {0}
 
-  rebuilt-by : (r : Result PollAnswer SlateError) → a.result ≡ None → is_pinned a.mode ≡ false → Rebuilds (by_objects (Some o)) a.mode a.skips false (kept_seen (kept_follower a)) (holding o f) (built b r) (holding o' f') →
-      Rebuilds (by_catalogue stored (catalogue_of o)) a.mode a.skips false Seen (catalogued o f) (built (polled-whole o stored a.result (is_pinned a.mode) a b r) r) (catalogued o' f')
+  segments-by : HasSegments x a → (r : Result PollAnswer SlateError) → (a.result ≡ None → is_pinned a.mode ≡ false → Rebuilds (by_objects (Some o)) x a.mode a.skips false (kept_seen (kept_follower a)) (holding o f) (built b r) (holding o' f')) → HasSegments x b →
+      HasSegments x (polled-whole o stored a.result (is_pinned a.mode) a b r)
+  segments-by had (Err e) rebuilds has = subst (HasSegments x) (sym (failed-by (Err e))) had
+  segments-by had (Ok answer) rebuilds has = by a.result (is_pinned a.mode) refl refl where
+    by : (closed : CloseResult) (pinned : Bool) → a.result ≡ closed → is_pinned a.mode ≡ pinned → HasSegments x (polled-whole o stored closed pinned a b (Ok answer))
+    by (Some q) pinned closed is_it = had
+    by None true live stays = had
+    by None false live free =
+        let floor = b.view.manifest.last_l0_seq in
+        let all = (rebuilds live free).sees o stored refl (o, refl, sound, sym is) (a, refl, front, seen free) in
+        let line = ap (λ (f : Follower). f.line) all.2 ∙ ap (line_above floor) (owed-is (Some o) o a.mode a.skips b.view stored all.0 all.1) in
+        segments-whole x floor b.line (owed_line a.mode a.skips o b.view stored) b.segments line has
+
+  rebuilt-by : (r : Result PollAnswer SlateError) → a.result ≡ None → is_pinned a.mode ≡ false → Rebuilds (by_objects (Some o)) x a.mode a.skips false (kept_seen (kept_follower a)) (holding o f) (built b r) (holding o' f') →
+      Rebuilds (by_catalogue stored (catalogue_of o)) x a.mode a.skips false Seen (catalogued o f) (built (polled-whole o stored a.result (is_pinned a.mode) a b r) r) (catalogued o' f')
   rebuilt-by (Ok answer) live free d =
       let whole : (closed : CloseResult) (pinned : Bool) → Follower = λ closed pinned. polled-whole o stored closed pinned a b (Ok answer) in
       let same : whole a.result (is_pinned a.mode) ≡ whole None false = ap (λ c. whole c (is_pinned a.mode)) live ∙ ap (whole None) free in
-      subst (λ w. Rebuilds (by_catalogue stored (catalogue_of o)) a.mode a.skips false Seen (catalogued o f) (Ok (w, answer)) (catalogued o' f')) (sym same)
-      (rebuilds-reduced stored a.mode a.skips false (kept_seen (kept_follower a)) Seen o o' f f' sound is (a, refl, front, seen free) (Ok (b, answer)) d)
-  rebuilt-by (Err e) live free d = rebuilds-reduced stored a.mode a.skips false (kept_seen (kept_follower a)) Seen o o' f f' sound is (a, refl, front, seen free) (Err e) d
+      subst (λ w. Rebuilds (by_catalogue stored (catalogue_of o)) x a.mode a.skips false Seen (catalogued o f) (Ok (w, answer)) (catalogued o' f')) (sym same)
+      (rebuilds-reduced x stored a.mode a.skips false (kept_seen (kept_follower a)) Seen o o' f f' sound is (a, refl, front, seen free) (Ok (b, answer)) d)
+  rebuilt-by (Err e) live free d = rebuilds-reduced x stored a.mode a.skips false (kept_seen (kept_follower a)) Seen o o' f f' sound is (a, refl, front, seen free) (Err e) d

@@ -2,14 +2,15 @@
 use Rattle.std.specs.Prelude.{◌≡◌, ℕ, ◌≤◌, Bool, true, false, MatchBool, List, take, Result, Ok, Err}
 use Rattle.slate_store.specs.Objects.{ObjectsOf, ChangeOf, changed_all}
 use Rattle.slate_errors.specs.declared.errors.SlateError.{SlateError}
-use Rattle.slate_errors.specs.declared.errors.SlateError.TheVariants.{ObjectStoreError, TransactionalObjectVersionExists, WalTruncated, InvalidDBState, NoMemory}
+use Rattle.slate_errors.specs.declared.errors.SlateError.TheVariants.{EmptySegmentPrefix, ObjectStoreError, TransactionalObjectVersionExists, WalTruncated, InvalidDBState, NoMemory}
 
--- the errors after which a prefix of a command's changes may be made: a fault of the store, log files with a gap, a
--- number at its end, or want of memory
+-- the errors after which a prefix of a command's changes may be made: a fault of the store, log files with a gap, or with a
+-- key without a segment, a number at its end, or want of memory
 abbrev pub leaves_prefix : SlateError → Bool
 leaves_prefix (ObjectStoreError fault) = true
 leaves_prefix TransactionalObjectVersionExists = true
 leaves_prefix (WalTruncated id) = true
+leaves_prefix (EmptySegmentPrefix key) = true
 leaves_prefix InvalidDBState = true
 leaves_prefix NoMemory = true
 leaves_prefix error = false

@@ -9,12 +9,14 @@ use Rattle.slate_store.specs.declared.objects.VersionedManifest.{VersionedManife
 use Rattle.slate_types.specs.declared.store_errors.StoreFault.TheVariants.{Unavailable}
 use Rattle.slate_store.specs.Objects.{ObjectsOf, ChangeOf, PutLog, PutManifest, PutTable, latest_manifest, last_log}
 use Rattle.slate_store.specs.Calls.{WhereModelled}
+use Rattle.slate_status.specs.Segments.{union_of}
 use Rattle.slate_errors.specs.declared.closing.CloseFault.TheVariants as faults
 use Rattle.slate_errors.specs.declared.errors.SlateError.{SlateError}
 use Rattle.slate_errors.specs.declared.errors.SlateError.TheVariants as errors
 use Rattle.slate_errors.specs.Errors.{closed_error}
 use Rattle.slate_model.specs.Changes.{PartMade, after_part}
-use Rattle.slate_model.specs.Handle.{Handle, CloseResult, accepted, latest_tick, next_table, to_log, unstored, untabled}
+pub use Rattle.slate_model.specs.Handle.{has_untabled}
+use Rattle.slate_model.specs.Handle.{Handle, CloseResult, accepted, latest_tick, next_table, to_log, unstored, untabled, untabled_segments}
 use Rattle.slate_model.specs.Knowledge.{Knowledge}
 use Rattle.slate_model.specs.Known.{CountsFaults, Known, Untouched}
 use Rattle.slate_model.specs.Write.{last_number}
@@ -25,7 +27,7 @@ log_after [] last = last
 log_after (batch ∷ batches) last = last + 1
 
 -- the manifest of a flush to a table, where this log file is the last: it names the table of all batches that aren't in
--- tables, and a replay begins after that log file
+-- tables, a replay begins after that log file, and its segments are those that it had and those of the batches, each once
 abbrev pub flushed_manifest : Handle → Manifest → ℕ → Manifest
 flushed_manifest handle manifest last =
     record manifest {
@@ -34,11 +36,8 @@ flushed_manifest handle manifest last =
       last_tick = latest_tick manifest.last_tick (untabled manifest handle);
       replay_after_wal_id = last;
       next_wal_id = last + 1;
+      segments = union_of manifest.segments (untabled_segments handle);
     }
-
--- whether a handle accepted batches that aren't in the tables of a manifest
-abbrev pub has_untabled : Handle → Manifest → Bool
-has_untabled handle manifest = nat_lt manifest.last_l0_seq (accepted handle)
 
 -- the manifest after the latest one that names the handle's next table
 abbrev pub next_flushed : Handle → VersionedManifest → ℕ → VersionedManifest

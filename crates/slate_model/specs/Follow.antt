@@ -1,5 +1,5 @@
 -- What opening and polling a follower answers, and what it leaves.
-use Rattle.std.specs.Prelude.{◌≡◌, ℕ, ◌≤◌, ◌⊎◌, Bool, false, Some, None, Result, Ok, Err, IfOk, IfErr, IfSome, true}
+use Rattle.std.specs.Prelude.{◌≡◌, ℕ, ◌≤◌, ◌⊎◌, Bool, false, List, Option, Some, None, IsSome, Result, Ok, Err, IfOk, IfErr, IfSome, true}
 use Rattle.slate_types.specs.Line.{Line, end}
 use Rattle.slate_store.specs.declared.objects.VersionedManifest.{VersionedManifest}
 use Rattle.slate_store.specs.declared.reader_modes.DbReaderMode.{DbReaderMode}
@@ -12,24 +12,33 @@ use Rattle.slate_errors.specs.declared.errors.SlateError.{SlateError}
 use Rattle.slate_errors.specs.declared.errors.SlateError.TheVariants as errors
 use Rattle.slate_model.specs.declared.answers.PollAnswer.{PollAnswer}
 use Rattle.slate_model.specs.declared.answers.PollAnswer.TheVariants.{Whole, Truncated}
-use Rattle.slate_model.specs.Followed.{IsView, can_follow, last_read}
-use Rattle.slate_model.specs.Follower.{Follower, is_pinned, number, rebuilt}
+use Rattle.slate_model.specs.Followed.{IsView, RefusesLatest, follow_refusal, last_read}
+use Rattle.slate_model.specs.Follower.{Follower, HasSegments, is_pinned, number, rebuilt, unsegmented}
 use Rattle.slate_model.specs.Handle.{up_to}
 use Rattle.slate_model.specs.Knowledge.{Knowledge}
 use Rattle.slate_model.specs.Known.{FaultsRise, Known}
+use Rattle.slate_model.specs.Open.{replayed}
+use Rattle.slate_model.specs.Segments.{Extractor, ops_of, unsegmented_refusal}
 
 -- Why an opening or a poll of a follower answers an error, over a store that is modelled. `unpinned` says that the manifest
--- isn't stored that its checkpoint keeps.
-abbrev pub FollowCause : {L : Type 0} → DbReaderMode → (opening : Bool) → (unpinned : Type 0) → ObjectsOf L → SlateError → Type 0
-FollowCause mode opening unpinned objects errors.LatestTransactionalObjectVersionMissing = latest_manifest objects ≡ None
-FollowCause mode opening unpinned objects errors.InvalidDBState =
-    (latest : VersionedManifest) × (latest_manifest objects ≡ Some latest) × (can_follow opening latest ≡ false)
-FollowCause mode opening unpinned objects (errors.CheckpointMissing id) =
+-- isn't stored that its checkpoint keeps. An opening finds a replayed key without a segment once nothing else stands against
+-- it; a poll answers InvalidDBState then, which has no key.
+abbrev pub FollowCause : {L : Type 0} → Option Extractor → DbReaderMode → (opening : Bool) → (unpinned : Type 0) → ObjectsOf L → SlateError → Type 0
+FollowCause extractor mode opening unpinned objects errors.LatestTransactionalObjectVersionMissing = latest_manifest objects ≡ None
+FollowCause extractor mode opening unpinned objects errors.InvalidDBState =
+    RefusesLatest extractor opening objects (Some errors.InvalidDBState) ⊎ ((opening ≡ false) × IsSome extractor)
+FollowCause extractor mode opening unpinned objects (errors.SegmentExtractorMismatch persisted configured) =
+    RefusesLatest extractor opening objects (Some (errors.SegmentExtractorMismatch persisted configured))
+FollowCause extractor mode opening unpinned objects (errors.SegmentPrefixNotRecognized prefix name) =
+    RefusesLatest extractor opening objects (Some (errors.SegmentPrefixNotRecognized prefix name))
+FollowCause extractor mode opening unpinned objects (errors.EmptySegmentPrefix key) = (opening ≡ true) × RefusesLatest extractor true objects None
+FollowCause extractor mode opening unpinned objects (errors.CheckpointMissing id) =
     (latest : VersionedManifest) × (latest_manifest objects ≡ Some latest) × (mode ≡ Checkpoint id) × (found id latest ≡ None)
-FollowCause mode opening unpinned objects (errors.ObjectStoreError Unavailable) = Unit {0}
-FollowCause mode opening unpinned objects (errors.ObjectStoreError NotFound) = unpinned
-FollowCause mode opening unpinned objects errors.NoMemory = Unit {0}
-FollowCause mode opening unpinned objects error = ⊥
+    × (follow_refusal extractor opening latest ≡ None)
+FollowCause extractor mode opening unpinned objects (errors.ObjectStoreError Unavailable) = Unit {0}
+FollowCause extractor mode opening unpinned objects (errors.ObjectStoreError NotFound) = unpinned
+FollowCause extractor mode opening unpinned objects errors.NoMemory = Unit {0}
+FollowCause extractor mode opening unpinned objects error = ⊥
 
 -- an answer of a poll gives this number
 abbrev pub AnswersAt : ℕ → PollAnswer → Type 0
@@ -42,30 +51,56 @@ IsOwed k mode true objects view stored owed = owed ≡ up_to view.manifest.last_
 IsOwed k (Checkpoint id) false objects view stored owed = k.named objects view stored owed
 IsOwed k mode false objects view stored owed = owed ≡ stored
 
--- the follower sees what it is owed of the line that is stored, and has read the log files for it, and the answer says so
+-- The follower sees what it is owed of the line that is stored, and has read the log files for it, and the answer says so. Its
+-- segments are another matter.
 abbrev pub SeesOwed : {L : Type 0} → Knowledge L → DbReaderMode → (skips : Bool) → ObjectsOf L → (stored : Line) → Follower → PollAnswer → Type 0
 SeesOwed k mode skips objects stored follower answer =
     (owed : Line) × IsOwed k mode skips objects follower.view stored owed
-    × (follower ≡ k.keep_follower (rebuilt mode skips follower.view owed (last_read mode skips follower.view objects))) × (answer ≡ Whole (end owed))
+    × (unsegmented follower ≡ k.keep_follower (rebuilt mode skips follower.view owed (last_read mode skips follower.view objects))) × (answer ≡ Whole (end owed))
 
 -- where the answer says that the log files were whole, the follower has what each one has that is stored
 abbrev pub HasAllLogs : {L : Type 0} → ObjectsOf L → Follower → PollAnswer → Type 0
 HasAllLogs objects follower (Whole at) = last_log 0 objects ≤ follower.mark
 HasAllLogs objects follower (Truncated at) = Unit {0}
 
+-- The batches that a follower replays which goes by a manifest: those that it is owed of the line that is stored, and that aren't
+-- in the manifest's tables. Of their keys the first without a segment is refused so, or each has one.
+abbrev pub ReplayRefuses : {L : Type 0} → Knowledge L → Option Extractor → DbReaderMode → (skips opening : Bool) → ObjectsOf L → (stored : Line) → Option SlateError → Type 0
+ReplayRefuses k extractor mode skips opening objects stored refusal =
+    (view : VersionedManifest) × (owed : Line) × IsView mode opening objects view × IsOwed k mode skips objects view stored owed
+    × (unsegmented_refusal extractor (ops_of (replayed view owed)) ≡ refusal)
+
+abbrev pub LacksSegment : {L : Type 0} → Knowledge L → Option Extractor → DbReaderMode → (skips opening : Bool) → ObjectsOf L → (stored : Line) → Type 0
+LacksSegment k extractor mode skips opening objects stored =
+    (key : List ℕ) × ReplayRefuses k extractor mode skips opening objects stored (Some (errors.EmptySegmentPrefix key))
+
+-- Each key that an opening replays has a segment, where it answers Ok; else it names the first that hasn't. A poll answers
+-- InvalidDBState only where one hasn't.
+abbrev pub AreFollowed : {A L : Type 0} → Knowledge L → Option Extractor → DbReaderMode → (skips opening : Bool) → ObjectsOf L → (stored : Line) → Result A SlateError → Type 0
+AreFollowed k extractor mode skips true objects stored (Ok _) = ReplayRefuses k extractor mode skips true objects stored None
+AreFollowed k extractor mode skips true objects stored (Err (errors.EmptySegmentPrefix key)) =
+    ReplayRefuses k extractor mode skips true objects stored (Some (errors.EmptySegmentPrefix key))
+AreFollowed k extractor mode skips true objects stored (Err error) = Unit {0}
+AreFollowed k extractor mode skips false objects stored (Ok _) = Unit {0}
+AreFollowed k extractor mode skips false objects stored (Err errors.InvalidDBState) = LacksSegment k extractor mode skips false objects stored
+AreFollowed k extractor mode skips false objects stored (Err error) = Unit {0}
+
 -- An opening of a follower, or a poll of one that doesn't stay at a checkpoint: it gives a follower in the mode asked for that
 -- sees what it is owed, and has all log files where it reads them, or answers why not, and changes nothing in the store. `seen`
 -- says what was seen before.
-pub record Rebuilds {L : Type 0} (k : Knowledge L) (mode : DbReaderMode) (skips opening : Bool) (seen : ObjectsOf L → Line → Type 0)
+pub record Rebuilds {L : Type 0} (k : Knowledge L) (extractor : Option Extractor) (mode : DbReaderMode) (skips opening : Bool) (seen : ObjectsOf L → Line → Type 0)
     (before : Known L) (result : Result (Follower × PollAnswer) SlateError) (after : Known L) : Type 0 where
   pub kept : after.objects ≡ before.objects
   pub faults : FaultsRise before.faults after.faults result
   pub missing : result ≡ Err (errors.ObjectStoreError NotFound) → is_pinned mode ≡ true
-  pub cause : IfErr result (λ error. IfSome before.objects (λ o. FollowCause mode opening (k.unpinned mode o) o error))
+  pub cause : IfErr result (λ error. IfSome before.objects (λ o. FollowCause extractor mode opening (k.unpinned mode o) o error))
+  pub fits : IfOk result (λ b. (o : ObjectsOf L) → before.objects ≡ Some o → RefusesLatest extractor opening o None)
   pub answer : IfOk result (λ b. (b.0.mode ≡ mode) × (b.0.skips ≡ skips) × (b.0.lease ≡ None) × (b.0.result ≡ None) × AnswersAt (number b.0) b.1)
   pub can : IfOk result (λ b. (o : ObjectsOf L) → before.objects ≡ Some o → IsView mode opening o b.0.view)
   pub logs : IfOk result (λ b. (o : ObjectsOf L) → before.objects ≡ Some o → is_pinned mode ≡ false → skips ≡ false → HasAllLogs o b.0 b.1)
   pub sees : IfOk result (λ b. (o : ObjectsOf L) (line : Line) → before.objects ≡ Some o → k.is_stored line → seen o line → SeesOwed k mode skips o line b.0 b.1)
+  pub segmented : (o : ObjectsOf L) (line : Line) → before.objects ≡ Some o → k.is_stored line → seen o line → AreFollowed k extractor mode skips opening o line result
+  pub segments : IfOk result (λ b. opening ≡ true → HasSegments extractor b.0)
 
 -- what a poll gives: the follower after it, and its answer
 abbrev pub built : Follower → Result PollAnswer SlateError → Result (Follower × PollAnswer) SlateError
@@ -78,8 +113,9 @@ unseen objects line = Unit {0}
 
 -- A poll of a follower. A closed one answers what closed it, and nothing changes; one at a checkpoint stays there, and nothing
 -- changes; another sees what it is owed, or answers why not and is as before.
-pub record Polls {L : Type 0} (k : Knowledge L) (old : Follower) (before : Known L) (result : Result PollAnswer SlateError) (new : Follower) (after : Known L) : Type 0 where
+pub record Polls {L : Type 0} (k : Knowledge L) (extractor : Option Extractor) (old : Follower) (before : Known L) (result : Result PollAnswer SlateError) (new : Follower) (after : Known L) : Type 0 where
   pub closed : IfSome old.result (λ r. (result ≡ Err (closed_error r)) × (after ≡ before))
   pub failed : IfErr result (λ error. new ≡ old)
   pub pinned : old.result ≡ None → is_pinned old.mode ≡ true → (result ≡ Ok (Whole (number old))) × (new ≡ old) × (after ≡ before)
-  pub rebuilds : old.result ≡ None → is_pinned old.mode ≡ false → Rebuilds k old.mode old.skips false (k.has_seen old) before (built new result) after
+  pub rebuilds : old.result ≡ None → is_pinned old.mode ≡ false → Rebuilds k extractor old.mode old.skips false (k.has_seen old) before (built new result) after
+  pub segments : HasSegments extractor old → HasSegments extractor new

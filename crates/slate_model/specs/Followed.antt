@@ -1,5 +1,5 @@
 -- The manifest that a follower goes by, and which log files it reads.
-use Rattle.std.specs.Prelude.{◌≡◌, ℕ, ◌-◌, ◌||◌, Bool, not, true, false, Option, Some, None, is_some}
+use Rattle.std.specs.Prelude.{◌≡◌, ℕ, ◌-◌, ◌||◌, Bool, if◌then◌else◌, not, true, false, Option, Some, None, is_some}
 use Rattle.std.specs.Option.{option_map}
 use Rattle.slate_store.specs.declared.objects.Checkpoint.{Checkpoint}
 use Rattle.slate_store.specs.declared.objects.VersionedManifest.{VersionedManifest}
@@ -7,10 +7,24 @@ use Rattle.slate_store.specs.declared.reader_modes.DbReaderMode.{DbReaderMode}
 use Rattle.slate_store.specs.declared.reader_modes.DbReaderMode.TheVariants as modes
 use Rattle.slate_store.specs.Checkpoints.{found}
 use Rattle.slate_store.specs.Objects.{ObjectsOf, entry_at, last_log, latest_manifest, versioned}
+use Rattle.slate_errors.specs.declared.errors.SlateError.{SlateError}
+use Rattle.slate_errors.specs.declared.errors.SlateError.TheVariants as errors
+use Rattle.slate_model.specs.Segments.{Extractor, extractor_refusal}
 
 -- Whether a database can be followed by its latest manifest: an opening wants it initialised.
 abbrev pub can_follow : (opening : Bool) → VersionedManifest → Bool
 can_follow opening latest = latest.manifest.initialized || not opening
+
+-- Why a database isn't followed by its latest manifest, where it isn't: an opening wants it initialised, and the extractor to fit
+-- it.
+abbrev pub follow_refusal : Option Extractor → (opening : Bool) → VersionedManifest → Option SlateError
+follow_refusal extractor false latest = None
+follow_refusal extractor true latest = if latest.manifest.initialized then extractor_refusal extractor latest.manifest else Some errors.InvalidDBState
+
+-- the latest manifest of objects is refused so, or not
+abbrev pub RefusesLatest : {L : Type 0} → Option Extractor → (opening : Bool) → ObjectsOf L → Option SlateError → Type 0
+RefusesLatest extractor opening objects refusal =
+    (latest : VersionedManifest) × (latest_manifest objects ≡ Some latest) × (follow_refusal extractor opening latest ≡ refusal)
 
 -- whether a manifest has the checkpoint at which a reader in this mode stays
 abbrev pub finds : DbReaderMode → VersionedManifest → Bool

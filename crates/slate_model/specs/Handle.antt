@@ -1,11 +1,12 @@
 -- What a handle knows, which of its batches aren't stored, and what the code keeps of it.
-use Rattle.std.specs.Prelude.{ℕ, ℤ, ◌-◌, int_lt, Bool, if◌then◌else◌, List, [], ◌∷◌, length, take, Option, Result}
+use Rattle.std.specs.Prelude.{ℕ, ℤ, ◌-◌, int_lt, nat_lt, Bool, if◌then◌else◌, List, [], ◌∷◌, ◌++◌, length, take, Option, Result}
 use Rattle.slate_types.specs.declared.batches.Batch.{Batch}
 use Rattle.slate_types.specs.Line.{Line, end, batches_above}
 use Rattle.slate_store.specs.declared.objects.Manifest.{Manifest}
 use Rattle.slate_store.specs.declared.objects.TableId.{TableId}
 use Rattle.slate_store.specs.declared.objects.VersionedManifest.{VersionedManifest}
 use Rattle.slate_seqtrack.specs.Tracker.{Tracker}
+use Rattle.slate_transactions.specs.Writes.{LastWrites}
 use Rattle.slate_errors.specs.declared.closing.CloseFault.{CloseFault}
 
 -- the result with which something closed, or None while it is open
@@ -17,11 +18,13 @@ pub record Handle : Type 0 where
   pub keeps_log : Bool
   pub limit : ℕ  -- from how many bytes that aren't stored on a write is refused
   pub line : Line  -- the batches that it sees
+  pub segments : List (List ℕ)  -- the prefixes of those that it accepted or replayed since tables had all, rising
   pub durable : ℕ  -- its batches up to this number are stored
   pub epoch : ℕ
   pub counter : ℕ  -- the index of its next table
   pub tick : ℤ  -- the creation time of its last batch, or that of what it was opened with
   pub tracker : Tracker  -- when its batches were written, by their numbers
+  pub writes : Option LastWrites  -- the last writes that it tracks for transactions, from the first of them on
   pub view : VersionedManifest  -- the latest manifest, when it was opened or last found its epoch current
   pub result : CloseResult
 
@@ -45,6 +48,18 @@ to_log handle = if handle.keeps_log then unstored handle else []
 abbrev pub untabled : Manifest → Handle → List Batch
 untabled manifest handle = batches_above manifest.last_l0_seq handle.line.batches
 
+-- whether it accepted batches that aren't in the tables of a manifest
+abbrev pub has_untabled : Handle → Manifest → Bool
+has_untabled handle manifest = nat_lt manifest.last_l0_seq (accepted handle)
+
+-- the prefixes of its batches that aren't in the tables of its view
+abbrev pub untabled_segments : Handle → List (List ℕ)
+untabled_segments handle = if has_untabled handle handle.view.manifest then handle.segments else []
+
+-- the prefixes that it knows: those of its view, and those of its batches
+abbrev pub known_segments : Handle → List (List ℕ)
+known_segments handle = handle.view.manifest.segments ++ untabled_segments handle
+
 -- the later of two moments
 abbrev pub later : ℤ → ℤ → ℤ
 later tick moment = if int_lt tick moment then moment else tick
@@ -63,6 +78,7 @@ abbrev pub line_above : ℕ → Line → Line
 line_above number line =
     record { floor = end line - length (batches_above number line.batches); batches = batches_above number line.batches }
 
--- What the code keeps of a handle: of its line, the batches that aren't in the tables of its view.
+-- What the code keeps of a handle: of its line and its segments, those of the batches that aren't in the tables of its view.
 abbrev pub kept_handle : Handle → Handle
-kept_handle handle = record handle { line = line_above handle.view.manifest.last_l0_seq handle.line }
+kept_handle handle =
+    record handle { line = line_above handle.view.manifest.last_l0_seq handle.line; segments = untabled_segments handle }

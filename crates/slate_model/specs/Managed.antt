@@ -1,5 +1,5 @@
 -- What opening, polling and closing a reader puts and answers that keeps a checkpoint of its own, and what it leaves.
-use Rattle.std.specs.Prelude.{◌≡◌, ℕ, ℤ, ◌⊎◌, Bool, false, MatchBool, List, length, Option, Some, None, unwrap_or, Result, Ok, Err, IfOk, IfErr, IfSome}
+use Rattle.std.specs.Prelude.{◌≡◌, ℕ, ℤ, ◌⊎◌, Bool, false, true, MatchBool, List, length, Option, Some, None, IsSome, unwrap_or, Result, Ok, Err, IfOk, IfErr, IfSome}
 use Rattle.slate_types.specs.Line.{Line}
 use Rattle.slate_types.specs.declared.store_errors.StoreFault.TheVariants.{Unavailable}
 use Rattle.slate_store.specs.declared.objects.VersionedManifest.{VersionedManifest}
@@ -19,11 +19,13 @@ use Rattle.slate_model.specs.declared.leases.Lease.{Lease}
 use Rattle.slate_model.specs.Changes.{PartMade, after_part}
 use Rattle.slate_model.specs.Close.{closed_follower, closing_flush, ended, recorded_fault}
 use Rattle.slate_model.specs.Flush.{recorded}
-use Rattle.slate_model.specs.Follow.{AnswersAt, HasAllLogs, SeesOwed}
-use Rattle.slate_model.specs.Follower.{Follower, number}
+use Rattle.slate_model.specs.Follow.{AnswersAt, AreFollowed, HasAllLogs, LacksSegment, SeesOwed}
+use Rattle.slate_model.specs.Followed.{RefusesLatest}
+use Rattle.slate_model.specs.Follower.{Follower, HasSegments, number}
 use Rattle.slate_model.specs.Handle.{CloseResult}
 use Rattle.slate_model.specs.Knowledge.{Knowledge}
 use Rattle.slate_model.specs.Known.{CountsFaults, Known, Untouched}
+use Rattle.slate_model.specs.Segments.{Extractor}
 use Rattle.slate_model.specs.Lease.{lease_refusal, replaces, to_keep, to_take}
 
 -- Why a call with this plan for a checkpoint answers an error, over a store that is modelled. `stands` says that a manifest is
@@ -36,12 +38,30 @@ PlanCause stands plan objects (errors.ObjectStoreError Unavailable) = Unit {0}
 PlanCause stands plan objects errors.NoMemory = Unit {0}
 PlanCause stands plan objects error = ⊥
 
--- A call puts what its plan for a checkpoint says; at an error, so many of that.
-pub record PutsPlanned {L A B : Type 0} (stands : List (ChangeOf L) → ObjectsOf L → Type 0) (plan : VersionedManifest → Plan A)
-    (objects : ObjectsOf L) (result : Result B SlateError) (made : ℕ) (objects' : ObjectsOf L) : Type 0 where
-  pub cause : IfErr result (PlanCause (stands (checkpoint_changes plan objects) objects) plan objects)
+-- A call puts what its plan for a checkpoint says; at an error, so many of that. `refused` says why it answers what no plan does.
+pub record PutsPlanned {L A B : Type 0} (stands : List (ChangeOf L) → ObjectsOf L → Type 0) (refused : ObjectsOf L → SlateError → Type 0)
+    (plan : VersionedManifest → Plan A) (objects : ObjectsOf L) (result : Result B SlateError) (made : ℕ) (objects' : ObjectsOf L) : Type 0 where
+  pub cause : IfErr result (λ error. PlanCause (stands (checkpoint_changes plan objects) objects) plan objects error ⊎ refused objects error)
   pub part : PartMade result (length (checkpoint_changes {L = L} plan objects)) made
   pub after : objects' ≡ after_part made (checkpoint_changes plan objects) objects
+
+-- a close isn't refused so
+abbrev pub unrefused : {L : Type 0} → ObjectsOf L → SlateError → Type 0
+unrefused objects error = ⊥
+
+-- An opening is, by the latest manifest and its extractor, and by a replayed key without a segment.
+abbrev pub TakeRefusal : {L : Type 0} → Option Extractor → ObjectsOf L → SlateError → Type 0
+TakeRefusal extractor objects (errors.SegmentExtractorMismatch persisted configured) =
+    RefusesLatest extractor true objects (Some (errors.SegmentExtractorMismatch persisted configured))
+TakeRefusal extractor objects (errors.SegmentPrefixNotRecognized prefix name) =
+    RefusesLatest extractor true objects (Some (errors.SegmentPrefixNotRecognized prefix name))
+TakeRefusal extractor objects (errors.EmptySegmentPrefix key) = RefusesLatest extractor true objects None
+TakeRefusal extractor objects error = ⊥
+
+-- and a poll by a replayed key without a segment
+abbrev pub KeepRefusal : {L : Type 0} → Option Extractor → ObjectsOf L → SlateError → Type 0
+KeepRefusal extractor objects errors.InvalidDBState = IsSome extractor
+KeepRefusal extractor objects error = ⊥
 
 -- the follower with the batches and the mark of another, which goes by this manifest and keeps no checkpoint
 abbrev pub follower_under : VersionedManifest → Follower → Follower
@@ -71,18 +91,22 @@ pub record Takes {L : Type 0} (k : Knowledge L) (lifetime : ℕ) (skips : Bool) 
   pub sees : SeesLatest k skips unseen_line follower.view objects' follower answer
 
 -- An opening with options that pass: so many of its changes were made.
-pub record TakesLease {L : Type 0} (k : Knowledge L) (made : ℕ) (lifetime : ℕ) (skips : Bool) (moment : ℤ)
+pub record TakesLease {L : Type 0} (k : Knowledge L) (extractor : Option Extractor) (made : ℕ) (lifetime : ℕ) (skips : Bool) (moment : ℤ)
     (before : Known L) (result : Result (Follower × PollAnswer) SlateError) (after : Known L) : Type 0 where
   pub faults : CountsFaults before.faults after.faults result
-  pub puts : WhereModelled (λ o o'. PutsPlanned k.stands (to_take lifetime moment) o result made o') before.objects after.objects
+  pub puts : WhereModelled (λ o o'. PutsPlanned k.stands (TakeRefusal extractor) (to_take lifetime moment) o result made o') before.objects after.objects
   pub answers : IfOk result (λ b. IsOpenAt skips b.0 b.1)
   pub takes : IfOk result (λ b. WhereModelled (λ o o'. Takes k lifetime skips moment o b.0 b.1 o') before.objects after.objects)
+  pub fits : IfOk result (λ b. (o : ObjectsOf L) → before.objects ≡ Some o → RefusesLatest extractor true o None)
+  pub segmented : (o : ObjectsOf L) (line : Line) → before.objects ≡ Some o → k.is_stored line → AreFollowed k extractor ManagedCheckpoint skips true o line result
+  pub segments : IfOk result (λ b. HasSegments extractor b.0)
+  pub whole : (key : List ℕ) → result ≡ Err (errors.EmptySegmentPrefix key) → made ≡ 1
 
 -- An opening of a reader that keeps a checkpoint: options that are refused change nothing.
-pub record OpensManaged {L : Type 0} (k : Knowledge L) (made : ℕ) (lifetime interval : ℕ) (skips : Bool) (moment : ℤ)
+pub record OpensManaged {L : Type 0} (k : Knowledge L) (extractor : Option Extractor) (made : ℕ) (lifetime interval : ℕ) (skips : Bool) (moment : ℤ)
     (before : Known L) (result : Result (Follower × PollAnswer) SlateError) (after : Known L) : Type 0 where
   pub refused : IfSome (lease_refusal lifetime interval) (λ error. (result ≡ Err error) × Untouched made before after)
-  pub takes : lease_refusal lifetime interval ≡ None → TakesLease k made lifetime skips moment before result after
+  pub takes : lease_refusal lifetime interval ≡ None → TakesLease k extractor made lifetime skips moment before result after
 
 -- what an error of a poll records: itself, but no want of memory
 abbrev pub poll_result : SlateError → CloseResult
@@ -110,25 +134,28 @@ KeepsOrNot plan made old objects new =
 
 -- A poll at a moment of an open reader that keeps a checkpoint under this lease: so many of its changes were made. At an error
 -- it sees what it saw.
-pub record KeepsLease {L : Type 0} (k : Knowledge L) (made : ℕ) (lease : Lease) (moment : ℤ) (old : Follower)
+pub record KeepsLease {L : Type 0} (k : Knowledge L) (extractor : Option Extractor) (made : ℕ) (lease : Lease) (moment : ℤ) (old : Follower)
     (before : Known L) (result : Result PollAnswer SlateError) (new : Follower) (after : Known L) : Type 0 where
   pub faults : CountsFaults before.faults after.faults result
-  pub puts : WhereModelled (λ o o'. PutsPlanned k.stands (to_keep old.view lease moment) o result made o') before.objects after.objects
+  pub puts : WhereModelled (λ o o'. PutsPlanned k.stands (KeepRefusal extractor) (to_keep old.view lease moment) o result made o') before.objects after.objects
   pub answers : IfOk result (λ answer. IsOpenAt old.skips new answer)
   pub keeps : IfOk result (λ answer. WhereModelled (λ o o'. Keeps k lease moment old o new answer o') before.objects after.objects)
   pub failed : IfErr result (λ error. new ≡ record old { lease = new.lease; result = poll_result error })
   pub lapses : IfErr result (λ _. IfSome before.objects (λ o. KeepsOrNot (to_keep old.view lease moment) made old o new))
+  pub segments : HasSegments extractor old → HasSegments extractor new
+  pub segmented : (o : ObjectsOf L) (line : Line) → before.objects ≡ Some o → k.is_stored line → k.has_seen old o line → result ≡ Err errors.InvalidDBState →
+      PlanIs (to_keep old.view lease moment) o (Err refusals.InvalidDBState) ⊎ LacksSegment k extractor ManagedCheckpoint old.skips false o line
 
 -- A poll of a reader that keeps a checkpoint. A closed one answers what closed it, and nothing changes.
-pub record PollsManaged {L : Type 0} (k : Knowledge L) (made : ℕ) (moment : ℤ) (old : Follower)
+pub record PollsManaged {L : Type 0} (k : Knowledge L) (extractor : Option Extractor) (made : ℕ) (moment : ℤ) (old : Follower)
     (before : Known L) (result : Result PollAnswer SlateError) (new : Follower) (after : Known L) : Type 0 where
   pub closed : IfSome old.result (λ r. (result ≡ Err (closed_error r)) × (new ≡ old) × Untouched made before after)
-  pub keeps : (lease : Lease) → old.result ≡ None → old.lease ≡ Some lease → KeepsLease k made lease moment old before result new after
+  pub keeps : (lease : Lease) → old.result ≡ None → old.lease ≡ Some lease → KeepsLease k extractor made lease moment old before result new after
 
 -- A close of a reader that keeps a checkpoint under this lease takes the checkpoint out.
 pub record EndsLease {L : Type 0} (k : Knowledge L) (made : ℕ) (lease : Lease) (before : Known L) (answer : Ended) (after : Known L) : Type 0 where
   pub faults : CountsFaults before.faults after.faults (closing_flush answer.fault)
-  pub puts : WhereModelled (λ o o'. PutsPlanned k.stands (to_delete lease.id) o (closing_flush answer.fault) made o') before.objects after.objects
+  pub puts : WhereModelled (λ o o'. PutsPlanned k.stands unrefused (to_delete lease.id) o (closing_flush answer.fault) made o') before.objects after.objects
 
 -- A close of a reader that keeps a checkpoint. One that was closed before answers what was recorded, and changes nothing.
 pub record ClosesManaged {L : Type 0} (k : Knowledge L) (made : ℕ) (old : Follower) (before : Known L) (answer : Ended) (new : Follower) (after : Known L) : Type 0 where

@@ -1,5 +1,5 @@
 -- What a write adds to a handle, and what refuses it.
-use Rattle.std.specs.Prelude.{◌≡◌, ℕ, ℤ, ◌+◌, ◌⊎◌, ◌==◌, Bool, if◌then◌else◌, nat_lt, int_lt, List, [], ◌∷◌, ◌++◌, length, Option, Some, None, unwrap_or, Result, IfOk, IfErr}
+use Rattle.std.specs.Prelude.{◌≡◌, ℕ, ℤ, ◌+◌, ◌⊎◌, ◌==◌, Bool, if◌then◌else◌, nat_lt, int_lt, List, [], ◌∷◌, ◌++◌, length, Option, Some, None, option_map, unwrap_or, Result, IfOk, IfErr}
 use Rattle.std.specs.List.{list_any}
 use Rattle.std.specs.Option.{option_eq, option_or}
 use Rattle.std.specs.Ordering.{int_eq}
@@ -12,8 +12,10 @@ use Rattle.slate_types.specs.Line.{extended}
 use Rattle.slate_errors.specs.declared.errors.SlateError.{SlateError}
 use Rattle.slate_errors.specs.declared.errors.SlateError.TheVariants.{EmptyBatch, EmptyKey, IncompatibleMergeTtls, InvalidDBState, InvalidClockTick, NoMemory}
 use Rattle.slate_model.specs.declared.answers.Written.{Written}
+use Rattle.slate_transactions.specs.Writes.{after_writes}
 use Rattle.slate_model.specs.Tracked.{tracked}
-use Rattle.slate_model.specs.Handle.{Handle, CloseResult, accepted}
+use Rattle.slate_model.specs.Handle.{Handle, CloseResult, accepted, known_segments, untabled_segments}
+use Rattle.slate_model.specs.Segments.{Extractor, segment_refusal, segments_with}
 use Rattle.slate_model.specs.Unflushed.{limit_refusal, unflushed}
 use Rattle.slate_errors.specs.Errors.{closed_error}
 
@@ -75,25 +77,40 @@ clock_refusal tick moment second (Some at) = None
 clock_refusal tick moment second None = Some (InvalidClockTick tick (unwrap_or second moment))
 
 -- why a write is refused, where it is: the first of these in their order. Want of memory aside, nothing else refuses it.
-abbrev pub write_refusal : Handle → List KeyOp → ℤ → Option ℤ → Option SlateError
-write_refusal handle ops moment second =
+abbrev pub write_refusal : Option Extractor → Handle → List KeyOp → ℤ → Option ℤ → Option SlateError
+write_refusal extractor handle ops moment second =
     option_or (closed_refusal handle.result)
     (option_or (batch_refusal ops)
     (option_or (limit_refusal (unflushed handle) handle.limit)
+    (option_or (segment_refusal extractor (known_segments handle) ops)
     (option_or (number_refusal (accepted handle))
-    (clock_refusal handle.tick moment second (accepted_moment handle.tick moment second)))))
+    (clock_refusal handle.tick moment second (accepted_moment handle.tick moment second))))))
 
 -- the batch that a write makes of operations: the next number, and the accepted moment
 abbrev pub next_batch : Handle → List KeyOp → ℤ → Batch
 next_batch handle ops at = record { number = accepted handle + 1; create_ts = at; ops = ops }
 
--- the handle after a write
-abbrev pub written : Handle → List KeyOp → ℤ → Handle
-written handle ops at =
-    record handle { line = extended handle.line (next_batch handle ops at ∷ []); tick = at; tracker = tracked handle.tracker (accepted handle + 1) at }
+-- the handle after a write, which tracks its writes but for those of unmarked keys
+abbrev pub written_but : (unmarked : List (List ℕ)) → Option Extractor → Handle → List KeyOp → ℤ → Handle
+written_but unmarked extractor handle ops at =
+    record handle {
+      line = extended handle.line (next_batch handle ops at ∷ []);
+      segments = segments_with extractor (untabled_segments handle) ops;
+      tick = at;
+      tracker = tracked handle.tracker (accepted handle + 1) at;
+      writes = option_map (after_writes (accepted handle + 1) unmarked ops) handle.writes;
+    }
 
--- a write of operations to a handle: it is accepted, or refused for what refuses it, or for want of memory
-pub record Writes (old : Handle) (ops : List KeyOp) (moment : ℤ) (second : Option ℤ) (result : Result Written SlateError) (new : Handle) : Type 0 where
-  pub accepted : IfOk result (λ w. (write_refusal old ops moment second ≡ None) × (accepted_moment old.tick moment second ≡ Some w.create_ts)
-      × (w.number ≡ accepted old + 1) × (new ≡ written old ops w.create_ts))
-  pub refused : IfErr result (λ error. ((error ≡ NoMemory) ⊎ (write_refusal old ops moment second ≡ Some error)) × (new ≡ old))
+abbrev pub written : Option Extractor → Handle → List KeyOp → ℤ → Handle
+written extractor handle ops at = written_but [] extractor handle ops at
+
+-- A write of operations to a handle: it is accepted, or refused for what refuses it, or for want of memory. It tracks its
+-- writes but for those of unmarked keys.
+pub record WritesBut (unmarked : List (List ℕ)) (extractor : Option Extractor) (old : Handle) (ops : List KeyOp) (moment : ℤ) (second : Option ℤ) (result : Result Written SlateError) (new : Handle) : Type 0 where
+  pub accepted : IfOk result (λ w. (write_refusal extractor old ops moment second ≡ None) × (accepted_moment old.tick moment second ≡ Some w.create_ts)
+      × (w.number ≡ accepted old + 1) × (new ≡ written_but unmarked extractor old ops w.create_ts))
+  pub refused : IfErr result (λ error. ((error ≡ NoMemory) ⊎ (write_refusal extractor old ops moment second ≡ Some error)) × (new ≡ old))
+
+-- a write that tracks all its writes
+abbrev pub Writes : Option Extractor → Handle → List KeyOp → ℤ → Option ℤ → Result Written SlateError → Handle → Type 0
+Writes extractor old ops moment second result new = WritesBut [] extractor old ops moment second result new

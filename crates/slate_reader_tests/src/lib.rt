@@ -7,3 +7,5 @@ mod follow;
 mod managed;
 #[cfg(test)]
 mod replay;
+#[cfg(test)]
+mod segments;

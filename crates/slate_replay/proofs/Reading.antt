@@ -1,9 +1,9 @@
 -- Tables, read one after another.
-use Rattle.std.proofs.Common.{◌≡◌, ◌≢◌, ℕ, ◌+◌, ◌<◌, ◌≤◌, List, [], ◌∷◌, ◌++◌, take, get_or, length, Option, Some, None, Err, refl, sym, subst, ap, ◌∙◌, arith}
+use Rattle.std.proofs.Common.{◌≡◌, ◌≢◌, ℕ, ◌+◌, ◌<◌, ◌≤◌, List, [], ◌∷◌, ◌++◌, take, get_or, length, map, Option, Some, None, Err, refl, sym, subst, ap, ◌∙◌, arith}
 use Rattle.std.specs.List.{flat_map}
 use Rattle.std.specs.Option.{IfSome}
 use Rattle.std.proofs.lemmas.Grind.{flat_map-append}
-use Rattle.std.proofs.lemmas.List.{append-nil, take_more, take_all}
+use Rattle.std.proofs.lemmas.List.{append-nil, map-append, take_more, take_all}
 use Rattle.std.proofs.lemmas.List.Elements.{All-nil, All-push}
 use Rattle.slate_types.specs.declared.batches.Batch.{Batch}
 use Rattle.slate_types.specs.declared.store_errors.StoreError.{StoreError}
@@ -16,6 +16,7 @@ use Rattle.slate_store.specs.Objects.{Objects, table_at}
 use Rattle.slate_store.proofs.Joining.{batches-more}
 use Rattle.slate_errors.specs.Errors.{error_of_store}
 use Rattle.slate_errors.specs.declared.errors.SlateError.TheVariants.{ObjectStoreError}
+use Rattle.slate_model.specs.Recency.{AreEach}
 use Rattle.slate_model.specs.Tables.{AreJoined, AreStored}
 use Rattle.slate_replay.specs.Tables.{IsOfTables}
 
@@ -81,3 +82,18 @@ pub more-by : (t t' : Option Objects) (ids : List TableId) (i : ℕ) (id d : Tab
 more-by None t' ids i id d tables table same less is found r = tt
 more-by (Some o) t' ids i id d tables table same less is found r =
     read-more o ids i id d tables table less is (subst (λ x. IfSome x (λ o. table_at id o ≡ Some table)) same found) r
+
+-- each of them, over any store
+pub each-by : (t : Option Objects) (ids : List TableId) (i : ℕ) (tables : List (List Batch)) → length ids ≤ i → length tables ≡ length ids → IfSome t (λ o. map Some tables ≡ map (λ id. table_at id o) (take i ids)) → AreEach t ids tables
+each-by None ids i tables all count r = count
+each-by (Some o) ids i tables all count r = r ∙ ap (map (λ id. table_at id o)) (take_all i ids all)
+
+pub each-more : (t t' : Option Objects) (ids : List TableId) (i : ℕ) (id d : TableId) (tables : List (List Batch)) (table : List Batch) → t' ≡ t → i < length ids → id ≡ get_or ids i d → IfSome t' (λ o. table_at id o ≡ Some table) → IfSome t (λ o. map Some tables ≡ map (λ id. table_at id o) (take i ids)) → IfSome t (λ o. map Some (tables ++ table ∷ []) ≡ map (λ id. table_at id o) (take (i + 1) ids))
+each-more None t' ids i id d tables table same less is found r = tt
+each-more (Some o) t' ids i id d tables table same less is found r =
+    let at = subst (λ x. IfSome x (λ o. table_at id o ≡ Some table)) same found in
+    let one : take (i + 1) ids ≡ take i ids ++ id ∷ [] = take_more ids i d less ∙ ap (λ x. take i ids ++ x ∷ []) (sym is) in
+    map-append Some tables (table ∷ [])
+    ∙ (ap (λ xs. xs ++ Some table ∷ []) r
+    ∙ (ap (λ x. map (λ id. table_at id o) (take i ids) ++ x ∷ []) (sym at)
+    ∙ (sym (map-append (λ id. table_at id o) (take i ids) (id ∷ [])) ∙ ap (map (λ id. table_at id o)) (sym one))))

@@ -3,6 +3,7 @@ ghost use Rattle.std.specs.Prelude.{◌≡◌, ◌+◌, ◌≤◌, [], IfErr, If
 ghost use Rattle.std.specs.List.{flat_map};
 ghost use Rattle.slate_types.specs.declared.store_errors.StoreFault.TheVariants.{NotFound};
 ghost use Rattle.slate_model.specs.Known.{FaultsRise};
+ghost use Rattle.slate_model.specs.Recency.{AreEach};
 ghost use Rattle.slate_model.specs.Tables.{AreJoined, AreStored};
 ghost use Rattle.slate_replay.specs.Tables.{IsOfTables};
 
@@ -28,6 +29,7 @@ pub fn read_tables<S: Store>(
     ensures calls { S.calls store.new ≤ S.calls store.old + length ids.now }
     ensures kept { S.objects store.new ≡ S.objects store.old }
     ensures joined { IfOk result (λ tables. AreJoined (S.objects store.old) ids.now (flat_map (λ table. table) tables.items)) }
+    ensures each { IfOk result (λ tables. AreEach (S.objects store.old) ids.now tables.items) }
     ensures missing { result ≡ Err (SlateError.ObjectStoreError NotFound) → IfSome (S.objects store.old) (λ o. AreStored o ids.now → ⊥) }
     ensures refused { IfErr result IsOfTables }
     ensures untouched { ids.now ≡ [] → store.new ≡ store.old }

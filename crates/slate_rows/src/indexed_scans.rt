@@ -47,8 +47,9 @@ pub fn scan_indexed<M: MergeOperator>(
     DbIterator::of_rows(alloc, range.clone()?, order, Seq::of(rows), fault)
 }
 
-/// Adds the keys of a range in tables, table by table.
-fn take_keys<'a, T: Indexed>(
+/// Adds the keys of a range that have an operation in tables, table by table, each table's in order. It takes time
+/// logarithmic in the keys of each table, and constant for each key. It copies no bytes.
+pub fn take_keys<'a, T: Indexed>(
     keys: &mut Vec<&'a Bytes>,
     tables: &'a [T],
     range: &ByteRange,
@@ -75,7 +76,7 @@ fn take_table_keys<'a>(
 }
 
 /// Puts keys in order, each once. What stands in order already, as the keys of each table do, is merged.
-fn order_keys(keys: &mut Vec<&Bytes>, order: IterationOrder) -> Result<(), NoMemory>
+pub fn order_keys(keys: &mut Vec<&Bytes>, order: IterationOrder) -> Result<(), NoMemory>
     ensures in_order { OnOk result (AreInOrder order (key_list keys.new.items)) }
     ensures same { OnOk result ((key : List ℕ) → (Contains (key_list keys.new.items) key ↔ Contains (key_list keys.old.items) key)) }
 {

@@ -13,10 +13,10 @@ mod varints;
 
 pub use entries::{RowEntry, ValueDeletable};
 pub use index_keys::compute_index_key;
-pub use indexed_scans::scan_indexed;
+pub use indexed_scans::{order_keys, scan_indexed, take_keys};
 pub use iterators::DbIterator;
 pub use recencies::{DbRecencyIterator, recency};
-pub use scans::scan;
+pub use scans::{add_found, scan};
 pub use seeks::SeekFault;
 pub use slate_reads::{
     Indexed, IndexedTable, Table, prepare_max_seq, read, read_indexed, read_key,

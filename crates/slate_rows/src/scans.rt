@@ -116,8 +116,8 @@ fn rows_of<M: MergeOperator>(
     Ok((rows, None))
 }
 
-/// Adds the row that was found, or answers the fault.
-pub(crate) fn add_found(
+/// Adds the row that was found to the rows of a scan, or answers the fault that ends them.
+pub fn add_found(
     rows: &mut Vec<KeyValue>,
     found: Result<Option<KeyValue>, ReadFault>,
 ) -> Result<Option<ReadFault>, NoMemory>

@@ -1,5 +1,5 @@
 -- The words of the command line: options in any order, each at most once.
-use Rattle.std.specs.Prelude.{ℕ, true, ◌&&◌, List, [], ◌∷◌, Option, Some, None, codes, is_none, unwrap_or, if◌then◌else◌}
+use Rattle.std.specs.Prelude.{ℕ, true, ◌&&◌, nat_lt, List, [], ◌∷◌, Option, Some, None, codes, is_none, unwrap_or, if◌then◌else◌}
 use Rattle.std.specs.Option.{option_map}
 use Rattle.std.specs.Str.{bytes_eq}
 use Rattle.slate_types.specs.declared.operators.ConcatOperator.{ConcatOperator}
@@ -10,18 +10,25 @@ use Rattle.slate_script.specs.Values.{◌>>=◌}
 
 -- no option
 abbrev pub nothing_given : Given
-nothing_given = record { operator = None; limit = None }
+nothing_given = record { operator = None; segments = None; limit = None }
 
 -- the operator with this name
 abbrev pub operator_of : List ℕ → Option ConcatOperator
 operator_of name = if bytes_eq name (codes "concat") then Some (record {}) else None
 
+-- the length of a prefix that digits spell: from 1 to 255
+abbrev pub length_of : List ℕ → Option ℕ
+length_of digits = do
+  length ← number_of digits
+  if nat_lt 0 length && nat_lt length 256 then Some length else None
+
 -- with the option that a word and its value spell, unless it is given already
 abbrev pub with_option : Given → List ℕ → List ℕ → Option Given
 with_option given word value =
     if bytes_eq word (codes "--merge") && is_none given.operator then option_map (λ operator. record given { operator = Some operator }) (operator_of value)
+    else (if bytes_eq word (codes "--segments") && is_none given.segments then option_map (λ length. record given { segments = Some length }) (length_of value)
     else (if bytes_eq word (codes "--limit") && is_none given.limit then option_map (λ limit. record given { limit = Some limit }) (number_of value)
-    else None)
+    else None))
 
 -- with the options that words spell: each is a word, and the next one is its value
 abbrev pub with_words : Given → List (List ℕ) → Option Given
@@ -35,6 +42,7 @@ with_words given (word ∷ value ∷ words) = do
 abbrev pub run_options : Given → RunOptions
 run_options given = record {
   operator = given.operator;
+  segments = given.segments;
   options = record { max_unflushed_bytes = unwrap_or given.limit 1073741824; compactor = true; compaction_worker = true; collector = true };
 }
 

@@ -1,11 +1,12 @@
 // The options of a run, as the words of the command line spell them.
 ghost use Rattle.std.specs.Prelude.{◌≡◌, map, string_bytes};
-ghost use Rattle.slate_script.specs.Options.{operator_of, options_of, run_options, with_option};
+ghost use Rattle.slate_script.specs.Options.{length_of, operator_of, options_of, run_options, with_option};
 
 use slate_text::read_number;
 use slate_types::ConcatOperator;
 
-/// How the handles of a run are opened. Words say the limit alone yet, and what is to be registered has no effect yet.
+/// How the handles of a run are opened. Of these words say the limit alone yet, and what is to be registered has no effect
+/// yet.
 #[derive(Clone, Copy, Debug, PartialEq, Eq)]
 pub struct Options {
     /// From this many unflushed bytes of keys and values on a write is refused.
@@ -23,6 +24,9 @@ pub struct Options {
 pub struct RunOptions {
     /// The merge operator that its writes and reads are given, where there is one.
     pub operator: Option<ConcatOperator>,
+    /// How many bytes of a key are the prefix of its segment, at least one, where its keys are in segments. That is the
+    /// length of a `FixedPrefix`.
+    pub segments: Option<u8>,
     /// How its handles are opened.
     pub options: Options,
 }
@@ -34,6 +38,7 @@ const DEFAULT_LIMIT: u64 = 1_073_741_824;
 #[derive(Clone, Copy)]
 struct Given {
     operator: Option<ConcatOperator>,
+    segments: Option<u8>,
     limit: Option<u64>,
 }
 
@@ -48,6 +53,17 @@ fn read_operator(name: &str) -> Option<ConcatOperator>
     }
 }
 
+/// The length of a prefix that these digits spell: from 1 to 255.
+fn read_length(digits: &str) -> Option<u8>
+    ensures { result ≡ length_of digits.now }
+{
+    let length = u8::try_from(read_number(digits.as_bytes())?).ok()?;
+    if length == 0 {
+        return None;
+    }
+    Some(length)
+}
+
 /// With the option that a word and its value spell, unless it is given already.
 fn with_option(given: Given, word: &str, value: &str) -> Option<Given>
     ensures { result ≡ with_option given word.now value.now }
@@ -55,6 +71,9 @@ fn with_option(given: Given, word: &str, value: &str) -> Option<Given>
     if word == "--merge" && given.operator.is_none() {
         let operator = Some(read_operator(value)?);
         Some(Given { operator, ..given })
+    } else if word == "--segments" && given.segments.is_none() {
+        let segments = Some(read_length(value)?);
+        Some(Given { segments, ..given })
     } else if word == "--limit" && given.limit.is_none() {
         let limit = Some(read_number(value.as_bytes())?);
         Some(Given { limit, ..given })
@@ -69,6 +88,7 @@ fn run_options(given: Given) -> RunOptions
 {
     RunOptions {
         operator: given.operator,
+        segments: given.segments,
         options: Options {
             max_unflushed_bytes: given.limit.unwrap_or(DEFAULT_LIMIT),
             compactor: true,
@@ -79,14 +99,16 @@ fn run_options(given: Given) -> RunOptions
 }
 
 /// The options that words spell, or None exactly where they spell none. `--merge concat` gives the operator that
-/// appends each operand, and `--limit N` the limit of unflushed bytes, one or more decimal digits, below 2^64; without
-/// them there is no operator, and the limit is 1,073,741,824. They may stand in any order, each at most once. Any other
-/// words are refused, so also one without its value. It takes no memory.
+/// appends each operand, `--segments N` the length of the prefixes by which keys are in segments, from 1 to 255, and
+/// `--limit N` the limit of unflushed bytes, below 2^64; each number is one or more decimal digits. Without them there is no
+/// operator, keys are in no segments, and the limit is 1,073,741,824. They may stand in any order, each at most once. Any
+/// other words are refused, so also one without its value. It takes no memory.
 pub fn read_words(words: &[String]) -> Option<RunOptions>
     ensures { result ≡ options_of (map string_bytes words.now) }
 {
     let mut given = Given {
         operator: None,
+        segments: None,
         limit: None,
     };
     let mut rest = words;

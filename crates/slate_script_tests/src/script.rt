@@ -292,37 +292,53 @@ fn read(alloc: Global, words: &[&str]) -> Result<Option<RunOptions>, Fail> {
     Ok(read_words(owned.as_slice()))
 }
 
-fn run_options(operator: Option<ConcatOperator>, max_unflushed_bytes: u64) -> RunOptions {
+fn run_options(
+    operator: Option<ConcatOperator>,
+    segments: Option<u8>,
+    max_unflushed_bytes: u64,
+) -> RunOptions {
     let options = Options {
         max_unflushed_bytes,
         compactor: true,
         compaction_worker: true,
         collector: true,
     };
-    RunOptions { operator, options }
+    RunOptions {
+        operator,
+        segments,
+        options,
+    }
 }
 
-// `--merge concat` and `--limit N`, in any order.
+// `--merge concat`, `--segments N` and `--limit N`, in any order.
 #[test]
 fn words(rt: HostRuntime) -> Result<(), Fail> {
     let concat = Some(ConcatOperator);
     for (words, want) in [
-        ([].as_slice(), run_options(None, 1_073_741_824)),
+        ([].as_slice(), run_options(None, None, 1_073_741_824)),
         (
             ["--merge", "concat"].as_slice(),
-            run_options(concat, 1_073_741_824),
+            run_options(concat, None, 1_073_741_824),
         ),
         (
             ["--limit", "18446744073709551615"].as_slice(),
-            run_options(None, u64::MAX),
+            run_options(None, None, u64::MAX),
         ),
         (
             ["--limit", "0", "--merge", "concat"].as_slice(),
-            run_options(concat, 0),
+            run_options(concat, None, 0),
         ),
         (
             ["--merge", "concat", "--limit", "008"].as_slice(),
-            run_options(concat, 8),
+            run_options(concat, None, 8),
+        ),
+        (
+            ["--segments", "1"].as_slice(),
+            run_options(None, Some(1), 1_073_741_824),
+        ),
+        (
+            ["--limit", "8", "--segments", "255", "--merge", "concat"].as_slice(),
+            run_options(concat, Some(255), 8),
         ),
     ] {
         assert_eq!(rt; read(rt.alloc(), words)?, Some(want));
@@ -348,6 +364,10 @@ fn refused_words(rt: HostRuntime) -> Result<(), Fail> {
         ["--limit", "8", "--merge", "concat", "--limit", "9"].as_slice(),
         ["--limit", "--merge", "concat"].as_slice(),
         ["--merge", "concat", "--limit"].as_slice(),
+        ["--segments"].as_slice(),
+        ["--segments", "0"].as_slice(),
+        ["--segments", "256"].as_slice(),
+        ["--segments", "2", "--segments", "2"].as_slice(),
     ] {
         assert_eq!(rt; read(rt.alloc(), words)?, None);
     }

@@ -16,9 +16,9 @@ pub struct SegmentPrefix {
     pub prefix: Bytes,
 }
 
-// Copies of prefixes, which share their bytes.
+/// Copies of prefixes, which share their bytes.
 #[tactic(auto, using(slate_store::proofs::Copies::same_items))]
-pub(crate) fn copies(alloc: Global, prefixes: &[Bytes]) -> Result<Vec<Bytes>, NoMemory>
+pub fn copies(alloc: Global, prefixes: &[Bytes]) -> Result<Vec<Bytes>, NoMemory>
     ensures { IfOk result (λ copies. copies.items ≡ prefixes.now) }
 {
     Ok(prefixes.to_vec(alloc)?)
@@ -38,12 +38,8 @@ fn list_of(alloc: Global, set: BTreeSet<Bytes>) -> Result<Vec<Bytes>, NoMemory>
     Ok(set.into_iter().collect(alloc)?)
 }
 
-// The prefixes of either list, rising. It takes n log n comparisons, for n prefixes in both.
-pub(crate) fn union(
-    alloc: Global,
-    first: &[Bytes],
-    second: &[Bytes],
-) -> Result<Vec<Bytes>, NoMemory>
+/// The prefixes of either list, rising, each once. It takes n log n comparisons, for n prefixes in both.
+pub fn union(alloc: Global, first: &[Bytes], second: &[Bytes]) -> Result<Vec<Bytes>, NoMemory>
     ensures union { IfOk result (λ prefixes. IsUnion first.now second.now prefixes.items) }
     ensures set { IfOk result (λ prefixes. prefixes.items ≡ union_of first.now second.now) }
 {

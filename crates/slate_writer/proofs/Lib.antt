@@ -1,10 +1,16 @@
+pub mod Committing
 pub mod Counted
 pub mod Ends
 pub mod Joined
 pub mod Openings
+pub mod Orders
+pub mod Prefixes
+pub mod Segmenting
 pub mod Memory
 pub mod Merging
 pub mod Modelled
 pub mod Puts
+pub mod Reading
+pub mod Spanning
 pub mod Storing
 pub mod Tracking

@@ -1,10 +1,11 @@
 -- What a handle keeps in memory, and the handle of the model that it represents.
-use Rattle.std.specs.Prelude.{◌≡◌, ◌+◌, ◌<◌, ◌≤◌, ◌^◌, [], length, min, IfSome}
+use Rattle.std.specs.Prelude.{◌≡◌, ◌+◌, ◌<◌, ◌≤◌, ◌^◌, length, min, option_map, IfSome}
 use Rattle.slate_seqtrack.specs.Tracker.{last_number}
 use Rattle.slate_types.specs.Line.{AreNumberedFrom, batches_above}
 use Rattle.slate_model.specs.Handle.{Handle}
 use Rattle.slate_model.specs.Unflushed.{most_bytes}
 use Rattle.slate_reads.specs.Size.{size_of}
+use Rattle.slate_status.specs.Segments.{AreRising}
 use Rattle.slate_writer.specs.declared.states.WriterState.TheInside.{Inside}
 
 -- the handle that the fields represent
@@ -14,21 +15,23 @@ handle_of a =
       keeps_log = a.keeps_log;
       limit = a.limit;
       line = record { floor = a.floor; batches = a.memory };
+      segments = a.segments.items;
       durable = a.status.durable;
       epoch = a.epoch;
       counter = a.counter;
       tick = a.tick;
       tracker = a.tracker;
+      writes = option_map (λ t. t.writes) a.tracked;
       view = a.status.manifest;
       result = a.status.result;
     }
 
--- the batches in memory are numbered from the floor on, none past the last of them is stored or tracked, none is in a
--- segment, and those above a number have so many bytes
+-- the batches in memory are numbered from the floor on, none past the last of them is stored or tracked, their prefixes
+-- rise, and those above a number have so many bytes
 pub record IsKept (a : Inside) : Type 0 where
   pub numbered : AreNumberedFrom a.floor a.memory
   pub fits : a.floor + length a.memory < 2 ^ 64
   pub durable : a.status.durable ≤ a.floor + length a.memory
   pub tracked : IfSome (last_number a.tracker.pairs) (λ last. last ≤ a.floor + length a.memory)
-  pub unsegmented : a.status.segments ≡ []
+  pub rising : AreRising a.segments.items
   pub counted : a.unlogged ≡ min (size_of (batches_above a.counted a.memory)) most_bytes

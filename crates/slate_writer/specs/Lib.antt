@@ -4,3 +4,5 @@ pub mod Joined
 pub mod Kept
 pub mod Refusal
 pub mod Scanned
+pub mod Segments
+pub mod Transacting

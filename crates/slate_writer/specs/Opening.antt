@@ -1,9 +1,9 @@
 -- The steps of an opening: what it finds, what it puts, and what it replays.
-use Rattle.std.specs.Prelude.{◌≡◌, ℕ, ◌+◌, ◌-◌, ◌≤◌, ◌<◌, ◌⊎◌, List, [], ◌∷◌, true, Some, Result, Ok, Err}
+use Rattle.std.specs.Prelude.{◌≡◌, ℕ, ◌+◌, ◌-◌, ◌≤◌, ◌<◌, ◌⊎◌, List, [], ◌∷◌, true, Option, Some, None, Result, Ok, Err}
 use Rattle.slate_types.specs.declared.batches.Batch.{Batch}
 use Rattle.slate_store.specs.declared.objects.VersionedManifest.{VersionedManifest}
 use Rattle.slate_types.specs.declared.store_errors.StoreFault.TheVariants.{Unavailable}
-use Rattle.slate_store.specs.Objects.{Objects, Change, PutManifest, PutLog, is_present, latest_manifest}
+use Rattle.slate_store.specs.Objects.{Objects, Change, PutManifest, PutLog, is_present, last_log, latest_manifest}
 use Rattle.slate_store.specs.Logs.{AreTruncatedAt}
 use Rattle.slate_replay.specs.Replay.{Replays, calls_after}
 use Rattle.slate_replay.specs.declared.replays.Replayed.TheVariants.{Whole}
@@ -11,17 +11,42 @@ use Rattle.slate_errors.specs.declared.errors.SlateError.{SlateError}
 use Rattle.slate_errors.specs.declared.errors.SlateError.TheVariants as errors
 use Rattle.slate_model.specs.Changes.{after_part}
 use Rattle.slate_model.specs.Handle.{Handle}
-use Rattle.slate_model.specs.Open.{OpenCause, can_open, found_log, mark_of, opened_manifest, replayed_logs}
+use Rattle.slate_model.specs.Open.{OpenCause, found_log, mark_of, number_of, open_refusal, opened_manifest, replayed_logs}
+use Rattle.slate_model.specs.Segments.{Extractor}
+use Rattle.slate_model.specs.Write.{last_number}
 
--- the last log file of a store that can be opened; or why it can't be
-abbrev pub FindsLog : Objects → Result ℕ SlateError → Type 0
-FindsLog objects (Ok last) = (can_open objects ≡ true) × (last ≡ found_log objects)
-FindsLog objects (Err error) = OpenCause (λ _. ⊥) objects error
+-- the last log file after a replay mark, which isn't the last one that there can be; or why there is none
+abbrev pub FindsLog : (mark : ℕ) → Objects → Result ℕ SlateError → Type 0
+FindsLog mark objects (Ok last) = last ≡ last_log mark objects
+FindsLog mark objects (Err errors.InvalidDBState) = last_number ≤ last_log mark objects
+FindsLog mark objects (Err (errors.ObjectStoreError Unavailable)) = Unit {0}
+FindsLog mark objects (Err errors.NoMemory) = Unit {0}
+FindsLog mark objects (Err error) = ⊥
 
--- the manifest that an opening commits, and the last log file; or why it can't
-abbrev pub FindsNext : Objects → Result (VersionedManifest × ℕ) SlateError → Type 0
-FindsNext objects (Ok found) = (can_open objects ≡ true) × (found.0 ≡ opened_manifest objects) × (found.1 ≡ found_log objects)
-FindsNext objects (Err error) = FindsLog objects (Err error)
+-- the manifest that an opening with an extractor of this name commits, and the last log file
+abbrev pub FindsNext : Option (List ℕ) → Objects → VersionedManifest × ℕ → Type 0
+FindsNext name objects found = (found.0 ≡ opened_manifest name objects) × (found.1 ≡ found_log objects)
+
+-- nothing stands against an opening with an extractor, or this does
+abbrev pub Fits : {A : Type 0} → Option Extractor → Objects → Result A SlateError → Type 0
+Fits extractor objects (Ok _) = open_refusal extractor objects ≡ None
+Fits extractor objects (Err error) = OpenCause extractor (λ _. ⊥) objects error
+
+-- the refusals of an opening by the latest manifest
+abbrev pub IsOfManifest : SlateError → Type 0
+IsOfManifest errors.InvalidDBState = Unit {0}
+IsOfManifest (errors.SegmentExtractorMismatch persisted configured) = Unit {0}
+IsOfManifest (errors.SegmentPrefixNotRecognized prefix name) = Unit {0}
+IsOfManifest error = ⊥
+
+-- the errors of looking for what an opening commits
+abbrev pub IsOfFinding : SlateError → Type 0
+IsOfFinding errors.InvalidDBState = Unit {0}
+IsOfFinding (errors.SegmentExtractorMismatch persisted configured) = Unit {0}
+IsOfFinding (errors.SegmentPrefixNotRecognized prefix name) = Unit {0}
+IsOfFinding (errors.ObjectStoreError Unavailable) = Unit {0}
+IsOfFinding errors.NoMemory = Unit {0}
+IsOfFinding error = ⊥
 
 -- a manifest, and then an empty log file
 abbrev pub opening_puts : VersionedManifest → ℕ → List Change
@@ -57,8 +82,8 @@ Recovers view last objects (Err error) = ⊥
 -- what a handle that was opened sees is what a replay of the log files gives, sound or not
 abbrev pub HasLogs : Objects → Handle → Type 0
 HasLogs objects handle =
-    let m = (opened_manifest objects).manifest in
-    Replays m.replay_after_wal_id (found_log objects) m.last_l0_seq [] handle.line.batches objects (Ok Whole)
+    let latest = latest_manifest objects in
+    Replays (mark_of latest) (found_log objects) (number_of latest) [] handle.line.batches objects (Ok Whole)
 
 -- how often a recovery of the log files of a manifest, up to one of them, calls a store at most
 abbrev pub recovery_calls : {A : Type 0} → VersionedManifest → ℕ → Result A SlateError → ℕ
@@ -71,5 +96,5 @@ recovery_calls view last (Err error) = last - view.manifest.replay_after_wal_id 
 abbrev pub CallsOpening : {A : Type 0} → Objects → (calls calls' : ℕ) → Result A SlateError → Type 0
 CallsOpening objects calls calls' (Ok _) = calls' ≤ calls + 4 + replayed_logs objects
 CallsOpening objects calls calls' (Err (errors.WalTruncated id)) =
-    calls' ≡ calls_after (5 + (id - mark_of (latest_manifest objects))) calls
+    (calls' ≡ calls_after (5 + (id - mark_of (latest_manifest objects))) calls) × (calls' ≤ calls + 5 + replayed_logs objects)
 CallsOpening objects calls calls' (Err error) = calls' ≤ calls + 5 + replayed_logs objects

@@ -17,10 +17,10 @@ impl WriterState {
     /// From then on its writes, reads and flushes answer `Closed`.
     ///
     /// The error of the flush is answered, and is what `flush` would answer, `NoMemory` among them; the handle stays
-    /// cleanly closed, and a batch that wasn't stored is lost. A handle that closed cleanly before answers `Closed`, and
-    /// one that an error closed answers none; neither touches the store, and the result that was recorded first stays.
-    /// It takes the time and the calls of the flush, and a constant of time and no call where there is none. Until handles run tasks, it ends none.
-    /// SlateDB's `close`.
+    /// cleanly closed, and a batch that wasn't stored is lost. A handle that closed cleanly before answers `Closed`,
+    /// and one that an error closed answers none; neither touches the store, and the result that was recorded first
+    /// stays. It takes the time and the calls of the flush, and a constant of time and no call where there is none.
+    /// Until handles run tasks, it ends none. SlateDB's `close`.
     pub fn close<S: Store>(&mut self, alloc: Global, store: &mut S, options: &CloseOptions) -> Ended
         ensures does { (made : ℕ) × Closes (by_objects (S.objects store.old)) made options.now.flush_type self.old
             (known S.objects S.faults store.old) result self.new (known S.objects S.faults store.new) }

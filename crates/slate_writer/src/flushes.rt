@@ -19,13 +19,15 @@ impl WriterState {
     ///
     /// With `Wal` it puts those that aren't stored yet as one log file; where there are none, it puts nothing. With
     /// `MemTable` it does the same, where the handle keeps a log, then puts a table of all batches that aren't in tables
-    /// yet, and commits a manifest that names it, from which on a replay begins after the log files that were there; where
-    /// there are none for a table, it puts nothing. Then it drops the batches from memory that are in the tables of the
-    /// manifest that it goes by.
+    /// yet, and commits a manifest that names it, from which on a replay begins after the log files that were there, and whose
+    /// segments are those of the latest manifest and the prefixes of the batches, each once, in their order; where there are
+    /// none for a table, it puts nothing. Then it drops the batches from memory that are in the tables of the
+    /// manifest that it goes by, and their prefixes, where all are.
     ///
     /// It calls the store three times at most with `Wal`, and five times with `MemTable`. It takes time linear in the
     /// batches that it puts in the log, in the operations of those that it puts in a table, with a logarithm of their keys
-    /// for each key, and in the manifest that it reads and compares with the present one. It copies no keys and no values.
+    /// for each key, and in the manifest that it reads and compares with the present one; a flush to a table also takes
+    /// n log n comparisons, for n prefixes in the manifest and in memory. It copies no keys and no values.
     ///
     /// On a closed handle it answers `Closed` or the error that closed it, and touches no store. A handle that keeps
     /// no log answers `WalDisabled` to a flush with `Wal`. `Fenced`, where another handle opened since, and every fault of

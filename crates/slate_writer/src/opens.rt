@@ -1,5 +1,5 @@
 // Opening a database: its manifest, the fence, and the replay of its log files.
-ghost use Rattle.std.specs.Prelude.{◌≡◌, ℕ, ◌+◌, ◌-◌, ◌<◌, ◌≤◌, ◌^◌, true, None, Some, Ok, Err, length, IfErr, IfOk, IfSome};
+ghost use Rattle.std.specs.Prelude.{◌≡◌, ℕ, ◌+◌, ◌-◌, ◌<◌, ◌≤◌, ◌^◌, true, Option, None, Some, Ok, Err, length, IfErr, IfOk, IfSome};
 ghost use Rattle.std.specs.Option.{option_copied};
 ghost use Rattle.slate_types.specs.Line.{AreNumberedFrom};
 ghost use Rattle.slate_store.specs.Calls.{IsCall, IsOfList, WhereModelled};
@@ -7,20 +7,22 @@ ghost use Rattle.slate_store.specs.declared.objects.VersionedManifest.{Versioned
 ghost use Rattle.slate_store.specs.Objects.{latest_manifest};
 ghost use Rattle.slate_model.specs.Handle.{latest_tick};
 ghost use Rattle.slate_model.specs.Known.{CountsFaults, known};
-ghost use Rattle.slate_model.specs.Open.{OpensHandle, can_open_by, can_reopen, first_manifest, next_manifest};
+ghost use Rattle.slate_model.specs.Open.{OpensHandle, can_open_by, can_reopen, first_manifest, manifest_refusal, mark_of, next_manifest};
+ghost use Rattle.slate_model.specs.Segments.{Extractor, IsExtractor, extractor_name};
 ghost use Rattle.slate_model.specs.Stores.{by_objects};
 ghost use Rattle.slate_model.specs.Write.{last_number};
 ghost use Rattle.slate_replay.specs.Replay.{calls_after};
-ghost use Rattle.slate_writer.specs.Opening.{CallsOpening, FindsLog, FindsNext, HasLogs, PutsOpening, Recovers, recovery_calls};
+ghost use Rattle.slate_writer.specs.Opening.{CallsOpening, FindsLog, FindsNext, Fits, HasLogs, IsOfFinding, IsOfManifest, PutsOpening, Recovers, recovery_calls};
 
 use crate::WriterState;
 use slate_errors::SlateError;
 use slate_reads::IndexedTable;
 use slate_replay::Replayed;
+use slate_segments::{extractor_refusal, name_of, replayed_segments};
 use slate_seqtrack::SequenceTracker;
 use slate_status::StatusRecord;
 use slate_store::{Manifest, Store, StoreError, VersionedManifest};
-use slate_types::{Batch, PrefixExtractor, Seq};
+use slate_types::{Batch, Name, NoMemory, PrefixExtractor, Seq};
 use std::alloc::Global;
 
 /// How a handle writes. SlateDB's `Settings`, as far as it is used here.
@@ -57,17 +59,23 @@ impl Default for WriterOptions {
 
 impl WriterState {
     /// Opens a database, a new one where the store has no manifest. It commits the next manifest, with an epoch above
-    /// those of the handles that were opened before, and puts an empty log file: from then on their flushes store
-    /// nothing and answer `Fenced`, if nothing else fails first, while their writes and gets go on until then. Then it
-    /// replays the log files above the manifest's replay mark, and keeps their batches that aren't in the manifest's
-    /// tables in memory. The handle sees all batches that are stored, and all of them are durable. It reads no table.
-    /// It calls the store four times, and once for each log file that it replays; once more where the replay ended
-    /// early. It takes time linear in the operations of the log files, and for each key a logarithm of the keys. It first
-    /// makes room for 8194 numbers and times, 16 bytes a pair; none of the batches that it finds is tracked. SlateDB's
+    /// those of the handles that were opened before, and, for a new database, the name of the extractor, and puts an
+    /// empty log file: from then on their flushes store nothing and answer `Fenced`, if nothing else fails first, while
+    /// their writes and gets go on until then. Then it replays the log files above the manifest's replay mark, and
+    /// keeps their batches that aren't in the manifest's tables in memory. The handle sees all batches that are stored,
+    /// and all of them are durable. It reads no table. It calls the store four times, and once for each log file that
+    /// it replays; once more where the replay ended early. It takes time linear in the operations of the log files, and
+    /// for each key a logarithm of the keys. It first makes room for 8194 numbers and times, 16 bytes a pair; none of
+    /// the batches that it finds is tracked. With an extractor it also takes a call of it for each segment of the
+    /// manifest and each operation that it replays, and a logarithm of the prefixes for each operation. SlateDB's
     /// `Db::open`.
     ///
     /// It answers `InvalidDBState` where the latest manifest isn't initialised, and where the next manifest, epoch or
-    /// log file would pass the greatest number; nothing is put then. A fault of the store (`ObjectStoreError`) or `NoMemory` may leave the manifest, which
+    /// log file would pass the greatest number; nothing is put then. Nor is where the name of the extractor isn't the one in
+    /// the latest manifest, or one of them is absent (`SegmentExtractorMismatch`, which has both), nor, then, where the
+    /// extractor doesn't answer a stored prefix of itself (`SegmentPrefixNotRecognized`, which names the first). After the
+    /// replay `EmptySegmentPrefix` names the first key that was replayed and has no prefix, or an empty one; the manifest and
+    /// the log file are put then. A fault of the store (`ObjectStoreError`) or `NoMemory` may leave the manifest, which
     /// fences the handles before it, or the manifest and the log file. `WalTruncated` names the log file at which the
     /// replay ended, since it isn't stored or a batch of it is past the next number; it comes where another look at the
     /// latest manifest finds no greater epoch, and `Fenced` where it does, since another handle was opened meanwhile.
@@ -79,18 +87,21 @@ impl WriterState {
         options: &WriterOptions,
         extractor: Option<&E>,
     ) -> Result<WriterState, SlateError>
-        requires { extractor ≡ None }
-        ensures opens { (made : ℕ) × OpensHandle (by_objects (S.objects store.old)) made options.now.wal_enabled options.now.max_unflushed_bytes
+        ensures opens { (x : Option Extractor) → IsExtractor E.may_name E.may_extract (option_copied extractor.entry) x → (made : ℕ) ×
+            OpensHandle (by_objects (S.objects store.old)) x made options.now.wal_enabled options.now.max_unflushed_bytes
             (known S.objects S.faults store.old) result (known S.objects S.faults store.new) }
         // Memory begins after the tables of the manifest.
         ensures floor { IfOk result (λ h. h.line.floor ≡ h.view.manifest.last_l0_seq) }
         ensures replays { IfOk result (λ h. IfSome (S.objects store.old) (λ o. HasLogs o h)) }
         ensures calls { IfSome (S.objects store.old) (λ o. CallsOpening o (S.calls store.old) (S.calls store.new) result) }
+        ensures faults { S.faults store.old ≤ S.faults store.new }
     {
         let tracker = SequenceTracker::new(alloc)?;
-        let (view, last) = find_next(alloc, store)?;
+        let name = name_of(alloc, extractor)?;
+        let (view, last) = find_next(alloc, store, extractor, name)?;
         put_opening(alloc, store, &view, last + 1)?;
         let memory = recover(alloc, store, &view, last)?;
+        let segments = replayed_segments(alloc, extractor, memory.batches())?;
         let floor = view.manifest.last_l0_seq;
         let durable = floor + memory.batches().len() as u64;
         Ok(WriterState {
@@ -101,17 +112,19 @@ impl WriterState {
             counter: 0,
             tick: latest_tick(view.manifest.last_tick, memory.batches()),
             tracker,
+            tracked: None,
             counted: durable,
             unlogged: 0,
             memory,
+            segments,
             status: StatusRecord::new(alloc, durable, view),
         })
     }
 }
 
-/// The manifest of a new database.
-fn first_manifest(alloc: Global) -> Manifest
-    ensures { result ≡ first_manifest }
+/// The manifest of a new database, with the name of its extractor.
+fn first_manifest(alloc: Global, name: Option<Name>) -> Manifest
+    ensures { result ≡ first_manifest name }
 {
     Manifest {
         writer_epoch: 1,
@@ -123,7 +136,7 @@ fn first_manifest(alloc: Global) -> Manifest
         next_wal_id: 1,
         checkpoints: Seq::of(Vec::new(alloc)),
         segments: Seq::of(Vec::new(alloc)),
-        extractor_name: None,
+        extractor_name: name,
     }
 }
 
@@ -136,14 +149,19 @@ fn can_reopen(latest: &VersionedManifest) -> bool
 }
 
 /// The manifest that an opening commits after the latest one, where `last` is the last log file.
-fn next_manifest(alloc: Global, latest: Option<VersionedManifest>, last: u64) -> VersionedManifest
+fn next_manifest(
+    alloc: Global,
+    name: Option<Name>,
+    latest: Option<VersionedManifest>,
+    last: u64,
+) -> VersionedManifest
     requires { can_open_by latest last ≡ true }
-    ensures { result ≡ next_manifest latest last }
+    ensures { result ≡ next_manifest name latest last }
 {
     let Some(latest) = latest else {
         return VersionedManifest {
             id: 1,
-            manifest: first_manifest(alloc),
+            manifest: first_manifest(alloc, name),
         };
     };
     VersionedManifest {
@@ -157,7 +175,27 @@ fn next_manifest(alloc: Global, latest: Option<VersionedManifest>, last: u64) ->
     }
 }
 
-/// The id of the last log file of a database that can be opened by its latest manifest. There is one more id after it.
+/// Why a database isn't opened by its latest manifest with an extractor, or with none.
+fn manifest_refusal<E: PrefixExtractor>(
+    alloc: Global,
+    extractor: Option<&E>,
+    latest: Option<&VersionedManifest>,
+) -> Result<Option<SlateError>, NoMemory>
+    ensures refusal { (x : Option Extractor) → IsExtractor E.may_name E.may_extract (option_copied extractor.entry) x →
+        IfOk result (λ refusal. refusal ≡ manifest_refusal x (option_copied latest.entry)) }
+    ensures kind { IfOk result (λ refusal. IfSome refusal IsOfManifest) }
+    ensures can { (last : ℕ) → IfOk result (λ refusal. refusal ≡ None → last < last_number → can_open_by (option_copied latest.entry) last ≡ true) }
+{
+    let Some(latest) = latest else {
+        return Ok(None);
+    };
+    if !can_reopen(latest) {
+        return Ok(Some(SlateError::InvalidDBState));
+    }
+    extractor_refusal(alloc, extractor, &latest.manifest)
+}
+
+/// The id of the last log file after the replay mark of the latest manifest. There is one more id after it.
 fn find_log<S: Store>(
     alloc: Global,
     store: &mut S,
@@ -167,12 +205,11 @@ fn find_log<S: Store>(
     ensures calls { S.calls store.new ≤ S.calls store.old + 1 }
     ensures counted { IfOk result (λ last. S.calls store.new ≡ calls_after 1 (S.calls store.old)) }
     ensures kept { S.objects store.new ≡ S.objects store.old }
-    ensures can { IfOk result (λ last. can_open_by (option_copied latest.entry) last ≡ true) }
     ensures below { IfOk result (λ last. last < last_number) }
-    ensures where_modelled { IfSome (S.objects store.old) (λ o. option_copied latest.entry ≡ latest_manifest o → FindsLog o result) }
+    ensures kind { IfErr result IsOfFinding }
+    ensures where_modelled { IfSome (S.objects store.old) (λ o. FindsLog (mark_of (option_copied latest.entry)) o result) }
 {
     let mark = match latest {
-        Some(latest) if !can_reopen(latest) => return Err(SlateError::InvalidDBState),
         Some(latest) => latest.manifest.replay_after_wal_id,
         None => 0,
     };
@@ -184,17 +221,28 @@ fn find_log<S: Store>(
 }
 
 /// The manifest that an opening commits, and the id of the last log file. There is one more id after it.
-fn find_next<S: Store>(alloc: Global, store: &mut S) -> Result<(VersionedManifest, u64), SlateError>
+fn find_next<S: Store, E: PrefixExtractor>(
+    alloc: Global,
+    store: &mut S,
+    extractor: Option<&E>,
+    name: Option<Name>,
+) -> Result<(VersionedManifest, u64), SlateError>
     ensures faults { CountsFaults (S.faults store.old) (S.faults store.new) result }
     ensures calls { S.calls store.new ≤ S.calls store.old + 2 }
     ensures counted { IfOk result (λ found. S.calls store.new ≡ calls_after 2 (S.calls store.old)) }
     ensures kept { S.objects store.new ≡ S.objects store.old }
-    ensures where_modelled { IfSome (S.objects store.old) (λ o. FindsNext o result) }
+    ensures where_modelled { IfSome (S.objects store.old) (λ o. IfOk result (FindsNext name o)) }
+    ensures fits { (x : Option Extractor) → IsExtractor E.may_name E.may_extract (option_copied extractor.entry) x → name ≡ extractor_name x →
+        IfSome (S.objects store.old) (λ o. Fits x o result) }
+    ensures kind { IfErr result IsOfFinding }
     ensures below { IfOk result (λ found. found.1 < last_number) }
 {
     let latest = store.latest_manifest(alloc)?;
+    if let Some(error) = manifest_refusal(alloc, extractor, latest.as_ref())? {
+        return Err(error);
+    }
     let last = find_log(alloc, store, latest.as_ref())?;
-    Ok((next_manifest(alloc, latest, last), last))
+    Ok((next_manifest(alloc, name, latest, last), last))
 }
 
 /// Puts the manifest of an opening, and then the fence.

@@ -2,15 +2,19 @@
 ghost use Rattle.std.specs.Prelude.{◌≡◌, ◌-◌, IfOk, length};
 ghost use Rattle.slate_types.specs.Line.{IsLine, batches_above};
 ghost use Rattle.slate_reads.specs.Index.{AreRising};
-ghost use Rattle.slate_model.specs.Handle.{accepted, kept_handle, to_log};
-ghost use Rattle.slate_status.specs.Records.{status_by};
+ghost use Rattle.slate_status.specs.Segments.{AreRising as AreRisingPrefixes};
+ghost use Rattle.slate_model.specs.Handle.{accepted, has_untabled, kept_handle, to_log, untabled_segments};
+ghost use Rattle.slate_model.specs.Status.{handle_status};
 
+use crate::segments::clear_unless;
+use bytes::Bytes;
 use slate_errors::CloseFault;
 use slate_reads::IndexedTable;
 use slate_seqtrack::SequenceTracker;
-use slate_status::{DbStatus, StatusRecord};
+use slate_status::{DbStatus, StatusRecord, copies};
 use slate_store::VersionedManifest;
-use slate_types::{Batch, NoMemory};
+use slate_transactions::TrackedWrites;
+use slate_types::{Batch, NoMemory, Seq};
 use std::alloc::Global;
 use std::marker::Model;
 
@@ -18,18 +22,23 @@ use std::marker::Model;
 ///
 /// A contract sees it as a handle whose line is the batches that it keeps in memory: after each flush, refresh and
 /// compaction these are the batches that it accepted and that aren't in the tables of its manifest. Its memory grows with
-/// them; once the bytes that aren't stored reach its limit (`WriterOptions`), it accepts no batch until a flush. It keeps
-/// when its batches were written, of at most 8192 (`find_ts`, `find_seq`).
+/// them, and with the prefixes of their keys, where it writes with an extractor; once the bytes that aren't stored reach its
+/// limit (`WriterOptions`), it accepts no batch until a flush. It keeps when its batches were written, of at most 8192
+/// (`find_ts`, `find_seq`), and from its first transaction on, for good, which batch last wrote each key.
 #[derive(Drop)]
 pub struct WriterState {
     pub(crate) keeps_log: bool,
     pub(crate) limit: u64,
     pub(crate) floor: u64,
     pub(crate) memory: IndexedTable,
+    /// The prefixes of the batches in memory, rising.
+    pub(crate) segments: Vec<Bytes>,
     pub(crate) epoch: u64,
     pub(crate) counter: u64,
     pub(crate) tick: i64,
     pub(crate) tracker: SequenceTracker,
+    /// The last writes that it tracks for transactions, from the first of them on.
+    pub(crate) tracked: Option<TrackedWrites>,
     /// The batches in memory above this number have `unlogged` bytes of keys and values.
     pub(crate) counted: u64,
     pub(crate) unlogged: u64,
@@ -81,12 +90,16 @@ impl WriterState {
 
     /// A copy of what it reports of itself: the number up to which its batches are stored, the manifest that it goes by
     /// (the latest, when it was opened or last found its epoch current), and why it closed, where it did. It is
-    /// answered of a closed handle, too, and changes nothing. None of its batches is in a segment yet. It takes time
-    /// and memory linear in the manifest. SlateDB's `status`.
+    /// answered of a closed handle, too, and changes nothing. It has the prefixes of the batches that aren't in the tables of
+    /// that manifest, rising, each once. It takes time and memory linear in the manifest and in these prefixes. SlateDB's
+    /// `status`.
     pub fn status(&self, alloc: Global) -> Result<DbStatus, NoMemory>
-        ensures { IfOk result (λ status. status ≡ status_by self.now.durable self.now.view self.now.result) }
+        ensures { IfOk result (λ status. status ≡ handle_status self.now) }
     {
-        self.status.status(alloc)
+        Ok(DbStatus {
+            memtable_segments: Seq::of(copies(alloc, self.untabled_segments())?),
+            ..self.status.status(alloc)?
+        })
     }
 
     /// The manifest that it goes by.
@@ -94,6 +107,24 @@ impl WriterState {
         ensures { result.now ≡ self.now.view }
     {
         self.status.manifest()
+    }
+
+    /// Whether it accepted batches that aren't in the tables of the manifest that it goes by.
+    pub(crate) fn has_untabled(&self) -> bool
+        ensures { result ≡ has_untabled self.now self.now.view.manifest }
+    {
+        self.view().manifest.last_l0_seq < self.accepted()
+    }
+
+    /// The prefixes of those batches, rising.
+    pub(crate) fn untabled_segments(&self) -> &[Bytes]
+        ensures value { result.now ≡ untabled_segments self.now }
+        ensures rising { AreRisingPrefixes result.now }
+    {
+        if !self.has_untabled() {
+            return &[];
+        }
+        self.segments.as_slice()
     }
 
     /// The batches in memory above a number.
@@ -116,12 +147,14 @@ impl WriterState {
         self.batches_above(self.durable())
     }
 
-    /// Drops the batches that are in the tables of the manifest that it goes by.
+    /// Drops the batches that are in the tables of the manifest that it goes by, and, where all are, their prefixes.
     pub(crate) fn forget_tabled(&mut self)
         ensures { self.new ≡ kept_handle self.old }
     {
         let accepted = self.accepted();
         let tabled = self.view().manifest.last_l0_seq;
+        let untabled = self.has_untabled();
+        clear_unless(&mut self.segments, untabled);
         self.memory.drop_through(tabled);
         self.floor = accepted - self.memory.batches().len() as u64;
         if self.counted < tabled {

@@ -15,6 +15,7 @@ use crate::flushes::current_manifest;
 use crate::opens::latest_tick;
 use slate_errors::SlateError;
 use slate_reads::Table;
+use slate_status::union;
 use slate_store::{Manifest, Store, TableId, VersionedManifest};
 use slate_types::{NoMemory, Seq};
 use std::alloc::Global;
@@ -113,7 +114,8 @@ impl WriterState {
         (mark < u64::MAX).then_some(mark)
     }
 
-    /// The manifest after the latest one that names the handle's next table, and a replay of which begins after `mark`.
+    /// The manifest after the latest one that names the handle's next table, and a replay of which begins after `mark`. Its
+    /// segments are those of the latest one and those of the handle's batches.
     fn flushed_manifest(
         &self,
         alloc: Global,
@@ -129,6 +131,11 @@ impl WriterState {
         let last_tick = latest_tick(manifest.last_tick, untabled);
         let mut tables = manifest.tables.into_vec();
         tables.push(self.next_table())?;
+        let segments = union(
+            alloc,
+            manifest.segments.as_slice(),
+            self.untabled_segments(),
+        )?;
         Ok(VersionedManifest {
             id: latest.id + 1,
             manifest: Manifest {
@@ -137,6 +144,7 @@ impl WriterState {
                 last_tick,
                 replay_after_wal_id: mark,
                 next_wal_id: mark + 1,
+                segments: Seq::of(segments),
                 ..manifest
             },
         })

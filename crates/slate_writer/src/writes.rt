@@ -1,19 +1,31 @@
 // Writing a batch to a handle, and what refuses it.
-ghost use Rattle.std.specs.Prelude.{◌≡◌, ◌+◌, ◌<◌, ◌≤◌, ◌^◌, ◌⊎◌, Option, Some, None, Ok, Err, IfOk, IfErr, IfSome};
-ghost use Rattle.slate_model.specs.Handle.{accepted};
+ghost use Rattle.std.specs.Prelude.{◌≡◌, ◌∷◌, ◌++◌, [], All, IsTrue, OnOk, option_map, ◌+◌, ◌<◌, ◌≤◌, ◌^◌, ◌⊎◌, List, Option, Some, None, Ok, Err, IfOk, IfErr, IfSome, unwrap_or};
+ghost use Rattle.std.specs.Option.{option_copied};
+ghost use Rattle.slate_types.specs.declared.batches.Batch.{Batch as ABatch};
+ghost use Rattle.slate_types.specs.declared.batches.KeyOp.{KeyOp as AKeyOp};
+ghost use Rattle.slate_status.specs.Segments.{AreRising};
+ghost use Rattle.slate_model.specs.Handle.{accepted, known_segments, untabled_segments};
+ghost use Rattle.slate_model.specs.Segments.{Extractor, IsExtractor, segment_refusal, segments_with};
 ghost use Rattle.slate_errors.specs.Errors.{closed_error};
-ghost use Rattle.slate_model.specs.Write.{Writes, accepted_moment, batch_refusal, has_empty_key, write_refusal};
+ghost use Rattle.slate_transactions.specs.Writes.{after_writes, is_among};
+ghost use Rattle.slate_model.specs.Write.{Writes, WritesBut, accepted_moment, batch_refusal, has_empty_key, write_refusal};
 ghost use Rattle.slate_model.specs.Tracked.{seconds_of, tracked};
 ghost use Rattle.slate_seqtrack.specs.Tracker.{inserted, last_number};
 ghost use Rattle.slate_writer.specs.Refusal.{answer_of};
+ghost use Rattle.slate_segments.specs.Prefixes.{HaveSame};
+ghost use Rattle.slate_writer.specs.Segments.{prefixes_by};
 
 use crate::WriterState;
 use crate::merges::merge_refusal;
+use crate::segments::{are_among, take_prefixes};
 use crate::sizes::ops_size;
+use bytes::Bytes;
 use slate_errors::SlateError;
 use slate_model::Written;
 use slate_seqtrack::{SequenceTracker, TrackedSeq};
-use slate_types::{Batch, KeyOp, NoMemory, PrefixExtractor, WriteBatch};
+use slate_status::union;
+use slate_transactions::{KeySet, TrackedWrites};
+use slate_types::{Batch, KeyOp, NoMemory, PrefixExtractor, Seq, WriteBatch};
 use std::alloc::Global;
 
 /// A write that was refused: the error, and the batch as it was handed in.
@@ -31,13 +43,25 @@ impl WriterState {
     /// (`EmptyBatch`), with an empty key (`EmptyKey`), where it merges one key under two times of expiry
     /// (`IncompatibleMergeTtls`, which names the first such merge), where the bytes that aren't stored have reached the
     /// handle's limit (`Backpressure`, which names both: what `unflushed` answers, without the batch's own bytes, and
-    /// `max_unflushed_bytes`), after the greatest number (`InvalidDBState`), and where both moments are below the creation
-    /// time of the batch before (`InvalidClockTick`). A refusal, and want of memory (`NoMemory`), changes nothing and hands
-    /// the batch back. After `Backpressure` a flush to a table makes room.
+    /// `max_unflushed_bytes`), where a key has no segment (below), after the greatest number (`InvalidDBState`), and
+    /// where both moments are below the creation time of the batch before (`InvalidClockTick`). A refusal, and want of
+    /// memory (`NoMemory`), changes nothing and hands the batch back. After `Backpressure` a flush to a table makes
+    /// room.
     ///
-    /// It takes time linear in the batch's operations, and for each key that the handle doesn't have yet a logarithm of its
-    /// keys. Where it is accepted, its number and its creation time in whole seconds, rounded down, are tracked, at most one
-    /// in 60 seconds. SlateDB's `write`.
+    /// With an extractor each key is to have a prefix of a byte or more (`EmptySegmentPrefix`, which names the key), and that
+    /// isn't to nest with a known one (`InvalidSegmentPrefix`, which names the prefix and the least known one that it nests
+    /// with): two prefixes nest where they differ and one begins the other. Known are the prefixes of the manifest that the
+    /// handle goes by, those of its batches that aren't in the tables of that, and those of the batch's earlier operations.
+    /// The first operation of the batch that fails is named. A handle is to be given one extractor, or none, from its opening
+    /// on.
+    ///
+    /// It takes time linear in the batch's operations, and for each key that the handle doesn't have yet a logarithm of
+    /// its keys; with an extractor also time linear in the prefixes of the manifest, once, a logarithm of the known ones
+    /// for each byte of an operation's prefix, and, where one is new, a copy of those of the handle's batches and a shift
+    /// of those of the operations before. Where the prefixes of the manifest don't rise, each operation takes time linear
+    /// in them. Once a transaction began on the handle it also takes a logarithm of the tracked keys for each operation.
+    /// Where it is accepted, its number and its creation time in whole seconds, rounded down, are tracked, at most one in
+    /// 60 seconds. SlateDB's `write`.
     pub fn write<E: PrefixExtractor>(
         &mut self,
         alloc: Global,
@@ -46,17 +70,37 @@ impl WriterState {
         second: Option<i64>,
         extractor: Option<&E>,
     ) -> Result<Written, WriteRefusal>
-        requires { extractor ≡ None }
-        ensures does { Writes self.old batch.ops moment second (answer_of result) self.new }
+        ensures does { (x : Option Extractor) → IsExtractor E.may_name E.may_extract (option_copied extractor.entry) x →
+            Writes x self.old batch.ops moment second (answer_of result) self.new }
         ensures handed_back { IfErr result (λ r. r.batch ≡ batch) }
     {
-        let written = match self.admit(alloc, &batch, moment, second) {
-            Ok(written) => written,
+        self.write_but(alloc, batch, &KeySet::new(alloc), moment, second, extractor)
+    }
+
+    /// Accepts a batch as `write` does, and tracks its writes but for those of unmarked keys.
+    pub(crate) fn write_but<E: PrefixExtractor>(
+        &mut self,
+        alloc: Global,
+        batch: WriteBatch,
+        unmarked: &KeySet,
+        moment: i64,
+        second: Option<i64>,
+        extractor: Option<&E>,
+    ) -> Result<Written, WriteRefusal>
+        ensures does { (x : Option Extractor) → IsExtractor E.may_name E.may_extract (option_copied extractor.entry) x →
+            WritesBut unmarked.now x self.old batch.ops moment second (answer_of result) self.new }
+        ensures handed_back { IfErr result (λ r. r.batch ≡ batch) }
+    {
+        let (written, segments) = match self.admit(alloc, &batch, moment, second, extractor) {
+            Ok(admitted) => admitted,
             Err(error) => return refuse(error, batch),
         };
         let size = ops_size(batch.ops.as_slice());
         let unlogged = self.unstored_size().saturating_add(size);
         let durable = self.durable();
+        if make_room(&mut self.tracked, batch.ops.as_slice()).is_err() {
+            return refuse(SlateError::NoMemory, batch);
+        }
         let accepted = Batch {
             number: written.number,
             create_ts: written.create_ts,
@@ -67,23 +111,31 @@ impl WriterState {
         }
         self.counted = durable;
         self.unlogged = unlogged;
+        replace(&mut self.segments, segments);
         self.tick = written.create_ts;
         track(&mut self.tracker, written);
+        let ops = last_ops(self.memory.batches());
+        note(&mut self.tracked, written.number, ops, unmarked);
         Ok(written)
     }
 
-    /// The number and the creation time that a write of a batch gets, or why it is refused.
-    fn admit(
+    /// The number and the creation time that a write of a batch gets, and the prefixes of the handle's batches after it, where
+    /// they are others than before; or why it is refused.
+    fn admit<E: PrefixExtractor>(
         &self,
         alloc: Global,
         batch: &WriteBatch,
         moment: i64,
         second: Option<i64>,
-    ) -> Result<Written, SlateError>
-        ensures admitted { IfOk result (λ w. (write_refusal self.now batch.now.ops moment second ≡ None)
-            × (accepted_moment self.now.tick moment second ≡ Some w.create_ts) × (w.number ≡ accepted self.now + 1)) }
-        ensures fits { IfOk result (λ w. accepted self.now + 1 < 2 ^ 64) }
-        ensures refused { IfErr result (λ e. (e ≡ SlateError.NoMemory) ⊎ (write_refusal self.now batch.now.ops moment second ≡ Some e)) }
+        extractor: Option<&E>,
+    ) -> Result<(Written, Option<Seq<Bytes>>), SlateError>
+        ensures admitted { (x : Option Extractor) → IsExtractor E.may_name E.may_extract (option_copied extractor.entry) x → IfOk result (λ a.
+            (write_refusal x self.now batch.now.ops moment second ≡ None) × (accepted_moment self.now.tick moment second ≡ Some a.0.create_ts)
+            × (a.0.number ≡ accepted self.now + 1) × (unwrap_or a.1 self.now.segments ≡ segments_with x (untabled_segments self.now) batch.now.ops)) }
+        ensures number { IfOk result (λ a. (a.0.number ≡ accepted self.now + 1) × (accepted self.now + 1 < 2 ^ 64)) }
+        ensures rising { IfOk result (λ a. AreRising (unwrap_or a.1 self.now.segments)) }
+        ensures refused { (x : Option Extractor) → IsExtractor E.may_name E.may_extract (option_copied extractor.entry) x → IfErr result (λ e.
+            (e ≡ SlateError.NoMemory) ⊎ (write_refusal x self.now batch.now.ops moment second ≡ Some e)) }
     {
         if let Some(result) = self.closed() {
             return Err(SlateError::of_closed(result));
@@ -94,6 +146,7 @@ impl WriterState {
         if let Some(error) = self.limit_refusal() {
             return Err(error);
         }
+        let taken = self.take_prefixes(alloc, batch.ops.as_slice(), extractor)?;
         let Some(number) = self.accepted().checked_add(1) else {
             return Err(SlateError::InvalidDBState);
         };
@@ -103,7 +156,51 @@ impl WriterState {
                 next_tick: second.unwrap_or(moment),
             });
         };
-        Ok(Written { number, create_ts })
+        let segments = self.segments_with(alloc, taken)?;
+        Ok((Written { number, create_ts }, segments))
+    }
+
+    /// The prefixes of the keys of a batch, or the refusal of its first operation that has no segment beside the known prefixes.
+    fn take_prefixes<E: PrefixExtractor>(
+        &self,
+        alloc: Global,
+        ops: &[KeyOp],
+        extractor: Option<&E>,
+    ) -> Result<Vec<Bytes>, SlateError>
+        ensures ok { (x : Option Extractor) → IsExtractor E.may_name E.may_extract (option_copied extractor.entry) x → IfOk result (λ taken.
+            (segment_refusal x (known_segments self.now) ops.now ≡ None) × HaveSame taken.items (prefixes_by x ops.now)) }
+        ensures err { (x : Option Extractor) → IsExtractor E.may_name E.may_extract (option_copied extractor.entry) x → IfErr result (λ error.
+            (error ≡ SlateError.NoMemory) ⊎ (segment_refusal x (known_segments self.now) ops.now ≡ Some error)) }
+    {
+        let stored = self.view().manifest.segments.as_slice();
+        let segments = self.untabled_segments();
+        take_prefixes(alloc, extractor, stored, segments, ops)
+    }
+
+    /// The prefixes of the handle's batches once these are taken, where they are others than before.
+    fn segments_with(
+        &self,
+        alloc: Global,
+        taken: Vec<Bytes>,
+    ) -> Result<Option<Seq<Bytes>>, NoMemory>
+        ensures with { (x : Option Extractor) (ops : List AKeyOp) → HaveSame taken.items (prefixes_by x ops) → IfOk result (λ next.
+            unwrap_or next self.now.segments ≡ segments_with x (untabled_segments self.now) ops) }
+        ensures rising { IfOk result (λ next. AreRising (unwrap_or next self.now.segments)) }
+    {
+        if self.has_untabled() && are_among(taken.as_slice(), self.segments.as_slice()) {
+            return Ok(None);
+        }
+        let segments = union(alloc, self.untabled_segments(), taken.as_slice())?;
+        Ok(Some(Seq::of(segments)))
+    }
+}
+
+/// Puts other prefixes in the place of these, where there are any.
+fn replace(segments: &mut Vec<Bytes>, next: Option<Seq<Bytes>>)
+    ensures { segments.new.items ≡ unwrap_or next segments.old.items }
+{
+    if let Some(next) = next {
+        *segments = next.into_vec();
     }
 }
 
@@ -117,6 +214,39 @@ fn track(tracker: &mut SequenceTracker, written: Written)
         seq: written.number,
         ts: written.create_ts.div_euclid(1000),
     });
+}
+
+/// Makes room in the last writes, where they are tracked, for the keys of operations.
+fn make_room(tracked: &mut Option<TrackedWrites>, ops: &[KeyOp]) -> Result<(), NoMemory>
+    ensures same { option_map (λ t. t.writes) tracked.new ≡ option_map (λ t. t.writes) tracked.old }
+    ensures room { OnOk result (IfSome tracked.new (λ t. All (λ o. IsTrue (is_among t.room o.key)) ops.now)) }
+{
+    match tracked {
+        Some(tracked) => tracked.make_room(ops),
+        None => Ok(()),
+    }
+}
+
+/// Notes the operations of a batch with this number in the last writes, where they are tracked, but for those on unmarked
+/// keys.
+fn note(tracked: &mut Option<TrackedWrites>, number: u64, ops: &[KeyOp], unmarked: &KeySet)
+    requires number { 0 < number }
+    requires room { IfSome tracked.old (λ t. All (λ o. IsTrue (is_among t.room o.key)) ops.now) }
+    ensures { option_map (λ t. t.writes) tracked.new ≡ option_map (after_writes number unmarked.now ops.now) (option_map (λ t. t.writes) tracked.old) }
+{
+    if let Some(tracked) = tracked {
+        tracked.note(number, ops, unmarked);
+    }
+}
+
+/// The operations of the last batch.
+fn last_ops(batches: &[Batch]) -> &[KeyOp]
+    ensures { (before : List ABatch) (last : ABatch) → batches.now ≡ before ++ last ∷ [] → result.now ≡ last.ops }
+{
+    match batches.split_last() {
+        Some((last, _earlier)) => last.ops.as_slice(),
+        None => &[],
+    }
 }
 
 fn refuse(error: SlateError, batch: WriteBatch) -> Result<Written, WriteRefusal>

@@ -5,12 +5,13 @@ use Rattle.slate_model.specs.Lease.{to_take}
 use Rattle.slate_model.specs.Managed.{PutsPlanned}
 use Rattle.slate_model.specs.Stores.{Stands}
 use Rattle.slate_model.specs.declared.leases.Lease.{Lease}
+use Rattle.slate_follow.specs.Keeping.{MayMismatch}
 use Rattle.slate_follow.proofs.leases.take_lease.Goals as goal
 
 pub returns-in_err-taken-clause-puts : goal.returns-in_err-taken-clause-puts
 returns-in_err-taken-clause-puts g c =
     let e = c.in_err-taken.field-0.0 in
     let plan = to_take c.args.lifetime c.args.moment in
-    let puts : WhereModelled (λ o o'. (made : ℕ) × PutsPlanned {B = VersionedManifest × Lease} Stands plan o (Err e) made o') (g.S.Store.objects c.loop-earlier.store) (g.S.Store.objects c.try_to_take.new.store) = search rules in
-    let all = subst (λ s. WhereModelled (λ o o'. (made : ℕ) × PutsPlanned {B = VersionedManifest × Lease} Stands plan o (Err e) made o') s (g.S.Store.objects c.try_to_take.new.store)) c.loop-earlier.invariant.kept puts in
+    let puts : WhereModelled (λ o o'. (made : ℕ) × PutsPlanned {B = VersionedManifest × Lease} Stands MayMismatch plan o (Err e) made o') (g.S.Store.objects c.loop-earlier.store) (g.S.Store.objects c.try_to_take.new.store) = search rules in
+    let all = subst (λ s. WhereModelled (λ o o'. (made : ℕ) × PutsPlanned {B = VersionedManifest × Lease} Stands MayMismatch plan o (Err e) made o') s (g.S.Store.objects c.try_to_take.new.store)) c.loop-earlier.invariant.kept puts in
     search (rules, all)

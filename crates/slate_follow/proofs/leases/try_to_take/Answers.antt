@@ -1,40 +1,66 @@
-use Rattle.std.proofs.Common.{◌≡◌, false, true, None, Some, Ok, Err, rules, subst, sym}
+use Rattle.std.proofs.Common.{◌≡◌, ◌∙◌, ◌||◌, Bool, false, not, true, None, Some, Ok, Err, ap, refl, rules, subst, sym}
+use Rattle.std.proofs.lemmas.Result.{err_from_is_err_and}
 use Rattle.slate_types.specs.Modelled.{WhereModelled}
 use Rattle.slate_store.specs.Checkpoints.{to_write}
 use Rattle.slate_store.specs.declared.objects.VersionedManifest.{VersionedManifest}
-use Rattle.slate_errors.specs.declared.errors.SlateError.TheVariants.{InvalidDBState}
+use Rattle.slate_errors.specs.declared.errors.SlateError.TheVariants.{NoMemory}
+use Rattle.slate_model.specs.Followed.{can_follow}
 use Rattle.slate_model.specs.Lease.{leased, to_take}
 use Rattle.slate_model.specs.declared.leases.Lease.{Lease}
-use Rattle.slate_follow.specs.Keeping.{GivesLease, PutsManifest}
-use Rattle.slate_follow.proofs.Planned.{all-put, failed-put, not-taken, planless, taken, unput}
+use Rattle.slate_follow.specs.Keeping.{GivesLease, MayMismatch, PutsManifest}
+use Rattle.slate_follow.proofs.Planned.{all-put, failed-put, mismatched, planless, put-matches, taken, unfollowed, unput, unput-same}
 use Rattle.slate_follow.proofs.leases.try_to_take.Goals as goal
+
+initialised : (latest : VersionedManifest) → can_follow true latest ≡ true → latest.manifest.initialized ≡ true
+initialised latest can = by latest.manifest.initialized can where
+  by : (b : Bool) → (b || not true) ≡ true → b ≡ true
+  by true is = refl
+  by false is = absurd (cc)
 
 abbrev Taken : Type 0
 Taken = VersionedManifest × Lease
 
-pub returns-then-not-latest-clause-puts : goal.returns-then-not-latest-clause-puts
-returns-then-not-latest-clause-puts g c =
+pub returns-in-Some-clause-puts : goal.returns-in-Some-clause-puts
+returns-in-Some-clause-puts g c =
     let v = c.in_ok-latest in
-    let new : v.latest.manifest.initialized ≡ false = search rules in
-    let all = planless {A = Taken} (to_take c.args.lifetime c.args.moment) v.latest v.ensures.found v.ensures.kept InvalidDBState (not-taken c.args.lifetime c.args.moment v.latest new) in
+    let r = c.in-Some.refusal in
+    let f = c.in_ok-refusal.ensures in
+    unfollowed c.args.lifetime c.args.moment v.latest r (search rules) {A = Taken} v.ensures.found v.ensures.kept (λ is. f.invalid (c.in-Some.is ∙ ap Some is))
+
+pub returns-in-Some-clause-mismatch : goal.returns-in-Some-clause-mismatch
+returns-in-Some-clause-mismatch g c x lawful =
+    let v = c.in_ok-latest in
+    let r = c.in-Some.refusal in
+    let f = c.in_ok-refusal.ensures in
+    mismatched c.args.lifetime c.args.moment v.latest r (search rules) x (sym (f.refusal x lawful) ∙ c.in-Some.is) (g.S.Store.objects c.args.store.now) v.ensures.found
+
+pub returns-in_err-refusal-clause-puts : goal.returns-in_err-refusal-clause-puts
+returns-in_err-refusal-clause-puts g c =
+    let v = c.in_ok-latest in
+    let all = planless {A = Taken} MayMismatch (to_take c.args.lifetime c.args.moment) v.latest v.ensures.found v.ensures.kept NoMemory tt in
     search (rules, all)
+
+pub returns-in_err-is_put-clause-mismatch : goal.returns-in_err-is_put-clause-mismatch
+returns-in_err-is_put-clause-mismatch g c x lawful =
+    let p = err_from_is_err_and c.from_residual-in_err-is_put.result c.from_residual-in_err-is_put.ensures.1 in
+    rw (p.1, p.2) (put-matches x c.in_ok-next.next c.in_err-is_put.field-0.0 c.in_ok-latest.ensures.kept c.in_err-is_put.ensures.puts)
 
 pub returns-in_err-next-clause-puts : goal.returns-in_err-next-clause-puts
 returns-in_err-next-clause-puts g c =
     let v = c.in_ok-latest in
     let e = c.in_err-next.field-0.0 in
-    let there : v.latest.manifest.initialized ≡ true = search rules in
+    let there : v.latest.manifest.initialized ≡ true = initialised v.latest (search rules) in
     let gives : GivesLease (leased c.args.lifetime (to_write None (Some c.args.lifetime) c.args.moment v.latest)) (Err e) = search rules in
-    let all = planless {A = Taken} (to_take c.args.lifetime c.args.moment) v.latest v.ensures.found v.ensures.kept e (subst (λ p. GivesLease p (Err e)) (sym (taken c.args.lifetime c.args.moment v.latest there)) gives) in
+    let all = planless {A = Taken} MayMismatch (to_take c.args.lifetime c.args.moment) v.latest v.ensures.found v.ensures.kept e (subst (λ p. GivesLease p (Err e)) (sym (taken c.args.lifetime c.args.moment v.latest there)) gives) in
     search (rules, all)
 
 pub returns-in_err-is_put-clause-puts : goal.returns-in_err-is_put-clause-puts
 returns-in_err-is_put-clause-puts g c =
     let v = c.in_ok-latest in
     let n = c.in_ok-next in
-    let there : v.latest.manifest.initialized ≡ true = search rules in
+    let there : v.latest.manifest.initialized ≡ true = initialised v.latest (search rules) in
     let gives : leased c.args.lifetime (to_write None (Some c.args.lifetime) c.args.moment v.latest) ≡ Ok (Some n.next, n.lease) = search rules in
-    let all = failed-put {A = Taken} (to_take c.args.lifetime c.args.moment) v.latest v.ensures.found v.ensures.kept n.next n.lease (subst (λ p. p ≡ Ok (Some n.next, n.lease)) (sym (taken c.args.lifetime c.args.moment v.latest there)) gives) c.in_err-is_put.field-0.0 c.in_err-is_put.ensures.puts in
+    let all = failed-put {A = Taken} MayMismatch (to_take c.args.lifetime c.args.moment) v.latest v.ensures.found v.ensures.kept n.next n.lease (subst (λ p. p ≡ Ok (Some n.next, n.lease)) (sym (taken c.args.lifetime c.args.moment v.latest there)) gives) c.in_err-is_put.field-0.0 c.in_err-is_put.ensures.puts in
     let is : c.from_residual-in_err-is_put.result ≡ Err c.in_err-is_put.field-0.0 = search rules in
     rw is all
 
@@ -42,18 +68,25 @@ pub returns-then-not-is_put-clause-puts : goal.returns-then-not-is_put-clause-pu
 returns-then-not-is_put-clause-puts g c =
     let v = c.in_ok-latest in
     let n = c.in_ok-next in
-    let there : v.latest.manifest.initialized ≡ true = search rules in
+    let there : v.latest.manifest.initialized ≡ true = initialised v.latest (search rules) in
     let gives : leased c.args.lifetime (to_write None (Some c.args.lifetime) c.args.moment v.latest) ≡ Ok (Some n.next, n.lease) = search rules in
     let is_put : c.in_ok-is_put.is_put ≡ false = search rules in
-    let all = unput {A = Taken} (to_take c.args.lifetime c.args.moment) v.latest v.ensures.found v.ensures.kept n.next n.lease (subst (λ p. p ≡ Ok (Some n.next, n.lease)) (sym (taken c.args.lifetime c.args.moment v.latest there)) gives) (subst (λ b. WhereModelled (PutsManifest n.next (Ok b)) (g.S.Store.objects c.latest_of.new.store) (g.S.Store.objects c.put_next.new.store)) is_put c.in_ok-is_put.ensures.puts) in
+    let all = unput {A = Taken} MayMismatch (to_take c.args.lifetime c.args.moment) v.latest v.ensures.found v.ensures.kept n.next n.lease (subst (λ p. p ≡ Ok (Some n.next, n.lease)) (sym (taken c.args.lifetime c.args.moment v.latest there)) gives) (subst (λ b. WhereModelled (PutsManifest n.next (Ok b)) (g.S.Store.objects c.latest_of.new.store) (g.S.Store.objects c.put_next.new.store)) is_put c.in_ok-is_put.ensures.puts) in
     search (rules, all)
+
+pub returns-then-not-is_put-clause-again : goal.returns-then-not-is_put-clause-again
+returns-then-not-is_put-clause-again g c answered =
+    let v = c.in_ok-latest in
+    let n = c.in_ok-next in
+    let is_put : c.in_ok-is_put.is_put ≡ false = search rules in
+    unput-same n.next (g.S.Store.objects c.latest_of.new.store) (g.S.Store.objects c.put_next.new.store) (subst (λ b. WhereModelled (PutsManifest n.next (Ok b)) (g.S.Store.objects c.latest_of.new.store) (g.S.Store.objects c.put_next.new.store)) is_put c.in_ok-is_put.ensures.puts) ∙ v.ensures.kept
 
 pub returns-clause-puts : goal.returns-clause-puts
 returns-clause-puts g c =
     let v = c.in_ok-latest in
     let n = c.in_ok-next in
-    let there : v.latest.manifest.initialized ≡ true = search rules in
+    let there : v.latest.manifest.initialized ≡ true = initialised v.latest (search rules) in
     let gives : leased c.args.lifetime (to_write None (Some c.args.lifetime) c.args.moment v.latest) ≡ Ok (Some n.next, n.lease) = search rules in
     let is_put : c.in_ok-is_put.is_put ≡ true = search rules in
-    let all = all-put {A = Taken} (to_take c.args.lifetime c.args.moment) v.latest v.ensures.found v.ensures.kept n.next n.lease (subst (λ p. p ≡ Ok (Some n.next, n.lease)) (sym (taken c.args.lifetime c.args.moment v.latest there)) gives) (n.next, n.lease) (subst (λ b. WhereModelled (PutsManifest n.next (Ok b)) (g.S.Store.objects c.latest_of.new.store) (g.S.Store.objects c.put_next.new.store)) is_put c.in_ok-is_put.ensures.puts) in
+    let all = all-put {A = Taken} MayMismatch (to_take c.args.lifetime c.args.moment) v.latest v.ensures.found v.ensures.kept n.next n.lease (subst (λ p. p ≡ Ok (Some n.next, n.lease)) (sym (taken c.args.lifetime c.args.moment v.latest there)) gives) (n.next, n.lease) (subst (λ b. WhereModelled (PutsManifest n.next (Ok b)) (g.S.Store.objects c.latest_of.new.store) (g.S.Store.objects c.put_next.new.store)) is_put c.in_ok-is_put.ensures.puts) in
     search (rules, all)

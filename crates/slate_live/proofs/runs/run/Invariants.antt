@@ -1,14 +1,15 @@
-use Rattle.std.proofs.Common.{◌≡◌, ◌≤◌, [], List, Option, Some, length, take, vec_len, vec_capacity}
+use Rattle.std.proofs.Common.{◌≡◌, ◌≤◌, [], List, Some, length, take, vec_len, vec_capacity}
 use Rattle.std.specs.Option.{option_copied}
-use Rattle.slate_types.specs.Operator.{Merge}
 use Rattle.slate_reads.specs.Read.{IsOperator}
 use Rattle.slate_store.specs.Objects.{Objects}
 use Rattle.slate_store.specs.Content.{IsSound}
 use Rattle.slate_model.specs.Known.{known}
+use Rattle.slate_model.specs.Segments.{IsExtractor}
 use Rattle.slate_live.specs.Run.{DoAll}
 use Rattle.slate_live.specs.State.{running}
 use Rattle.slate_live.specs.Steps.{Step, last_world}
-use Rattle.slate_live.specs.Represents.{Represents}
+use Rattle.slate_live.specs.Represents.{AreInSegments, Represents}
+use Rattle.slate_live.specs.Settings.{Settings}
 use Rattle.slate_live.specs.World.{start}
 use Rattle.slate_live.proofs.Chains.{Done}
 use Rattle.slate_live.proofs.runs.run.Given as goal
@@ -21,11 +22,12 @@ invariant-loop-command g l =
       count : vec_len l.replies ≡ l.command-index;
       room : length l.commands ≤ vec_capacity l.replies;
       options : l.live.options ≡ l.options;
-      does : (merge : Option Merge) → IsOperator g.M.MergeOperator.may_answer (option_copied l.operator) merge →
-          DoAll (record { merge = merge; options = l.options }) (record { objects = []; writes = []; store = known g.S.Store.objects g.S.Store.faults l.fn.store })
+      does : (settings : Settings) → IsOperator g.M.MergeOperator.may_answer (option_copied l.operator) settings.merge → IsExtractor g.E.PrefixExtractor.may_name g.E.PrefixExtractor.may_extract (option_copied l.extractor) settings.extractor → settings.options ≡ l.options →
+          DoAll settings (record { objects = []; writes = []; store = known g.S.Store.objects g.S.Store.faults l.fn.store })
           (take l.command-index l.commands) l.replies.items (running l.live (known g.S.Store.objects g.S.Store.faults l.store));
-      leads : (merge : Option Merge) → IsOperator g.M.MergeOperator.may_answer (option_copied l.operator) merge →
+      leads : (settings : Settings) → IsOperator g.M.MergeOperator.may_answer (option_copied l.operator) settings.merge → IsExtractor g.E.PrefixExtractor.may_name g.E.PrefixExtractor.may_extract (option_copied l.extractor) settings.extractor → settings.options ≡ l.options →
           (before : Objects) → g.S.Store.objects l.fn.store ≡ Some before → IsSound before →
-          (steps : List Step) × Done (record { merge = merge; options = l.options }) (start before (g.S.Store.faults l.fn.store)) (take l.command-index l.commands) l.replies.items steps
-          × Represents l.live (known g.S.Store.objects g.S.Store.faults l.store) (last_world (start before (g.S.Store.faults l.fn.store)) steps);
+          (steps : List Step) × Done settings (start before (g.S.Store.faults l.fn.store)) (take l.command-index l.commands) l.replies.items steps
+          × Represents l.live (known g.S.Store.objects g.S.Store.faults l.store) (last_world (start before (g.S.Store.faults l.fn.store)) steps)
+          × AreInSegments settings.extractor (last_world (start before (g.S.Store.faults l.fn.store)) steps);
     }

@@ -1,13 +1,16 @@
-use Rattle.std.proofs.Common.{◌≡◌, inr, ap, refl, sym, subst, ◌∙◌}
+use Rattle.std.proofs.Common.{◌≡◌, ◌++◌, codes, inr, ap, refl, sym, subst, ◌∙◌}
+use Rattle.std.specs.Fmt.{decimal}
 use Rattle.std.specs.Option.{option_map}
 use Rattle.slate_types.specs.Operator.{concat}
+use Rattle.slate_types.specs.Prefix.{fixed_prefix}
+use Rattle.slate_model.specs.Segments.{IsExtractor}
 use Rattle.slate_reads.specs.Read.{IsOperator}
 use Rattle.slate_script.specs.Replies.{replies_text}
 use Rattle.slate_live.specs.Run.{IsRun}
-use Rattle.slate_live.specs.Session.{EndsWriting, settings_of}
+use Rattle.slate_live.specs.Session.{EndsWriting, fixed_extractor, settings_of}
 use Rattle.slate_live.specs.declared.sessions.Outcome.TheVariants.{NoMemory, WordsRefused}
 use Rattle.slate_model.specs.Known.{known}
-use Rattle.slate_live.proofs.Endings.{appends, ends-refused, ends-unrun}
+use Rattle.slate_live.proofs.Endings.{appends, ends-refused, ends-unrun, extracts}
 use Rattle.slate_live.proofs.sessions.session.Goals as goal
 
 pub returns-in_default-clause-ends : goal.returns-in_default-clause-ends
@@ -16,6 +19,16 @@ returns-in_default-clause-ends g c = (
   c.finished.ensures.status,
   c.finished.ensures.line,
   ends-refused _ _ _ (sym c.read_words.ensures ∙ c.in_default.is) (c.finished.ensures.replies ∙ c.new.ensures.items),
+)
+
+pub returns-in_default-extractor_of-clause-ends : goal.returns-in_default-extractor_of-clause-ends
+returns-in_default-extractor_of-clause-ends g c = (
+  NoMemory,
+  c.finished-in_default-extractor_of.ensures.status,
+  c.finished-in_default-extractor_of.ensures.line,
+  ends-unrun _ c.in-Some.words _ _ _ (sym c.read_words.ensures ∙ c.in-Some.is)
+      (record { written = refl; sink_faults = refl; store = refl })
+      (c.finished-in_default-extractor_of.ensures.replies ∙ c.new-in_default-extractor_of.ensures.items),
 )
 
 pub returns-in_default-run-clause-ends : goal.returns-in_default-run-clause-ends
@@ -35,6 +48,8 @@ returns-clause-ends g c =
     let script = c.in-Ok.ensures.reads in
     let merge = option_map (λ operator. concat) words.operator in
     let lawful = subst (λ o. IsOperator (λ operator key existing operand answer. answer ≡ concat key existing operand) o merge) (sym c.as_ref.ensures.value) (appends words.operator) in
+    let extractor = option_map fixed_extractor words.segments in
+    let cuts = subst (λ o. IsExtractor (λ length name. name ≡ codes "fixed-" ++ decimal length) (λ length key answer. answer ≡ fixed_prefix length key) o extractor) (sym (c.as_ref-2.ensures.value ∙ c.in-Ok-extractor_of.ensures)) (extracts words.segments) in
     let before = known g.S.Store.objects g.S.Store.faults c.args.store.now in
     let after = known g.S.Store.objects g.S.Store.faults c.run.new.store in
     let same : c.as_slice-2.result.now ≡ c.finished-2.result.replies = c.as_slice-2.ensures.value ∙ sym c.finished-2.ensures.replies in (
@@ -49,7 +64,7 @@ returns-clause-ends g c =
         commands = c.in-Ok.commands.items;
         script = script.2;
         run = subst (λ commands. IsRun (settings_of words) commands c.finished-2.result.replies before after) c.as_slice.ensures.value
-            (subst (λ replies. IsRun (settings_of words) c.as_slice.result.now replies before after) (sym c.finished-2.ensures.replies) (c.in-Ok-run.ensures.leads merge lawful));
+            (subst (λ replies. IsRun (settings_of words) c.as_slice.result.now replies before after) (sym c.finished-2.ensures.replies) (c.in-Ok-run.ensures.leads (settings_of words) lawful cuts refl));
         writing = subst (λ replies. EndsWriting c.write_replies-ending.result (replies_text replies) (g.O.Sink.written c.args.sink.now) (g.O.Sink.written c.write_replies-ending.new.sink) (g.O.Sink.faults c.args.sink.now) (g.O.Sink.faults c.write_replies-ending.new.sink)) same c.write_replies-ending.ensures.writes;
       })),
     )

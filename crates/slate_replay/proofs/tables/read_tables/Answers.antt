@@ -1,11 +1,14 @@
 use Rattle.std.proofs.Common.{rules, arith, refl, ◌∙◌}
 use Rattle.std.proofs.lemmas.Grind.{common_steps}
 use Rattle.std.proofs.lemmas.Result.{err_from_is_err_and}
-use Rattle.slate_replay.proofs.Reading.{joined-by, more-by, of-tables, unread-by}
+use Rattle.slate_replay.proofs.Reading.{each-by, each-more, joined-by, more-by, of-tables, unread-by}
 use Rattle.slate_replay.proofs.tables.read_tables.Goals as goal
 
 pub returns-clause-joined : goal.returns-clause-joined
 returns-clause-joined g c = joined-by _ c.args.ids.now c.loop-id.id-index _ (omega arith) (let n = c.loop-id.invariant.count in omega (arith, n)) c.loop-id.invariant.tables
+
+pub returns-clause-each : goal.returns-clause-each
+returns-clause-each g c = each-by _ c.args.ids.now c.loop-id.id-index _ (omega arith) (let n = c.loop-id.invariant.count in omega (arith, n)) c.loop-id.invariant.each
 
 pub returns-in_err-table-clause-missing : goal.returns-in_err-table-clause-missing
 returns-in_err-table-clause-missing g c is =
@@ -27,4 +30,5 @@ loop-id-preserved g c =
       untouched = λ none. absurd (omega (arith, none));
       count = grind (arith, common_steps);
       tables = search (rules, more-by _ _ c.args.ids.now c.loop-id.id-index _ _ c.loop-id.tables.items c.in_ok-table.table i.kept (omega arith) refl c.in_ok-table.ensures.found i.tables);
+      each = search (rules, each-more _ _ c.args.ids.now c.loop-id.id-index _ _ c.loop-id.tables.items c.in_ok-table.table i.kept (omega arith) refl c.in_ok-table.ensures.found i.each);
     }

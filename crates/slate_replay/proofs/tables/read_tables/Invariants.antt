@@ -1,5 +1,6 @@
-use Rattle.std.proofs.Common.{◌≡◌, ◌+◌, ◌≤◌, length, take}
+use Rattle.std.proofs.Common.{◌≡◌, ◌+◌, ◌≤◌, Some, length, map, take}
 use Rattle.std.specs.Option.{IfSome}
+use Rattle.slate_store.specs.Objects.{table_at}
 use Rattle.slate_replay.proofs.Reading.{AreRead}
 use Rattle.slate_replay.proofs.tables.read_tables.Given as goal
 
@@ -12,4 +13,5 @@ invariant-loop-id g l =
       untouched : l.id-index ≡ 0 → l.store ≡ l.fn.store;
       count : length l.tables.items ≡ l.id-index;
       tables : IfSome (g.S.Store.objects l.fn.store) (λ o. AreRead o (take l.id-index l.fn.ids) l.tables.items);
+      each : IfSome (g.S.Store.objects l.fn.store) (λ o. map Some l.tables.items ≡ map (λ id. table_at id o) (take l.id-index l.fn.ids));
     }

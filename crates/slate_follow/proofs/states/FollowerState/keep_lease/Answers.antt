@@ -13,7 +13,7 @@ use Rattle.slate_follow.specs.Keeping.{tried}
 use Rattle.slate_follow.proofs.Counted.{all-tries, last-try, tries-on}
 use Rattle.slate_follow.proofs.Keeping.{PutsAndKeeps}
 use Rattle.slate_follow.proofs.Rebuilt.{if_some}
-use Rattle.slate_follow.proofs.Trying.{never-put}
+use Rattle.slate_follow.proofs.Trying.{never-put, timed-out}
 use Rattle.slate_follow.proofs.states.FollowerState.keep_lease.Goals as goal
 
 pub returns-in_err-answer-clause-puts : goal.returns-in_err-answer-clause-puts
@@ -55,6 +55,7 @@ loop-earlier-preserved g c =
     let before = c.loop-earlier.self in
     let new = c.try_to_keep.new.self in
     let after = g.S.Store.objects c.try_to_keep.new.store in
+    let plan = to_keep c.args.self.now.view l m in
     let none : a.field-0 ≡ None = search rules in
     let again = a.ensures.again (ap Ok none) in
     let puts = subst (λ x. WhereModelled (PutsAndKeeps l m before (tried (Ok x)) new) (g.S.Store.objects c.loop-earlier.store) after) none a.ensures.puts in
@@ -66,7 +67,7 @@ loop-earlier-preserved g c =
       faults = (let up = a.ensures.faults.count in let low = i.faults in omega (arith, up, low));
       calls = tries-on t (g.S.Store.objects c.loop-earlier.store) i.kept c.loop-earlier.earlier (g.S.Store.calls c.args.store.now) (g.S.Store.calls c.loop-earlier.store) (g.S.Store.calls c.try_to_keep.new.store) i.calls (a.ensures.calls_again (ap Ok none));
       within = search rules;
-      met = λ more. if_some (g.S.Store.objects c.args.store.now) (λ o at. (all.some o at).2.1.cause);
+      met = λ more. if_some (g.S.Store.objects c.args.store.now) (λ o at. timed-out (Stands (checkpoint_changes plan o) o) plan o (all.some o at).2.1.cause);
     }
 
 pub returns-clause-puts : goal.returns-clause-puts

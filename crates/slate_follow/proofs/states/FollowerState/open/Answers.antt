@@ -1,28 +1,108 @@
-use Rattle.std.proofs.Common.{ℕ, rules, true, ap, subst, sym, ◌∙◌}
+use Rattle.std.proofs.Common.{ℕ, rules, true, None, Err, ap, subst, sym, ◌∙◌}
+use Rattle.std.proofs.lemmas.Result.{err_from_is_err_and}
 use Rattle.std.proofs.Math.Facts.{to_z-of_z}
 use Rattle.std.specs.Int.{w64}
+use Rattle.slate_errors.specs.declared.errors.SlateError.TheVariants.{NoMemory}
+use Rattle.slate_model.specs.Followed.{RefusesLatest}
+use Rattle.slate_model.specs.Follower.{Follower}
 use Rattle.slate_model.specs.Known.{known}
 use Rattle.slate_model.specs.Managed.{OpensManaged}
 use Rattle.slate_model.specs.Stores.{by_objects}
-use Rattle.slate_follow.proofs.Rebuilt.{built-can, built-logs, built-sees, built-view, if_some}
+use Rattle.slate_model.specs.declared.answers.PollAnswer.{PollAnswer}
+use Rattle.slate_follow.proofs.Rebuilt.{built-can, built-logs, built-sees, built-segmented, built-view, if_some, lacking-refuses, some_at}
+use Rattle.slate_follow.proofs.Refusing.{opening-fails, opening-lacks, opening-unnamed}
 use Rattle.slate_follow.proofs.states.FollowerState.open.Goals as goal
 
 pub returns-clause-rebuilds : goal.returns-clause-rebuilds
-returns-clause-rebuilds g c = λ unmanaged.
+returns-clause-rebuilds g c x lawful = λ unmanaged.
     let v = c.in_ok-view in
     let b = c.in_ok-rebuilt in
     let mode = c.args.mode in
     let skips = c.args.options.now.skip_wal_replay in
+    let found = v.ensures.where_modelled in
+    let built = b.ensures.built in
+    let s = b.ensures.segments x lawful in
     rw (c.in_ok-new.ensures ∙ ap (λ l. record b.rebuilt { lease = l }) (sym b.ensures.answer.0))
     (record {
       kept = search rules;
       faults = search rules;
       missing = λ is. absurd (cc);
       cause = tt;
+      fits = λ o at. some_at (λ o. RefusesLatest x true o None) (g.S.Store.objects c.args.store.now) o at (v.ensures.follows x lawful);
       answer = search rules;
-      can = built-can mode skips true v.view v.last b.rebuilt b.answer v.ensures.kept v.ensures.where_modelled b.ensures.built;
-      logs = built-logs mode skips true v.view v.last b.rebuilt b.answer v.ensures.kept v.ensures.where_modelled b.ensures.built;
-      sees = λ o line at stored seen. built-sees mode skips true v.view v.last b.rebuilt b.answer v.ensures.kept v.ensures.where_modelled b.ensures.built o line at stored;
+      can = built-can mode skips true v.view v.last b.rebuilt b.answer v.ensures.kept found built;
+      logs = built-logs mode skips true v.view v.last b.rebuilt b.answer v.ensures.kept found built;
+      sees = λ o line at stored seen. built-sees mode skips true v.view v.last b.rebuilt b.answer v.ensures.kept found built o line at stored;
+      segmented = λ o line at stored seen. built-segmented mode skips true v.view v.last b.rebuilt b.answer v.ensures.kept found built x s.1 o line at stored;
+      segments = λ opens. s.0;
+    })
+
+pub returns-in_err-view-clause-rebuilds : goal.returns-in_err-view-clause-rebuilds
+returns-in_err-view-clause-rebuilds g c x lawful = λ unmanaged.
+    let p = err_from_is_err_and c.from_residual.result c.from_residual.ensures.1 in
+    let v = c.in_err-view.ensures in
+    let mode = c.args.mode in
+    let skips = c.args.options.now.skip_wal_replay in
+    rw (p.1, p.2)
+    (record {
+      kept = search rules;
+      faults = search rules;
+      missing = search rules;
+      cause = v.follows x lawful;
+      fits = tt;
+      answer = tt;
+      can = tt;
+      logs = tt;
+      sees = tt;
+      segmented = λ o line at stored seen. opening-unnamed x mode (g.S.Store.objects c.args.store.now) (Follower × PollAnswer) skips c.in_err-view.field-0.0 (λ key is. v.whole key (ap Err is)) o line;
+      segments = tt;
+    })
+
+pub returns-in_err-rebuilt-clause-rebuilds : goal.returns-in_err-rebuilt-clause-rebuilds
+returns-in_err-rebuilt-clause-rebuilds g c x lawful = λ unmanaged.
+    let p = err_from_is_err_and c.from_residual-in_err-rebuilt.result c.from_residual-in_err-rebuilt.ensures.1 in
+    let v = c.in_ok-view in
+    let b = c.in_err-rebuilt.ensures in
+    let e = c.in_err-rebuilt.field-0.0 in
+    let mode = c.args.mode in
+    let skips = c.args.options.now.skip_wal_replay in
+    let t = g.S.Store.objects c.args.store.now in
+    rw (p.1, p.2)
+    (record {
+      kept = search rules;
+      faults = search rules;
+      missing = λ is. absurd (b.faults.none_missing is);
+      cause = opening-fails x mode t e b.refusals (v.ensures.follows x lawful);
+      fits = tt;
+      answer = tt;
+      can = tt;
+      logs = tt;
+      sees = tt;
+      segmented = λ o line at stored seen. opening-lacks x mode t (Follower × PollAnswer) skips e o line
+          (λ key is. lacking-refuses x mode skips true v.view v.last key v.ensures.kept v.ensures.where_modelled (b.lacks x key lawful (ap Err is)) o line at stored);
+      segments = tt;
+    })
+
+pub returns-in_err-new-clause-rebuilds : goal.returns-in_err-new-clause-rebuilds
+returns-in_err-new-clause-rebuilds g c x lawful = λ unmanaged.
+    let p = err_from_is_err_and c.from_residual-in_err-new.result c.from_residual-in_err-new.ensures.1 in
+    let v = c.in_ok-view in
+    let mode = c.args.mode in
+    let skips = c.args.options.now.skip_wal_replay in
+    let t = g.S.Store.objects c.args.store.now in
+    rw (p.1, p.2)
+    (record {
+      kept = search rules;
+      faults = search rules;
+      missing = λ is. absurd (cc);
+      cause = opening-fails x mode t NoMemory tt (v.ensures.follows x lawful);
+      fits = tt;
+      answer = tt;
+      can = tt;
+      logs = tt;
+      sees = tt;
+      segmented = λ o line at stored seen. opening-unnamed x mode t (Follower × PollAnswer) skips NoMemory (λ key is. absurd (cc)) o line;
+      segments = tt;
     })
 
 pub returns-clause-replays : goal.returns-clause-replays
@@ -35,7 +115,7 @@ returns-clause-replays g c = λ unmanaged.
     (if_some _ (built-view mode skips true v.view v.last b.rebuilt b.answer v.ensures.kept v.ensures.where_modelled b.ensures.built))
 
 pub returns-then-eq-clause-managed : goal.returns-then-eq-clause-managed
-returns-then-eq-clause-managed g c = λ managed.
+returns-then-eq-clause-managed g c x lawful = λ managed.
     let o = c.args.options.now in
-    subst (λ m. (made : ℕ) × OpensManaged (by_objects (g.S.Store.objects c.args.store.now)) made o.checkpoint_lifetime_ms o.manifest_poll_interval_ms o.skip_wal_replay m (known g.S.Store.objects g.S.Store.faults c.args.store.now) c.open_managed.result (known g.S.Store.objects g.S.Store.faults c.open_managed.new.store))
-    (to_z-of_z {w = w64} (search rules)) c.open_managed.ensures.opens
+    subst (λ m. (made : ℕ) × OpensManaged (by_objects (g.S.Store.objects c.args.store.now)) x made o.checkpoint_lifetime_ms o.manifest_poll_interval_ms o.skip_wal_replay m (known g.S.Store.objects g.S.Store.faults c.args.store.now) c.open_managed.result (known g.S.Store.objects g.S.Store.faults c.open_managed.new.store))
+    (to_z-of_z {w = w64} (search rules)) (c.open_managed.ensures.opens x lawful)

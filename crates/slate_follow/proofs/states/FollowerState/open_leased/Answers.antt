@@ -1,9 +1,9 @@
-use Rattle.std.proofs.Common.{◌≡◌, ℕ, ◌≤◌, Ok, Err, Some, refl, rules, subst, sym, arith, ◌∙◌}
+use Rattle.std.proofs.Common.{◌≡◌, ℕ, ◌≤◌, Ok, Err, Some, None, true, ap, refl, rules, subst, sym, arith, ◌∙◌}
 use Rattle.std.specs.Option.{IfSome}
 use Rattle.slate_store.specs.Refusals.{PlanIs}
 use Rattle.slate_store.specs.declared.reader_modes.DbReaderMode.TheVariants.{ManagedCheckpoint}
 use Rattle.slate_errors.specs.declared.errors.SlateError.TheVariants.{NoMemory}
-use Rattle.slate_model.specs.Followed.{last_read}
+use Rattle.slate_model.specs.Followed.{RefusesLatest, last_read}
 use Rattle.slate_model.specs.Follower.{Follower}
 use Rattle.slate_model.specs.declared.answers.PollAnswer.{PollAnswer}
 use Rattle.slate_follow.specs.Rebuilding.{Builds}
@@ -13,61 +13,70 @@ use Rattle.slate_model.specs.Lease.{to_take}
 use Rattle.slate_model.specs.Managed.{IsOpenAt, PutsPlanned}
 use Rattle.slate_model.specs.Stores.{Stands}
 use Rattle.slate_model.specs.declared.leases.Lease.{Lease}
+use Rattle.slate_follow.specs.Keeping.{MayMismatch}
 use Rattle.slate_follow.proofs.Counted.{taken-calls}
+use Rattle.slate_follow.proofs.Refusing.{lacks-read, replay-rebuilding, replay-unnamed}
 use Rattle.slate_follow.proofs.Taken.{all-well, counts-then, no-fault, take-broken, take-done, take-failed}
 use Rattle.slate_follow.proofs.states.FollowerState.open_leased.Goals as goal
 
 pub returns-in_err-view-clause-takes : goal.returns-in_err-view-clause-takes
-returns-in_err-view-clause-takes g c =
+returns-in_err-view-clause-takes g c x lawful =
     let e = c.in_err-view.field-0.0 in
     let lifetime = c.args.options.now.checkpoint_lifetime_ms in
-    let puts : WhereModelled (λ o o'. (made : ℕ) × PutsPlanned {B = VersionedManifest × Lease} Stands (to_take lifetime c.args.moment) o (Err e) made o') (g.S.Store.objects c.args.store.now) (g.S.Store.objects c.take_lease.new.store) = search rules in
-    let all = take-failed lifetime c.args.options.now.skip_wal_replay c.args.moment (g.S.Store.objects c.args.store.now) (g.S.Store.objects c.take_lease.new.store) (g.S.Store.faults c.args.store.now) (g.S.Store.faults c.take_lease.new.store) e puts c.in_err-view.ensures.faults in
+    let puts : WhereModelled (λ o o'. (made : ℕ) × PutsPlanned {B = VersionedManifest × Lease} Stands MayMismatch (to_take lifetime c.args.moment) o (Err e) made o') (g.S.Store.objects c.args.store.now) (g.S.Store.objects c.take_lease.new.store) = search rules in
+    let all = take-failed x lifetime c.args.options.now.skip_wal_replay c.args.moment (g.S.Store.objects c.args.store.now) (g.S.Store.objects c.take_lease.new.store) (g.S.Store.faults c.args.store.now) (g.S.Store.faults c.take_lease.new.store) e puts (c.in_err-view.ensures.mismatch x lawful) (λ key is. c.in_err-view.ensures.whole key (ap Err is)) c.in_err-view.ensures.faults in
     let is : c.from_residual.result ≡ Err e = search rules in
     rw is all
 
 pub returns-in_err-last-clause-takes : goal.returns-in_err-last-clause-takes
-returns-in_err-last-clause-takes g c =
+returns-in_err-last-clause-takes g c x lawful =
     let e = c.in_err-last.field-0.0 in
     let v = c.in_ok-view in
     let lifetime = c.args.options.now.checkpoint_lifetime_ms in
     let t = g.S.Store.objects c.args.store.now in
     let t1 = g.S.Store.objects c.take_lease.new.store in
-    let puts : WhereModelled (λ o o'. (made : ℕ) × PutsPlanned {B = VersionedManifest × Lease} Stands (to_take lifetime c.args.moment) o (Ok (v.view, v.lease)) made o') t t1 = search rules in
+    let puts : WhereModelled (λ o o'. (made : ℕ) × PutsPlanned {B = VersionedManifest × Lease} Stands MayMismatch (to_take lifetime c.args.moment) o (Ok (v.view, v.lease)) made o') t t1 = search rules in
     let faults = counts-then {B = Follower × PollAnswer} (g.S.Store.faults c.args.store.now) (g.S.Store.faults c.take_lease.new.store) (g.S.Store.faults c.last_read.new.store) e v.ensures.faults.count c.in_err-last.ensures.faults in
-    let all = take-broken lifetime c.args.options.now.skip_wal_replay c.args.moment t (g.S.Store.objects c.last_read.new.store) (g.S.Store.faults c.args.store.now) (g.S.Store.faults c.last_read.new.store) v.view v.lease t1 c.in_err-last.ensures.kept puts e c.in_err-last.ensures.refusals faults in
+    let plans : IfSome t (λ o. PlanIs (to_take lifetime c.args.moment) o (Ok (Some v.view, v.lease))) = search rules in
+    let fits : IfSome t (λ o. RefusesLatest x true o None) = search (rules, v.ensures.fits x lawful) in
+    let all = take-broken x lifetime c.args.options.now.skip_wal_replay c.args.moment t (g.S.Store.objects c.last_read.new.store) (g.S.Store.faults c.args.store.now) (g.S.Store.faults c.last_read.new.store) v.view v.lease t1 c.in_err-last.ensures.kept puts plans fits e (replay-rebuilding e c.in_err-last.ensures.refusals) (λ key is. absurd (replay-unnamed e key c.in_err-last.ensures.refusals is)) faults in
     let is : c.from_residual-in_err-last.result ≡ Err e = search rules in
     rw is all
 
 pub returns-in_err-rebuilt-clause-takes : goal.returns-in_err-rebuilt-clause-takes
-returns-in_err-rebuilt-clause-takes g c =
+returns-in_err-rebuilt-clause-takes g c x lawful =
     let e = c.in_err-rebuilt.field-0.0 in
     let v = c.in_ok-view in
     let lifetime = c.args.options.now.checkpoint_lifetime_ms in
     let t = g.S.Store.objects c.args.store.now in
     let t1 = g.S.Store.objects c.take_lease.new.store in
-    let puts : WhereModelled (λ o o'. (made : ℕ) × PutsPlanned {B = VersionedManifest × Lease} Stands (to_take lifetime c.args.moment) o (Ok (v.view, v.lease)) made o') t t1 = search rules in
+    let puts : WhereModelled (λ o o'. (made : ℕ) × PutsPlanned {B = VersionedManifest × Lease} Stands MayMismatch (to_take lifetime c.args.moment) o (Ok (v.view, v.lease)) made o') t t1 = search rules in
     let low : g.S.Store.faults c.args.store.now ≤ g.S.Store.faults c.last_read.new.store = (let a = v.ensures.faults.count in let b = c.in_ok-last.ensures.faults.count in omega (arith, a, b)) in
     let faults = counts-then {B = Follower × PollAnswer} (g.S.Store.faults c.args.store.now) (g.S.Store.faults c.last_read.new.store) (g.S.Store.faults c.rebuild.new.store) e low c.in_err-rebuilt.ensures.faults in
-    let all = take-broken lifetime c.args.options.now.skip_wal_replay c.args.moment t (g.S.Store.objects c.rebuild.new.store) (g.S.Store.faults c.args.store.now) (g.S.Store.faults c.rebuild.new.store) v.view v.lease t1 (c.in_err-rebuilt.ensures.kept ∙ c.in_ok-last.ensures.kept) puts e c.in_err-rebuilt.ensures.refusals faults in
+    let plans : IfSome t (λ o. PlanIs (to_take lifetime c.args.moment) o (Ok (Some v.view, v.lease))) = search rules in
+    let fits : IfSome t (λ o. RefusesLatest x true o None) = search (rules, v.ensures.fits x lawful) in
+    let all = take-broken x lifetime c.args.options.now.skip_wal_replay c.args.moment t (g.S.Store.objects c.rebuild.new.store) (g.S.Store.faults c.args.store.now) (g.S.Store.faults c.rebuild.new.store) v.view v.lease t1 (c.in_err-rebuilt.ensures.kept ∙ c.in_ok-last.ensures.kept) puts plans fits e c.in_err-rebuilt.ensures.refusals
+    (λ key is. lacks-read x ManagedCheckpoint c.args.options.now.skip_wal_replay v.view c.in_ok-last.last key c.in_ok-last.ensures.kept c.in_err-rebuilt.ensures.kept c.in_ok-last.ensures.where_modelled (c.in_err-rebuilt.ensures.lacks x key lawful (ap Err is))) faults in
     let is : c.from_residual-in_err-rebuilt.result ≡ Err e = search rules in
     rw is all
 
 pub returns-in_err-new-clause-takes : goal.returns-in_err-new-clause-takes
-returns-in_err-new-clause-takes g c =
+returns-in_err-new-clause-takes g c x lawful =
     let v = c.in_ok-view in
     let lifetime = c.args.options.now.checkpoint_lifetime_ms in
     let t = g.S.Store.objects c.args.store.now in
     let t1 = g.S.Store.objects c.take_lease.new.store in
-    let puts : WhereModelled (λ o o'. (made : ℕ) × PutsPlanned {B = VersionedManifest × Lease} Stands (to_take lifetime c.args.moment) o (Ok (v.view, v.lease)) made o') t t1 = search rules in
+    let puts : WhereModelled (λ o o'. (made : ℕ) × PutsPlanned {B = VersionedManifest × Lease} Stands MayMismatch (to_take lifetime c.args.moment) o (Ok (v.view, v.lease)) made o') t t1 = search rules in
     let low : g.S.Store.faults c.args.store.now ≤ g.S.Store.faults c.rebuild.new.store = (let a = v.ensures.faults.count in let b = c.in_ok-last.ensures.faults.count in let d = c.in_ok-rebuilt.ensures.faults.count in omega (arith, a, b, d)) in
     let faults = no-fault {A = Follower × PollAnswer} (g.S.Store.faults c.args.store.now) (g.S.Store.faults c.rebuild.new.store) low in
-    let all = take-broken lifetime c.args.options.now.skip_wal_replay c.args.moment t (g.S.Store.objects c.rebuild.new.store) (g.S.Store.faults c.args.store.now) (g.S.Store.faults c.rebuild.new.store) v.view v.lease t1 (c.in_ok-rebuilt.ensures.kept ∙ c.in_ok-last.ensures.kept) puts NoMemory tt faults in
+    let plans : IfSome t (λ o. PlanIs (to_take lifetime c.args.moment) o (Ok (Some v.view, v.lease))) = search rules in
+    let fits : IfSome t (λ o. RefusesLatest x true o None) = search (rules, v.ensures.fits x lawful) in
+    let all = take-broken x lifetime c.args.options.now.skip_wal_replay c.args.moment t (g.S.Store.objects c.rebuild.new.store) (g.S.Store.faults c.args.store.now) (g.S.Store.faults c.rebuild.new.store) v.view v.lease t1 (c.in_ok-rebuilt.ensures.kept ∙ c.in_ok-last.ensures.kept) puts plans fits NoMemory tt (λ key is. absurd (cc)) faults in
     let is : c.from_residual-in_err-new.result ≡ Err NoMemory = search rules in
     rw is all
 
 pub returns-clause-takes : goal.returns-clause-takes
-returns-clause-takes g c =
+returns-clause-takes g c x lawful =
     let v = c.in_ok-view in
     let b = c.in_ok-rebuilt in
     let n = c.in_ok-new in
@@ -76,16 +85,18 @@ returns-clause-takes g c =
     let t = g.S.Store.objects c.args.store.now in
     let t1 = g.S.Store.objects c.take_lease.new.store in
     let t' = g.S.Store.objects c.rebuild.new.store in
-    let puts : WhereModelled (λ o o'. (made : ℕ) × PutsPlanned {B = VersionedManifest × Lease} Stands (to_take lifetime c.args.moment) o (Ok (v.view, v.lease)) made o') t t1 = search rules in
+    let puts : WhereModelled (λ o o'. (made : ℕ) × PutsPlanned {B = VersionedManifest × Lease} Stands MayMismatch (to_take lifetime c.args.moment) o (Ok (v.view, v.lease)) made o') t t1 = search rules in
     let plans : IfSome t (λ o. PlanIs (to_take lifetime c.args.moment) o (Ok (Some v.view, v.lease))) = search rules in
+    let fits : IfSome t (λ o. RefusesLatest x true o None) = search (rules, v.ensures.fits x lawful) in
+    let s = b.ensures.segments x lawful in
     let reads = subst (λ x. IfSome x (λ o. c.in_ok-last.last ≡ last_read ManagedCheckpoint skips v.view o)) (sym (b.ensures.kept ∙ c.in_ok-last.ensures.kept)) c.in_ok-last.ensures.where_modelled in
     let builds = subst (λ x. IfSome x (λ o. Builds o ManagedCheckpoint skips v.view c.in_ok-last.last b.rebuilt b.answer)) (sym b.ensures.kept) b.ensures.built in
     let low : g.S.Store.faults c.args.store.now ≤ g.S.Store.faults c.rebuild.new.store = (let a = v.ensures.faults.count in let d = c.in_ok-last.ensures.faults.count in let h = b.ensures.faults.count in omega (arith, a, d, h)) in
     let new : Follower = record b.rebuilt { lease = Some v.lease } in
     let faults = all-well (g.S.Store.faults c.args.store.now) (g.S.Store.faults c.rebuild.new.store) (new, b.answer) low in
     let answers : IsOpenAt skips new b.answer = (b.ensures.asked.0, b.ensures.asked.1, b.ensures.answer.1, b.ensures.answer.2) in
-    let all = take-done lifetime skips c.args.moment t t' (g.S.Store.faults c.args.store.now) (g.S.Store.faults c.rebuild.new.store) v.view v.lease t1 (b.ensures.kept ∙ c.in_ok-last.ensures.kept) puts
-    b.rebuilt new b.answer c.in_ok-last.last plans reads builds b.ensures.answer.0 refl answers faults in
+    let all = take-done x lifetime skips c.args.moment t t' (g.S.Store.faults c.args.store.now) (g.S.Store.faults c.rebuild.new.store) v.view v.lease t1 (b.ensures.kept ∙ c.in_ok-last.ensures.kept) puts plans fits
+    b.rebuilt new b.answer c.in_ok-last.last reads builds b.ensures.answer.0 refl s.0 s.1 answers faults in
     rw c.in_ok-new.ensures all
 
 pub returns-in_err-rebuilt-clause-calls : goal.returns-in_err-rebuilt-clause-calls
@@ -95,9 +106,9 @@ returns-in_err-rebuilt-clause-calls g c =
     let skips = c.args.options.now.skip_wal_replay in
     let t = g.S.Store.objects c.args.store.now in
     let t1 = g.S.Store.objects c.take_lease.new.store in
-    let puts : WhereModelled (λ o o'. (made : ℕ) × PutsPlanned {B = VersionedManifest × Lease} Stands (to_take lifetime c.args.moment) o (Ok (v.view, v.lease)) made o') t t1 = search rules in
+    let puts : WhereModelled (λ o o'. (made : ℕ) × PutsPlanned {B = VersionedManifest × Lease} Stands MayMismatch (to_take lifetime c.args.moment) o (Ok (v.view, v.lease)) made o') t t1 = search rules in
     let plans : IfSome t (λ o. PlanIs (to_take lifetime c.args.moment) o (Ok (Some v.view, v.lease))) = search rules in
-    taken-calls lifetime skips c.args.moment t t1 v.view v.lease puts plans c.in_ok-last.last c.in_ok-last.ensures.where_modelled (g.S.Store.calls c.args.store.now) (g.S.Store.calls c.rebuild.new.store)
+    taken-calls MayMismatch lifetime skips c.args.moment t t1 v.view v.lease puts plans c.in_ok-last.last c.in_ok-last.ensures.where_modelled (g.S.Store.calls c.args.store.now) (g.S.Store.calls c.rebuild.new.store)
     (let a = v.ensures.calls in let b = c.in_ok-last.ensures.calls in let d = c.in_err-rebuilt.ensures.calls in omega (arith, a, b, d))
 
 pub returns-in_err-new-clause-calls : goal.returns-in_err-new-clause-calls
@@ -107,9 +118,9 @@ returns-in_err-new-clause-calls g c =
     let skips = c.args.options.now.skip_wal_replay in
     let t = g.S.Store.objects c.args.store.now in
     let t1 = g.S.Store.objects c.take_lease.new.store in
-    let puts : WhereModelled (λ o o'. (made : ℕ) × PutsPlanned {B = VersionedManifest × Lease} Stands (to_take lifetime c.args.moment) o (Ok (v.view, v.lease)) made o') t t1 = search rules in
+    let puts : WhereModelled (λ o o'. (made : ℕ) × PutsPlanned {B = VersionedManifest × Lease} Stands MayMismatch (to_take lifetime c.args.moment) o (Ok (v.view, v.lease)) made o') t t1 = search rules in
     let plans : IfSome t (λ o. PlanIs (to_take lifetime c.args.moment) o (Ok (Some v.view, v.lease))) = search rules in
-    taken-calls lifetime skips c.args.moment t t1 v.view v.lease puts plans c.in_ok-last.last c.in_ok-last.ensures.where_modelled (g.S.Store.calls c.args.store.now) (g.S.Store.calls c.rebuild.new.store)
+    taken-calls MayMismatch lifetime skips c.args.moment t t1 v.view v.lease puts plans c.in_ok-last.last c.in_ok-last.ensures.where_modelled (g.S.Store.calls c.args.store.now) (g.S.Store.calls c.rebuild.new.store)
     (let a = v.ensures.calls in let b = c.in_ok-last.ensures.calls in let d = c.in_ok-rebuilt.ensures.calls in omega (arith, a, b, d))
 
 pub returns-clause-calls : goal.returns-clause-calls
@@ -119,7 +130,7 @@ returns-clause-calls g c =
     let skips = c.args.options.now.skip_wal_replay in
     let t = g.S.Store.objects c.args.store.now in
     let t1 = g.S.Store.objects c.take_lease.new.store in
-    let puts : WhereModelled (λ o o'. (made : ℕ) × PutsPlanned {B = VersionedManifest × Lease} Stands (to_take lifetime c.args.moment) o (Ok (v.view, v.lease)) made o') t t1 = search rules in
+    let puts : WhereModelled (λ o o'. (made : ℕ) × PutsPlanned {B = VersionedManifest × Lease} Stands MayMismatch (to_take lifetime c.args.moment) o (Ok (v.view, v.lease)) made o') t t1 = search rules in
     let plans : IfSome t (λ o. PlanIs (to_take lifetime c.args.moment) o (Ok (Some v.view, v.lease))) = search rules in
-    taken-calls lifetime skips c.args.moment t t1 v.view v.lease puts plans c.in_ok-last.last c.in_ok-last.ensures.where_modelled (g.S.Store.calls c.args.store.now) (g.S.Store.calls c.rebuild.new.store)
+    taken-calls MayMismatch lifetime skips c.args.moment t t1 v.view v.lease puts plans c.in_ok-last.last c.in_ok-last.ensures.where_modelled (g.S.Store.calls c.args.store.now) (g.S.Store.calls c.rebuild.new.store)
     (let a = v.ensures.calls in let b = c.in_ok-last.ensures.calls in let d = c.in_ok-rebuilt.ensures.calls in omega (arith, a, b, d))

@@ -1,43 +1,78 @@
-use Rattle.std.proofs.Common.{◌≡◌, ◌∙◌, ℕ, None, Some, Result, Err, refl, rules, sym, ap, subst}
+use Rattle.std.proofs.Common.{◌≡◌, ◌∙◌, ℕ, None, Some, false, Result, Ok, Err, refl, rules, sym, ap, subst}
 use Rattle.std.proofs.Math.Facts.{to_z-of_z}
 use Rattle.std.specs.Int.{w64}
 use Rattle.std.specs.Option.{IfSome}
 use Rattle.slate_errors.specs.Errors.{closed_error}
 use Rattle.slate_errors.specs.declared.errors.SlateError.{SlateError}
 use Rattle.slate_model.proofs.Reduced.{some-same}
+use Rattle.slate_model.specs.Follower.{is_pinned}
 use Rattle.slate_model.specs.Known.{Untouched, known}
 use Rattle.slate_model.specs.Managed.{KeepsLease}
 use Rattle.slate_model.specs.Stores.{by_objects}
 use Rattle.slate_model.specs.declared.answers.PollAnswer.{PollAnswer}
+use Rattle.slate_follow.specs.Rebuilding.{poll_error}
 use Rattle.slate_follow.proofs.states.FollowerState.poll.Goals as goal
 
 pub returns-in-Some-clause-managed : goal.returns-in-Some-clause-managed
-returns-in-Some-clause-managed g c = λ managed.
+returns-in-Some-clause-managed g c x lawful = λ managed.
     let r = c.in-Some.result in
     let old = c.args.self.now in
     let before = known g.S.Store.objects g.S.Store.faults c.args.store.now in
     let was : old.result ≡ Some r = search rules in (
       0,
       record {
-        closed = subst (λ x. IfSome x (λ r. (◌≡◌ {A = Result PollAnswer SlateError} (Err c.of_closed.result) (Err (closed_error r))) × (old ≡ old) × Untouched 0 before before)) (sym was) (ap Err c.of_closed.ensures, refl, (refl, refl));
+        closed = subst (λ y. IfSome y (λ r. (◌≡◌ {A = Result PollAnswer SlateError} (Err c.of_closed.result) (Err (closed_error r))) × (old ≡ old) × Untouched 0 before before)) (sym was) (ap Err c.of_closed.ensures, refl, (refl, refl));
         keeps = λ lease open_ held. absurd (cc (was, open_));
       },
     )
 
 pub returns-in-Some-lease-clause-managed : goal.returns-in-Some-lease-clause-managed
-returns-in-Some-lease-clause-managed g c = λ managed.
+returns-in-Some-lease-clause-managed g c x lawful = λ managed.
     let l = c.in-Some-lease.lease in
     let old = c.args.self.now in
     let p = c.poll_leased in
     let t = g.S.Store.objects c.args.store.now in
     let before = known g.S.Store.objects g.S.Store.faults c.args.store.now in
     let after = known g.S.Store.objects g.S.Store.faults p.new.store in
-    let kept = subst (λ m. (made : ℕ) × KeepsLease (by_objects t) made l m old before p.result p.new.self after) (to_z-of_z {w = w64} {z = c.args.moment} (search rules)) p.ensures.keeps in
+    let kept = subst (λ m. (made : ℕ) × KeepsLease (by_objects t) x made l m old before p.result p.new.self after) (to_z-of_z {w = w64} {z = c.args.moment} (search rules)) (p.ensures.keeps x lawful) in
     let held : old.lease ≡ Some l = search rules in
     let none : old.result ≡ None = search rules in (
       kept.0,
       record {
-        closed = subst (λ x. IfSome x (λ r. (p.result ≡ Err (closed_error r)) × (p.new.self ≡ old) × Untouched kept.0 before after)) (sym none) tt;
-        keeps = λ lease open_ is. subst (λ x. KeepsLease (by_objects t) kept.0 x c.args.moment old before p.result p.new.self after) (some-same l lease (sym held ∙ is)) kept.1;
+        closed = subst (λ y. IfSome y (λ r. (p.result ≡ Err (closed_error r)) × (p.new.self ≡ old) × Untouched kept.0 before after)) (sym none) tt;
+        keeps = λ lease open_ is. subst (λ y. KeepsLease (by_objects t) x kept.0 y c.args.moment old before p.result p.new.self after) (some-same l lease (sym held ∙ is)) kept.1;
       },
     )
+
+pub returns-in-Ok-clause-polls : goal.returns-in-Ok-clause-polls
+returns-in-Ok-clause-polls g c x lawful = λ unmanaged.
+    let t = c.in-Ok.ensures in
+    let old = c.args.self.now in
+    let none : old.result ≡ None = search rules in
+    let free : is_pinned old.mode ≡ false = search rules in
+    let before = known g.S.Store.objects g.S.Store.faults c.args.store.now in
+    let after = known g.S.Store.objects g.S.Store.faults c.take_new.new.store in
+    record {
+      closed = subst (λ y. IfSome y (λ r. (◌≡◌ {A = Result PollAnswer SlateError} (Ok c.in-Ok.answer) (Err (closed_error r))) × (after ≡ before))) (sym none) tt;
+      failed = tt;
+      pinned = λ open_ pinned. absurd (cc (free, pinned));
+      rebuilds = λ open_ unpinned. t.rebuilds x lawful;
+      segments = t.segments x lawful;
+    }
+
+pub returns-in-Err-clause-polls : goal.returns-in-Err-clause-polls
+returns-in-Err-clause-polls g c x lawful = λ unmanaged.
+    let t = c.in-Err.ensures in
+    let old = c.args.self.now in
+    let none : old.result ≡ None = search rules in
+    let free : is_pinned old.mode ≡ false = search rules in
+    let before = known g.S.Store.objects g.S.Store.faults c.args.store.now in
+    let after = known g.S.Store.objects g.S.Store.faults c.take_new.new.store in
+    rw c.poll_error.ensures
+    (record {
+      closed = subst (λ y. IfSome y (λ r. (◌≡◌ {A = Result PollAnswer SlateError} (Err (poll_error c.in-Err.error)) (Err (closed_error r))) × (after ≡ before))) (sym none) tt;
+      failed = t.failed;
+      pinned = λ open_ pinned. absurd (cc (free, pinned));
+      rebuilds = λ open_ unpinned. t.rebuilds x lawful;
+      segments = t.segments x lawful;
+    })

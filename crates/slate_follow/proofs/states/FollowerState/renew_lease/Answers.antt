@@ -2,6 +2,7 @@ use Rattle.std.proofs.Common.{◌≡◌, false, Some, Ok, Err, rules, subst}
 use Rattle.slate_types.specs.Modelled.{WhereModelled}
 use Rattle.slate_store.specs.Checkpoints.{to_refresh}
 use Rattle.slate_model.specs.Lease.{leased}
+use Rattle.slate_model.specs.Managed.{unrefused}
 use Rattle.slate_follow.specs.Keeping.{PutsManifest}
 use Rattle.slate_follow.proofs.Planned.{failed-by, unput-by}
 use Rattle.slate_follow.proofs.states.FollowerState.renew_lease.Goals as goal
@@ -12,7 +13,7 @@ returns-in_err-is_put-clause-puts g c =
     let l = c.args.lease.now in
     let plan = leased l.lifetime (to_refresh l.id l.lifetime c.args.moment c.args.latest.now) in
     let gives : plan ≡ Ok (Some n.next, n.taken) = search rules in
-    let all = failed-by plan c.args.self.now.lease n.next n.taken gives {A = Unit {0}} c.in_err-is_put.field-0.0 c.in_err-is_put.ensures.puts in
+    let all = failed-by unrefused plan c.args.self.now.lease n.next n.taken gives {A = Unit {0}} c.in_err-is_put.field-0.0 c.in_err-is_put.ensures.puts in
     let is : c.from_residual-in_err-is_put.result ≡ Err c.in_err-is_put.field-0.0 = search rules in
     rw is all
 
@@ -23,5 +24,5 @@ returns-then-not-is_put-clause-puts g c =
     let plan = leased l.lifetime (to_refresh l.id l.lifetime c.args.moment c.args.latest.now) in
     let gives : plan ≡ Ok (Some n.next, n.taken) = search rules in
     let is_put : c.in_ok-is_put.is_put ≡ false = search rules in
-    let all = unput-by plan c.args.self.now.lease n.next n.taken gives {A = Unit {0}} (subst (λ b. WhereModelled (PutsManifest n.next (Ok b)) (g.S.Store.objects c.args.store.now) (g.S.Store.objects c.put_next.new.store)) is_put c.in_ok-is_put.ensures.puts) in
+    let all = unput-by unrefused plan c.args.self.now.lease n.next n.taken gives {A = Unit {0}} (subst (λ b. WhereModelled (PutsManifest n.next (Ok b)) (g.S.Store.objects c.args.store.now) (g.S.Store.objects c.put_next.new.store)) is_put c.in_ok-is_put.ensures.puts) in
     search (rules, all)

@@ -1,20 +1,26 @@
-use Rattle.std.proofs.Common.{◌≡◌, ◌≤◌, ◌∙◌, false, true, is_none, Some, Ok, Err, IfOk, IfSome, refl, rules, sym, ap, subst, arith, of_z, to_z}
+use Rattle.std.proofs.Common.{◌≡◌, ◌≤◌, ◌∙◌, false, true, is_none, Option, Some, Ok, Err, IfOk, IfSome, inl, refl, rules, sym, ap, subst, arith, of_z, to_z}
 use Rattle.std.proofs.Math.Facts.{to_z-of_z}
+use Rattle.std.proofs.lemmas.Result.{err_from_is_err_and}
 use Rattle.std.specs.Int.{w64}
 use Rattle.slate_types.specs.Modelled.{WhereModelled}
 use Rattle.slate_store.specs.Checkpoints.{found}
 use Rattle.slate_store.specs.declared.reader_modes.DbReaderMode.TheVariants.{ManagedCheckpoint}
 use Rattle.slate_errors.specs.declared.errors.SlateError.{SlateError}
-use Rattle.slate_errors.specs.declared.errors.SlateError.TheVariants.{NoMemory, TransactionalObjectTimeout}
+use Rattle.slate_errors.specs.declared.errors.SlateError.TheVariants.{InvalidDBState, NoMemory, TransactionalObjectTimeout}
 use Rattle.slate_model.specs.Follower.{Follower}
 use Rattle.slate_model.specs.Lease.{differs, is_due, replaces, to_keep}
-use Rattle.slate_follow.specs.Keeping.{BuildsLatest, IsNews, PutsBy, informed, put_tried, tried}
+use Rattle.slate_model.specs.Managed.{unrefused}
+use Rattle.slate_model.specs.declared.answers.PollAnswer.{PollAnswer}
+use Rattle.slate_follow.specs.Keeping.{BuildsLatest, IsNews, MayLack, PutsBy, ReplaceLacks, informed, put_tried, tried}
 use Rattle.slate_follow.proofs.Counted.{news-once, news-then, news-twice, replaced-first}
 use Rattle.slate_follow.proofs.Keeping.{puts-by, renewal, replacement, replaces-by, to-replace}
+use Rattle.slate_follow.proofs.Lacking.{news-keeps, renew-keeps, replace-keeps}
 use Rattle.slate_follow.proofs.Leased.{mode-leased}
-use Rattle.slate_follow.proofs.Planned.{modelled-kept, modelled-put, not-replayed}
+use Rattle.slate_follow.proofs.Planned.{modelled-kept, modelled-put, nothing-put, polling-cause}
+use Rattle.slate_follow.proofs.Refusing.{err-same}
+use Rattle.slate_follow.proofs.Segmented.{all-kept}
 use Rattle.slate_follow.proofs.Taken.{all-well, counts-on, counts-then, no-fault}
-use Rattle.slate_follow.proofs.Trying.{informed-open, informed-renewed, renewal-broken, renewal-done, renewal-failed, renewed-kept, renewed-puts, replaced-kept, stays-kept, stays-puts}
+use Rattle.slate_follow.proofs.Trying.{informed-becomes, informed-open, informed-renewed, informed-segments, renewal-broken, renewal-done, renewal-failed, renewed-kept, renewed-puts, replaced-kept, stays-kept, stays-puts}
 use Rattle.slate_follow.proofs.states.FollowerState.try_to_keep.Goals as goal
 
 pub returns-then-differs-clause-puts : goal.returns-then-differs-clause-puts
@@ -24,7 +30,7 @@ returns-then-differs-clause-puts g c =
     let old = c.args.self.now in
     let r = c.replace_lease in
     let other : differs old.view v.latest ≡ true = search rules in
-    let puts = subst (λ m. WhereModelled (λ o o'. PutsBy (replacement old.view v.latest l m) old.lease o (tried r.result) r.new.self.lease o') (g.S.Store.objects c.latest_of.new.store) (g.S.Store.objects r.new.store))
+    let puts = subst (λ m. WhereModelled (λ o o'. PutsBy MayLack (replacement old.view v.latest l m) old.lease o (tried r.result) r.new.self.lease o') (g.S.Store.objects c.latest_of.new.store) (g.S.Store.objects r.new.store))
     (to_z-of_z {w = w64} {z = c.args.moment} (search rules)) r.ensures.puts in
     let replaced : replaces old.view l c.args.moment v.latest ≡ true = replaces-by old.view v.latest l c.args.moment true _ _ other refl refl in
     let all = modelled-put v.ensures.found v.ensures.kept puts (λ o o' is h. puts-by o v.latest is l c.args.moment old (replacement old.view v.latest l c.args.moment) (to-replace old.view v.latest l c.args.moment replaced) (tried r.result) r.new.self o' h) in
@@ -37,7 +43,7 @@ returns-in_err-news-clause-puts g c =
     let old = c.args.self.now in
     let e = c.in_err-news.field-0.0 in
     let plan = to_keep old.view l c.args.moment v.latest in
-    let all = modelled-kept v.ensures.found (c.in_err-news.ensures.kept ∙ v.ensures.kept) (λ o is. puts-by o v.latest is l c.args.moment old plan refl (Err e) old o (not-replayed plan old.lease o e c.in_err-news.ensures.refusals)) in
+    let all = modelled-kept v.ensures.found (c.in_err-news.ensures.kept ∙ v.ensures.kept) (λ o is. puts-by o v.latest is l c.args.moment old plan refl (Err e) old o (nothing-put MayLack plan old.lease o e (polling-cause plan o e c.in_err-news.ensures.refusals))) in
     let is : c.from_residual-in_err-news.result ≡ Err e = search rules in
     rw is all
 
@@ -47,7 +53,7 @@ returns-in_err-answer-clause-puts g c =
     let l = c.args.lease.now in
     let old = c.args.self.now in
     let plan = to_keep old.view l c.args.moment v.latest in
-    let all = modelled-kept v.ensures.found (c.in_ok-news.ensures.kept ∙ v.ensures.kept) (λ o is. puts-by o v.latest is l c.args.moment old plan refl (Err NoMemory) old o (not-replayed plan old.lease o NoMemory tt)) in
+    let all = modelled-kept v.ensures.found (c.in_ok-news.ensures.kept ∙ v.ensures.kept) (λ o is. puts-by o v.latest is l c.args.moment old plan refl (Err NoMemory) old o (nothing-put MayLack plan old.lease o NoMemory (inl tt))) in
     let is : c.from_residual-in_err-answer.result ≡ Err NoMemory = search rules in
     let same : c.take_news.new.self ≡ old = search rules in
     rw (is, same) all
@@ -67,7 +73,7 @@ returns-then-is_none-clause-puts g c =
     let same : differs old.view v.latest ≡ false = search rules in
     let due : is_due c.args.moment l ≡ true = search rules in
     let gone : is_none (found l.id v.latest) ≡ true = search rules in
-    let puts = subst (λ m. WhereModelled (λ o o'. PutsBy (replacement old.view v.latest l m) old.lease o (tried r.result) r.new.self.lease o') (g.S.Store.objects c.news.new.store) (g.S.Store.objects r.new.store))
+    let puts = subst (λ m. WhereModelled (λ o o'. PutsBy MayLack (replacement old.view v.latest l m) old.lease o (tried r.result) r.new.self.lease o') (g.S.Store.objects c.news.new.store) (g.S.Store.objects r.new.store))
     (to_z-of_z {w = w64} {z = c.args.moment} (search rules)) r.ensures.puts in
     let replaced : replaces old.view l c.args.moment v.latest ≡ true = replaces-by old.view v.latest l c.args.moment false true true same due gone in
     let all = modelled-put v.ensures.found (c.in_ok-news.ensures.kept ∙ v.ensures.kept) puts (λ o o' is h. puts-by o v.latest is l c.args.moment old (replacement old.view v.latest l c.args.moment) (to-replace old.view v.latest l c.args.moment replaced) (tried r.result) r.new.self o' h) in
@@ -82,7 +88,7 @@ returns-then-differs-clause-keeps g c =
     let r = c.replace_lease in
     let other : differs old.view v.latest ≡ true = search rules in
     let undone = to_z-of_z {w = w64} {z = m} (search rules) in
-    let puts = subst (λ m. WhereModelled (λ o o'. PutsBy (replacement old.view v.latest l m) old.lease o (tried r.result) r.new.self.lease o') (g.S.Store.objects c.latest_of.new.store) (g.S.Store.objects r.new.store)) undone r.ensures.puts in
+    let puts = subst (λ m. WhereModelled (λ o o'. PutsBy MayLack (replacement old.view v.latest l m) old.lease o (tried r.result) r.new.self.lease o') (g.S.Store.objects c.latest_of.new.store) (g.S.Store.objects r.new.store)) undone r.ensures.puts in
     let built = subst (λ m. IfOk (tried r.result) (λ answer. IfSome (g.S.Store.objects r.new.store) (λ o'. BuildsLatest (replacement old.view v.latest l m) old.skips o' r.new.self answer))) undone r.ensures.built in
     let replaced : replaces old.view l m v.latest ≡ true = replaces-by old.view v.latest l m true _ _ other refl refl in
     replaced-kept (g.S.Store.objects c.args.store.now) v.latest v.ensures.found l m old r.new.self replaced v.ensures.kept (tried r.result) puts built
@@ -98,7 +104,7 @@ returns-then-is_none-clause-keeps g c =
     let due : is_due m l ≡ true = search rules in
     let gone : is_none (found l.id v.latest) ≡ true = search rules in
     let undone = to_z-of_z {w = w64} {z = m} (search rules) in
-    let puts = subst (λ m. WhereModelled (λ o o'. PutsBy (replacement old.view v.latest l m) old.lease o (tried r.result) r.new.self.lease o') (g.S.Store.objects c.news.new.store) (g.S.Store.objects r.new.store)) undone r.ensures.puts in
+    let puts = subst (λ m. WhereModelled (λ o o'. PutsBy MayLack (replacement old.view v.latest l m) old.lease o (tried r.result) r.new.self.lease o') (g.S.Store.objects c.news.new.store) (g.S.Store.objects r.new.store)) undone r.ensures.puts in
     let built = subst (λ m. IfOk (tried r.result) (λ answer. IfSome (g.S.Store.objects r.new.store) (λ o'. BuildsLatest (replacement old.view v.latest l m) old.skips o' r.new.self answer))) undone r.ensures.built in
     let replaced : replaces old.view l m v.latest ≡ true = replaces-by old.view v.latest l m false true true same due gone in
     let all = replaced-kept (g.S.Store.objects c.args.store.now) v.latest v.ensures.found l m old r.new.self replaced (c.in_ok-news.ensures.kept ∙ v.ensures.kept) (tried r.result) puts built in
@@ -128,7 +134,8 @@ returns-then-not-is_due-clause-answers g c =
     let n = c.in_ok-news.news in
     let held : c.self.inside.lease ≡ Some c.args.lease.now = ap (λ (f : Follower). f.lease) c.self.view_is ∙ c.requires.leased in
     let managed : c.args.self.now.mode ≡ ManagedCheckpoint = sym (ap (λ (f : Follower). f.mode) c.self.view_is) ∙ mode-leased c.self.inside.following.mode c.self.inside.lease c.args.lease.now c.self.invariant.leased held in
-    informed-open c.args.self.now c.take_news.new.self n.added n.replayed n.mark c.args.self.now.lease c.in_ok-answer.answer managed c.in_ok-answer.ensures.ok c.in_ok-answer.ensures.answer
+    informed-open c.args.self.now c.take_news.new.self n.added n.replayed n.mark c.args.self.now.lease c.in_ok-answer.answer managed
+    (informed-becomes c.args.self.now c.take_news.new.self n.added n.mark n.segments c.args.self.now.lease c.in_ok-answer.ensures.ok) c.in_ok-answer.ensures.answer
 
 pub returns-then-not-is_due-clause-keeps : goal.returns-then-not-is_due-clause-keeps
 returns-then-not-is_due-clause-keeps g c =
@@ -144,7 +151,7 @@ returns-then-not-is_due-clause-keeps g c =
     let same : differs old.view v.latest ≡ false = search rules in
     let early : is_due m l ≡ false = search rules in
     let unreplaced : replaces old.view l m v.latest ≡ false = replaces-by old.view v.latest l m false false _ same early refl in
-    let becomes = c.in_ok-answer.ensures.ok in
+    let becomes = informed-becomes old new n.added n.mark n.segments old.lease c.in_ok-answer.ensures.ok in
     let lease_is : new.lease ≡ old.lease = ap (λ (f : Follower). f.lease) becomes in
     let all = stays-kept (g.S.Store.objects c.args.store.now) v.latest v.ensures.found l m old new unreplaced managed same floor n.added n.replayed n.mark c.in_ok-answer.answer c.in_ok-answer.ensures.answer
     (g.S.Store.objects c.news.new.store) (c.in_ok-news.ensures.kept ∙ v.ensures.kept) (subst (λ s. IfSome s (λ o. IsNews o old v.latest old.skips n.added n.replayed n.mark)) (sym c.in_ok-news.ensures.kept) c.in_ok-news.ensures.news)
@@ -170,8 +177,8 @@ returns-in_err-renewed-clause-puts g c =
     let due : is_due m l ≡ true = search rules in
     let there : is_none (found l.id v.latest) ≡ false = search rules in
     let unreplaced : replaces old.view l m v.latest ≡ false = replaces-by old.view v.latest l m false true false same due there in
-    let puts = subst (λ m. WhereModelled (λ o o'. PutsBy {A = Unit {0}} (renewal old.view v.latest l m) old.lease o (Err e) new.lease o') (g.S.Store.objects c.news.new.store) (g.S.Store.objects c.renew_lease.new.store)) (to_z-of_z {w = w64} {z = m} (search rules)) c.in_err-renewed.ensures.puts in
-    let all = renewed-puts (g.S.Store.objects c.args.store.now) v.latest v.ensures.found l m old new unreplaced due (Err e) (Err e) (c.in_ok-news.ensures.kept ∙ v.ensures.kept) puts (λ o o' h. renewal-failed old.view v.latest l m old.lease new.lease o o' e h) in
+    let puts = subst (λ m. WhereModelled (λ o o'. PutsBy {A = Unit {0}} unrefused (renewal old.view v.latest l m) old.lease o (Err e) new.lease o') (g.S.Store.objects c.news.new.store) (g.S.Store.objects c.renew_lease.new.store)) (to_z-of_z {w = w64} {z = m} (search rules)) c.in_err-renewed.ensures.puts in
+    let all = renewed-puts (g.S.Store.objects c.args.store.now) v.latest v.ensures.found l m old new unreplaced due (Err e) (Err e) (c.in_ok-news.ensures.kept ∙ v.ensures.kept) puts (λ o o' h. renewal-failed old.view v.latest l m MayLack old.lease new.lease o o' e h) in
     let is : c.from_residual-in_err-renewed.result ≡ Err e = search rules in
     rw is all
 
@@ -188,9 +195,9 @@ returns-then-not-renewed-clause-puts g c =
     let there : is_none (found l.id v.latest) ≡ false = search rules in
     let unreplaced : replaces old.view l m v.latest ≡ false = replaces-by old.view v.latest l m false true false same due there in
     let is : c.in_ok-renewed.renewed ≡ false = search rules in
-    let made = subst (λ b. WhereModelled (λ o o'. PutsBy (renewal old.view v.latest l (to_z w64 (of_z w64 m))) old.lease o (put_tried (Ok b)) new.lease o') (g.S.Store.objects c.news.new.store) (g.S.Store.objects c.renew_lease.new.store)) is c.in_ok-renewed.ensures.puts in
-    let puts = subst (λ m. WhereModelled (λ o o'. PutsBy {A = Unit {0}} (renewal old.view v.latest l m) old.lease o (Err e) new.lease o') (g.S.Store.objects c.news.new.store) (g.S.Store.objects c.renew_lease.new.store)) (to_z-of_z {w = w64} {z = m} (search rules)) made in
-    let all = renewed-puts (g.S.Store.objects c.args.store.now) v.latest v.ensures.found l m old new unreplaced due (Err e) (Err e) (c.in_ok-news.ensures.kept ∙ v.ensures.kept) puts (λ o o' h. renewal-failed old.view v.latest l m old.lease new.lease o o' e h) in
+    let made = subst (λ b. WhereModelled (λ o o'. PutsBy unrefused (renewal old.view v.latest l (to_z w64 (of_z w64 m))) old.lease o (put_tried (Ok b)) new.lease o') (g.S.Store.objects c.news.new.store) (g.S.Store.objects c.renew_lease.new.store)) is c.in_ok-renewed.ensures.puts in
+    let puts = subst (λ m. WhereModelled (λ o o'. PutsBy {A = Unit {0}} unrefused (renewal old.view v.latest l m) old.lease o (Err e) new.lease o') (g.S.Store.objects c.news.new.store) (g.S.Store.objects c.renew_lease.new.store)) (to_z-of_z {w = w64} {z = m} (search rules)) made in
+    let all = renewed-puts (g.S.Store.objects c.args.store.now) v.latest v.ensures.found l m old new unreplaced due (Err e) (Err e) (c.in_ok-news.ensures.kept ∙ v.ensures.kept) puts (λ o o' h. renewal-failed old.view v.latest l m MayLack old.lease new.lease o o' e h) in
     search (rules, all)
 
 pub returns-then-not-renewed-clause-again : goal.returns-then-not-renewed-clause-again
@@ -217,9 +224,9 @@ returns-in_err-answer-2-clause-puts g c =
     let there : is_none (found l.id v.latest) ≡ false = search rules in
     let unreplaced : replaces old.view l m v.latest ≡ false = replaces-by old.view v.latest l m false true false same due there in
     let is : c.in_ok-renewed.renewed ≡ true = search rules in
-    let made = subst (λ b. WhereModelled (λ o o'. PutsBy (renewal old.view v.latest l (to_z w64 (of_z w64 m))) old.lease o (put_tried (Ok b)) mid.lease o') (g.S.Store.objects c.news.new.store) (g.S.Store.objects c.renew_lease.new.store)) is c.in_ok-renewed.ensures.puts in
-    let puts = subst (λ m. WhereModelled (λ o o'. PutsBy {A = Unit {0}} (renewal old.view v.latest l m) old.lease o (Ok tt) mid.lease o') (g.S.Store.objects c.news.new.store) (g.S.Store.objects c.renew_lease.new.store)) (to_z-of_z {w = w64} {z = m} (search rules)) made in
-    let all = renewed-puts (g.S.Store.objects c.args.store.now) v.latest v.ensures.found l m old mid unreplaced due (Ok tt) (Err NoMemory) (c.in_ok-news.ensures.kept ∙ v.ensures.kept) puts (λ o o' h. renewal-broken old.view v.latest l m old.lease mid.lease o o' h) in
+    let made = subst (λ b. WhereModelled (λ o o'. PutsBy unrefused (renewal old.view v.latest l (to_z w64 (of_z w64 m))) old.lease o (put_tried (Ok b)) mid.lease o') (g.S.Store.objects c.news.new.store) (g.S.Store.objects c.renew_lease.new.store)) is c.in_ok-renewed.ensures.puts in
+    let puts = subst (λ m. WhereModelled (λ o o'. PutsBy {A = Unit {0}} unrefused (renewal old.view v.latest l m) old.lease o (Ok tt) mid.lease o') (g.S.Store.objects c.news.new.store) (g.S.Store.objects c.renew_lease.new.store)) (to_z-of_z {w = w64} {z = m} (search rules)) made in
+    let all = renewed-puts (g.S.Store.objects c.args.store.now) v.latest v.ensures.found l m old mid unreplaced due (Ok tt) (Err NoMemory) (c.in_ok-news.ensures.kept ∙ v.ensures.kept) puts (λ o o' h. renewal-broken old.view v.latest l m MayLack old.lease mid.lease o o' h) in
     let failed : c.from_residual-in_err-answer-2.result ≡ Err NoMemory = search rules in
     let unchanged : c.take_news-2.new.self ≡ mid = search rules in
     rw (failed, unchanged) all
@@ -242,13 +249,13 @@ returns-clause-puts g c =
     let there : is_none (found l.id v.latest) ≡ false = search rules in
     let unreplaced : replaces old.view l m v.latest ≡ false = replaces-by old.view v.latest l m false true false same due there in
     let is : c.in_ok-renewed.renewed ≡ true = search rules in
-    let made = subst (λ b. WhereModelled (λ o o'. PutsBy (renewal old.view v.latest l (to_z w64 (of_z w64 m))) old.lease o (put_tried (Ok b)) mid.lease o') (g.S.Store.objects c.news.new.store) (g.S.Store.objects c.renew_lease.new.store)) is c.in_ok-renewed.ensures.puts in
-    let puts = subst (λ m. WhereModelled (λ o o'. PutsBy {A = Unit {0}} (renewal old.view v.latest l m) old.lease o (Ok tt) mid.lease o') (g.S.Store.objects c.news.new.store) (g.S.Store.objects c.renew_lease.new.store)) (to_z-of_z {w = w64} {z = m} (search rules)) made in
+    let made = subst (λ b. WhereModelled (λ o o'. PutsBy unrefused (renewal old.view v.latest l (to_z w64 (of_z w64 m))) old.lease o (put_tried (Ok b)) mid.lease o') (g.S.Store.objects c.news.new.store) (g.S.Store.objects c.renew_lease.new.store)) is c.in_ok-renewed.ensures.puts in
+    let puts = subst (λ m. WhereModelled (λ o o'. PutsBy {A = Unit {0}} unrefused (renewal old.view v.latest l m) old.lease o (Ok tt) mid.lease o') (g.S.Store.objects c.news.new.store) (g.S.Store.objects c.renew_lease.new.store)) (to_z-of_z {w = w64} {z = m} (search rules)) made in
     let a = c.in_ok-answer-2 in
     let new = c.take_news-2.new.self in
     let lease_is : new.lease ≡ mid.lease = ap (λ (f : Follower). f.lease) a.ensures.ok in
-    let moved = subst (λ x. WhereModelled (λ o o'. PutsBy {A = Unit {0}} (renewal old.view v.latest l m) old.lease o (Ok tt) x o') (g.S.Store.objects c.news.new.store) (g.S.Store.objects c.renew_lease.new.store)) (sym lease_is) puts in
-    let all = renewed-puts (g.S.Store.objects c.args.store.now) v.latest v.ensures.found l m old new unreplaced due (Ok tt) (Ok a.answer) (c.in_ok-news.ensures.kept ∙ v.ensures.kept) moved (λ o o' h. renewal-done old.view v.latest l m old.lease new.lease o o' a.answer h) in
+    let moved = subst (λ x. WhereModelled (λ o o'. PutsBy {A = Unit {0}} unrefused (renewal old.view v.latest l m) old.lease o (Ok tt) x o') (g.S.Store.objects c.news.new.store) (g.S.Store.objects c.renew_lease.new.store)) (sym lease_is) puts in
+    let all = renewed-puts (g.S.Store.objects c.args.store.now) v.latest v.ensures.found l m old new unreplaced due (Ok tt) (Ok a.answer) (c.in_ok-news.ensures.kept ∙ v.ensures.kept) moved (λ o o' h. renewal-done old.view v.latest l m MayLack old.lease new.lease o o' a.answer h) in
     search (rules, all)
 
 pub returns-clause-answers : goal.returns-clause-answers
@@ -259,7 +266,9 @@ returns-clause-answers g c =
     let mid = c.renew_lease.new.self in
     let held : c.self.inside.lease ≡ Some c.args.lease.now = ap (λ (f : Follower). f.lease) c.self.view_is ∙ c.requires.leased in
     let managed : old.mode ≡ ManagedCheckpoint = sym (ap (λ (f : Follower). f.mode) c.self.view_is) ∙ mode-leased c.self.inside.following.mode c.self.inside.lease c.args.lease.now c.self.invariant.leased held in
-    informed-open old c.take_news-2.new.self n.added n.replayed n.mark mid.lease a.answer managed (informed-renewed old mid c.take_news-2.new.self n.added n.mark c.in_ok-renewed.ensures.same a.ensures.ok) a.ensures.answer
+    let new = c.take_news-2.new.self in
+    let becomes = informed-becomes old new n.added n.mark n.segments mid.lease (informed-renewed old new n.added n.mark n.segments mid.lease mid c.in_ok-renewed.ensures.same a.ensures.ok) in
+    informed-open old new n.added n.replayed n.mark mid.lease a.answer managed becomes a.ensures.answer
 
 pub returns-clause-keeps : goal.returns-clause-keeps
 returns-clause-keeps g c =
@@ -273,8 +282,8 @@ returns-clause-keeps g c =
     let there : is_none (found l.id v.latest) ≡ false = search rules in
     let unreplaced : replaces old.view l m v.latest ≡ false = replaces-by old.view v.latest l m false true false same due there in
     let is : c.in_ok-renewed.renewed ≡ true = search rules in
-    let made = subst (λ b. WhereModelled (λ o o'. PutsBy (renewal old.view v.latest l (to_z w64 (of_z w64 m))) old.lease o (put_tried (Ok b)) mid.lease o') (g.S.Store.objects c.news.new.store) (g.S.Store.objects c.renew_lease.new.store)) is c.in_ok-renewed.ensures.puts in
-    let puts = subst (λ m. WhereModelled (λ o o'. PutsBy {A = Unit {0}} (renewal old.view v.latest l m) old.lease o (Ok tt) mid.lease o') (g.S.Store.objects c.news.new.store) (g.S.Store.objects c.renew_lease.new.store)) (to_z-of_z {w = w64} {z = m} (search rules)) made in
+    let made = subst (λ b. WhereModelled (λ o o'. PutsBy unrefused (renewal old.view v.latest l (to_z w64 (of_z w64 m))) old.lease o (put_tried (Ok b)) mid.lease o') (g.S.Store.objects c.news.new.store) (g.S.Store.objects c.renew_lease.new.store)) is c.in_ok-renewed.ensures.puts in
+    let puts = subst (λ m. WhereModelled (λ o o'. PutsBy {A = Unit {0}} unrefused (renewal old.view v.latest l m) old.lease o (Ok tt) mid.lease o') (g.S.Store.objects c.news.new.store) (g.S.Store.objects c.renew_lease.new.store)) (to_z-of_z {w = w64} {z = m} (search rules)) made in
     let n = c.in_ok-news.news in
     let a = c.in_ok-answer-2 in
     let new = c.take_news-2.new.self in
@@ -282,8 +291,8 @@ returns-clause-keeps g c =
     let managed : old.mode ≡ ManagedCheckpoint = sym (ap (λ (f : Follower). f.mode) c.self.view_is) ∙ mode-leased c.self.inside.following.mode c.self.inside.lease l c.self.invariant.leased held in
     let floor : old.line.floor ≡ old.view.manifest.last_l0_seq = subst (λ (f : Follower). f.line.floor ≡ f.view.manifest.last_l0_seq) c.self.view_is refl in
     let lease_is : new.lease ≡ mid.lease = ap (λ (f : Follower). f.lease) a.ensures.ok in
-    let moved = subst (λ x. WhereModelled (λ o o'. PutsBy {A = Unit {0}} (renewal old.view v.latest l m) old.lease o (Ok tt) x o') (g.S.Store.objects c.news.new.store) (g.S.Store.objects c.renew_lease.new.store)) (sym lease_is) puts in
-    let becomes = informed-renewed old mid new n.added n.mark c.in_ok-renewed.ensures.same a.ensures.ok in
+    let moved = subst (λ x. WhereModelled (λ o o'. PutsBy {A = Unit {0}} unrefused (renewal old.view v.latest l m) old.lease o (Ok tt) x o') (g.S.Store.objects c.news.new.store) (g.S.Store.objects c.renew_lease.new.store)) (sym lease_is) puts in
+    let becomes = informed-becomes old new n.added n.mark n.segments mid.lease (informed-renewed old new n.added n.mark n.segments mid.lease mid c.in_ok-renewed.ensures.same a.ensures.ok) in
     let all = renewed-kept (g.S.Store.objects c.args.store.now) v.latest v.ensures.found l m old new unreplaced managed same floor n.added n.replayed n.mark a.answer a.ensures.answer
     (g.S.Store.objects c.news.new.store) (c.in_ok-news.ensures.kept ∙ v.ensures.kept) (subst (λ s. IfSome s (λ o. IsNews o old v.latest old.skips n.added n.replayed n.mark)) (sym c.in_ok-news.ensures.kept) c.in_ok-news.ensures.news)
     (becomes ∙ ap (λ x. record (informed old old.skips n.added n.mark) { lease = x }) (sym lease_is)) due moved in
@@ -430,3 +439,77 @@ returns-then-not-renewed-clause-calls_again g c =
     let managed : old.mode ≡ ManagedCheckpoint = sym (ap (λ (f : Follower). f.mode) c.self.view_is) ∙ mode-leased c.self.inside.following.mode c.self.inside.lease c.args.lease.now c.self.invariant.leased held in
     let n2 = g.S.Store.calls c.news.new.store in
     λ again. news-then v.latest t t1 v.ensures.kept v.ensures.found old.mode old.skips managed n n1 v.ensures.calls n2 c.in_ok-news.ensures.calls (g.S.Store.calls c.renew_lease.new.store) c.in_ok-renewed.ensures.calls
+
+pub returns-then-not-is_due-clause-segments : goal.returns-then-not-is_due-clause-segments
+returns-then-not-is_due-clause-segments g c x lawful has =
+    let n = c.in_ok-news.news in
+    let e = c.in_ok-news.ensures in
+    let old = c.args.self.now in
+    let whole = all-kept c.self.inside old n.added old.view.manifest.last_l0_seq c.self.invariant c.self.view_is (sym (ap (λ (f : Follower). f.view.manifest.last_l0_seq) c.self.view_is)) e.numbered.0 in
+    informed-segments old c.take_news.new.self n.added n.mark n.segments old.lease x whole c.in_ok-answer.ensures.ok e.unsegmented (λ reads. e.segments x lawful reads has)
+
+pub returns-clause-segments : goal.returns-clause-segments
+returns-clause-segments g c x lawful has =
+    let n = c.in_ok-news.news in
+    let e = c.in_ok-news.ensures in
+    let old = c.args.self.now in
+    let mid = c.renew_lease.new.self in
+    let new = c.take_news-2.new.self in
+    let whole = all-kept c.self.inside old n.added old.view.manifest.last_l0_seq c.self.invariant c.self.view_is (sym (ap (λ (f : Follower). f.view.manifest.last_l0_seq) c.self.view_is)) e.numbered.0 in
+    informed-segments old new n.added n.mark n.segments mid.lease x whole
+    (informed-renewed old new n.added n.mark n.segments mid.lease mid c.in_ok-renewed.ensures.same c.in_ok-answer-2.ensures.ok) e.unsegmented (λ reads. e.segments x lawful reads has)
+
+pub returns-then-differs-clause-lacks : goal.returns-then-differs-clause-lacks
+returns-then-differs-clause-lacks g c x lawful is =
+    let v = c.in_ok-latest in
+    let l = c.args.lease.now in
+    let old = c.args.self.now in
+    let r = c.replace_lease in
+    let other : differs old.view v.latest ≡ true = search rules in
+    let replaced : replaces old.view l c.args.moment v.latest ≡ true = replaces-by old.view v.latest l c.args.moment true _ _ other refl refl in
+    let lacks = subst (λ m. IfSome (g.S.Store.objects c.latest_of.new.store) (λ o. ReplaceLacks x (replacement old.view v.latest l m) old.skips o)) (to_z-of_z {w = w64} {z = c.args.moment} (search rules)) (r.ensures.lacks x lawful is) in
+    replace-keeps x v.latest v.ensures.kept v.ensures.found l c.args.moment old replaced lacks
+
+pub returns-then-is_none-clause-lacks : goal.returns-then-is_none-clause-lacks
+returns-then-is_none-clause-lacks g c x lawful is =
+    let v = c.in_ok-latest in
+    let l = c.args.lease.now in
+    let old = c.args.self.now in
+    let r = c.replace_lease-then-is_none in
+    let same : differs old.view v.latest ≡ false = search rules in
+    let due : is_due c.args.moment l ≡ true = search rules in
+    let gone : is_none (found l.id v.latest) ≡ true = search rules in
+    let replaced : replaces old.view l c.args.moment v.latest ≡ true = replaces-by old.view v.latest l c.args.moment false true true same due gone in
+    let lacks = subst (λ m. IfSome (g.S.Store.objects c.news.new.store) (λ o. ReplaceLacks x (replacement old.view v.latest l m) old.skips o)) (to_z-of_z {w = w64} {z = c.args.moment} (search rules)) (r.ensures.lacks x lawful is) in
+    replace-keeps x v.latest (c.in_ok-news.ensures.kept ∙ v.ensures.kept) v.ensures.found l c.args.moment old replaced lacks
+
+pub returns-in_err-news-clause-lacks : goal.returns-in_err-news-clause-lacks
+returns-in_err-news-clause-lacks g c x lawful is =
+    let v = c.in_ok-latest in
+    let old = c.args.self.now in
+    let e = c.in_err-news.field-0.0 in
+    let p = err_from_is_err_and c.from_residual-in_err-news.result c.from_residual-in_err-news.ensures.1 in
+    let invalid : e ≡ InvalidDBState = err-same (Option PollAnswer) e InvalidDBState (sym (p.1 ∙ ap Err p.2) ∙ is) in
+    let same : differs old.view v.latest ≡ false = search rules in
+    let held : c.self.inside.lease ≡ Some c.args.lease.now = ap (λ (f : Follower). f.lease) c.self.view_is ∙ c.requires.leased in
+    let managed : old.mode ≡ ManagedCheckpoint = sym (ap (λ (f : Follower). f.mode) c.self.view_is) ∙ mode-leased c.self.inside.following.mode c.self.inside.lease c.args.lease.now c.self.invariant.leased held in
+    let floor : old.line.floor ≡ old.view.manifest.last_l0_seq = subst (λ (f : Follower). f.line.floor ≡ f.view.manifest.last_l0_seq) c.self.view_is refl in
+    news-keeps x v.latest v.ensures.kept v.ensures.found c.args.lease.now c.args.moment old managed floor same (c.in_err-news.ensures.lacks x lawful (ap Err invalid))
+
+pub returns-in_err-renewed-clause-lacks : goal.returns-in_err-renewed-clause-lacks
+returns-in_err-renewed-clause-lacks g c x lawful is =
+    let v = c.in_ok-latest in
+    let l = c.args.lease.now in
+    let m = c.args.moment in
+    let old = c.args.self.now in
+    let new = c.renew_lease.new.self in
+    let e = c.in_err-renewed.field-0.0 in
+    let p = err_from_is_err_and c.from_residual-in_err-renewed.result c.from_residual-in_err-renewed.ensures.1 in
+    let invalid : e ≡ InvalidDBState = err-same (Option PollAnswer) e InvalidDBState (sym (p.1 ∙ ap Err p.2) ∙ is) in
+    let same : differs old.view v.latest ≡ false = search rules in
+    let due : is_due m l ≡ true = search rules in
+    let there : is_none (found l.id v.latest) ≡ false = search rules in
+    let unreplaced : replaces old.view l m v.latest ≡ false = replaces-by old.view v.latest l m false true false same due there in
+    let puts = subst (λ m. WhereModelled (λ o o'. PutsBy {A = Unit {0}} unrefused (renewal old.view v.latest l m) old.lease o (Err e) new.lease o') (g.S.Store.objects c.news.new.store) (g.S.Store.objects c.renew_lease.new.store)) (to_z-of_z {w = w64} {z = m} (search rules)) c.in_err-renewed.ensures.puts in
+    renew-keeps x v.latest (c.in_ok-news.ensures.kept ∙ v.ensures.kept) v.ensures.found l m old unreplaced due old.lease new.lease (g.S.Store.objects c.renew_lease.new.store)
+    (subst (λ e. WhereModelled (λ o o'. PutsBy {A = Unit {0}} unrefused (renewal old.view v.latest l m) old.lease o (Err e) new.lease o') (g.S.Store.objects c.news.new.store) (g.S.Store.objects c.renew_lease.new.store)) invalid puts)

@@ -13,20 +13,20 @@ use Rattle.slate_live.proofs.Places.{get-map_at}
 use Rattle.slate_live.proofs.states.LiveState.act.Goals as goal
 
 pub returns-clause-does : goal.returns-clause-does
-returns-clause-does g c merge lawful =
-    let d = c.act.ensures.does merge lawful in
+returns-clause-does g c settings lawful extracts =
+    let d = c.act.ensures.does settings lawful extracts in
     rw (← c.self.view_is) (
       d.0,
-      acts_on _ merge c.args.number c.args.command.now (call_of c.args.command.now.action) d.0 _ _ c.act.result _ _ _ (get-map_at object_of c.self.inside.objects.items c.args.number c.index_mut-object.result.now (omega (arith, c.len.ensures)) c.index_mut-object.ensures.value) d.1
+      acts_on _ settings c.args.number c.args.command.now (call_of c.args.command.now.action) d.0 _ _ c.act.result _ _ _ (get-map_at object_of c.self.inside.objects.items c.args.number c.index_mut-object.result.now (omega (arith, c.len.ensures)) c.index_mut-object.ensures.value) d.1
           (map-set object_of c.self.inside.objects.items c.args.number c.act.new.self),
     )
 
 pub returns-in-Some-clause-does : goal.returns-in-Some-clause-does
-returns-in-Some-clause-does g c merge lawful = (
+returns-in-Some-clause-does g c settings lawful extracts = (
   0,
-  on-snapshot (by_objects (g.S.Store.objects c.args.store.now)) merge c.args.number c.args.command.now (call_of c.args.command.now.action) 0 (slice_get c.args.self.now.objects c.args.number) (running c.args.self.now (known g.S.Store.objects g.S.Store.faults c.args.store.now)) c.act_at.result (running c.args.self.now (known g.S.Store.objects g.S.Store.faults c.act_at.new.store)) (object_of c.index.result.now) c.in-Some.snapshot
+  on-snapshot (by_objects (g.S.Store.objects c.args.store.now)) settings c.args.number c.args.command.now (call_of c.args.command.now.action) 0 (slice_get c.args.self.now.objects c.args.number) (running c.args.self.now (known g.S.Store.objects g.S.Store.faults c.args.store.now)) c.act_at.result (running c.args.self.now (known g.S.Store.objects g.S.Store.faults c.act_at.new.store)) (object_of c.index.result.now) c.in-Some.snapshot
       (rw (← c.self.view_is) (get-map_at object_of c.self.inside.objects.items c.args.number c.index.result.now (omega (arith, c.len.ensures)) c.index.ensures))
-      (sym c.snapshot.ensures ∙ c.in-Some.is) (c.act_at.ensures.does merge lawful),
+      (sym c.snapshot.ensures ∙ c.in-Some.is) (c.act_at.ensures.does settings lawful),
 )
 
 none-of : {A : Type 0} (o : Option A) → ((x : A) → o ≡ Some x → ⊥) → o ≡ None

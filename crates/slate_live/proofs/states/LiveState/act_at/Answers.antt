@@ -6,9 +6,9 @@ use Rattle.slate_live.proofs.Places.{get-map_at}
 use Rattle.slate_live.proofs.states.LiveState.act_at.Goals as goal
 
 pub returns-clause-does : goal.returns-clause-does
-returns-clause-does g c merge lawful =
+returns-clause-does g c settings lawful =
     rw (← c.self.view_is) (
-    reads-snapshot _ merge c.args.snapshot c.args.command.now (call_of c.args.command.now.action) _ c.act_at.result _ (object_of c.index.result.now)
+    reads-snapshot _ settings c.args.snapshot c.args.command.now (call_of c.args.command.now.action) _ c.act_at.result _ (object_of c.index.result.now)
     (get-map_at object_of c.self.inside.objects.items c.args.snapshot.handle c.index.result.now (omega (arith, c.len.ensures)) c.index.ensures)
-    (c.act_at.ensures.does merge c.args.snapshot.handle c.self.inside.writes.items lawful)
+    (c.act_at.ensures.does settings c.args.snapshot.handle c.self.inside.writes.items lawful)
     )

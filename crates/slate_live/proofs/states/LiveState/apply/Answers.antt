@@ -1,6 +1,4 @@
 use Rattle.std.proofs.Common.{rules, ◌≡◌, ℕ, ℤ, Bool, Option, refl, subst, ap, w64, to_z, of_z}
-use Rattle.slate_types.specs.Operator.{Merge}
-use Rattle.slate_script.specs.declared.options.Options.{Options}
 use Rattle.slate_live.specs.Calls.{NewHandle, NewSnapshot, NewFollower, NewCheckpoint, WholeStore, OfWrite, OfObject, target_of}
 use Rattle.slate_model.specs.Known.{known}
 use Rattle.slate_model.specs.Stores.{by_objects}
@@ -14,9 +12,6 @@ use Rattle.slate_live.specs.State.{State, running}
 use Rattle.slate_live.proofs.Linking.{does-at, linked, names-object}
 use Rattle.slate_live.proofs.states.LiveState.apply.Goals as goal
 
-abbrev with_merge : Option Merge → Options → Settings
-with_merge merge options = record { merge = merge; options = options }
-
 -- an opening of a reader with the moment and the skipping that a command has
 opens_as : {L : Type 0} (k : Knowledge L) (s : Settings) (mode : DbReaderMode) (managed : Option (ℕ × ℕ)) (made : ℕ) (before : State L) (reply : Reply) (after : State L) (moment moment' : ℤ) (skips skips' : Bool) → moment ≡ moment' → skips ≡ skips' →
     OpensFollowerIn k s mode managed skips moment made before reply after → OpensFollowerIn k s mode managed skips' moment' made before reply after
@@ -24,119 +19,107 @@ opens_as k s mode managed made before reply after moment moment' skips skips' at
     subst (λ m. OpensFollowerIn k s mode managed skips' m made before reply after) at (subst (λ x. OpensFollowerIn k s mode managed x moment made before reply after) same opens)
 
 pub returns-in-Open-clause-does : goal.returns-in-Open-clause-does
-returns-in-Open-clause-does g c merge lawful =
-    let d = c.open.ensures.does merge in
-    let s = with_merge merge c.args.self.now.options in
+returns-in-Open-clause-does g c settings lawful extracts options_are =
+    let d = c.open.ensures.does settings extracts options_are in
     let k = by_objects (g.S.Store.objects c.args.store.now) in
     let store = known g.S.Store.objects g.S.Store.faults c.args.store.now in
     let store' = known g.S.Store.objects g.S.Store.faults c.open.new.store in
-    (d.0, does-at k s c.args.command.now d.0 (running c.args.self.now store) c.open.result (running c.open.new.self store') (NewHandle c.in-Open.wal) (ap target_of c.in-Open.is) d.1)
+    (d.0, does-at k settings c.args.command.now d.0 (running c.args.self.now store) c.open.result (running c.open.new.self store') (NewHandle c.in-Open.wal) (ap target_of c.in-Open.is) d.1)
 
 pub returns-in-Open-clause-link : goal.returns-in-Open-clause-link
-returns-in-Open-clause-link g c merge lawful =
-    let d = c.open.ensures.does merge in
-    let s = with_merge merge c.args.self.now.options in
+returns-in-Open-clause-link g c settings lawful extracts options_are =
+    let d = c.open.ensures.does settings extracts options_are in
     let k = by_objects (g.S.Store.objects c.args.store.now) in
     let store = known g.S.Store.objects g.S.Store.faults c.args.store.now in
     let store' = known g.S.Store.objects g.S.Store.faults c.open.new.store in
-    linked s c.args.command.now c.args.self.now c.open.new.self store store' d.0 c.open.result (does-at k s c.args.command.now d.0 (running c.args.self.now store) c.open.result (running c.open.new.self store') (NewHandle c.in-Open.wal) (ap target_of c.in-Open.is) d.1)
+    linked settings c.args.command.now c.args.self.now c.open.new.self store store' d.0 c.open.result (does-at k settings c.args.command.now d.0 (running c.args.self.now store) c.open.result (running c.open.new.self store') (NewHandle c.in-Open.wal) (ap target_of c.in-Open.is) d.1)
 
 pub returns-in-Follow-clause-does : goal.returns-in-Follow-clause-does
-returns-in-Follow-clause-does g c merge lawful =
+returns-in-Follow-clause-does g c settings lawful extracts options_are =
     let o = c.reader_options-options.ensures in
-    let d = c.follow.ensures.does merge c.in-Follow.managed o.lifetime o.interval in
-    let s = with_merge merge c.args.self.now.options in
+    let d = c.follow.ensures.does settings c.in-Follow.managed extracts o.lifetime o.interval in
     let k = by_objects (g.S.Store.objects c.args.store.now) in
     let before = running c.args.self.now (known g.S.Store.objects g.S.Store.faults c.args.store.now) in
     let after = running c.follow.new.self (known g.S.Store.objects g.S.Store.faults c.follow.new.store) in
-    let did = opens_as k s c.in-Follow.mode c.in-Follow.managed d.0 before c.follow.result after _ _ _ _ (search rules) o.skips d.1 in
-    (d.0, does-at k s c.args.command.now d.0 before c.follow.result after (NewFollower c.in-Follow.mode c.in-Follow.managed c.in-Follow.skip) (ap target_of c.in-Follow.is) did)
+    let did = opens_as k settings c.in-Follow.mode c.in-Follow.managed d.0 before c.follow.result after _ _ _ _ (search rules) o.skips d.1 in
+    (d.0, does-at k settings c.args.command.now d.0 before c.follow.result after (NewFollower c.in-Follow.mode c.in-Follow.managed c.in-Follow.skip) (ap target_of c.in-Follow.is) did)
 
 pub returns-in-Follow-clause-link : goal.returns-in-Follow-clause-link
-returns-in-Follow-clause-link g c merge lawful =
+returns-in-Follow-clause-link g c settings lawful extracts options_are =
     let o = c.reader_options-options.ensures in
-    let d = c.follow.ensures.does merge c.in-Follow.managed o.lifetime o.interval in
-    let s = with_merge merge c.args.self.now.options in
+    let d = c.follow.ensures.does settings c.in-Follow.managed extracts o.lifetime o.interval in
     let k = by_objects (g.S.Store.objects c.args.store.now) in
     let store = known g.S.Store.objects g.S.Store.faults c.args.store.now in
     let store' = known g.S.Store.objects g.S.Store.faults c.follow.new.store in
-    let did = opens_as k s c.in-Follow.mode c.in-Follow.managed d.0 (running c.args.self.now store) c.follow.result (running c.follow.new.self store') _ _ _ _ (search rules) o.skips d.1 in
-    linked s c.args.command.now c.args.self.now c.follow.new.self store store' d.0 c.follow.result
-    (does-at k s c.args.command.now d.0 (running c.args.self.now store) c.follow.result (running c.follow.new.self store') (NewFollower c.in-Follow.mode c.in-Follow.managed c.in-Follow.skip) (ap target_of c.in-Follow.is) did)
+    let did = opens_as k settings c.in-Follow.mode c.in-Follow.managed d.0 (running c.args.self.now store) c.follow.result (running c.follow.new.self store') _ _ _ _ (search rules) o.skips d.1 in
+    linked settings c.args.command.now c.args.self.now c.follow.new.self store store' d.0 c.follow.result
+    (does-at k settings c.args.command.now d.0 (running c.args.self.now store) c.follow.result (running c.follow.new.self store') (NewFollower c.in-Follow.mode c.in-Follow.managed c.in-Follow.skip) (ap target_of c.in-Follow.is) did)
 
 pub returns-in-Checkpoint-clause-does : goal.returns-in-Checkpoint-clause-does
-returns-in-Checkpoint-clause-does g c merge lawful =
+returns-in-Checkpoint-clause-does g c settings lawful extracts options_are =
     let d = c.checkpoint.ensures.does in
-    let s = with_merge merge c.args.self.now.options in
     let k = by_objects (g.S.Store.objects c.args.store.now) in
     let store = known g.S.Store.objects g.S.Store.faults c.args.store.now in
     let store' = known g.S.Store.objects g.S.Store.faults c.checkpoint.new.store in
     let back : to_z w64 (of_z w64 c.args.command.now.moment) ≡ c.args.command.now.moment = search rules in
     let did : CommitsTo k d.0 c.in-Checkpoint.lifetime c.args.command.now.moment store c.checkpoint.result store' = subst (λ m. CommitsTo k d.0 c.in-Checkpoint.lifetime m store c.checkpoint.result store') back d.1 in
-    (d.0, does-at k s c.args.command.now d.0 (running c.args.self.now store) c.checkpoint.result (running c.args.self.now store') (NewCheckpoint c.in-Checkpoint.lifetime) (ap target_of c.in-Checkpoint.is) (record { does = did; objects = refl; writes = refl }))
+    (d.0, does-at k settings c.args.command.now d.0 (running c.args.self.now store) c.checkpoint.result (running c.args.self.now store') (NewCheckpoint c.in-Checkpoint.lifetime) (ap target_of c.in-Checkpoint.is) (record { does = did; objects = refl; writes = refl }))
 
 pub returns-in-Checkpoint-clause-link : goal.returns-in-Checkpoint-clause-link
-returns-in-Checkpoint-clause-link g c merge lawful =
+returns-in-Checkpoint-clause-link g c settings lawful extracts options_are =
     let d = c.checkpoint.ensures.does in
-    let s = with_merge merge c.args.self.now.options in
     let k = by_objects (g.S.Store.objects c.args.store.now) in
     let store = known g.S.Store.objects g.S.Store.faults c.args.store.now in
     let store' = known g.S.Store.objects g.S.Store.faults c.checkpoint.new.store in
     let back : to_z w64 (of_z w64 c.args.command.now.moment) ≡ c.args.command.now.moment = search rules in
     let did : CommitsTo k d.0 c.in-Checkpoint.lifetime c.args.command.now.moment store c.checkpoint.result store' = subst (λ m. CommitsTo k d.0 c.in-Checkpoint.lifetime m store c.checkpoint.result store') back d.1 in
-    linked s c.args.command.now c.args.self.now c.args.self.now store store' d.0 c.checkpoint.result (does-at k s c.args.command.now d.0 (running c.args.self.now store) c.checkpoint.result (running c.args.self.now store') (NewCheckpoint c.in-Checkpoint.lifetime) (ap target_of c.in-Checkpoint.is) (record { does = did; objects = refl; writes = refl }))
+    linked settings c.args.command.now c.args.self.now c.args.self.now store store' d.0 c.checkpoint.result (does-at k settings c.args.command.now d.0 (running c.args.self.now store) c.checkpoint.result (running c.args.self.now store') (NewCheckpoint c.in-Checkpoint.lifetime) (ap target_of c.in-Checkpoint.is) (record { does = did; objects = refl; writes = refl }))
 
 pub returns-in-Sweep-clause-does : goal.returns-in-Sweep-clause-does
-returns-in-Sweep-clause-does g c merge lawful =
+returns-in-Sweep-clause-does g c settings lawful extracts options_are =
     let d = c.sweep.ensures.does in
-    let s = with_merge merge c.args.self.now.options in
     let k = by_objects (g.S.Store.objects c.args.store.now) in
     let store = known g.S.Store.objects g.S.Store.faults c.args.store.now in
     let store' = known g.S.Store.objects g.S.Store.faults c.sweep.new.store in
     let back : to_z w64 (of_z w64 c.args.command.now.moment) ≡ c.args.command.now.moment = search rules in
     let did : SweepsTo k d.0 c.args.command.now.moment store c.sweep.result store' = subst (λ m. SweepsTo k d.0 m store c.sweep.result store') back d.1 in
-    (d.0, does-at k s c.args.command.now d.0 (running c.args.self.now store) c.sweep.result (running c.args.self.now store') WholeStore (ap target_of c.in-Sweep.is) (record { does = did; objects = refl; writes = refl }))
+    (d.0, does-at k settings c.args.command.now d.0 (running c.args.self.now store) c.sweep.result (running c.args.self.now store') WholeStore (ap target_of c.in-Sweep.is) (record { does = did; objects = refl; writes = refl }))
 
 pub returns-in-Sweep-clause-link : goal.returns-in-Sweep-clause-link
-returns-in-Sweep-clause-link g c merge lawful =
+returns-in-Sweep-clause-link g c settings lawful extracts options_are =
     let d = c.sweep.ensures.does in
-    let s = with_merge merge c.args.self.now.options in
     let k = by_objects (g.S.Store.objects c.args.store.now) in
     let store = known g.S.Store.objects g.S.Store.faults c.args.store.now in
     let store' = known g.S.Store.objects g.S.Store.faults c.sweep.new.store in
     let back : to_z w64 (of_z w64 c.args.command.now.moment) ≡ c.args.command.now.moment = search rules in
     let did : SweepsTo k d.0 c.args.command.now.moment store c.sweep.result store' = subst (λ m. SweepsTo k d.0 m store c.sweep.result store') back d.1 in
-    linked s c.args.command.now c.args.self.now c.args.self.now store store' d.0 c.sweep.result (does-at k s c.args.command.now d.0 (running c.args.self.now store) c.sweep.result (running c.args.self.now store') WholeStore (ap target_of c.in-Sweep.is) (record { does = did; objects = refl; writes = refl }))
+    linked settings c.args.command.now c.args.self.now c.args.self.now store store' d.0 c.sweep.result (does-at k settings c.args.command.now d.0 (running c.args.self.now store) c.sweep.result (running c.args.self.now store') WholeStore (ap target_of c.in-Sweep.is) (record { does = did; objects = refl; writes = refl }))
 
 pub returns-in-Await-clause-link : goal.returns-in-Await-clause-link
-returns-in-Await-clause-link g c merge lawful =
-    let s = with_merge merge c.args.self.now.options in
+returns-in-Await-clause-link g c settings lawful extracts options_are =
     let k = by_objects (g.S.Store.objects c.args.store.now) in
     let store = known g.S.Store.objects g.S.Store.faults c.args.store.now in
     let store' = known g.S.Store.objects g.S.Store.faults c.args.store.now in
-    linked s c.args.command.now c.args.self.now c.args.self.now store store' 0 c.write_reply.result (does-at k s c.args.command.now 0 (running c.args.self.now store) c.write_reply.result (running c.args.self.now store') (OfWrite c.in-Await.write) (ap target_of c.in-Await.is) (refl, c.write_reply.ensures, refl))
+    linked settings c.args.command.now c.args.self.now c.args.self.now store store' 0 c.write_reply.result (does-at k settings c.args.command.now 0 (running c.args.self.now store) c.write_reply.result (running c.args.self.now store') (OfWrite c.in-Await.write) (ap target_of c.in-Await.is) (refl, c.write_reply.ensures, refl))
 
 pub returns-in-Put-clause-does : goal.returns-in-Put-clause-does
-returns-in-Put-clause-does g c merge lawful =
-    let d = c.act.ensures.does merge lawful in
-    let s = with_merge merge c.args.self.now.options in
+returns-in-Put-clause-does g c settings lawful extracts options_are =
+    let d = c.act.ensures.does settings lawful extracts in
     let k = by_objects (g.S.Store.objects c.args.store.now) in
     let store = known g.S.Store.objects g.S.Store.faults c.args.store.now in
     let store' = known g.S.Store.objects g.S.Store.faults c.act.new.store in
-    (d.0, does-at k s c.args.command.now d.0 (running c.args.self.now store) c.act.result (running c.act.new.self store') (OfObject c.in-Put.number) (names-object c.args.command.now.action c.in-Put.number c.in-Put.is) d.1)
+    (d.0, does-at k settings c.args.command.now d.0 (running c.args.self.now store) c.act.result (running c.act.new.self store') (OfObject c.in-Put.number) (names-object c.args.command.now.action c.in-Put.number c.in-Put.is) d.1)
 
 pub returns-in-Put-clause-link : goal.returns-in-Put-clause-link
-returns-in-Put-clause-link g c merge lawful =
-    let d = c.act.ensures.does merge lawful in
-    let s = with_merge merge c.args.self.now.options in
+returns-in-Put-clause-link g c settings lawful extracts options_are =
+    let d = c.act.ensures.does settings lawful extracts in
     let k = by_objects (g.S.Store.objects c.args.store.now) in
     let store = known g.S.Store.objects g.S.Store.faults c.args.store.now in
     let store' = known g.S.Store.objects g.S.Store.faults c.act.new.store in
-    linked s c.args.command.now c.args.self.now c.act.new.self store store' d.0 c.act.result (does-at k s c.args.command.now d.0 (running c.args.self.now store) c.act.result (running c.act.new.self store') (OfObject c.in-Put.number) (names-object c.args.command.now.action c.in-Put.number c.in-Put.is) d.1)
+    linked settings c.args.command.now c.args.self.now c.act.new.self store store' d.0 c.act.result (does-at k settings c.args.command.now d.0 (running c.args.self.now store) c.act.result (running c.act.new.self store') (OfObject c.in-Put.number) (names-object c.args.command.now.action c.in-Put.number c.in-Put.is) d.1)
 
 pub returns-in-Snapshot-clause-link : goal.returns-in-Snapshot-clause-link
-returns-in-Snapshot-clause-link g c merge lawful =
-    let s = with_merge merge c.args.self.now.options in
+returns-in-Snapshot-clause-link g c settings lawful extracts options_are =
     let k = by_objects (g.S.Store.objects c.args.store.now) in
     let store = known g.S.Store.objects g.S.Store.faults c.args.store.now in
-    linked s c.args.command.now c.args.self.now c.snapshot.new.self store store 0 c.snapshot.result (does-at k s c.args.command.now 0 (running c.args.self.now store) c.snapshot.result (running c.snapshot.new.self store) (NewSnapshot c.in-Snapshot.handle) (ap target_of c.in-Snapshot.is) (c.snapshot.ensures.does store))
+    linked settings c.args.command.now c.args.self.now c.snapshot.new.self store store 0 c.snapshot.result (does-at k settings c.args.command.now 0 (running c.args.self.now store) c.snapshot.result (running c.snapshot.new.self store) (NewSnapshot c.in-Snapshot.handle) (ap target_of c.in-Snapshot.is) (c.snapshot.ensures.does store))

@@ -1,6 +1,5 @@
-use Rattle.std.proofs.Common.{rules, ◌≡◌, Ok, Err, ℕ, Option, [], ◌∷◌, ◌++◌, length, refl, sym, subst, ap, map, ◌∙◌}
-use Rattle.std.proofs.lemmas.List.{append-nil, length-map, map-append}
-use Rattle.slate_model.specs.Known.{known}
+use Rattle.std.proofs.Common.{rules, [], ◌∷◌, ◌++◌, sym, ap, map, ◌∙◌}
+use Rattle.std.proofs.lemmas.List.{length-map, map-append}
 use Rattle.slate_model.specs.Stores.{by_objects}
 use Rattle.slate_live.specs.declared.objects.Object.TheVariants as objects
 use Rattle.slate_live.specs.Objects.{object_of}
@@ -10,26 +9,26 @@ use Rattle.slate_live.proofs.Doing.{follower-in_vain, opens-follower, refuses-fo
 use Rattle.slate_live.proofs.states.LiveState.follow.Goals as goal
 
 pub returns-then-is_err-clause-does : goal.returns-then-is_err-clause-does
-returns-then-is_err-clause-does g c merge managed lifetime interval =
+returns-then-is_err-clause-does g c settings managed extracts lifetime interval =
     rw (← c.self.view_is) (
-    follower-in_vain (by_objects (g.S.Store.objects c.args.store.now)) (record { merge = merge; options = c.args.self.now.options }) c.args.mode managed c.args.options.now.skip_wal_replay c.args.moment (c.in-Ok.follower, c.in-Ok.answer) _ _ _ _ _
-    (ap (map object_of) c.reserve.ensures.items) c.args.options.now.checkpoint_lifetime_ms c.args.options.now.manifest_poll_interval_ms lifetime interval _ (search rules) c.in-Ok.ensures.rebuilds c.in-Ok.ensures.managed
+    follower-in_vain (by_objects (g.S.Store.objects c.args.store.now)) settings c.args.mode managed c.args.options.now.skip_wal_replay c.args.moment (c.in-Ok.follower, c.in-Ok.answer) _ _ _ _ _
+    (ap (map object_of) c.reserve.ensures.items) c.args.options.now.checkpoint_lifetime_ms c.args.options.now.manifest_poll_interval_ms lifetime interval _ (search rules) (c.in-Ok.ensures.rebuilds settings.extractor extracts) (c.in-Ok.ensures.managed settings.extractor extracts)
     )
 
 pub returns-else-is_err-clause-does : goal.returns-else-is_err-clause-does
-returns-else-is_err-clause-does g c merge managed lifetime interval =
+returns-else-is_err-clause-does g c settings managed extracts lifetime interval =
     rw (← c.self.view_is) (
-    opens-follower (by_objects (g.S.Store.objects c.args.store.now)) (record { merge = merge; options = c.args.self.now.options }) c.args.mode managed c.args.options.now.skip_wal_replay c.args.moment (c.in-Ok.follower, c.in-Ok.answer) _ _ _ _ _ _
+    opens-follower (by_objects (g.S.Store.objects c.args.store.now)) settings c.args.mode managed c.args.options.now.skip_wal_replay c.args.moment (c.in-Ok.follower, c.in-Ok.answer) _ _ _ _ _ _
     (c.followed_reply.ensures ∙ ap (λ n. followed_reply n c.in-Ok.answer) (c.len-object.ensures ∙ (c.self.inside.objects.ok.0 ∙ sym (length-map c.self.inside.objects.items object_of))))
     (ap (map object_of) (c.push_reserved.ensures.items ∙ ap (λ xs. xs ++ objects.Follower c.in-Ok.follower ∷ []) c.reserve.ensures.items)
     ∙ map-append object_of c.self.inside.objects.items (objects.Follower c.in-Ok.follower ∷ []))
-    c.args.options.now.checkpoint_lifetime_ms c.args.options.now.manifest_poll_interval_ms lifetime interval _ (search rules) c.in-Ok.ensures.rebuilds c.in-Ok.ensures.managed
+    c.args.options.now.checkpoint_lifetime_ms c.args.options.now.manifest_poll_interval_ms lifetime interval _ (search rules) (c.in-Ok.ensures.rebuilds settings.extractor extracts) (c.in-Ok.ensures.managed settings.extractor extracts)
     )
 
 pub returns-in-Err-clause-calls : goal.returns-in-Err-clause-calls
 returns-in-Err-clause-calls g c = follow-calls _ c.args.mode c.args.options.now.skip_wal_replay _ _ c.open.ensures.calls c.open.ensures.managed_calls
 
 pub returns-in-Err-clause-does : goal.returns-in-Err-clause-does
-returns-in-Err-clause-does g c merge managed lifetime interval =
-    refuses-follower (by_objects (g.S.Store.objects c.args.store.now)) (record { merge = merge; options = c.args.self.now.options }) c.args.mode managed c.args.options.now.skip_wal_replay c.args.moment c.in-Err.error _ _ _ _ _ c.refusal.ensures
-    c.args.options.now.checkpoint_lifetime_ms c.args.options.now.manifest_poll_interval_ms lifetime interval _ (search rules) c.in-Err.ensures.rebuilds c.in-Err.ensures.managed
+returns-in-Err-clause-does g c settings managed extracts lifetime interval =
+    refuses-follower (by_objects (g.S.Store.objects c.args.store.now)) settings c.args.mode managed c.args.options.now.skip_wal_replay c.args.moment c.in-Err.error _ _ _ _ _ c.refusal.ensures
+    c.args.options.now.checkpoint_lifetime_ms c.args.options.now.manifest_poll_interval_ms lifetime interval _ (search rules) (c.in-Err.ensures.rebuilds settings.extractor extracts) (c.in-Err.ensures.managed settings.extractor extracts)

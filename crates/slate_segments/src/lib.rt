@@ -1,0 +1,9 @@
+//! The segments of keys: the prefixes that an extractor cuts off the keys of batches that are replayed, and whether an
+//! extractor fits a database.
+#![tactic(auto)]
+
+mod extractors;
+mod segments;
+
+pub use extractors::{extractor_refusal, name_of};
+pub use segments::{listed, replayed_segments, segment_of, take_segments};

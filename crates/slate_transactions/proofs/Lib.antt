@@ -1,0 +1,5 @@
+pub mod Adding
+pub mod Noting
+pub mod Owning
+pub mod Ranges
+pub mod Tracking

@@ -1,0 +1,4 @@
+pub mod Kept
+pub mod Own
+pub mod Transaction
+pub mod Writes

@@ -1,5 +1,4 @@
 // Runs whose keys lie in segments of an extractor of the caller's own.
-ghost use Rattle.std.specs.Prelude.{Unit};
 
 use slate_live::{Options, print_replies, read_script, run};
 use slate_store::MemoryStore;
@@ -37,11 +36,12 @@ impl PrefixExtractor for Letters {
         if key.first() == Some(&b'-') && !self.dashes {
             return None;
         }
-        let mut length = 0;
-        while length < key.len() && length < self.most && !key[length].is_ascii_digit() {
-            length += 1;
-        }
-        key.get(..length)
+        let letters = key.get(..self.most.min(key.len()))?;
+        let length = letters
+            .iter()
+            .position(u8::is_ascii_digit)
+            .unwrap_or(letters.len());
+        letters.get(..length)
     }
 }
 

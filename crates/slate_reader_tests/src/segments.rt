@@ -44,17 +44,20 @@ fn latest_id(alloc: Global, store: &mut MemoryStore) -> Result<Option<u64>, Fail
     Ok(latest.map(|latest| latest.id))
 }
 
-// Puts a copy of the latest manifest with another segment after it.
-fn put_segment(alloc: Global, store: &mut MemoryStore, segment: &[u8]) -> Result<(), Fail> {
-    if let Some(latest) = store.latest_manifest(alloc)? {
-        let mut segments = Vec::new(alloc);
-        segments.push(Bytes::copy_from_slice(alloc, segment)?)?;
-        let other = Manifest {
-            segments: Seq::of(segments),
-            ..latest.manifest
-        };
-        store.put_manifest(alloc, latest.id + 1, &other)?;
-    }
+// Puts a copy of the latest manifest with another segment, with an id.
+fn put_segment(
+    alloc: Global,
+    store: &mut MemoryStore,
+    id: u64,
+    segment: &[u8],
+) -> Result<(), Fail> {
+    let Some(mut latest) = store.latest_manifest(alloc)? else {
+        return Ok(());
+    };
+    let mut segments = Vec::new(alloc);
+    segments.push(Bytes::copy_from_slice(alloc, segment)?)?;
+    latest.manifest.segments = Seq::of(segments);
+    store.put_manifest(alloc, id, &latest.manifest)?;
     Ok(())
 }
 
@@ -94,7 +97,7 @@ fn other_segments_replace_a_checkpoint(rt: HostRuntime) -> Result<(), Fail> {
     let (mut follower, _) = open(alloc, &mut store, mode, &extractor)?;
     follower.poll(alloc, &mut store, Some(&extractor), 0)?;
     assert_eq!(rt; latest_id(alloc, &mut store)?, Some(2));
-    put_segment(alloc, &mut store, b"a")?;
+    put_segment(alloc, &mut store, 3, b"a")?;
     follower.poll(alloc, &mut store, Some(&extractor), 0)?;
     assert_eq!(rt; latest_id(alloc, &mut store)?, Some(4));
     follower.poll(alloc, &mut store, Some(&extractor), 0)?;

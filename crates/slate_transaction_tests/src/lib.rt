@@ -9,3 +9,5 @@ mod databases;
 mod reads;
 #[cfg(test)]
 mod recencies;
+#[cfg(test)]
+mod sessions;

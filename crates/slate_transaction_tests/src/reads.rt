@@ -1,67 +1,59 @@
 // What a transaction reads.
-use crate::databases::{OPERATOR, begin, commit, has_number, open_database, put, range, scanned};
-use slate_types::{DurabilityLevel, FlushType, ReadOptions};
-use slate_writer::IsolationLevel;
+use crate::sessions::Step::{Begin, Commit, Delete, Flush, Get, Merge, Put, Scan, Write};
+use crate::sessions::{Step, answers};
+use slate_types::DurabilityLevel::{Memory, Remote};
+use slate_types::FlushType;
+use slate_writer::IsolationLevel::Snapshot;
 use std::test::Fail;
+
+const OWN: [Step; 16] = [
+    Write(b"a", b"0"),
+    Write(b"b", b"0"),
+    Write(b"c", b"0"),
+    Begin,
+    Write(b"c", b"1"),
+    Write(b"f", b"1"),
+    Delete(0, b"a"),
+    Merge(0, b"b", b"x"),
+    Put(0, b"d", b"y"),
+    Merge(0, b"d", b"z"),
+    Scan(0, b"a", b"z"),
+    Get(0, b"a", Memory),
+    Get(0, b"d", Memory),
+    Commit(0),
+    Begin,
+    Scan(1, b"a", b"z"),
+];
 
 // It reads its own operations over what was accepted when it began: its puts, its deletes, and operands over either. A row
 // that ends in one of its own has the number of its start.
 #[test]
 fn own_operations(rt: HostRuntime) -> Result<(), Fail> {
-    let alloc = rt.alloc();
-    let mut db = open_database(alloc)?;
-    put(alloc, &mut db, b"a", b"0")?;
-    put(alloc, &mut db, b"b", b"0")?;
-    put(alloc, &mut db, b"c", b"0")?;
-    let mut own = begin(alloc, &mut db, IsolationLevel::Snapshot)?;
-    assert_eq!(rt; own.seqnum(), 3);
-    put(alloc, &mut db, b"c", b"1")?;
-    put(alloc, &mut db, b"f", b"1")?;
-    own.delete(alloc, b"a")?;
-    own.merge(alloc, b"b", b"x")?;
-    own.put(alloc, b"d", b"y")?;
-    own.merge(alloc, b"d", b"z")?;
-    let rows = scanned(alloc, &mut db, &mut own, &range(alloc, b"a", b"z")?)?;
-    assert_eq!(rt; rows.as_slice(), b"b=0x@3 c=0@3 d=yz@3 ".as_slice());
-    let options = ReadOptions::default();
-    let found = own.get(alloc, &db.handle, &mut db.store, b"a", &options, OPERATOR)?;
-    assert!(rt; found.is_none());
-    let found = own.get(alloc, &db.handle, &mut db.store, b"d", &options, OPERATOR)?;
-    let row = found.map(|row| (
-        row.seq,
-        row.create_ts,
-        row.value.as_slice() == b"yz".as_slice(),
-    ));
-    assert_eq!(rt; row, Some((3, 0, true)));
-    assert!(rt; has_number(commit(alloc, &mut db, own), 6));
-    let mut after = begin(alloc, &mut db, IsolationLevel::Snapshot)?;
-    let rows = scanned(alloc, &mut db, &mut after, &range(alloc, b"a", b"z")?)?;
-    assert_eq!(rt; rows.as_slice(), b"b=0x@6 c=1@4 d=yz@6 f=1@5 ".as_slice());
+    let text = answers(&rt, Snapshot, OWN.as_slice())?;
+    assert_eq!(rt;
+        text.as_slice(),
+        b"3;b=0x@3 c=0@3 d=yz@3 ;;d=yz@3 ;6;6;b=0x@6 c=1@4 d=yz@6 f=1@5 ;".as_slice()
+    );
     Ok(())
 }
+
+const DURABLE: [Step; 10] = [
+    Write(b"a", b"0"),
+    Flush(FlushType::Wal),
+    Write(b"a", b"1"),
+    Begin,
+    Get(0, b"a", Remote),
+    Write(b"a", b"2"),
+    Flush(FlushType::Wal),
+    Get(0, b"a", Remote),
+    Merge(0, b"a", b"x"),
+    Get(0, b"a", Remote),
+];
 
 // Where only what is durable is asked for, it reads that, up to its start, and its own operations over it.
 #[test]
 fn durable_reads(rt: HostRuntime) -> Result<(), Fail> {
-    let alloc = rt.alloc();
-    let mut db = open_database(alloc)?;
-    put(alloc, &mut db, b"a", b"0")?;
-    db.handle.flush(alloc, &mut db.store, FlushType::Wal)?;
-    put(alloc, &mut db, b"a", b"1")?;
-    let mut own = begin(alloc, &mut db, IsolationLevel::Snapshot)?;
-    let options = ReadOptions {
-        durability_filter: DurabilityLevel::Remote,
-        dirty: false,
-    };
-    let found = own.get(alloc, &db.handle, &mut db.store, b"a", &options, OPERATOR)?;
-    assert_eq!(rt; found.map(|row| row.seq), Some(1));
-    put(alloc, &mut db, b"a", b"2")?;
-    db.handle.flush(alloc, &mut db.store, FlushType::Wal)?;
-    let found = own.get(alloc, &db.handle, &mut db.store, b"a", &options, OPERATOR)?;
-    assert_eq!(rt; found.map(|row| row.seq), Some(2));
-    own.merge(alloc, b"a", b"x")?;
-    let found = own.get(alloc, &db.handle, &mut db.store, b"a", &options, OPERATOR)?;
-    let row = found.map(|row| (row.seq, row.value.as_slice() == b"1x".as_slice()));
-    assert_eq!(rt; row, Some((2, true)));
+    let text = answers(&rt, Snapshot, DURABLE.as_slice())?;
+    assert_eq!(rt; text.as_slice(), b"2;a=0@1 ;a=1@2 ;a=1x@2 ;".as_slice());
     Ok(())
 }

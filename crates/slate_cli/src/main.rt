@@ -16,7 +16,8 @@ const HELP: &str = "\
 slate reads a script of timed commands from standard input, runs it over a fresh
 store in memory or over a directory, and prints a reply per command.
 
-usage: slate [--store DIR] [--merge concat] [--segments N] [--limit N] < SCRIPT
+usage: slate [--store DIR] [--merge concat] [--segments N] [--limit N] [--bare]
+             < SCRIPT
        slate --help | --version
 
 With --store DIR the database is kept in the directory DIR, which is made where
@@ -27,7 +28,8 @@ refused. With --segments N, from 1 to 255, the first N bytes of a key name its
 segment: a shorter key is refused, and so is a database that was made with
 another N, or without. With --limit N a write is refused where its handle has N
 bytes of keys and values or more that aren't stored; without it N is
-1,073,741,824.
+1,073,741,824. With --bare a handle registers no compactor, no compaction worker
+and no garbage collector; the tasks of the rest are ended by its close.
 
 A line of the script is a moment in milliseconds and a command, as in
   0 open

@@ -1,4 +1,5 @@
 pub mod Errors
 pub mod Kinds
 pub mod PublicErrors
+pub mod Tasks
 pub mod Texts

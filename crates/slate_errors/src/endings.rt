@@ -1,5 +1,6 @@
 // What a close answers: its error, and the names of the tasks that it ended.
 ghost use Rattle.std.specs.Prelude.{◌≡◌, ◌<◌, [], ◌∷◌, ◌++◌, length};
+ghost use Rattle.slate_errors.specs.Tasks.{task_text};
 
 use crate::SlateError;
 use std::marker::Model;
@@ -14,6 +15,22 @@ pub enum TaskName {
     BatchWriter,
     /// The task of a reader that follows a database.
     ManifestPoller,
+}
+
+impl TaskName {
+    /// Its text: SlateDB's name of the task.
+    pub fn as_str(self) -> &'static str
+        ensures { result.now ≡ task_text self }
+    {
+        match self {
+            TaskName::MemtableFlusher => "memtable_flusher",
+            TaskName::Compactor => "compactor",
+            TaskName::CompactionWorker => "compaction_worker",
+            TaskName::GarbageCollector => "garbage_collector",
+            TaskName::BatchWriter => "batch_writer",
+            TaskName::ManifestPoller => "manifest_poller",
+        }
+    }
 }
 
 const CAPACITY: usize = 5;

@@ -16,6 +16,7 @@ use Rattle.slate_store.specs.declared.refusals.StoreRefusal.{StoreRefusal}
 use Rattle.slate_store.specs.declared.refusals.StoreRefusal.TheVariants as refusals
 use Rattle.slate_errors.specs.declared.closing.CloseFault.{CloseFault}
 use Rattle.slate_errors.specs.declared.endings.Ended.{Ended}
+use Rattle.slate_errors.specs.declared.endings.TaskName.{TaskName}
 use Rattle.slate_errors.specs.declared.errors.SlateError.{SlateError}
 use Rattle.slate_model.proofs.Reduced.{some-same}
 use Rattle.slate_model.specs.Changes.{PartMade}
@@ -90,9 +91,9 @@ ends-faults f f' n n' (Err refusals.TransactionalObjectVersionExists) c t = reco
 ends-faults f f' n n' (Err (refusals.TransactionalObjectTimeout tries)) c t = record { count = c.count; unavailable = λ is. absurd (cc); none_missing = λ is. cc }
 ends-faults f f' n n' (Err refusals.NoMemory) c t = record { count = c.count; unavailable = λ is. absurd (cc); none_missing = λ is. cc }
 
-module _ (a b : Option Objects) (f f' n n' : ℕ) (lease : Lease) where
+module _ (a b : Option Objects) (f f' n n' : ℕ) (lease : Lease) (tasks : List TaskName) where
   abbrev pub EndsSo : Result (Unit {0}) StoreRefusal → Type 0
-  EndsSo r = (made : ℕ) × EndsLease (by_objects a) made lease (record { objects = a; faults = f }) (ended (fault_by r)) (record { objects = b; faults = f' })
+  EndsSo r = (made : ℕ) × EndsLease (by_objects a) made lease (record { objects = a; faults = f }) (ended tasks (fault_by r)) (record { objects = b; faults = f' })
 
   pub ends-so : (r : Result (Unit {0}) StoreRefusal) → WhereModelled (λ o o'. (made : ℕ) × FollowsPlan (to_delete lease.id) o r made o') a b → calls.CountsFaults f f' r → calls.CountsTries n n' r → EndsSo r
   ends-so r follows faults tries =
@@ -104,13 +105,13 @@ pub has-lease : (held : Option Lease) → is_some held ≡ true → (lease : Lea
 has-lease None is = absurd (cc)
 has-lease (Some lease) is = (lease, refl)
 
-module _ (t : Option Objects) (old new : Follower) (before : Known (List Batch)) (answer : Ended) (closed : new ≡ closed_follower old) (tasks : answer ≡ ended answer.fault) where
+module _ (t : Option Objects) (old new : Follower) (before : Known (List Batch)) (answer : Ended) (closed : new ≡ closed_follower old) (tasks : answer ≡ ended old.tasks answer.fault) where
   -- it was closed before
   pub closes-again : (r : Result (Unit {0}) CloseFault) → old.result ≡ Some r → answer.fault ≡ recorded_fault old.result → ClosesManaged (by_objects t) 0 old before answer new before
   closes-again r was fault = record {
     closed = closed;
     tasks = tasks;
-    again = subst (λ x. IfSome x (λ _. (answer ≡ ended (recorded_fault old.result)) × Untouched 0 before before)) (sym was) (tasks ∙ ap ended fault, (refl, refl));
+    again = subst (λ x. IfSome x (λ _. (answer ≡ ended old.tasks (recorded_fault old.result)) × Untouched 0 before before)) (sym was) (tasks ∙ ap (ended old.tasks) fault, (refl, refl));
     ends = λ lease open_ held. absurd (cc (was, open_));
   }
 
@@ -119,6 +120,6 @@ module _ (t : Option Objects) (old new : Follower) (before : Known (List Batch))
   closes-first made after lease open_ held e = record {
     closed = closed;
     tasks = tasks;
-    again = subst (λ x. IfSome x (λ _. (answer ≡ ended (recorded_fault old.result)) × Untouched made before after)) (sym open_) tt;
+    again = subst (λ x. IfSome x (λ _. (answer ≡ ended old.tasks (recorded_fault old.result)) × Untouched made before after)) (sym open_) tt;
     ends = λ other _ is. subst (λ l. EndsLease (by_objects t) made l before answer after) (some-same lease other (sym held ∙ is)) e;
   }

@@ -36,10 +36,10 @@ module _ (o : Objects) (view : VersionedManifest) (sound : IsSound o) (is : late
   abbrev next : VersionedManifest
   next = next_manifest None (Some view) (last_log view.manifest.replay_after_wal_id o)
 
-  opened : recovered None true 0 next (logged o next.manifest) ≡ kept_handle (opened_handle None true 0 next (content o))
+  opened : recovered None true 0 [] next (logged o next.manifest) ≡ kept_handle (opened_handle None true 0 [] next (content o))
   opened =
-      subst (λ x. let v = next_manifest None x (last_log (mark_of x) o) in recovered None true 0 v (logged o v.manifest) ≡ kept_handle (opened_handle None true 0 v (content o))) is
-      (recovered-is None true 0 o sound)
+      subst (λ x. let v = next_manifest None x (last_log (mark_of x) o) in recovered None true 0 [] v (logged o v.manifest) ≡ kept_handle (opened_handle None true 0 [] v (content o))) is
+      (recovered-is None true 0 [] o sound)
 
   pub kept-line : line_from view.manifest.last_l0_seq (logged o view.manifest) ≡ line_above view.manifest.last_l0_seq (content o)
   kept-line = ap (λ (h : Handle). h.line) opened

@@ -7,13 +7,14 @@ ghost use Rattle.slate_model.specs.Managed.{ClosesManaged, EndsLease};
 ghost use Rattle.slate_model.specs.Stores.{by_objects};
 
 use crate::FollowerState;
-use slate_errors::{Ended, Ending, SlateError};
+use slate_errors::{Ended, SlateError};
 use slate_model::error_of_refusal;
 use slate_store::{Store, delete_checkpoint};
 use std::alloc::Global;
 
 impl FollowerState {
-    /// Closes the reader. From then on its gets and polls answer `Closed`.
+    /// Closes the reader, and ends its task, `manifest_poller`, which it lists. One that stays at a checkpoint has no task,
+    /// and a second close lists none. From then on its gets and polls answer `Closed`.
     ///
     /// One that keeps a checkpoint of its own takes it out of the latest manifest, where it is there, so that a sweep may
     /// remove what only it kept. It is closed before, and stays so: the answer has the fault where that failed, and then
@@ -24,11 +25,11 @@ impl FollowerState {
     ///
     /// A reader that was closed before answers the error that was recorded, and none where it closed cleanly, and doesn't
     /// touch the store; what was recorded first stays. It calls the store at most twice for each of eight tries, and takes
-    /// time linear in the manifest; without a checkpoint it takes constant time. Until readers run a task, it ends none.
-    /// SlateDB's `DbReader::close`.
+    /// time linear in the manifest; without a checkpoint it takes constant time. SlateDB's `DbReader::close`.
     pub fn close<S: Store>(&mut self, alloc: Global, store: &mut S) -> Ended
         ensures closed { self.new ≡ closed_follower self.old }
-        ensures answer { is_managed self.old.mode ≡ false → result ≡ ended (recorded_fault self.old.result) }
+        ensures tasks { result.tasks ≡ self.old.tasks }
+        ensures answer { is_managed self.old.mode ≡ false → result ≡ ended self.old.tasks (recorded_fault self.old.result) }
         ensures store { is_managed self.old.mode ≡ false → store.new ≡ store.old }
         ensures managed { is_managed self.old.mode ≡ true → (made : ℕ) × ClosesManaged (by_objects (S.objects store.old)) made self.old (known S.objects S.faults store.old) result self.new (known S.objects S.faults store.new) }
         ensures untouched { self.old.result ≢ None → store.new ≡ store.old }
@@ -41,16 +42,17 @@ impl FollowerState {
             None => self.end_lease(alloc, store),
         };
         self.status.report_closed(Ok(()));
+        let outcome = self.status.result().unwrap_or(Ok(()));
         Ended {
             fault,
-            tasks: Ending::new(),
+            tasks: self.tasks.end(outcome),
         }
     }
 
     /// Takes its checkpoint out, where it keeps one of its own, and answers why that failed.
     fn end_lease<S: Store>(&self, alloc: Global, store: &mut S) -> Option<SlateError>
         ensures unleased { self.now.lease ≡ None → (result ≡ None) × (store.new ≡ store.old) }
-        ensures ends { IfSome self.now.lease (λ lease. (made : ℕ) × EndsLease (by_objects (S.objects store.old)) made lease (known S.objects S.faults store.old) (ended result) (known S.objects S.faults store.new)) }
+        ensures ends { IfSome self.now.lease (λ lease. (made : ℕ) × EndsLease (by_objects (S.objects store.old)) made lease (known S.objects S.faults store.old) (ended self.now.tasks result) (known S.objects S.faults store.new)) }
         ensures faults { S.faults store.old ≤ S.faults store.new }
         ensures calls { S.calls store.new ≤ S.calls store.old + 16 }
     {

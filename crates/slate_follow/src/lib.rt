@@ -16,6 +16,7 @@ mod scans;
 mod segments;
 mod states;
 mod tables;
+mod tasks;
 
 pub use options::DbReaderOptions;
 pub use slate_model::PollAnswer;

@@ -5,12 +5,14 @@ ghost use Rattle.slate_model.specs.Status.{follower_status};
 
 use crate::rebuilds::Rebuilt;
 use crate::tables::list_of;
+use crate::tasks::start_tasks;
 use bytes::Bytes;
 use slate_errors::CloseFault;
 use slate_model::Lease;
 use slate_reads::IndexedTable;
 use slate_status::{DbStatus, StatusRecord, copies};
 use slate_store::{DbReaderMode, TableId};
+use slate_tasks::Tasks;
 use slate_types::{NoMemory, Seq};
 use std::alloc::Global;
 use std::marker::Model;
@@ -40,6 +42,8 @@ pub struct FollowerState {
     /// Of the checkpoint that it keeps of its own, where it does.
     pub(crate) lease: Option<Lease>,
     pub(crate) status: StatusRecord,
+    /// The task that runs until it is closed, unless it stays at a checkpoint.
+    pub(crate) tasks: Tasks,
 }
 
 impl Model for FollowerState {
@@ -67,21 +71,24 @@ impl FollowerState {
         ensures { IfOk result (λ new. new ≡ record rebuilt { lease = lease }) }
     {
         let number = rebuilt.number();
+        let following = rebuilt.following;
+        let tasks = start_tasks(alloc, following.mode)?;
         Ok(FollowerState {
-            following: rebuilt.following,
+            following,
             limit,
             kept: list_of(alloc, rebuilt.memory, limit)?,
             segments: rebuilt.segments,
             mark: rebuilt.mark,
             lease,
             status: StatusRecord::new(alloc, number, rebuilt.view),
+            tasks,
         })
     }
 
     /// Takes what was built in its mode in place of what it saw. A reader that is open becomes what was built, under its
     /// lease.
     pub(crate) fn take(&mut self, alloc: Global, rebuilt: Rebuilt) -> Result<(), NoMemory>
-        requires leased { is_managed rebuilt.mode ≡ is_managed self.old.mode }
+        requires mode { rebuilt.mode ≡ self.old.mode }
         ensures ok { OnOk result (self.old.result ≡ None → self.new ≡ record rebuilt { lease = self.old.lease }) }
         ensures err { OnErr result (self.new ≡ self.old) }
     {

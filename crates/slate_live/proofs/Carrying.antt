@@ -214,7 +214,7 @@ module _ (P : Manifest → Type 0) (settings : Settings) (w : World) (valid : Is
         (λ live. leased-of managed live (λ lease has.
         let t = ((c.ends lease live has).puts).some w.catalogue refl in
         changes _ t.0 t.1 (t.2).after (planned (to_delete lease.id) (delete-recheckpoints lease.id latest) (λ next answer gives. spares.closed n f lease next flush_type names asks at live has gives))))
-        (λ q shut. as-before (some-of (λ _. (answer ≡ ended (recorded_fault f.result)) × Untouched made (state_of w).store s'.store) f.result q shut c.again).1.1)
+        (λ q shut. as-before (some-of (λ _. (answer ≡ ended f.tasks (recorded_fault f.result)) × Untouched made (state_of w).store s'.store) f.result q shut c.again).1.1)
     closed-made answer false flush_type asks unmanaged c = as-before c.2.1
 
     follower-made : (call : Call) → call_of command.action ≡ call → FollowerActs k settings command.moment call made f (state_of w).store w.writes reply f' s'.store s'.writes → Changes

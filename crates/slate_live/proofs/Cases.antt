@@ -1,5 +1,5 @@
 -- The cases of a flush, a close, a write and a poll.
-use Rattle.std.proofs.Common.{◌≡◌, ℕ, Bool, true, false, Option, Some, None, Result, Ok, Err, refl, sym, subst}
+use Rattle.std.proofs.Common.{◌≡◌, ℕ, Bool, true, false, Option, Some, None, Result, Ok, Err, refl, sym, subst, []}
 use Rattle.std.specs.Option.{IfSome}
 use Rattle.slate_types.specs.declared.options.FlushType.{FlushType}
 use Rattle.slate_errors.specs.declared.closing.CloseFault.{CloseFault}
@@ -7,7 +7,7 @@ use Rattle.slate_errors.specs.declared.endings.Ended.{Ended}
 use Rattle.slate_errors.specs.declared.errors.SlateError.{SlateError}
 use Rattle.slate_errors.specs.declared.errors.SlateError.TheVariants as errors
 use Rattle.slate_errors.specs.Errors.{closed_error}
-use Rattle.slate_model.specs.Close.{Closes, closed, closing_flush, ended, fault_again}
+use Rattle.slate_model.specs.Close.{Closes, closed, closing_flush, ended, fault_again, without_tasks}
 use Rattle.slate_model.specs.Flush.{CanFlush, Flushes, IsFlushed, Stores, flush_result, has_log_for}
 use Rattle.slate_model.specs.Handle.{Handle}
 use Rattle.slate_model.specs.Knowledge.{Knowledge}
@@ -34,7 +34,7 @@ module _ {L : Type 0} (k : Knowledge L) (made : ℕ) (h : Handle) (before : Know
   pub flush-by : (t : FlushType) (r : Result (Unit {0}) SlateError) → Flushes k made t h before r h' after
       → ((q : Result (Unit {0}) CloseFault) → h.result ≡ Some q → r ≡ Err (closed_error q) → h' ≡ h → Untouched made before after → G)
       → (h.result ≡ None → has_log_for t h ≡ false → r ≡ Err errors.WalDisabled → h' ≡ h → Untouched made before after → G)
-      → (CanFlush t h → IsFlushed k.keep made r (flush_result r) h h' → Stores k made t h before r h' after → G) → G
+      → (CanFlush t h → IsFlushed k.keep made r (flush_result r) h.tasks h h' → Stores k made t h before r h' after → G) → G
   flush-by t r f when_closed when_disabled when_stored =
       by-option h.result
       (λ live. by-bool (has_log_for t h)
@@ -44,10 +44,10 @@ module _ {L : Type 0} (k : Knowledge L) (made : ℕ) (h : Handle) (before : Know
 
   -- a close finds the handle closed, or flushes nothing, or the handle keeps no log, or goes to the store
   pub close-by : (flush_type : Option FlushType) (e : Ended) → Closes k made flush_type h before e h' after
-      → ((q : Result (Unit {0}) CloseFault) → h.result ≡ Some q → e ≡ ended (fault_again q) → h' ≡ h → Untouched made before after → G)
-      → (h.result ≡ None → flush_type ≡ None → e ≡ ended None → h' ≡ closed h → Untouched made before after → G)
-      → ((t : FlushType) → h.result ≡ None → flush_type ≡ Some t → has_log_for t h ≡ false → e ≡ ended (Some errors.WalDisabled) → h' ≡ closed h → Untouched made before after → G)
-      → ((t : FlushType) → CanFlush t h → flush_type ≡ Some t → e ≡ ended e.fault → IsFlushed k.keep made (closing_flush e.fault) (Some (Ok tt)) h h' → Stores k made t h before (closing_flush e.fault) h' after → G) → G
+      → ((q : Result (Unit {0}) CloseFault) → h.result ≡ Some q → e ≡ ended h.tasks (fault_again q) → h' ≡ without_tasks h → Untouched made before after → G)
+      → (h.result ≡ None → flush_type ≡ None → e ≡ ended h.tasks None → h' ≡ closed h → Untouched made before after → G)
+      → ((t : FlushType) → h.result ≡ None → flush_type ≡ Some t → has_log_for t h ≡ false → e ≡ ended h.tasks (Some errors.WalDisabled) → h' ≡ closed h → Untouched made before after → G)
+      → ((t : FlushType) → CanFlush t h → flush_type ≡ Some t → e ≡ ended h.tasks e.fault → IsFlushed k.keep made (closing_flush e.fault) (Some (Ok tt)) [] h h' → Stores k made t h before (closing_flush e.fault) h' after → G) → G
   close-by flush_type e c when_closed when_unflushed when_disabled when_stored =
       by-option h.result
       (λ live. by-option flush_type
@@ -56,7 +56,7 @@ module _ {L : Type 0} (k : Knowledge L) (made : ℕ) (h : Handle) (before : Know
       by-bool (has_log_for t h)
       (λ keeps. let f = c.flushed t is (live, keeps) in when_stored t (live, keeps) is f.0 f.1 (c.stored t is (live, keeps)))
       (λ without. let d = c.disabled t is live without in when_disabled t live is without d.0 d.1 d.2)))
-      (λ q is. let a = some-of (λ q. (e ≡ ended (fault_again q)) × (h' ≡ h) × Untouched made before after) h.result q is c.again in when_closed q is a.0 a.1 a.2)
+      (λ q is. let a = some-of (λ q. (e ≡ ended h.tasks (fault_again q)) × (h' ≡ without_tasks h) × Untouched made before after) h.result q is c.again in when_closed q is a.0 a.1 a.2)
 
   -- a refresh is refused by what closed the handle, or reads the latest manifest
   pub refresh-by : (r : Result (Unit {0}) SlateError) → Refreshes k h before r h' after

@@ -23,6 +23,7 @@ use Rattle.slate_live.specs.Valid.{Link}
 use Rattle.slate_live.specs.World.{World, start}
 use Rattle.slate_live.proofs.Prefixes.{prefix-same, prefix-then}
 use Rattle.slate_live.proofs.Lasting.{leases_hold}
+use Rattle.slate_live.proofs.Listing.{list_tasks}
 use Rattle.slate_live.proofs.Snapshots.{snapshots_stay}
 use Rattle.slate_live.proofs.Staying.{stay_confirmed}
 
@@ -116,6 +117,7 @@ leads_all settings commands i replies o faults live store steps sound all done s
       grows = chain-grows settings (start o faults) steps done.chain;
       confirmed = stay_confirmed settings (start o faults) steps refl done.chain;
       leases = leases_hold settings (start o faults) steps refl (start-reached settings.options o faults sound) done.chain done.reached;
+      closings = list_tasks settings (start o faults) steps done.chain done.reached;
       snapshots = snapshots_stay settings (start o faults) steps refl done.chain done.reached;
       after = held.0;
       modelled = held.1;

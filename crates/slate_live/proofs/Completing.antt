@@ -29,7 +29,7 @@ use Rattle.slate_model.specs.Managed.{KeepRefusal, KeepsLease, OpensManaged, Pla
 use Rattle.slate_store.specs.declared.refusals.StoreRefusal.TheVariants as refusals
 use Rattle.slate_errors.specs.declared.errors.SlateError.{SlateError}
 use Rattle.slate_errors.specs.declared.errors.SlateError.TheVariants as errors
-use Rattle.slate_model.specs.Close.{Closes, closing_flush, ended, fault_again, recorded_fault}
+use Rattle.slate_model.specs.Close.{Closes, closing_flush, ended, fault_again, recorded_fault, without_tasks}
 use Rattle.slate_model.specs.declared.answers.PollAnswer.{PollAnswer}
 use Rattle.slate_model.specs.declared.answers.Written.{Written}
 use Rattle.slate_model.specs.Flush.{FlushCause, Flushes, ManifestCause, Stores, has_ids}
@@ -181,9 +181,9 @@ compact-free w w' made h h' (Err e) live can c calm =
     compact-cause w h w'.faults e (b.answer).0 (joins.faults).unavailable can calm
 
 -- the reply to a close by the error of its flush
-close-reply : (e : Option SlateError) → IsFree (closing_flush e) → IsOkOrNoMemory (closed_reply e [])
-close-reply None free = tt
-close-reply (Some e) free = subst (λ x. IsOkOrNoMemory (closed_reply (Some x) [])) (sym free) tt
+close-reply : (e : Option SlateError) (tasks : List TaskName) → IsFree (closing_flush e) → IsOkOrNoMemory (closed_reply e tasks)
+close-reply None tasks free = tt
+close-reply (Some e) tasks free = subst (λ x. IsOkOrNoMemory (closed_reply (Some x) tasks)) (sym free) tt
 
 close-open : (w w' : World) (made : ℕ) (h h' : Handle) (flush_type : Option FlushType) (e : Ended) (reply : Reply) → h.result ≡ None → CanClose None flush_type w h → Closes (by_catalogue w.stored w.catalogue) made flush_type h (state_of w).store e h' (state_of w').store → reply ≡ ended_reply e → (HasRisen w.faults w'.faults → ⊥) → IsOkOrNoMemory reply
 close-open w w' made h h' None e reply live can c is calm =
@@ -191,13 +191,13 @@ close-open w w' made h h' None e reply live can c is calm =
     subst IsOkOrNoMemory (sym (is ∙ ap ended_reply u.0)) tt
 close-open w w' made h h' (Some t) e reply live can c is calm =
     let f = c.flushed t refl (live, can.0) in
-    subst IsOkOrNoMemory (sym (is ∙ ap ended_reply f.0)) (close-reply e.fault (stores-free w w' made t h h' (closing_flush e.fault) (c.stored t refl (live, can.0)) can calm))
+    subst IsOkOrNoMemory (sym (is ∙ ap ended_reply f.0)) (close-reply e.fault h.tasks (stores-free w w' made t h h' (closing_flush e.fault) (c.stored t refl (live, can.0)) can calm))
 
 close-completes : (w w' : World) (made : ℕ) (h h' : Handle) (result : CloseResult) (flush_type : Option FlushType) (e : Ended) (reply : Reply) → h.result ≡ result → CanClose result flush_type w h → Closes (by_catalogue w.stored w.catalogue) made flush_type h (state_of w).store e h' (state_of w').store → reply ≡ ended_reply e → (HasRisen w.faults w'.faults → ⊥) → IsOkOrNoMemory reply
 close-completes w w' made h h' None flush_type e reply at can c is calm = close-open w w' made h h' flush_type e reply at can c is calm
 close-completes w w' made h h' (Some (Ok x)) flush_type e reply at can c is calm = absurd can
 close-completes w w' made h h' (Some (Err fault)) flush_type e reply at can c is calm =
-    let a = some-of (λ q. (e ≡ ended (fault_again q)) × (h' ≡ h) × _) h.result (Err fault) at c.again in
+    let a = some-of (λ q. (e ≡ ended h.tasks (fault_again q)) × (h' ≡ without_tasks h) × _) h.result (Err fault) at c.again in
     subst IsOkOrNoMemory (sym (is ∙ ap ended_reply a.0)) tt
 
 -- a write that nothing stands against isn't refused
@@ -474,10 +474,10 @@ closes-complete w w' made f f' answer true managed c leased can calm None live =
     let puts = modelled w.catalogue w'.catalogue e.puts in
     ended-free answer.fault answer.tasks (plan-free (to_delete lease.id) w w'.faults (closing_flush answer.fault) (λ error. ⊥) puts.cause (λ error is never. absurd never) e.faults (some-of (λ (lease : Lease). CanPut (to_delete lease.id) w) f.lease lease is (can.1 managed live)) calm))
 closes-complete w w' made f f' answer true managed c leased can calm (Some q) is =
-    let again = some-of (λ _. (answer ≡ ended (recorded_fault f.result)) × Untouched made (state_of w).store (state_of w').store) f.result q is c.again in
+    let again = some-of (λ _. (answer ≡ ended f.tasks (recorded_fault f.result)) × Untouched made (state_of w).store (state_of w').store) f.result q is c.again in
     again-reply answer.fault answer.tasks (ap (λ (e : Ended). e.fault) again.0 ∙ can.0)
 closes-complete w w' made f f' answer false unmanaged c leased can calm None live =
-    subst (λ (e : Ended). IsOkOrNoMemory (replies.Ended e.fault e.tasks)) (sym (c.0 ∙ ap ended can.0)) tt
+    subst (λ (e : Ended). IsOkOrNoMemory (replies.Ended e.fault e.tasks)) (sym (c.0 ∙ ap (ended f.tasks) can.0)) tt
 closes-complete w w' made f f' answer false unmanaged c leased can calm (Some q) is =
     again-reply answer.fault answer.tasks (ap (λ (e : Ended). e.fault) c.0 ∙ can.0)
 

@@ -1,4 +1,5 @@
 -- What the live state's calls do, by what the calls of its objects do.
+use Rattle.slate_errors.specs.declared.endings.TaskName.{TaskName}
 use Rattle.slate_model.specs.Segments.{Extractor}
 use Rattle.std.proofs.Common.{◌≡◌, ◌∙◌, inl, inr, ℕ, ℤ, Bool, List, [], ◌∷◌, ◌++◌, length, set, true, false, Option, Some, None, Result, Ok, Err, refl, sym, subst, ap, arith}
 use Rattle.std.specs.Option.{IfSome, UnwrapsOrElse}
@@ -49,8 +50,8 @@ use Rattle.std.proofs.lemmas.List.{append-nil}
 use Rattle.slate_live.specs.State.{State}
 
 -- an opening that finds no room touches no store
-pub opens-nothing : {L : Type 0} (k : Knowledge L) (extractor : Option Extractor) (keeps_log : Bool) (limit : ℕ) (store : Known L) → OpensHandle k extractor 0 keeps_log limit store (Err errors.NoMemory) store
-opens-nothing k extractor keeps_log limit store = record {
+pub opens-nothing : {L : Type 0} (k : Knowledge L) (extractor : Option Extractor) (keeps_log : Bool) (limit : ℕ) (tasks : List TaskName) (store : Known L) → OpensHandle k extractor 0 keeps_log limit tasks store (Err errors.NoMemory) store
+opens-nothing k extractor keeps_log limit tasks store = record {
   opens = record {
     none = λ h. h;
     some = λ o is. (o, is, record { answer = tt; part = omega arith; only = tt; can = λ h. absurd (omega (arith, h)); after = refl });

@@ -1,6 +1,7 @@
 -- What a command does to an honest store by what the code keeps of a handle, it does to what the world knows of both.
 use Rattle.slate_status.specs.Records.{status_by}
 use Rattle.slate_live.specs.Settings.{Settings}
+use Rattle.slate_errors.specs.declared.endings.TaskName.{TaskName}
 use Rattle.slate_model.specs.Segments.{Extractor, segments_of}
 use Rattle.std.proofs.Common.{◌≡◌, ℕ, ℤ, List, [], Option, Some, None, Result, Ok, Err, inl, inr, refl, sym, subst, ap, ◌∙◌, ◌≤◌, ◌++◌, arith, ◌∷◌, ◌⊎◌, Bool, true, false, not, ◌||◌}
 use Rattle.slate_types.specs.declared.batches.Batch.{Batch}
@@ -26,7 +27,7 @@ use Rattle.slate_store.specs.declared.reader_modes.DbReaderMode.TheVariants as m
 use Rattle.slate_store.specs.Refusals.{PlanIs}
 use Rattle.slate_errors.specs.declared.errors.SlateError.{SlateError}
 use Rattle.slate_model.specs.Catalogue.{Span, catalogue_of}
-use Rattle.slate_model.specs.Close.{closed, closed_follower, closing_flush, ended, recorded_fault, Closes}
+use Rattle.slate_model.specs.Close.{closed, closed_follower, closing_flush, ended, recorded_fault, without_tasks, Closes}
 use Rattle.slate_model.specs.declared.leases.Lease.{Lease}
 use Rattle.slate_model.specs.Followed.{can_follow}
 use Rattle.slate_model.specs.Knowledge.{Knowledge}
@@ -112,7 +113,20 @@ objects-read closed tables r o o' f f' s =
 pub objects-same : (o o' : Objects) (f f' : ℕ) → holding o' f' ≡ holding o f → o' ≡ o
 objects-same o o' f f' same = some-same o' o (ap (λ (k : Known (List Batch)). k.objects) same)
 
--- a valid handle is one after its close
+-- a valid handle is one without its tasks
+ended-valid : (stored : Line) (o : Objects) (h : Handle) → IsValidHandle stored (catalogue_of o) h → IsValidHandle stored (catalogue_of o) (without_tasks h)
+ended-valid stored o h v = record {
+  numbered = v.numbered;
+  floor = v.floor;
+  tabled = v.tabled;
+  durable = v.durable;
+  confirmed = v.confirmed;
+  unused = v.unused;
+  behind = v.behind;
+  current = v.current;
+}
+
+-- and after its close
 closed-valid : (stored : Line) (o : Objects) (h : Handle) → IsValidHandle stored (catalogue_of o) h → IsValidHandle stored (catalogue_of o) (closed h)
 closed-valid stored o h v = record {
   numbered = v.numbered;
@@ -194,13 +208,20 @@ module _ (stored : Line) (o o' : Objects) (f f' : ℕ) (made : ℕ) (writes writ
         (subst (Moved stored stored o o' latest h) (sym (ap (whole h) same)) (still (closed h) objects refl (omega arith) refl (closed-valid stored o h v) reads)),
   )
 
-  flushed-goes : (t : FlushType) (r : Result (Unit {0}) SlateError) (result : CloseResult) → (result ≡ None → result ≡ flush_result r) → CanFlush t (kept_handle h) → IsFlushed kept_handle made r result (kept_handle h) k → Stores (by_objects (Some o)) made t (kept_handle h) (holding o f) r k (holding o' f') → Goes (grown made stored h)
-  flushed-goes t r result says can fl s =
+  goes-ended : (stored' : Line) → stored' ≡ stored → k ≡ without_tasks (kept_handle h) → o' ≡ o → Goes stored'
+  goes-ended stored' none same objects = (
+    same ∙ ap kept_handle (sym (ap (whole h) same)),
+    subst (λ l. Moved stored l o o' latest h (whole h k)) (sym none)
+        (subst (Moved stored stored o o' latest h) (sym (ap (whole h) same)) (still (without_tasks h) objects refl (omega arith) refl (ended-valid stored o h v) reads)),
+  )
+
+  flushed-goes : (t : FlushType) (r : Result (Unit {0}) SlateError) (result : CloseResult) (tasks : List TaskName) → (result ≡ None → result ≡ flush_result r) → CanFlush t (kept_handle h) → IsFlushed kept_handle made r result tasks (kept_handle h) k → Stores (by_objects (Some o)) made t (kept_handle h) (holding o f) r k (holding o' f') → Goes (grown made stored h)
+  flushed-goes t r result tasks says can fl s =
       let step = modelled o o' s.objects in
       let line = ap (λ (x : Handle). x.line) fl.same in
       let segments = ap (λ (x : Handle). x.segments) fl.same in (
         kept-whole h k (stores-rises (Some o) stored (catalogue_of o) h o v.tabled ahead t step) line segments,
-        flush-moved stored o o' latest t h k r result made sound holds is v reads before (can.0, sym (log_for-kept h t) ∙ can.1) step (flushed-whole made r result h k fl) says,
+        flush-moved stored o o' latest t h k r result tasks made sound holds is v reads before (can.0, sym (log_for-kept h t) ∙ can.1) step (flushed-whole made r result tasks h k fl) says,
       )
 
   flush-goes : (t : FlushType) (r : Result (Unit {0}) SlateError) → Flushes (by_objects (Some o)) made t (kept_handle h) (holding o f) r k (holding o' f') → Goes (grown made stored h)
@@ -208,15 +229,15 @@ module _ (stored : Line) (o o' : Objects) (f f' : ℕ) (made : ℕ) (writes writ
       flush-by (by_objects (Some o)) made (kept_handle h) (holding o f) k (holding o' f') (Goes (grown made stored h)) t r does
       (λ q closed_is error same u. goes-same (grown made stored h) (grown-zero made stored h u.0) same (objects-same o o' f f' u.1))
       (λ live without error same u. goes-same (grown made stored h) (grown-zero made stored h u.0) same (objects-same o o' f f' u.1))
-      (λ can fl s. flushed-goes t r (flush_result r) (λ live. refl) can fl s)
+      (λ can fl s. flushed-goes t r (flush_result r) h.tasks (λ live. refl) can fl s)
 
   close-goes : (flush_type : Option FlushType) (e : Ended) → Closes (by_objects (Some o)) made flush_type (kept_handle h) (holding o f) e k (holding o' f') → Goes (grown made stored h)
   close-goes flush_type e does =
       close-by (by_objects (Some o)) made (kept_handle h) (holding o f) k (holding o' f') (Goes (grown made stored h)) flush_type e does
-      (λ q closed_is ended_is same u. goes-same (grown made stored h) (grown-zero made stored h u.0) same (objects-same o o' f f' u.1))
+      (λ q closed_is ended_is same u. goes-ended (grown made stored h) (grown-zero made stored h u.0) same (objects-same o o' f f' u.1))
       (λ live none ended_is same u. goes-closed (grown made stored h) (grown-zero made stored h u.0) same (objects-same o o' f f' u.1))
       (λ t live some without ended_is same u. goes-closed (grown made stored h) (grown-zero made stored h u.0) same (objects-same o o' f f' u.1))
-      (λ t can some ended_is fl s. flushed-goes t (closing_flush e.fault) (Some (Ok tt)) (λ live. absurd (cc)) can fl s)
+      (λ t can some ended_is fl s. flushed-goes t (closing_flush e.fault) (Some (Ok tt)) [] (λ live. absurd (cc)) can fl s)
 
   refresh-goes : (r : Result (Unit {0}) SlateError) → Refreshes (by_objects (Some o)) (kept_handle h) (holding o f) r k (holding o' f') → Goes stored
   refresh-goes r does =
@@ -389,7 +410,7 @@ module _ (o : Objects) (f : ℕ) (made : ℕ) (writes writes' : List Write) (rep
   closes-after answer g g' true managed leased c =
       by-option g.result
       (λ live. leased-by g leased managed live (λ lease is. let t = ((c.ends lease live is).puts).some o refl in (t.0, t.1)))
-      (λ q is. as-before o f store' (some-of (λ _. (answer ≡ ended (recorded_fault g.result)) × Untouched made (holding o f) store') g.result q is c.again).1.1)
+      (λ q is. as-before o f store' (some-of (λ _. (answer ≡ ended g.tasks (recorded_fault g.result)) × Untouched made (holding o f) store') g.result q is c.again).1.1)
   closes-after answer g g' false managed leased c = as-before o f store' c.2.1
 
   pub follower-after : (moment : ℤ) (call : Call) (g g' : Follower) → IsLeased g → FollowerActs (by_objects (Some o)) settings moment call made g (holding o f) writes reply g' store' writes' → AfterOf store'
@@ -693,11 +714,11 @@ module _ (stored : Line) (o o' : Objects) (f f' : ℕ) (made : ℕ) (writes writ
             (record { faults = e.faults; puts = as_modelled (catalogue_of o) (catalogue_of o') (puts-known (to_delete lease.id) (delete-recheckpoints lease.id) o sound stored unrefused unrefused (unrefused-known o) (closing_flush answer.fault) made o' puts) });
       }))))
       (λ q is.
-      let a = some-of (λ _. (answer ≡ ended (recorded_fault g.result)) × Untouched made (holding o f) (holding o' f')) g.result q is c.again in
+      let a = some-of (λ _. (answer ≡ ended g.tasks (recorded_fault g.result)) × Untouched made (holding o f) (holding o' f')) g.result q is c.again in
       closed-it flush_type answer (unchanged (objects-same o o' f f' a.1.1)) c.closed replied same_writes (closes-as answer true managed (record {
         closed = refl;
         tasks = c.tasks;
-        again = subst (λ x. IfSome x (λ _. (answer ≡ ended (recorded_fault g.result)) × Untouched made (catalogued o f) (catalogued o' f'))) (sym is) (a.0, untouched-known made o o' f f' a.1);
+        again = subst (λ x. IfSome x (λ _. (answer ≡ ended g.tasks (recorded_fault g.result)) × Untouched made (catalogued o f) (catalogued o' f'))) (sym is) (a.0, untouched-known made o o' f f' a.1);
         ends = λ lease live _. absurd (let no = sym is ∙ live in cc);
       })))
   closes-led flush_type answer false managed replied same_writes c =

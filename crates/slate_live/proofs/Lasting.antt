@@ -56,11 +56,11 @@ record IsReady (w : World) : Type 0 where
   apart : AreApart w
 
 module _ (settings : Settings) where
-  chain-halves : (w : World) (xs ys : List Step) → Chain settings w (xs ++ ys) → Chain settings w xs × Chain settings (last_world w xs) ys
+  pub chain-halves : (w : World) (xs ys : List Step) → Chain settings w (xs ++ ys) → Chain settings w xs × Chain settings (last_world w xs) ys
   chain-halves w [] ys chain = (tt, chain)
   chain-halves w (x ∷ xs) ys (link, chain) = let h = chain-halves x.world xs ys chain in ((link, h.0), h.1)
 
-  all-halves : (P : Step → Type 0) (xs ys : List Step) → All P (xs ++ ys) → All P xs × All P ys
+  pub all-halves : (P : Step → Type 0) (xs ys : List Step) → All P (xs ++ ys) → All P xs × All P ys
   all-halves P [] ys all = (All-nil P, all)
   all-halves P (x ∷ xs) ys all = let h = all-halves P xs ys (All-tail P x (xs ++ ys) all) in (All-cons P x xs (All-head P x (xs ++ ys) all) h.0, h.1)
 

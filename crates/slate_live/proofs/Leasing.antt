@@ -1,5 +1,5 @@
 -- The whole follower of a reader that keeps a checkpoint of its own, of which the code keeps a part, once its plan was put.
-use Rattle.std.proofs.Common.{◌≡◌, ◌++◌, ℕ, Bool, true, false, inl, List, Option, Some, None, refl, sym, subst, ap, ◌∙◌}
+use Rattle.std.proofs.Common.{◌≡◌, ◌++◌, ℕ, Bool, true, false, inl, List, Option, Some, refl, sym, subst, ap, ◌∙◌}
 use Rattle.std.specs.Option.{is_some}
 use Rattle.slate_types.specs.Line.{Line, batches_above, end}
 use Rattle.slate_store.specs.Content.{IsSound, content, table_batches}
@@ -48,7 +48,7 @@ module _ (stored : Line) (skips opening : Bool) (o : Objects) (latest : Versione
   pub leased-kept : f ≡ kept_follower whole
   leased-kept =
       ap (λ (x : Follower). record x { view = f.view; lease = f.lease }) (seen-kept t stored modes.ManagedCheckpoint skips o (follower_under latest f) answer all)
-      ∙ ap (λ n. record { mode = modes.ManagedCheckpoint; skips = skips; view = f.view; line = line_above n owed; segments = f.segments; mark = f.mark; lease = f.lease; result = None }) (sym alike.1)
+      ∙ ap (λ n. record whole { line = line_above n owed }) (sym alike.1)
 
   pub leased-valid : is_some f.lease ≡ true → IsValidFollower stored (catalogue_of o) whole
   leased-valid leased = (

@@ -19,6 +19,7 @@ pub mod Leading
 pub mod Leases
 pub mod Leasing
 pub mod Linking
+pub mod Listing
 pub mod Maintaining
 pub mod Naming
 pub mod Opening
@@ -32,6 +33,7 @@ pub mod Segmented
 pub mod Snapshots
 pub mod Staying
 pub mod Taking
+pub mod Tasked
 pub mod Turning
 pub mod Untouched
 pub mod Writing

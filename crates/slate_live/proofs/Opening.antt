@@ -1,6 +1,7 @@
 -- What an opening leaves of a world: the handles that were opened before, and the one that it gives.
+use Rattle.slate_errors.specs.declared.endings.TaskName.{TaskName}
 use Rattle.slate_model.specs.Segments.{Extractor, extractor_name}
-use Rattle.std.proofs.Common.{◌≡◌, ℕ, zero, suc, ◌+◌, ◌<◌, ◌≤◌, ◌⊎◌, inl, inr, length, [], ◌∷◌, ◌++◌, Some, Bool, sym, subst, ap, ◌∙◌, arith, Option}
+use Rattle.std.proofs.Common.{◌≡◌, ℕ, zero, suc, ◌+◌, ◌<◌, ◌≤◌, ◌⊎◌, inl, inr, length, [], ◌∷◌, ◌++◌, Some, Bool, sym, subst, ap, ◌∙◌, arith, Option, List}
 use Rattle.std.specs.List.{slice_get}
 use Rattle.slate_store.specs.Content.{IsSound}
 use Rattle.slate_store.specs.Objects.{Objects}
@@ -49,9 +50,9 @@ module _ (extractor : Option Extractor) (w : World) (o : Objects) (is_sound : Is
             still-held o (after (suc made)) p.0 (opened_manifest (extractor_name extractor) o) p.1 b.latest (opened-follows extractor w.stored o (suc made) is_sound holds.stored some few p.0 p.1).logs x (λ k d less there. same-table_at extractor w.stored o (suc made) is_sound holds.stored some few _) (reads n x at);
       }
 
-  module _ (keeps_log : Bool) (limit : ℕ) where
+  module _ (keeps_log : Bool) (limit : ℕ) (tasks : List TaskName) where
     abbrev new : Handle
-    new = opened_handle extractor keeps_log limit (opened_manifest (extractor_name extractor) o) w.stored
+    new = opened_handle extractor keeps_log limit tasks (opened_manifest (extractor_name extractor) o) w.stored
 
     same_handle : (h : Handle) → AHandle new ≡ AHandle h → new ≡ h
     same_handle h is = cc
@@ -74,7 +75,7 @@ module _ (extractor : Option Extractor) (w : World) (o : Objects) (is_sound : Is
       l = unopened-leads made few
 
       mine-valid : IsValidHandle w.stored (catalogue_of (after made)) new
-      mine-valid = opened-valid extractor w.stored o made is_sound holds.stored some few keeps_log limit valid.line
+      mine-valid = opened-valid extractor w.stored o made is_sound holds.stored some few keeps_log limit tasks valid.line
 
       mine-stored : AreStored (after made) new.view.manifest.tables
       mine-stored = latest-stored (after made) (opened_manifest (extractor_name extractor) o) l.sound (opened (extractor_name extractor) o made is_sound some few).latest
@@ -106,7 +107,7 @@ module _ (extractor : Option Extractor) (w : World) (o : Objects) (is_sound : Is
 
       reads-by : (n : ℕ) (x : Object) → (slice_get w.objects n ≡ Some x) ⊎ ((n ≡ length w.objects) × (AHandle new ≡ x)) → IsHeld (after made) x
       reads-by n x (inl old) = l.reads n x old
-      reads-by n x (inr last_one) = subst (IsHeld (after made)) last_one.1 (opened-reads extractor w.stored o made is_sound holds.stored some few keeps_log limit valid.line, tt)
+      reads-by n x (inr last_one) = subst (IsHeld (after made)) last_one.1 (opened-reads extractor w.stored o made is_sound holds.stored some few keeps_log limit tasks valid.line, tt)
 
       -- one that gives a handle
       pub opened-leads : Leads w.stored (after made) (w.objects ++ AHandle new ∷ [])

@@ -36,7 +36,7 @@ use Rattle.slate_live.specs.Commands.{Acts, ActsAt, ActsOn, Adds, Does, DoesBy, 
 use Rattle.slate_live.specs.Maintenance.{CommitsTo, SweepsTo}
 use Rattle.slate_live.specs.Replies.{followed_reply, reply_to}
 use Rattle.slate_live.specs.Represents.{IsHeld, Holds, IsValid, Represents}
-use Rattle.slate_live.specs.Settings.{Settings}
+use Rattle.slate_live.specs.Settings.{Settings, option_tasks}
 use Rattle.slate_live.specs.State.{Live, State, running}
 use Rattle.slate_live.specs.World.{Next, World, grown_by, state_of, stored_after}
 use Rattle.slate_live.proofs.Following.{new-held, new-stored, new-valid, seen-kept, seen-mark, with_segments}
@@ -302,39 +302,41 @@ module _ (settings : Settings) (w : World) (o : Objects) (is_sound : IsSound o) 
       led-follower n g d.new is at d.acts d.objects
 
   -- an opening of a handle
-  led-opened : (keeps_log : Bool) → target_of command.action ≡ NewHandle keeps_log → (r : Result Handle SlateError) → OpensHandle (by_objects (Some o)) settings.extractor made keeps_log settings.options.max_unflushed_bytes (holding o w.faults) r store →
+  led-opened : (keeps_log : Bool) → target_of command.action ≡ NewHandle keeps_log → (r : Result Handle SlateError) → OpensHandle (by_objects (Some o)) settings.extractor made keeps_log settings.options.max_unflushed_bytes (option_tasks settings.options) (holding o w.faults) r store →
       reply ≡ reply_to (λ _. replies.Handle (length (map kept w.objects))) r → live_objects ≡ map kept w.objects ++ added AHandle r → writes ≡ w.writes → Led
   led-opened keeps_log is (Ok k) d replied objects same_writes =
       let limit = settings.options.max_unflushed_bytes in
+      let tasks = option_tasks settings.options in
       let t = (d.opens).some o refl in
       let step = t.2 in
       let few : made ≤ 2 = part_le {A = Handle} (Ok k) 2 made step.part in
       let some : 0 < made = (let all = step.part in omega (arith, all)) in
-      let by_held = subst (λ x. OpensHandle (by_objects (Some o)) settings.extractor made keeps_log limit (holding o w.faults) (Ok k) x) (store-is t.0 t.1) d in
-      let known = opens-reduced settings.extractor w.stored made keeps_log limit (Ok k) o t.0 w.faults store.faults is_sound holds.stored by_held in
-      let new = opened_handle settings.extractor keeps_log limit (opened_manifest (extractor_name settings.extractor) o) w.stored in
+      let by_held = subst (λ x. OpensHandle (by_objects (Some o)) settings.extractor made keeps_log limit tasks (holding o w.faults) (Ok k) x) (store-is t.0 t.1) d in
+      let known = opens-reduced settings.extractor w.stored made keeps_log limit tasks (Ok k) o t.0 w.faults store.faults is_sound holds.stored by_held in
+      let new = opened_handle settings.extractor keeps_log limit tasks (opened_manifest (extractor_name settings.extractor) o) w.stored in
       let objects' = w.objects ++ AHandle new ∷ [] in
       record {
         after = t.0;
         objects = objects';
         modelled = t.1;
         kept = objects ∙ (ap (λ x. map kept w.objects ++ AHandle x ∷ []) (d.handle o w.stored refl (o, refl, is_sound, sym holds.stored)) ∙ sym (map-append kept w.objects (AHandle new ∷ [])));
-        leads = subst (λ x. Leads stored' x objects') (sym step.after) (over (unnamed (NewHandle keeps_log) is refl) (opened-leads settings.extractor w o is_sound holds valid reads keeps_log limit made some few));
+        leads = subst (λ x. Leads stored' x objects') (sym step.after) (over (unnamed (NewHandle keeps_log) is refl) (opened-leads settings.extractor w o is_sound holds valid reads keeps_log limit tasks made some few));
         does = does-at (NewHandle keeps_log) is t.0 objects' (record {
           result = Ok new;
           replied = replied ∙ ap replies.Handle (length-map w.objects kept);
-          does = subst (λ c. OpensHandle (by_catalogue w.stored c) settings.extractor made keeps_log limit (record { objects = Some c; faults = w.faults }) (Ok new) (catalogued t.0 store.faults)) holds.catalogue known;
+          does = subst (λ c. OpensHandle (by_catalogue w.stored c) settings.extractor made keeps_log limit tasks (record { objects = Some c; faults = w.faults }) (Ok new) (catalogued t.0 store.faults)) holds.catalogue known;
           objects = refl;
           writes = same_writes;
         });
       }
   led-opened keeps_log is (Err e) d replied objects same_writes =
       let limit = settings.options.max_unflushed_bytes in
+      let tasks = option_tasks settings.options in
       let t = (d.opens).some o refl in
       let step = t.2 in
       let few : made ≤ 2 = part_le {A = Handle} (Err e) 2 made step.part in
-      let by_held = subst (λ x. OpensHandle (by_objects (Some o)) settings.extractor made keeps_log limit (holding o w.faults) (Err e) x) (store-is t.0 t.1) d in
-      let known = opens-reduced settings.extractor w.stored made keeps_log limit (Err e) o t.0 w.faults store.faults is_sound holds.stored by_held in
+      let by_held = subst (λ x. OpensHandle (by_objects (Some o)) settings.extractor made keeps_log limit tasks (holding o w.faults) (Err e) x) (store-is t.0 t.1) d in
+      let known = opens-reduced settings.extractor w.stored made keeps_log limit tasks (Err e) o t.0 w.faults store.faults is_sound holds.stored by_held in
       record {
         after = t.0;
         objects = w.objects;
@@ -344,7 +346,7 @@ module _ (settings : Settings) (w : World) (o : Objects) (is_sound : IsSound o) 
         does = does-at (NewHandle keeps_log) is t.0 w.objects (record {
           result = Err e;
           replied = replied;
-          does = subst (λ c. OpensHandle (by_catalogue w.stored c) settings.extractor made keeps_log limit (record { objects = Some c; faults = w.faults }) (Err e) (catalogued t.0 store.faults)) holds.catalogue known;
+          does = subst (λ c. OpensHandle (by_catalogue w.stored c) settings.extractor made keeps_log limit tasks (record { objects = Some c; faults = w.faults }) (Err e) (catalogued t.0 store.faults)) holds.catalogue known;
           objects = sym (append-nil w.objects);
           writes = same_writes;
         });

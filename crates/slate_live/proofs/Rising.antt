@@ -8,12 +8,13 @@ use Rattle.std.proofs.lemmas.Bool.{cases_eq, le-ltb}
 use Rattle.slate_types.specs.declared.batches.KeyOp.{KeyOp}
 use Rattle.slate_types.specs.Line.{Line}
 use Rattle.slate_types.specs.Operator.{Merge}
+use Rattle.slate_errors.specs.declared.endings.TaskName.{TaskName}
 use Rattle.slate_model.specs.Segments.{Extractor}
 use Rattle.slate_errors.specs.declared.errors.SlateError.{SlateError}
 use Rattle.slate_errors.specs.declared.errors.SlateError.TheVariants as errors
 use Rattle.slate_errors.specs.Errors.{closed_error}
 use Rattle.slate_model.specs.Catalogue.{Catalogue, Span}
-use Rattle.slate_model.specs.Close.{closed, closed_follower}
+use Rattle.slate_model.specs.Close.{closed, closed_follower, without_tasks}
 use Rattle.slate_model.specs.declared.answers.PollAnswer.{PollAnswer}
 use Rattle.slate_model.specs.declared.answers.Written.{Written}
 use Rattle.slate_model.specs.Flush.{DurableAfter, IsFlushed}
@@ -96,8 +97,8 @@ durable-rises false h (Err errors.NoMemory) d low a = subst (λ n. h.durable ≤
 durable-rises stored h (Err e) d low (inl a) = subst (λ n. h.durable ≤ n) (sym a) (omega arith)
 durable-rises stored h (Err e) d low (inr a) = subst (λ n. h.durable ≤ n) (sym a.1) low
 
-flushed-rises : (made : ℕ) (r : Result (Unit {0}) SlateError) (result : CloseResult) (h h' : Handle) → h.result ≡ None → h.durable ≤ accepted h → IsFlushed (λ x. x) made r result h h' → HandleRises h h'
-flushed-rises made r result h h' live low f =
+flushed-rises : (made : ℕ) (r : Result (Unit {0}) SlateError) (result : CloseResult) (tasks : List TaskName) (h h' : Handle) → h.result ≡ None → h.durable ≤ accepted h → IsFlushed (λ x. x) made r result tasks h h' → HandleRises h h'
+flushed-rises made r result tasks h h' live low f =
     subst (HandleRises h) (sym f.same) (record {
       line = prefix-same h.line;
       durable = durable-rises _ h r h'.durable low f.durable;
@@ -117,6 +118,9 @@ moved-rises h h' counter result live same =
       result = is-none (λ q. result ≡ Some q) h.result live;
     })
 
+ended-rises : (h : Handle) → HandleRises h (without_tasks h)
+ended-rises h = let r = rises-same h h refl in record { line = r.line; durable = r.durable; tick = r.tick; epoch = r.epoch; result = r.result }
+
 closed-rises : (h g : Handle) → h.result ≡ None → HandleRises h g → HandleRises h (closed g)
 closed-rises h g live r = record { line = r.line; durable = r.durable; tick = r.tick; epoch = r.epoch; result = is-none (λ q. Some (Ok tt) ≡ Some q) h.result live }
 
@@ -131,13 +135,13 @@ handle-rises stored catalogue settings n moment second (Flush t) made h before w
     flush-by (by_catalogue stored catalogue) made h before h' after (HandleRises h h') _ (a.0).result (a.0).does
     (λ q is error same store. rises-same h h' same)
     (λ live without error same store. rises-same h h' same)
-    (λ can is stores. flushed-rises made _ _ h h' can.0 low is)
+    (λ can is stores. flushed-rises made _ _ _ h h' can.0 low is)
 handle-rises stored catalogue settings n moment second (Close t) made h before writes reply h' after writes' low a =
     close-by (by_catalogue stored catalogue) made h before h' after (HandleRises h h') _ (a.0).ended (a.0).does
-    (λ q is error same store. rises-same h h' same)
+    (λ q is error same store. subst (HandleRises h) (sym same) (ended-rises h))
     (λ live none error is store. subst (HandleRises h) (sym is) (closed-rises h h live (rises-same h h refl)))
     (λ t live some without error is store. subst (HandleRises h) (sym is) (closed-rises h h live (rises-same h h refl)))
-    (λ t can some tasks is stores. flushed-rises made _ _ h h' can.0 low is)
+    (λ t can some tasks is stores. flushed-rises made _ _ _ h h' can.0 low is)
 handle-rises stored catalogue settings n moment second Refresh made h before writes reply h' after writes' low a =
     refresh-by (by_catalogue stored catalogue) 0 h before h' after (HandleRises h h') (a.0).result (a.0).does
     (λ q is error same store. rises-same h h' same)

@@ -1,6 +1,7 @@
 -- What is stored is seen by each opening and each poll.
+use Rattle.slate_errors.specs.declared.endings.TaskName.{TaskName}
 use Rattle.slate_model.specs.Segments.{Extractor}
-use Rattle.std.proofs.Common.{◌≡◌, ℕ, ℤ, ◌≤◌, Bool, true, false, not, ◌&&◌, set, ◌++◌, ◌∙◌, length, Option, Some, None, Result, Ok, Err, refl, sym, subst, arith, ap}
+use Rattle.std.proofs.Common.{◌≡◌, ℕ, ℤ, ◌≤◌, Bool, true, false, not, ◌&&◌, set, ◌++◌, ◌∙◌, length, Option, Some, None, Result, Ok, Err, refl, sym, subst, arith, ap, List}
 use Rattle.std.specs.List.{slice_get}
 use Rattle.std.proofs.lemmas.Option.{slice_get_within}
 use Rattle.slate_types.specs.declared.batches.Batch.{Batch}
@@ -37,7 +38,7 @@ use Rattle.slate_live.specs.Confirmed.{Sees, StandsIn}
 use Rattle.slate_live.specs.Represents.{IsFollowerAt, IsLeased, IsValid, follows_all}
 use Rattle.slate_live.proofs.Following.{owed-all}
 use Rattle.slate_live.specs.Replies.{followed_reply, polled_reply, refusal, reply_to}
-use Rattle.slate_live.specs.Settings.{Settings}
+use Rattle.slate_live.specs.Settings.{Settings, option_tasks}
 use Rattle.slate_live.specs.World.{Next, World, state_of}
 use Rattle.slate_live.proofs.Cases.{by-option, some-of}
 use Rattle.slate_live.proofs.Naming.{follower-did, handle-acted}
@@ -77,14 +78,14 @@ sees-refusal batch action (errors.Backpressure unflushed limit) w = sees-held-up
 sees-refusal batch action e w = sees-error batch action e w
 
 -- the handle of an opening has it in its line
-open-sees : (extractor : Option Extractor) (batch : Batch) (w w' : World) (wal : Bool) (made limit : ℕ) (r : Result Handle SlateError) → OpensHandle (by_catalogue w.stored w.catalogue) extractor made wal limit (state_of w).store r (state_of w').store → w'.objects ≡ w.objects ++ added AHandle r → StandsIn batch w.stored → Sees batch (actions.Open wal) (reply_to (λ _. replies.Handle (length w.objects)) r) w'
-open-sees extractor batch w w' wal made limit (Ok h) opens is stands =
+open-sees : (extractor : Option Extractor) (batch : Batch) (w w' : World) (wal : Bool) (made limit : ℕ) (tasks : List TaskName) (r : Result Handle SlateError) → OpensHandle (by_catalogue w.stored w.catalogue) extractor made wal limit tasks (state_of w).store r (state_of w').store → w'.objects ≡ w.objects ++ added AHandle r → StandsIn batch w.stored → Sees batch (actions.Open wal) (reply_to (λ _. replies.Handle (length w.objects)) r) w'
+open-sees extractor batch w w' wal made limit tasks (Ok h) opens is stands =
     let sees = opens.handle w.catalogue w.stored refl refl in (
       h,
       subst (λ os. slice_get os (length w.objects) ≡ Some (AHandle h)) (sym is) (get-seam w.objects (AHandle h)),
       subst (λ (x : Handle). StandsIn batch x.line) (sym sees) stands,
     )
-open-sees extractor batch w w' wal made limit (Err e) opens is stands = sees-refusal batch (actions.Open wal) e w'
+open-sees extractor batch w w' wal made limit tasks (Err e) opens is stands = sees-refusal batch (actions.Open wal) e w'
 
 -- a follower that is opened, or polled while it doesn't stay at a checkpoint, answers the end of what it is owed; where it
 -- follows all that is stored, that is a number at or above its own
@@ -219,7 +220,7 @@ follows-see settings batch w w' command made modes.ManagedCheckpoint managed ski
 
 sees-action : (settings : Settings) (batch : Batch) (w w' : World) (valid : IsValid w) (command : Command) (made : ℕ) (action : Action) (reply : Reply) → command.action ≡ action → StandsIn batch w.stored → DoesBy (by_catalogue w.stored w.catalogue) settings command (target_of action) made (state_of w) reply (state_of w') → Sees batch action reply w'
 sees-action settings batch w w' valid command made (actions.Open wal) reply is stands d =
-    sees-by batch (actions.Open wal) w' d.replied (open-sees settings.extractor batch w w' wal made settings.options.max_unflushed_bytes d.result d.does d.objects stands)
+    sees-by batch (actions.Open wal) w' d.replied (open-sees settings.extractor batch w w' wal made settings.options.max_unflushed_bytes (option_tasks settings.options) d.result d.does d.objects stands)
 sees-action settings batch w w' valid command made (actions.Follow mode managed skip) reply is stands d =
     follows-see settings batch w w' command made mode managed skip reply stands d
 sees-action settings batch w w' valid command made (actions.Poll n) reply is stands d =

@@ -52,7 +52,7 @@ use Rattle.slate_live.specs.Commands.{ActsAt, ActsOn, DoesBy, OpensSnapshot, Rea
 use Rattle.slate_live.specs.Handles.{HandleActs, MergesTo}
 use Rattle.slate_live.specs.Represents.{AreInSegments, HaveSegments, IsHandleAt, IsReached, follows_all, replays_all}
 use Rattle.slate_live.specs.Rising.{Rises}
-use Rattle.slate_live.specs.Settings.{Settings}
+use Rattle.slate_live.specs.Settings.{Settings, option_tasks}
 use Rattle.slate_live.specs.State.{State}
 use Rattle.slate_live.specs.World.{Next, World, grown_by, state_of}
 use Rattle.slate_live.proofs.Carrying.{Spares}
@@ -159,7 +159,7 @@ handle-grows stored catalogue settings n moment second (Flush t) made h before w
     (λ can is stores. same-line settings.extractor h h' (ap (λ (k : Handle). k.line) is.same))
 handle-grows stored catalogue settings n moment second (Close t) made h before writes reply h' after writes' a =
     close-by (by_catalogue stored catalogue) made h before h' after (GrowsBy settings.extractor h h') _ (a.0).ended (a.0).does
-    (λ q is error same store. same-handle settings.extractor h h' same)
+    (λ q is error same store. same-line settings.extractor h h' (ap (λ (k : Handle). k.line) same))
     (λ live none error is store. same-line settings.extractor h h' (ap (λ (k : Handle). k.line) is))
     (λ t live some without error is store. same-line settings.extractor h h' (ap (λ (k : Handle). k.line) is))
     (λ t can some tasks is stores. same-line settings.extractor h h' (ap (λ (k : Handle). k.line) is.same))
@@ -404,7 +404,7 @@ module _ (settings : Settings) (w w' : World) (command : Command) (reply : Reply
   took-fine lifetime interval skips (Err e) d b is = absurd (cc)
 
   -- a handle that was opened
-  handle-opened : (keeps_log : Bool) (r : Result Handle SlateError) → OpensHandle k x made keeps_log settings.options.max_unflushed_bytes (state_of w).store r s'.store → w'.objects ≡ w.objects ++ added AHandle r → (b : Handle) → r ≡ Ok b → Fine (AHandle b)
+  handle-opened : (keeps_log : Bool) (r : Result Handle SlateError) → OpensHandle k x made keeps_log settings.options.max_unflushed_bytes (option_tasks settings.options) (state_of w).store r s'.store → w'.objects ≡ w.objects ++ added AHandle r → (b : Handle) → r ≡ Ok b → Fine (AHandle b)
   handle-opened keeps_log (Err e) o objects b is = absurd (cc)
   handle-opened keeps_log (Ok c) o objects b is =
       let same : c ≡ b = cc in

@@ -20,7 +20,7 @@ use Rattle.slate_live.specs.Followers.{FollowerActs}
 use Rattle.slate_live.specs.Handles.{HandleActs, TakesSnapshot, durable_reply}
 use Rattle.slate_live.specs.Maintenance.{CommitsTo, SweepsTo}
 use Rattle.slate_live.specs.Replies.{followed_reply, reply_to}
-use Rattle.slate_live.specs.Settings.{Settings}
+use Rattle.slate_live.specs.Settings.{Settings, option_tasks}
 use Rattle.slate_live.specs.State.{State}
 
 -- a command is answered so, and changes nothing
@@ -101,7 +101,7 @@ interval_of (Some given) = given.1
 module _ {L : Type 0} (k : Knowledge L) (settings : Settings) where
   abbrev pub OpensHandleIn : Bool → ℕ → State L → Reply → State L → Type 0
   OpensHandleIn keeps_log made s reply s' =
-      Adds (OpensHandle k settings.extractor made keeps_log settings.options.max_unflushed_bytes) Handle (λ n _. replies.Handle n) s reply s'
+      Adds (OpensHandle k settings.extractor made keeps_log settings.options.max_unflushed_bytes (option_tasks settings.options)) Handle (λ n _. replies.Handle n) s reply s'
 
   abbrev pub OpensFollowerIn : DbReaderMode → (managed : Option (ℕ × ℕ)) → (skips : Bool) → ℤ → ℕ → State L → Reply → State L → Type 0
   OpensFollowerIn ManagedCheckpoint managed skips moment made s reply s' =

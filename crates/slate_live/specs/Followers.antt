@@ -60,7 +60,7 @@ pub record PollsFollower {L : Type 0} (k : Knowledge L) (extractor : Option Extr
 abbrev pub ClosesAs : {L : Type 0} → Knowledge L → (managed : Bool) → ℕ → Follower → Known L → Ended → Follower → Known L → Type 0
 ClosesAs k true made old before answer new after = ClosesManaged k made old before answer new after
 ClosesAs k false made old before answer new after =
-    (answer ≡ ended (recorded_fault old.result)) × (new ≡ closed_follower old) × Untouched made before after
+    (answer ≡ ended old.tasks (recorded_fault old.result)) × (new ≡ closed_follower old) × Untouched made before after
 
 pub record ClosesFollower {L : Type 0} (k : Knowledge L) (made : ℕ) (old : Follower) (before : Known L) (reply : Reply) (new : Follower) (after : Known L) : Type 0 where
   pub answer : Ended

@@ -1,4 +1,5 @@
 pub mod Calls
+pub mod Closings
 pub mod Commands
 pub mod Confirmed
 pub mod Followers

@@ -9,6 +9,7 @@ use Rattle.slate_model.specs.Known.{Known}
 use Rattle.slate_model.specs.Stores.{by_objects}
 use Rattle.slate_script.specs.declared.commands.Command.{Command}
 use Rattle.slate_script.specs.declared.replies.Reply.{Reply}
+use Rattle.slate_live.specs.Closings.{ListTasks}
 use Rattle.slate_live.specs.Commands.{Does}
 use Rattle.slate_live.specs.State.{State}
 use Rattle.slate_live.specs.Steps.{Chain, StayConfirmed, Step, last_world}
@@ -27,7 +28,8 @@ DoAll settings s commands replies last = ⊥
 
 -- The commands lead from the world of these objects, by one step each with its reply and each to a valid world, to one
 -- that the store holds afterwards. What was stored before is stored afterwards, a write that is reported durable is confirmed for good, what a
--- snapshot gives stays, and a reader that is polled in time keeps its checkpoint.
+-- snapshot gives stays, a reader that is polled in time keeps its checkpoint, and the first close of a handle or a reader lists
+-- the tasks that its opening registered.
 pub record LeadsTo (settings : Settings) (commands : List Command) (replies : List Reply) (before : Objects) (faults : ℕ) (store : Known (List Batch)) : Type 0 where
   pub steps : List Step
   pub commands_are : map (λ step. step.command) steps ≡ commands
@@ -40,6 +42,7 @@ pub record LeadsTo (settings : Settings) (commands : List Command) (replies : Li
   pub confirmed : StayConfirmed steps
   pub snapshots : SnapshotsStay steps
   pub leases : LeasesHold steps
+  pub closings : ListTasks settings.options steps
   pub after : Objects
   pub modelled : store.objects ≡ Some after
   pub sound : IsSound after

@@ -13,8 +13,9 @@ ghost use Rattle.slate_live.specs.Replies.{followed_reply};
 ghost use Rattle.slate_live.specs.Represents.{Links};
 ghost use Rattle.slate_live.specs.State.{running};
 ghost use Rattle.slate_model.specs.Segments.{IsExtractor};
-ghost use Rattle.slate_live.specs.Settings.{Settings};
+ghost use Rattle.slate_live.specs.Settings.{Settings, option_tasks};
 ghost use Rattle.slate_live.specs.Valid.{Link};
+ghost use Rattle.slate_writer.specs.Tasks.{tasks_of};
 
 use crate::handles::refusal;
 use crate::maintenance::{checkpoint, sweep};
@@ -158,6 +159,7 @@ impl LiveState {
     fn writer_options(&self, wal: bool) -> WriterOptions
         ensures log { result.wal_enabled ≡ wal }
         ensures limit { result.max_unflushed_bytes ≡ self.now.options.max_unflushed_bytes }
+        ensures tasks { tasks_of result ≡ option_tasks self.now.options }
     {
         WriterOptions {
             wal_enabled: wal,

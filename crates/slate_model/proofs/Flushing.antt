@@ -14,6 +14,7 @@ use Rattle.slate_store.specs.declared.objects.TableId.{TableId}
 use Rattle.slate_store.specs.declared.objects.VersionedManifest.{VersionedManifest}
 use Rattle.slate_errors.specs.declared.errors.SlateError.{SlateError}
 use Rattle.slate_errors.specs.declared.errors.SlateError.TheVariants as errors
+use Rattle.slate_errors.specs.declared.endings.TaskName.{TaskName}
 use Rattle.slate_model.specs.Catalogue.{catalogue_of}
 use Rattle.slate_model.specs.Changes.{PartMade, after_part}
 use Rattle.slate_model.specs.Flush.{CanFlush, DurableAfter, FlushAnswer, FlushesOnly, IsFlushed, StoresBatches, flush_changes, flush_changes_by, flush_changes_under, flush_view, grown, grows, has_untabled, log_after, log_changes, next_flushed, tables_put, table_changes, has_log_for, IsCurrent, flush_result}
@@ -113,9 +114,9 @@ pub grown-zero : (made : ℕ) (stored : Line) (h : Handle) → made ≡ 0 → gr
 grown-zero made stored h none = ap (λ n. grown n stored h) none ∙ not-grown h.keeps_log stored (extended stored (unstored h))
 
 -- what a flush of a valid handle did, and left of it
-module _ (stored : Line) (o o' : Objects) (latest : VersionedManifest) (t : FlushType) (h k : Handle) (r : Result (Unit {0}) SlateError) (closed : CloseResult) (made : ℕ)
+module _ (stored : Line) (o o' : Objects) (latest : VersionedManifest) (t : FlushType) (h k : Handle) (r : Result (Unit {0}) SlateError) (closed : CloseResult) (tasks : List TaskName) (made : ℕ)
     (sound : IsSound o) (holds : content o ≡ stored) (is : latest_manifest o ≡ Some latest) (v : IsValidHandle stored (catalogue_of o) h) (reads : ReadsLine o h.view h.line) (before : AreBefore h h.view.manifest.tables)
-    (can : CanFlush t h) (s : StoresBatches (by_objects (Some o)) t (kept_handle h) o r k made o') (f : IsFlushed (λ a. a) made r closed h (whole h k)) where
+    (can : CanFlush t h) (s : StoresBatches (by_objects (Some o)) t (kept_handle h) o r k made o') (f : IsFlushed (λ a. a) made r closed tasks h (whole h k)) where
   abbrev last : ℕ
   last = last_log latest.manifest.replay_after_wal_id o
 

@@ -14,6 +14,7 @@ use Rattle.slate_store.specs.Content.{IsSound, content}
 use Rattle.slate_store.specs.Objects.{Objects, last_log, latest_manifest, table_at, table_cmp}
 use Rattle.slate_store.specs.declared.objects.TableId.{TableId}
 use Rattle.slate_store.specs.declared.objects.VersionedManifest.{VersionedManifest}
+use Rattle.slate_errors.specs.declared.endings.TaskName.{TaskName}
 use Rattle.slate_model.specs.Catalogue.{catalogue_of}
 use Rattle.slate_model.specs.Changes.{after_part}
 use Rattle.slate_model.specs.Handle.{Handle, unstored}
@@ -98,9 +99,9 @@ module _ (x : Option Extractor) (stored : Line) (o : Objects) (made : ℕ) (soun
       let low = valid.behind.2 in
       omega (arith, epoch, low)
 
-  module _ (keeps_log : Bool) (limit : ℕ) (line : IsLine stored) where
+  module _ (keeps_log : Bool) (limit : ℕ) (tasks : List TaskName) (line : IsLine stored) where
     abbrev new : Handle
-    new = opened_handle x keeps_log limit v stored
+    new = opened_handle x keeps_log limit tasks v stored
 
     whole-line : stored ≡ extended (content o') []
     whole-line = sym content-is ∙ sym (extended-nil (content o'))

@@ -11,13 +11,14 @@ use Rattle.slate_store.specs.declared.objects.VersionedManifest.{VersionedManife
 use Rattle.slate_store.specs.Content.{IsSound, content}
 use Rattle.slate_store.specs.Objects.{Objects, ObjectsOf, latest_manifest, last_log}
 use Rattle.slate_errors.specs.declared.endings.Ended.{Ended}
+use Rattle.slate_errors.specs.declared.endings.TaskName.{TaskName}
 use Rattle.slate_errors.specs.declared.errors.SlateError.{SlateError}
 use Rattle.slate_errors.specs.declared.errors.SlateError.TheVariants as errors
 use Rattle.slate_types.specs.declared.read_faults.ReadFault.TheVariants as reads
 use Rattle.slate_errors.specs.Errors.{closed_error}
 use Rattle.slate_model.specs.Catalogue.{Span, catalogue_of, span, Catalogue, joined_span}
 use Rattle.slate_model.specs.declared.answers.PollAnswer.{PollAnswer}
-use Rattle.slate_model.specs.Close.{Closes, ended, fault_again, closing_flush}
+use Rattle.slate_model.specs.Close.{Closes, ended, fault_again, closing_flush, without_tasks}
 use Rattle.slate_model.specs.Follow.{AreFollowed, FollowCause, HasAllLogs, IsOwed, Polls, Rebuilds, ReplayRefuses, SeesOwed, built}
 use Rattle.slate_model.specs.Followed.{IsView, RefusesLatest, kept_by, last_read, view_under}
 use Rattle.slate_model.specs.Follower.{Follower, HasSegments, is_pinned, kept_follower, rebuilt}
@@ -176,8 +177,8 @@ durable-whole made h (Err e) durable d = elim d [
   | inr new ↦ inr (new.0, new.1 ∙ accepted-kept h)
 ]
 
-pub flushed-whole : (made : ℕ) (r : Result (Unit {0}) SlateError) (closed : CloseResult) (h k : Handle) → IsFlushed kept_handle made r closed (kept_handle h) k → IsFlushed (λ a. a) made r closed h (whole h k)
-flushed-whole made r closed h k s = record {
+pub flushed-whole : (made : ℕ) (r : Result (Unit {0}) SlateError) (closed : CloseResult) (tasks : List TaskName) (h k : Handle) → IsFlushed kept_handle made r closed tasks (kept_handle h) k → IsFlushed (λ a. a) made r closed tasks h (whole h k)
+flushed-whole made r closed tasks h k s = record {
   same = ap (λ (a : Handle). record a { line = h.line; segments = h.segments }) s.same;
   durable = durable-whole made h r k.durable s.durable;
   counter = s.counter;
@@ -208,16 +209,16 @@ module _ (stored : Line) (h : Handle) (o o' : Objects) (f f' : ℕ) (tabled : h.
   flushes-reduced made t k r unset s = record {
     closed = if_some {Q = λ q. (r ≡ Err (closed_error q)) × (whole h k ≡ h) × Untouched made (catalogued o f) (catalogued o' f')} h.result (λ q c. (c.0, ap (whole h) c.1, untouched-known made o o' f f' c.2)) s.closed;
     disabled = λ live keeps. let d = s.disabled live (log_for-kept h t ∙ keeps) in (d.0, ap (whole h) d.1, untouched-known made o o' f f' d.2);
-    flushed = λ can. flushed-whole made r (flush_result r) h k (s.flushed (can-kept t can));
+    flushed = λ can. flushed-whole made r (flush_result r) h.tasks h k (s.flushed (can-kept t can));
     stored = λ can. stores-reduced made t k r unset (s.stored (can-kept t can));
   }
 
   pub closes-reduced : (made : ℕ) (flush_type : Option FlushType) (k : Handle) (e : Ended) → ((t : FlushType) → flush_type ≡ Some t → Unset t) → Closes (by_objects (Some o)) made flush_type (kept_handle h) (holding o f) e k (holding o' f') → Closes world made flush_type h (catalogued o f) e (whole h k) (catalogued o' f')
   closes-reduced made flush_type k e unset s = record {
-    again = if_some {Q = λ q. (e ≡ ended (fault_again q)) × (whole h k ≡ h) × Untouched made (catalogued o f) (catalogued o' f')} h.result (λ q c. (c.0, ap (whole h) c.1, untouched-known made o o' f f' c.2)) s.again;
+    again = if_some {Q = λ q. (e ≡ ended h.tasks (fault_again q)) × (whole h k ≡ without_tasks h) × Untouched made (catalogued o f) (catalogued o' f')} h.result (λ q c. (c.0, ap (whole h) c.1, untouched-known made o o' f f' c.2)) s.again;
     unflushed = λ live none. let d = s.unflushed live none in (d.0, ap (whole h) d.1, untouched-known made o o' f f' d.2);
     disabled = λ t some live keeps. let d = s.disabled t some live (log_for-kept h t ∙ keeps) in (d.0, ap (whole h) d.1, untouched-known made o o' f f' d.2);
-    flushed = λ t some can. let d = s.flushed t some (can-kept t can) in (d.0, flushed-whole made (closing_flush e.fault) (Some (Ok tt)) h k d.1);
+    flushed = λ t some can. let d = s.flushed t some (can-kept t can) in (d.0, flushed-whole made (closing_flush e.fault) (Some (Ok tt)) [] h k d.1);
     stored = λ t some can. stores-reduced made t k (closing_flush e.fault) (unset t some) (s.stored t some (can-kept t can));
   }
 
@@ -311,18 +312,18 @@ reads-reduced reads_as closed tables r o o' f f' s = record {
 }
 
 -- the whole handle that an opening gave of which the code keeps a part
-abbrev pub opened-whole : Option Extractor → Bool → ℕ → Line → VersionedManifest → Result Handle SlateError → Result Handle SlateError
-opened-whole x keeps_log limit stored view (Ok k) = Ok (opened_handle x keeps_log limit view stored)
-opened-whole x keeps_log limit stored view (Err e) = Err e
+abbrev pub opened-whole : Option Extractor → Bool → ℕ → List TaskName → Line → VersionedManifest → Result Handle SlateError → Result Handle SlateError
+opened-whole x keeps_log limit tasks stored view (Ok k) = Ok (opened_handle x keeps_log limit tasks view stored)
+opened-whole x keeps_log limit tasks stored view (Err e) = Err e
 
-fresh-opened : (x : Option Extractor) (keeps_log : Bool) (limit : ℕ) (stored : Line) (view : VersionedManifest) → IsFresh keeps_log limit (kept_handle (opened_handle x keeps_log limit view stored)) → IsFresh keeps_log limit (opened_handle x keeps_log limit view stored)
-fresh-opened x keeps_log limit stored view fresh =
-    record { keeps = refl; limit_is = refl; unclosed = refl; epoch = refl; counter = refl; durable = refl; tabled = fresh.tabled }
+fresh-opened : (x : Option Extractor) (keeps_log : Bool) (limit : ℕ) (tasks : List TaskName) (stored : Line) (view : VersionedManifest) → IsFresh keeps_log limit tasks (kept_handle (opened_handle x keeps_log limit tasks view stored)) → IsFresh keeps_log limit tasks (opened_handle x keeps_log limit tasks view stored)
+fresh-opened x keeps_log limit tasks stored view fresh =
+    record { keeps = refl; limit_is = refl; tasked = refl; unclosed = refl; epoch = refl; counter = refl; durable = refl; tabled = fresh.tabled }
 
-opened-known : (x : Option Extractor) (keeps_log : Bool) (limit : ℕ) (stored : Line) (k : Handle) (made : ℕ) (o o' : Objects) → IsSound o → Opens x (λ xs. xs) (OpenFault o) o (Ok k) made o' →
-    Opens x span (λ _. ⊥) (catalogue_of o) (Ok (opened_handle x keeps_log limit (opened_manifest (extractor_name x) o) stored)) made (catalogue_of o')
-opened-known x keeps_log limit stored k made o o' sound q =
-    opens-known x (OpenFault o) o (Ok (opened_handle x keeps_log limit (opened_manifest (extractor_name x) o) stored)) made o' (λ e. no-fault o e sound)
+opened-known : (x : Option Extractor) (keeps_log : Bool) (limit : ℕ) (tasks : List TaskName) (stored : Line) (k : Handle) (made : ℕ) (o o' : Objects) → IsSound o → Opens x (λ xs. xs) (OpenFault o) o (Ok k) made o' →
+    Opens x span (λ _. ⊥) (catalogue_of o) (Ok (opened_handle x keeps_log limit tasks (opened_manifest (extractor_name x) o) stored)) made (catalogue_of o')
+opened-known x keeps_log limit tasks stored k made o o' sound q =
+    opens-known x (OpenFault o) o (Ok (opened_handle x keeps_log limit tasks (opened_manifest (extractor_name x) o) stored)) made o' (λ e. no-fault o e sound)
     (record { answer = q.answer; part = q.part; only = q.only; can = q.can; after = q.after })
 
 -- what an opening replays of sound objects is what a world knows of it
@@ -334,19 +335,19 @@ segmented-known x stored r o s c line at stored_is =
     subst (λ v. AreSegmented x (replayed v line) r) view (subst (λ l. AreSegmented x (replayed (opened_manifest name o) l) r) (sym stored_is) s)
 
 -- an opening of sound objects, whose handle sees what is stored
-pub opens-reduced : (x : Option Extractor) (stored : Line) (made : ℕ) (keeps_log : Bool) (limit : ℕ) (r : Result Handle SlateError) (o o' : Objects) (f f' : ℕ) → IsSound o → content o ≡ stored → OpensHandle (by_objects (Some o)) x made keeps_log limit (holding o f) r (holding o' f') →
-    OpensHandle (by_catalogue stored (catalogue_of o)) x made keeps_log limit (catalogued o f) (opened-whole x keeps_log limit stored (opened_manifest (extractor_name x) o) r) (catalogued o' f')
-opens-reduced x stored made keeps_log limit (Ok k) o o' f f' sound is s = record {
-  opens = as_modelled (catalogue_of o) (catalogue_of o') (opened-known x keeps_log limit stored k made o o' sound (modelled o o' s.opens));
+pub opens-reduced : (x : Option Extractor) (stored : Line) (made : ℕ) (keeps_log : Bool) (limit : ℕ) (tasks : List TaskName) (r : Result Handle SlateError) (o o' : Objects) (f f' : ℕ) → IsSound o → content o ≡ stored → OpensHandle (by_objects (Some o)) x made keeps_log limit tasks (holding o f) r (holding o' f') →
+    OpensHandle (by_catalogue stored (catalogue_of o)) x made keeps_log limit tasks (catalogued o f) (opened-whole x keeps_log limit tasks stored (opened_manifest (extractor_name x) o) r) (catalogued o' f')
+opens-reduced x stored made keeps_log limit tasks (Ok k) o o' f f' sound is s = record {
+  opens = as_modelled (catalogue_of o) (catalogue_of o') (opened-known x keeps_log limit tasks stored k made o o' sound (modelled o o' s.opens));
   faults = record { count = s.faults.count; unavailable = λ no. absurd (cc); none_missing = λ no. absurd (cc) };
-  fresh = fresh-opened x keeps_log limit stored (opened_manifest (extractor_name x) o) (subst (λ (k : Handle). IsFresh keeps_log limit k) (s.handle o stored refl (o, refl, sound, sym is)) s.fresh);
+  fresh = fresh-opened x keeps_log limit tasks stored (opened_manifest (extractor_name x) o) (subst (λ (k : Handle). IsFresh keeps_log limit tasks k) (s.handle o stored refl (o, refl, sound, sym is)) s.fresh);
   view = λ c at. sym (opened_manifest-known (extractor_name x) o) ∙ ap (opened_manifest (extractor_name x)) (some-same (catalogue_of o) c at);
-  segmented = segmented-known x stored (Ok (opened_handle x keeps_log limit (opened_manifest (extractor_name x) o) stored)) o (s.segmented o stored refl (o, refl, sound, sym is));
+  segmented = segmented-known x stored (Ok (opened_handle x keeps_log limit tasks (opened_manifest (extractor_name x) o) stored)) o (s.segmented o stored refl (o, refl, sound, sym is));
   handle = λ c line at stored_is.
-      ap (λ l. opened_handle x keeps_log limit (opened_manifest (extractor_name x) o) l) (sym stored_is)
-      ∙ ap (λ m. opened_handle x keeps_log limit m line) (sym (opened_manifest-known (extractor_name x) o) ∙ ap (opened_manifest (extractor_name x)) (some-same (catalogue_of o) c at));
+      ap (λ l. opened_handle x keeps_log limit tasks (opened_manifest (extractor_name x) o) l) (sym stored_is)
+      ∙ ap (λ m. opened_handle x keeps_log limit tasks m line) (sym (opened_manifest-known (extractor_name x) o) ∙ ap (opened_manifest (extractor_name x)) (some-same (catalogue_of o) c at));
 }
-opens-reduced x stored made keeps_log limit (Err e) o o' f f' sound is s = record {
+opens-reduced x stored made keeps_log limit tasks (Err e) o o' f f' sound is s = record {
   opens = as_modelled (catalogue_of o) (catalogue_of o') (opens-known x (OpenFault o) o (Err e) made o' (λ e. no-fault o e sound) (modelled o o' s.opens));
   faults = s.faults;
   fresh = tt;

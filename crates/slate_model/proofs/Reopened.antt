@@ -1,6 +1,7 @@
 -- An opening keeps the content of sound objects, and its replay gives the handle all of it.
 use Rattle.slate_errors.specs.declared.errors.SlateError.TheVariants.{WalTruncated}
 use Rattle.slate_errors.specs.declared.errors.SlateError.{SlateError}
+use Rattle.slate_errors.specs.declared.endings.TaskName.{TaskName}
 use Rattle.slate_model.specs.Changes.{after_part}
 use Rattle.slate_model.specs.Handle.{Handle, kept_handle, latest_tick}
 use Rattle.slate_model.specs.Tracked.{no_times}
@@ -281,8 +282,8 @@ segments-left x n [] = ap (λ c. cond c (segments_of x []) []) (le-ltb n (n + 0)
 segments-left x n (b ∷ bs) = ap (λ c. cond c (segments_of x (b ∷ bs)) []) (lt-ltb n (n + length (b ∷ bs)) (omega arith))
 
 -- the handle of an opening that replayed these batches, as the code keeps it
-abbrev pub recovered : Option Extractor → Bool → ℕ → VersionedManifest → List Batch → Handle
-recovered x keeps_log limit v bs =
+abbrev pub recovered : Option Extractor → Bool → ℕ → List TaskName → VersionedManifest → List Batch → Handle
+recovered x keeps_log limit tasks v bs =
     record {
       keeps_log = keeps_log;
       limit = limit;
@@ -296,23 +297,24 @@ recovered x keeps_log limit v bs =
       writes = None;
       view = v;
       result = None;
+      tasks = tasks;
     }
 
 -- over sound objects it is kept of the one whose line is their content
-pub recovered-is : (x : Option Extractor) (keeps_log : Bool) (limit : ℕ) (o : Objects) → IsSound o → let v = opened_manifest (extractor_name x) o in recovered x keeps_log limit v (logged o v.manifest) ≡ kept_handle (opened_handle x keeps_log limit v (content o))
-recovered-is x keeps_log limit o sound =
+pub recovered-is : (x : Option Extractor) (keeps_log : Bool) (limit : ℕ) (tasks : List TaskName) (o : Objects) → IsSound o → let v = opened_manifest (extractor_name x) o in recovered x keeps_log limit tasks v (logged o v.manifest) ≡ kept_handle (opened_handle x keeps_log limit tasks v (content o))
+recovered-is x keeps_log limit tasks o sound =
     let v = opened_manifest (extractor_name x) o in
     let n = v.manifest.last_l0_seq in
     let bs = logged o v.manifest in
     let ends = ends-with (extractor_name x) o (latest_manifest o) sound refl in
     let above = batches_above n (content o).batches in
     let kept : ℕ → List Batch → ℕ → Handle = λ floor xs durable.
-    record (recovered x keeps_log limit v xs) { line = line_from floor xs; segments = cond (ltb n durable) (segments_of x xs) []; durable = durable } in
+    record (recovered x keeps_log limit tasks v xs) { line = line_from floor xs; segments = cond (ltb n durable) (segments_of x xs) []; durable = durable } in
     let e = ends.ended in
     let count : length above ≡ length bs = ap length ends.above in
     let floor : end (content o) - length above ≡ n = omega (arith, e, count) in
     let by_line = ap (λ k. kept k above (end (content o))) floor ∙ (ap (λ xs. kept n xs (end (content o))) ends.above ∙ ap (kept n bs) ends.ended) in
-    sym (by_line ∙ ap (λ segments. record (recovered x keeps_log limit v bs) { segments = segments }) (segments-left x n bs))
+    sym (by_line ∙ ap (λ segments. record (recovered x keeps_log limit tasks v bs) { segments = segments }) (segments-left x n bs))
 
 -- its batches are those that an opening replays of their content
 pub replayed-is : (name : Option (List ℕ)) (o : Objects) → IsSound o → let v = opened_manifest name o in replayed v (content o) ≡ logged o v.manifest

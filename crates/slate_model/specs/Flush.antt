@@ -14,6 +14,7 @@ use Rattle.slate_errors.specs.declared.closing.CloseFault.TheVariants as faults
 use Rattle.slate_errors.specs.declared.errors.SlateError.{SlateError}
 use Rattle.slate_errors.specs.declared.errors.SlateError.TheVariants as errors
 use Rattle.slate_errors.specs.Errors.{closed_error}
+use Rattle.slate_errors.specs.declared.endings.TaskName.{TaskName}
 use Rattle.slate_model.specs.Changes.{PartMade, after_part}
 pub use Rattle.slate_model.specs.Handle.{has_untabled}
 use Rattle.slate_model.specs.Handle.{Handle, CloseResult, accepted, latest_tick, next_table, to_log, unstored, untabled, untabled_segments}
@@ -177,10 +178,10 @@ DurableAfter stored handle (Ok _) durable = durable ≡ accepted handle
 DurableAfter stored handle (Err errors.NoMemory) durable = durable ≡ (if stored then accepted handle else handle.durable)
 DurableAfter stored handle (Err error) durable = (durable ≡ handle.durable) ⊎ ((stored ≡ true) × (durable ≡ accepted handle))
 
--- A handle after a flush of which so many changes were made, which leaves this result: its durable number, its view and
--- the count of its tables have moved, and nothing else.
-pub record IsFlushed (keep : Handle → Handle) (made : ℕ) (result : Result (Unit {0}) SlateError) (closed : CloseResult) (old new : Handle) : Type 0 where
-  pub same : new ≡ keep (record old { durable = new.durable; counter = new.counter; view = new.view; result = closed })
+-- A handle after a flush of which so many changes were made, which leaves this result and these tasks: its durable number, its
+-- view and the count of its tables have moved, and nothing else.
+pub record IsFlushed (keep : Handle → Handle) (made : ℕ) (result : Result (Unit {0}) SlateError) (closed : CloseResult) (tasks : List TaskName) (old new : Handle) : Type 0 where
+  pub same : new ≡ keep (record old { durable = new.durable; counter = new.counter; view = new.view; result = closed; tasks = tasks })
   pub durable : DurableAfter (nat_le (grows old) made) old result new.durable
   pub counter : (old.counter ≤ new.counter) × (new.counter ≤ old.counter + 1)
 
@@ -209,5 +210,5 @@ pub record Flushes {L : Type 0} (k : Knowledge L) (made : ℕ) (flush_type : Flu
     (before : Known L) (result : Result (Unit {0}) SlateError) (new : Handle) (after : Known L) : Type 0 where
   pub closed : IfSome old.result (λ r. (result ≡ Err (closed_error r)) × (new ≡ old) × Untouched made before after)
   pub disabled : old.result ≡ None → has_log_for flush_type old ≡ false → (result ≡ Err errors.WalDisabled) × (new ≡ old) × Untouched made before after
-  pub flushed : CanFlush flush_type old → IsFlushed k.keep made result (flush_result result) old new
+  pub flushed : CanFlush flush_type old → IsFlushed k.keep made result (flush_result result) old.tasks old new
   pub stored : CanFlush flush_type old → Stores k made flush_type old before result new after

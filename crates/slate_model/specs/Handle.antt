@@ -8,6 +8,7 @@ use Rattle.slate_store.specs.declared.objects.VersionedManifest.{VersionedManife
 use Rattle.slate_seqtrack.specs.Tracker.{Tracker}
 use Rattle.slate_transactions.specs.Writes.{LastWrites}
 use Rattle.slate_errors.specs.declared.closing.CloseFault.{CloseFault}
+use Rattle.slate_errors.specs.declared.endings.TaskName.{TaskName}
 
 -- the result with which something closed, or None while it is open
 abbrev pub CloseResult : Type 0
@@ -27,6 +28,7 @@ pub record Handle : Type 0 where
   pub writes : Option LastWrites  -- the last writes that it tracks for transactions, from the first of them on
   pub view : VersionedManifest  -- the latest manifest, when it was opened or last found its epoch current
   pub result : CloseResult
+  pub tasks : List TaskName  -- those that run for it, in the order in which a close ends them
 
 -- the number of the last batch that it accepted
 abbrev pub accepted : Handle → ℕ

@@ -24,6 +24,7 @@ pub mod Snapshot
 pub mod Status
 pub mod Stores
 pub mod Tables
+pub mod Tasks
 pub mod Tracked
 pub mod Transaction
 pub mod Unflushed

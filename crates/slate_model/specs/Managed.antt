@@ -157,9 +157,10 @@ pub record EndsLease {L : Type 0} (k : Knowledge L) (made : ℕ) (lease : Lease)
   pub faults : CountsFaults before.faults after.faults (closing_flush answer.fault)
   pub puts : WhereModelled (λ o o'. PutsPlanned k.stands unrefused (to_delete lease.id) o (closing_flush answer.fault) made o') before.objects after.objects
 
--- A close of a reader that keeps a checkpoint. One that was closed before answers what was recorded, and changes nothing.
+-- A close of a reader that keeps a checkpoint. It ends the task that runs, and lists it. One that was closed
+-- before answers what was recorded, and changes nothing else.
 pub record ClosesManaged {L : Type 0} (k : Knowledge L) (made : ℕ) (old : Follower) (before : Known L) (answer : Ended) (new : Follower) (after : Known L) : Type 0 where
   pub closed : new ≡ closed_follower old
-  pub tasks : answer ≡ ended answer.fault
-  pub again : IfSome old.result (λ _. (answer ≡ ended (recorded_fault old.result)) × Untouched made before after)
+  pub tasks : answer ≡ ended old.tasks answer.fault
+  pub again : IfSome old.result (λ _. (answer ≡ ended old.tasks (recorded_fault old.result)) × Untouched made before after)
   pub ends : (lease : Lease) → old.result ≡ None → old.lease ≡ Some lease → EndsLease k made lease before answer after

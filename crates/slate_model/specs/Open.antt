@@ -9,6 +9,7 @@ use Rattle.slate_types.specs.declared.store_errors.StoreFault.TheVariants.{Unava
 use Rattle.slate_store.specs.Objects.{Objects, ObjectsOf, ChangeOf, PutManifest, PutLog, entry_at, latest_manifest, last_log}
 use Rattle.slate_store.specs.Calls.{WhereModelled}
 use Rattle.slate_store.specs.Logs.{AreTruncatedAt}
+use Rattle.slate_errors.specs.declared.endings.TaskName.{TaskName}
 use Rattle.slate_errors.specs.declared.errors.SlateError.{SlateError}
 use Rattle.slate_errors.specs.declared.errors.SlateError.TheVariants as errors
 use Rattle.slate_model.specs.Changes.{PartMade, after_part}
@@ -111,10 +112,10 @@ open_refusal extractor objects = option_or (manifest_refusal extractor (latest_m
 abbrev pub replayed : VersionedManifest → Line → List Batch
 replayed view stored = batches_above view.manifest.last_l0_seq stored.batches
 
--- The handle that an opening gives under the manifest that it committed, where this line is stored: it sees the line,
--- and all of it is durable.
-abbrev pub opened_handle : Option Extractor → (keeps_log : Bool) (limit : ℕ) → VersionedManifest → Line → Handle
-opened_handle extractor keeps_log limit view stored =
+-- The handle that an opening gives under the manifest that it committed, where this line is stored: it sees the line, all of
+-- it is durable, and these tasks run for it.
+abbrev pub opened_handle : Option Extractor → (keeps_log : Bool) (limit : ℕ) (tasks : List TaskName) → VersionedManifest → Line → Handle
+opened_handle extractor keeps_log limit tasks view stored =
     record {
       keeps_log = keeps_log;
       limit = limit;
@@ -128,6 +129,7 @@ opened_handle extractor keeps_log limit view stored =
       writes = None;
       view = view;
       result = None;
+      tasks = tasks;
     }
 
 -- What only objects bring about that aren't sound: that the log files to be replayed are truncated, at the one with
@@ -173,11 +175,12 @@ pub record Opens {A L : Type 0} (extractor : Option Extractor) (summary : List B
   pub can : 0 < made → open_refusal extractor objects ≡ None
   pub after : objects' ≡ after_part made (open_changes (extractor_name extractor) summary objects) objects
 
--- A handle that was just opened: it has the epoch of its view and put no table yet, and all batches that it sees are
--- durable.
-pub record IsFresh (keeps_log : Bool) (limit : ℕ) (handle : Handle) : Type 0 where
+-- A handle that was just opened: these tasks run for it, it has the epoch of its view and put no table yet, and all batches
+-- that it sees are durable.
+pub record IsFresh (keeps_log : Bool) (limit : ℕ) (tasks : List TaskName) (handle : Handle) : Type 0 where
   pub keeps : handle.keeps_log ≡ keeps_log
   pub limit_is : handle.limit ≡ limit
+  pub tasked : handle.tasks ≡ tasks
   pub unclosed : handle.result ≡ None
   pub epoch : handle.epoch ≡ handle.view.manifest.writer_epoch
   pub counter : handle.counter ≡ 0
@@ -192,13 +195,13 @@ AreSegmented extractor batches (Err (errors.EmptySegmentPrefix key)) =
     unsegmented_refusal extractor (ops_of batches) ≡ Some (errors.EmptySegmentPrefix key)
 AreSegmented extractor batches (Err error) = Unit {0}
 
--- An opening of a database by a handle, which sees the line that is stored, where that is known.
-pub record OpensHandle {L : Type 0} (k : Knowledge L) (extractor : Option Extractor) (made : ℕ) (keeps_log : Bool) (limit : ℕ) (before : Known L) (result : Result Handle SlateError) (after : Known L) : Type 0 where
+-- An opening of a database by a handle for which these tasks run, and which sees the line that is stored, where that is known.
+pub record OpensHandle {L : Type 0} (k : Knowledge L) (extractor : Option Extractor) (made : ℕ) (keeps_log : Bool) (limit : ℕ) (tasks : List TaskName) (before : Known L) (result : Result Handle SlateError) (after : Known L) : Type 0 where
   pub opens : WhereModelled (λ o o'. Opens extractor k.summary (k.unsound o) o result made o') before.objects after.objects
   pub faults : CountsFaults before.faults after.faults result
-  pub fresh : IfOk result (IsFresh keeps_log limit)
+  pub fresh : IfOk result (IsFresh keeps_log limit tasks)
   pub view : IfOk result (λ handle. (o : ObjectsOf L) → before.objects ≡ Some o → handle.view ≡ opened_manifest (extractor_name extractor) o)
   pub segmented : (o : ObjectsOf L) (line : Line) → before.objects ≡ Some o → k.is_stored line →
       AreSegmented extractor (replayed (opened_manifest (extractor_name extractor) o) line) result
   pub handle : IfOk result (λ handle. (o : ObjectsOf L) (line : Line) → before.objects ≡ Some o → k.is_stored line →
-      handle ≡ k.keep (opened_handle extractor keeps_log limit (opened_manifest (extractor_name extractor) o) line))
+      handle ≡ k.keep (opened_handle extractor keeps_log limit tasks (opened_manifest (extractor_name extractor) o) line))

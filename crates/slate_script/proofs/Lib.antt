@@ -2,4 +2,3 @@ pub mod LineLemmas
 pub mod BatchLemmas
 pub mod BoundLemmas
 pub mod ScriptLemmas
-pub mod OptionLemmas

@@ -1,5 +1,5 @@
 -- The words of the command line: options in any order, each at most once.
-use Rattle.std.specs.Prelude.{ℕ, true, ◌&&◌, nat_lt, List, [], ◌∷◌, Option, Some, None, codes, is_none, unwrap_or, if◌then◌else◌}
+use Rattle.std.specs.Prelude.{ℕ, Bool, false, not, true, ◌&&◌, nat_lt, List, [], ◌∷◌, Option, Some, None, codes, is_none, unwrap_or, if◌then◌else◌}
 use Rattle.std.specs.Option.{option_map}
 use Rattle.std.specs.Str.{bytes_eq}
 use Rattle.slate_types.specs.declared.operators.ConcatOperator.{ConcatOperator}
@@ -10,7 +10,7 @@ use Rattle.slate_script.specs.Values.{◌>>=◌}
 
 -- no option
 abbrev pub nothing_given : Given
-nothing_given = record { operator = None; segments = None; limit = None }
+nothing_given = record { operator = None; segments = None; limit = None; is_bare = false }
 
 -- the operator with this name
 abbrev pub operator_of : List ℕ → Option ConcatOperator
@@ -30,22 +30,30 @@ with_option given word value =
     else (if bytes_eq word (codes "--limit") && is_none given.limit then option_map (λ limit. record given { limit = Some limit }) (number_of value)
     else None))
 
--- with the options that words spell: each is a word, and the next one is its value
-abbrev pub with_words : Given → List (List ℕ) → Option Given
-with_words given [] = Some given
-with_words given (word ∷ []) = None
-with_words given (word ∷ value ∷ words) = do
-  more ← with_option given word value
-  with_words more words
+-- whether a word is the option without a value, `--bare`, and it isn't given already
+abbrev pub takes_bare : Given → List ℕ → Bool
+takes_bare given word = bytes_eq word (codes "--bare") && not given.is_bare
 
--- the options of a run to which these are given: without `--limit` the limit is 1,073,741,824 bytes
+-- With the options that words spell, behind one that waits for its value, where there is one: `--bare` has none, and behind
+-- every other word stands its value.
+abbrev pub with_words : Given → Option (List ℕ) → List (List ℕ) → Option Given
+with_words given None [] = Some given
+with_words given (Some word) [] = None
+with_words given None (word ∷ words) =
+    if takes_bare given word then with_words (record given { is_bare = true }) None words else with_words given (Some word) words
+with_words given (Some word) (value ∷ words) = do
+  more ← with_option given word value
+  with_words more None words
+
+-- The options of a run to which these are given: without `--limit` the limit is 1,073,741,824 bytes, and without `--bare` a
+-- compactor, a compaction worker and a collector are registered.
 abbrev pub run_options : Given → RunOptions
 run_options given = record {
   operator = given.operator;
   segments = given.segments;
-  options = record { max_unflushed_bytes = unwrap_or given.limit 1073741824; compactor = true; compaction_worker = true; collector = true };
+  options = record { max_unflushed_bytes = unwrap_or given.limit 1073741824; compactor = not given.is_bare; compaction_worker = not given.is_bare; collector = not given.is_bare };
 }
 
 -- the options that words spell
 abbrev pub options_of : List (List ℕ) → Option RunOptions
-options_of words = option_map run_options (with_words nothing_given words)
+options_of words = option_map run_options (with_words nothing_given None words)

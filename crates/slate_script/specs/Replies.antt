@@ -4,11 +4,11 @@ use Rattle.std.specs.Fmt.{signed_decimal}
 use Rattle.std.specs.List.{flat_map}
 use Rattle.slate_types.specs.declared.batches.KeyValue.{KeyValue}
 use Rattle.slate_text.specs.Words.{word_text}
+use Rattle.slate_errors.specs.Tasks.{task_text}
 use Rattle.slate_errors.specs.Texts.{error_text}
 use Rattle.slate_errors.specs.declared.closing.CloseReason.{CloseReason}
 use Rattle.slate_errors.specs.declared.closing.CloseReason.TheVariants as reasons
 use Rattle.slate_errors.specs.declared.endings.TaskName.{TaskName}
-use Rattle.slate_errors.specs.declared.endings.TaskName.TheVariants as tasks
 use Rattle.slate_errors.specs.declared.errors.SlateError.{SlateError}
 use Rattle.slate_status.specs.declared.statuses.DbStatus.{DbStatus}
 use Rattle.slate_status.specs.Segments.{segments_of}
@@ -31,15 +31,6 @@ row_text row = codes "\nrow " ++ word_text row.key ++ codes " " ++ word_text row
 -- the rows of a scan: how many there are, and each of them
 abbrev pub rows_text : List KeyValue → List ℕ
 rows_text rows = codes "rows " ++ decimal (length rows) ++ flat_map row_text rows
-
--- the name of a task
-abbrev pub task_text : TaskName → List ℕ
-task_text tasks.MemtableFlusher = codes "memtable_flusher"
-task_text tasks.Compactor = codes "compactor"
-task_text tasks.CompactionWorker = codes "compaction_worker"
-task_text tasks.GarbageCollector = codes "garbage_collector"
-task_text tasks.BatchWriter = codes "batch_writer"
-task_text tasks.ManifestPoller = codes "manifest_poller"
 
 -- the names of tasks, each after a space
 abbrev pub tasks_text : List TaskName → List ℕ

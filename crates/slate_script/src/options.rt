@@ -1,12 +1,11 @@
 // The options of a run, as the words of the command line spell them.
 ghost use Rattle.std.specs.Prelude.{◌≡◌, map, string_bytes};
-ghost use Rattle.slate_script.specs.Options.{length_of, operator_of, options_of, run_options, with_option};
+ghost use Rattle.slate_script.specs.Options.{length_of, operator_of, options_of, run_options, takes_bare, with_option};
 
 use slate_text::read_number;
 use slate_types::ConcatOperator;
 
-/// How the handles of a run are opened. Of these words say the limit alone yet, and what is to be registered has no effect
-/// yet.
+/// How the handles of a run are opened.
 #[derive(Clone, Copy, Debug, PartialEq, Eq)]
 pub struct Options {
     /// From this many unflushed bytes of keys and values on a write is refused.
@@ -40,6 +39,7 @@ struct Given {
     operator: Option<ConcatOperator>,
     segments: Option<u8>,
     limit: Option<u64>,
+    is_bare: bool,
 }
 
 /// The operator with this name.
@@ -62,6 +62,13 @@ fn read_length(digits: &str) -> Option<u8>
         return None;
     }
     Some(length)
+}
+
+/// Whether a word is the option without a value, and it isn't given already.
+fn takes_bare(given: Given, word: &str) -> bool
+    ensures { result ≡ takes_bare given word.now }
+{
+    word == "--bare" && !given.is_bare
 }
 
 /// With the option that a word and its value spell, unless it is given already.
@@ -91,18 +98,19 @@ fn run_options(given: Given) -> RunOptions
         segments: given.segments,
         options: Options {
             max_unflushed_bytes: given.limit.unwrap_or(DEFAULT_LIMIT),
-            compactor: true,
-            compaction_worker: true,
-            collector: true,
+            compactor: !given.is_bare,
+            compaction_worker: !given.is_bare,
+            collector: !given.is_bare,
         },
     }
 }
 
 /// The options that words spell, or None exactly where they spell none. `--merge concat` gives the operator that
 /// appends each operand, `--segments N` the length of the prefixes by which keys are in segments, from 1 to 255, and
-/// `--limit N` the limit of unflushed bytes, below 2^64; each number is one or more decimal digits. Without them there is no
-/// operator, keys are in no segments, and the limit is 1,073,741,824. They may stand in any order, each at most once. Any
-/// other words are refused, so also one without its value. It takes no memory.
+/// `--limit N` the limit of unflushed bytes, below 2^64; each number is one or more decimal digits. `--bare` has no value: with
+/// it no handle registers a compactor, a compaction worker or a collector. Without them there is no operator, keys are in no
+/// segments, the limit is 1,073,741,824, and each handle registers all three. They may stand in any order, each at most once.
+/// Any other words are refused, so also one without its value. It takes no memory.
 pub fn read_words(words: &[String]) -> Option<RunOptions>
     ensures { result ≡ options_of (map string_bytes words.now) }
 {
@@ -110,15 +118,20 @@ pub fn read_words(words: &[String]) -> Option<RunOptions>
         operator: None,
         segments: None,
         limit: None,
+        is_bare: false,
     };
     let mut rest = words;
-    while let [word, value, behind @ ..] = rest {
-        given = with_option(given, word.as_str(), value.as_str())?;
-        rest = behind;
+    while let [word, behind @ ..] = rest {
+        if takes_bare(given, word.as_str()) {
+            given.is_bare = true;
+            rest = behind;
+        } else {
+            let [value, others @ ..] = behind else {
+                return None;
+            };
+            given = with_option(given, word.as_str(), value.as_str())?;
+            rest = others;
+        }
     }
-    if rest.is_empty() {
-        Some(run_options(given))
-    } else {
-        None
-    }
+    Some(run_options(given))
 }

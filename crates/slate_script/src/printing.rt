@@ -2,8 +2,9 @@
 ghost use Rattle.std.specs.Prelude.{◌≡◌, ◌++◌, ◌∷◌, length, map, take, decimal, OnOk, OnErr};
 ghost use Rattle.std.specs.List.{flat_map};
 ghost use Rattle.slate_text.specs.Words.{word_text};
+ghost use Rattle.slate_errors.specs.Tasks.{task_text};
 ghost use Rattle.slate_script.specs.Replies.{because_text, number_text, prefixes_text, reason_text, standing_text, time_text};
-ghost use Rattle.slate_script.specs.Replies.{expiry_text, fault_text, poll_text, row_text, rows_text, stamp_text, task_text, tasks_text, reply_words, reply_text, replies_text};
+ghost use Rattle.slate_script.specs.Replies.{expiry_text, fault_text, poll_text, row_text, rows_text, stamp_text, tasks_text, reply_words, reply_text, replies_text};
 
 use crate::Reply;
 use slate_errors::{CloseReason, Ending, SlateError, TaskName, write_error};
@@ -115,25 +116,12 @@ fn write_checkpointed(out: &mut Vec<u8>, id: u64) -> Result<(), NoMemory>
     write_labelled(out, "checkpoint ", id)
 }
 
-fn task_name(name: TaskName) -> &'static str
-    ensures { result.now ≡ task_text name }
-{
-    match name {
-        TaskName::MemtableFlusher => "memtable_flusher",
-        TaskName::Compactor => "compactor",
-        TaskName::CompactionWorker => "compaction_worker",
-        TaskName::GarbageCollector => "garbage_collector",
-        TaskName::BatchWriter => "batch_writer",
-        TaskName::ManifestPoller => "manifest_poller",
-    }
-}
-
 fn write_task(out: &mut Vec<u8>, name: TaskName) -> Result<(), NoMemory>
     ensures ok { OnOk result (out.new.items ≡ out.old.items ++ 32 ∷ task_text name) }
     ensures err { OnErr result (take (length out.old.items) out.new.items ≡ out.old.items) }
 {
     write_text(out, " ")?;
-    write_text(out, task_name(name))
+    write_text(out, name.as_str())
 }
 
 fn write_tasks(out: &mut Vec<u8>, names: &[TaskName]) -> Result<(), NoMemory>

@@ -346,12 +346,37 @@ fn words(rt: HostRuntime) -> Result<(), Fail> {
     Ok(())
 }
 
+// `--bare` has no value, and stands anywhere.
+#[test]
+fn bare(rt: HostRuntime) -> Result<(), Fail> {
+    let options = Options {
+        max_unflushed_bytes: 8,
+        compactor: false,
+        compaction_worker: false,
+        collector: false,
+    };
+    let want = Some(RunOptions {
+        operator: None,
+        segments: None,
+        options,
+    });
+    for words in [
+        ["--bare", "--limit", "8"].as_slice(),
+        ["--limit", "8", "--bare"].as_slice(),
+    ] {
+        assert_eq!(rt; read(rt.alloc(), words)?, want);
+    }
+    Ok(())
+}
+
 // An option that is another, stands twice, or has another value or none.
 #[test]
 fn refused_words(rt: HostRuntime) -> Result<(), Fail> {
     for words in [
         [""].as_slice(),
-        ["--bare"].as_slice(),
+        ["--bare", "--bare"].as_slice(),
+        ["--bare", "8"].as_slice(),
+        ["--limit", "--bare"].as_slice(),
         ["--merge"].as_slice(),
         ["--merge", "sum"].as_slice(),
         ["concat", "--merge"].as_slice(),

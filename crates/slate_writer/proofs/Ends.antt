@@ -1,5 +1,5 @@
 -- How a flush, a close, a refresh and a compaction end, from what was stored or read.
-use Rattle.std.proofs.Common.{◌≡◌, ℕ, ◌+◌, ◌≤◌, List, true, false, Option, Some, None, Result, Ok, Err, refl, sym, subst, ap, ◌∙◌}
+use Rattle.std.proofs.Common.{◌≡◌, ℕ, ◌+◌, ◌≤◌, List, [], true, false, Option, Some, None, Result, Ok, Err, refl, sym, subst, ap, ◌∙◌}
 use Rattle.std.specs.Option.{IfSome}
 use Rattle.std.specs.Result.{result_err}
 use Rattle.slate_types.specs.declared.batches.Batch.{Batch}
@@ -12,7 +12,7 @@ use Rattle.slate_errors.specs.declared.endings.Ended.{Ended}
 use Rattle.slate_errors.specs.declared.errors.SlateError.{SlateError}
 use Rattle.slate_errors.specs.declared.errors.SlateError.TheVariants as errors
 use Rattle.slate_errors.specs.Errors.{closed_error}
-use Rattle.slate_model.specs.Close.{Closes, closing_flush, ended, fault_again, fault_of}
+use Rattle.slate_model.specs.Close.{Closes, closed, closing_flush, ended, fault_again, fault_of, without_tasks}
 use Rattle.slate_model.specs.Flush.{Flushes, IsFlushed, Stores, flush_result, has_log_for}
 use Rattle.slate_model.specs.Handle.{Handle, kept_handle}
 use Rattle.slate_model.specs.Known.{CountsFaults, FaultsRise, Known, Untouched}
@@ -63,18 +63,18 @@ module _ (t : Option Objects) (flush_type : FlushType) (h : Handle) (before afte
   some_type x is = cc
 
   -- a close whose flush went to the store
-  pub close_done : (r : Result (Unit {0}) SlateError) (mid new : Handle) (made : ℕ) → h.result ≡ None → has_log_for flush_type h ≡ true → new ≡ record mid { result = Some (Ok tt) } → StoresBy kept_handle (by_objects t) flush_type h before r mid after made → Closes (by_objects t) made (Some flush_type) h before (ended (fault_of r)) new after
+  pub close_done : (r : Result (Unit {0}) SlateError) (mid new : Handle) (made : ℕ) → h.result ≡ None → has_log_for flush_type h ≡ true → new ≡ closed mid → StoresBy kept_handle (by_objects t) flush_type h before r mid after made → Closes (by_objects t) made (Some flush_type) h before (ended h.tasks (fault_of r)) new after
   close_done r mid new made live log same s =
-      let end_is : Handle = record mid { result = Some (Ok tt) } in
-      subst (λ x. Closes (by_objects t) made (Some flush_type) h before (ended (fault_of r)) x after) (sym same)
+      let end_is : Handle = closed mid in
+      subst (λ x. Closes (by_objects t) made (Some flush_type) h before (ended h.tasks (fault_of r)) x after) (sym same)
       (record {
-        again = subst (λ x. IfSome x (λ q. (ended (fault_of r) ≡ ended (fault_again q)) × (end_is ≡ h) × Untouched made before after)) (sym live) tt;
+        again = subst (λ x. IfSome x (λ q. (ended h.tasks (fault_of r) ≡ ended h.tasks (fault_again q)) × (end_is ≡ without_tasks h) × Untouched made before after)) (sym live) tt;
         unflushed = λ open_is none. absurd (cc);
         disabled = λ x is open_is none. absurd (let both = sym log ∙ (ap (λ y. has_log_for y h) (some_type x is) ∙ none) in cc);
         flushed = λ x is can. (
           refl,
-          subst (λ q. IsFlushed kept_handle made q (Some (Ok tt)) h end_is) (sym (closing r))
-              (record { same = ap (λ (x : Handle). record x { result = Some (Ok tt) }) s.flushed.same; durable = s.flushed.durable; counter = s.flushed.counter }),
+          subst (λ q. IsFlushed kept_handle made q (Some (Ok tt)) [] h end_is) (sym (closing r))
+              (record { same = ap closed s.flushed.same; durable = s.flushed.durable; counter = s.flushed.counter }),
         );
         stored = λ x is can. subst (λ y. Stores (by_objects t) made y h before (closing_flush (fault_of r)) end_is after) (some_type x is)
             (subst (λ q. Stores (by_objects t) made flush_type h before q end_is after) (sym (closing r)) (stores-by s.stored end_is refl refl));
@@ -85,11 +85,11 @@ module _ (t : Option Objects) (flush_type : FlushType) (h : Handle) (before afte
   fault_is (Err e) = refl
 
   -- the same of its answer
-  pub close_answers : (r : Result (Unit {0}) SlateError) (mid new : Handle) (made : ℕ) (asked : Option FlushType) (answer : Ended) (fault : Option SlateError) → asked ≡ Some flush_type → answer ≡ ended fault → fault ≡ result_err r →
-      h.result ≡ None → has_log_for flush_type h ≡ true → new ≡ record mid { result = Some (Ok tt) } → StoresBy kept_handle (by_objects t) flush_type h before r mid after made → Closes (by_objects t) made asked h before answer new after
+  pub close_answers : (r : Result (Unit {0}) SlateError) (mid new : Handle) (made : ℕ) (asked : Option FlushType) (answer : Ended) (fault : Option SlateError) → asked ≡ Some flush_type → answer ≡ ended mid.tasks fault → fault ≡ result_err r →
+      h.result ≡ None → has_log_for flush_type h ≡ true → new ≡ closed mid → StoresBy kept_handle (by_objects t) flush_type h before r mid after made → Closes (by_objects t) made asked h before answer new after
   close_answers r mid new made asked answer fault asked_is answer_is flushed live log same s =
       subst (λ x. Closes (by_objects t) made x h before answer new after) (sym asked_is)
-      (subst (λ x. Closes (by_objects t) made (Some flush_type) h before x new after) (sym (answer_is ∙ ap ended (flushed ∙ fault_is r)))
+      (subst (λ x. Closes (by_objects t) made (Some flush_type) h before x new after) (sym (answer_is ∙ (ap (λ tasks. ended tasks fault) (ap (λ (x : Handle). x.tasks) s.flushed.same) ∙ ap (ended h.tasks) (flushed ∙ fault_is r))))
       (close_done r mid new made live log same s))
 
 module _ (t : Option Objects) (h : Handle) (before after : Known (List Batch)) where

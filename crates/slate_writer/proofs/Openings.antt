@@ -16,6 +16,7 @@ use Rattle.slate_replay.specs.Replay.{Replays, calls_after}
 use Rattle.slate_store.specs.Objects.{Objects, Change, PutManifest, PutLog, is_present}
 use Rattle.slate_seqtrack.specs.Tracker.{Tracker}
 use Rattle.slate_errors.specs.Errors.{error_of_store}
+use Rattle.slate_errors.specs.declared.endings.TaskName.{TaskName}
 use Rattle.slate_errors.specs.declared.errors.SlateError.{SlateError}
 use Rattle.slate_errors.specs.declared.errors.SlateError.TheVariants as errors
 use Rattle.slate_model.specs.Changes.{after_part}
@@ -150,10 +151,10 @@ module _ (x : Option Extractor) (o : Objects) (view : VersionedManifest) (last :
     opens_by_segments e h = absurd h
 
     -- of sound objects its handle is kept of the one that sees their content
-    pub opened_by_recovery : (keeps_log : Bool) (limit : ℕ) (batches : List Batch) → Recovers view last o1 (Ok batches) → IsSound o → recovered x keeps_log limit view batches ≡ kept_handle (opened_handle x keeps_log limit (opened_manifest name o) (content o))
-    opened_by_recovery keeps_log limit batches h sound =
-        ap (λ v. recovered x keeps_log limit v batches) found.0
-        ∙ (ap (recovered x keeps_log limit (opened_manifest name o)) (batches_by_recovery name o view last found o1 after batches h sound) ∙ recovered-is x keeps_log limit o sound)
+    pub opened_by_recovery : (keeps_log : Bool) (limit : ℕ) (tasks : List TaskName) (batches : List Batch) → Recovers view last o1 (Ok batches) → IsSound o → recovered x keeps_log limit tasks view batches ≡ kept_handle (opened_handle x keeps_log limit tasks (opened_manifest name o) (content o))
+    opened_by_recovery keeps_log limit tasks batches h sound =
+        ap (λ v. recovered x keeps_log limit tasks v batches) found.0
+        ∙ (ap (recovered x keeps_log limit tasks (opened_manifest name o)) (batches_by_recovery name o view last found o1 after batches h sound) ∙ recovered-is x keeps_log limit tasks o sound)
 
     -- and what it replays is that content
     pub segmented_by_recovery : (batches : List Batch) (r : Result Handle SlateError) → Recovers view last o1 (Ok batches) → IsSound o → AreSegmented x batches r → AreSegmented x (replayed (opened_manifest name o) (content o)) r
@@ -196,11 +197,11 @@ module _ {t t0 : Option Objects} (x : Option Extractor) (view : VersionedManifes
           (p.0, kept2 ∙ p.1, (2, record { answer = f; part = refl; only = tt; can = λ _. f; after = p.2 ∙ after-are (extractor_name x) o view last (some_at _ found o is) 2 }));
     }
 
-    pub recovered_modelled : (keeps_log : Bool) (limit : ℕ) (batches : List Batch) → IfSome t1 (λ o. Recovers view last o (Ok batches)) → (o : Objects) → t ≡ Some o → IsSound o →
-        recovered x keeps_log limit view batches ≡ kept_handle (opened_handle x keeps_log limit (opened_manifest (extractor_name x) o) (content o))
-    recovered_modelled keeps_log limit batches recovers o is sound =
+    pub recovered_modelled : (keeps_log : Bool) (limit : ℕ) (tasks : List TaskName) (batches : List Batch) → IfSome t1 (λ o. Recovers view last o (Ok batches)) → (o : Objects) → t ≡ Some o → IsSound o →
+        recovered x keeps_log limit tasks view batches ≡ kept_handle (opened_handle x keeps_log limit tasks (opened_manifest (extractor_name x) o) (content o))
+    recovered_modelled keeps_log limit tasks batches recovers o is sound =
         let p = puts.some o (kept ∙ is) in
-        opened_by_recovery x o view last (some_at _ found o is) (some_at _ fits o is) p.0 p.2 keeps_log limit batches (some_at _ recovers p.0 p.1) sound
+        opened_by_recovery x o view last (some_at _ found o is) (some_at _ fits o is) p.0 p.2 keeps_log limit tasks batches (some_at _ recovers p.0 p.1) sound
 
     pub segmented_modelled : (batches : List Batch) (r : Result Handle SlateError) → IfSome t1 (λ o. Recovers view last o (Ok batches)) → AreSegmented x batches r → (o : Objects) → t ≡ Some o → IsSound o →
         AreSegmented x (replayed (opened_manifest (extractor_name x) o) (content o)) r
@@ -224,9 +225,9 @@ has_logs {t = Some o} named view last batches found kept puts recovers =
     opened_by_replay named o view last found p.0 p.2 batches (some_at _ recovers p.0 p.1)
 
 -- the fields of the handle of an opening
-pub recovered_at : (x : Option Extractor) (keeps_log : Bool) (limit : ℕ) (view : VersionedManifest) (batches bs : List Batch) (segments : List (List ℕ)) (tick : ℤ) (tracker : Tracker) → bs ≡ batches → segments ≡ segments_of x batches → tick ≡ latest_tick view.manifest.last_tick batches → tracker ≡ no_times →
-    record (recovered x keeps_log limit view batches) { segments = segments; durable = view.manifest.last_l0_seq + length bs; tick = tick; tracker = tracker } ≡ recovered x keeps_log limit view batches
-recovered_at x keeps_log limit view batches bs segments tick tracker same segmented is untracked = rw (same, segmented, is, untracked) refl
+pub recovered_at : (x : Option Extractor) (keeps_log : Bool) (limit : ℕ) (tasks : List TaskName) (view : VersionedManifest) (batches bs : List Batch) (segments : List (List ℕ)) (tick : ℤ) (tracker : Tracker) (running : List TaskName) → bs ≡ batches → segments ≡ segments_of x batches → tick ≡ latest_tick view.manifest.last_tick batches → tracker ≡ no_times → running ≡ tasks →
+    record (recovered x keeps_log limit tasks view batches) { segments = segments; durable = view.manifest.last_l0_seq + length bs; tick = tick; tracker = tracker; tasks = running } ≡ recovered x keeps_log limit tasks view batches
+recovered_at x keeps_log limit tasks view batches bs segments tick tracker running same segmented is untracked run = rw (same, segmented, is, untracked, run) refl
 
 -- the manifest that was found is the one that the opening commits
 pub found_view : {t : Option Objects} (name : Option (List ℕ)) (view : VersionedManifest) (last : ℕ) → IfSome t (λ o. FindsNext name o (view, last)) → (o : Objects) → t ≡ Some o → view ≡ opened_manifest name o
@@ -284,7 +285,7 @@ segment-faults faults faults' e count kind = absurd kind
 some-same : (a b : Objects) → Some a ≡ Some b → a ≡ b
 some-same a b h = cc
 
-module _ (x : Option Extractor) (keeps_log : Bool) (limit : ℕ) (before after : Known (List Batch)) where
+module _ (x : Option Extractor) (keeps_log : Bool) (limit : ℕ) (tasks : List TaskName) (before after : Known (List Batch)) where
   abbrev view_of : Objects → VersionedManifest
   view_of o = opened_manifest (extractor_name x) o
 
@@ -294,14 +295,14 @@ module _ (x : Option Extractor) (keeps_log : Bool) (limit : ℕ) (before after :
       subst (λ l. AreSegmented x (replayed (view_of o) l) r) (sym (stored_is.3 ∙ ap content same)) (sees o at (subst IsSound same stored_is.2))
 
   pub opens_err : (e : SlateError) → CountsFaults {A = Handle} before.faults after.faults (Err e) → WhereModelled (λ o o'. OpensModelled {A = Handle} x o (Err e) o') before.objects after.objects →
-      ((o : Objects) → before.objects ≡ Some o → IsSound o → AreSegmented {A = Handle} x (replayed (view_of o) (content o)) (Err e)) → (made : ℕ) × OpensHandle (by_objects before.objects) x made keeps_log limit before (Err e) after
+      ((o : Objects) → before.objects ≡ Some o → IsSound o → AreSegmented {A = Handle} x (replayed (view_of o) (content o)) (Err e)) → (made : ℕ) × OpensHandle (by_objects before.objects) x made keeps_log limit tasks before (Err e) after
   opens_err e fault answered segmented =
       let m = made_once before.objects after.objects answered in
       (m.0, record { opens = m.1; faults = fault; fresh = tt; view = tt; segmented = segmented-line (Err e) segmented; handle = tt })
 
-  pub opens_ok : (h : Handle) → CountsFaults before.faults after.faults (Ok h) → WhereModelled (λ o o'. OpensModelled x o (Ok h) o') before.objects after.objects → IsFresh keeps_log limit h → ((o : Objects) → before.objects ≡ Some o → h.view ≡ view_of o) →
+  pub opens_ok : (h : Handle) → CountsFaults before.faults after.faults (Ok h) → WhereModelled (λ o o'. OpensModelled x o (Ok h) o') before.objects after.objects → IsFresh keeps_log limit tasks h → ((o : Objects) → before.objects ≡ Some o → h.view ≡ view_of o) →
       ((o : Objects) → before.objects ≡ Some o → IsSound o → unsegmented_refusal x (ops_of (replayed (view_of o) (content o))) ≡ None) →
-      ((o : Objects) → before.objects ≡ Some o → IsSound o → h ≡ kept_handle (opened_handle x keeps_log limit (view_of o) (content o))) → (made : ℕ) × OpensHandle (by_objects before.objects) x made keeps_log limit before (Ok h) after
+      ((o : Objects) → before.objects ≡ Some o → IsSound o → h ≡ kept_handle (opened_handle x keeps_log limit tasks (view_of o) (content o))) → (made : ℕ) × OpensHandle (by_objects before.objects) x made keeps_log limit tasks before (Ok h) after
   opens_ok h fault answered fresh view segmented sees =
       let m = made_once before.objects after.objects answered in (
         m.0,
@@ -313,7 +314,7 @@ module _ (x : Option Extractor) (keeps_log : Bool) (limit : ℕ) (before after :
           segmented = segmented-line (Ok h) segmented;
           handle = λ o line at stored_is.
               let same : stored_is.0 ≡ o = some-same stored_is.0 o (sym stored_is.1 ∙ at) in
-              sees o at (subst IsSound same stored_is.2) ∙ ap (λ l. kept_handle (opened_handle x keeps_log limit (view_of o) l)) (sym (stored_is.3 ∙ ap content same));
+              sees o at (subst IsSound same stored_is.2) ∙ ap (λ l. kept_handle (opened_handle x keeps_log limit tasks (view_of o) l)) (sym (stored_is.3 ∙ ap content same));
         },
       )
 

@@ -24,6 +24,7 @@ handle_of a =
       writes = option_map (λ t. t.writes) a.tracked;
       view = a.status.manifest;
       result = a.status.result;
+      tasks = a.tasks;
     }
 
 -- the batches in memory are numbered from the floor on, none past the last of them is stored or tracked, their prefixes

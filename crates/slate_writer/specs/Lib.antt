@@ -5,4 +5,5 @@ pub mod Kept
 pub mod Refusal
 pub mod Scanned
 pub mod Segments
+pub mod Tasks
 pub mod Transacting

@@ -94,5 +94,5 @@ durable_by (batch ∷ batches) handle (Ok _) = logged_durable handle
 -- A flush of a handle, by the handle after it, of which `keep` gives what is kept.
 pub record StoresBy (keep : Handle → Handle) (k : Knowledge (List Batch)) (flush_type : FlushType) (old : Handle)
     (before : Known (List Batch)) (result : Result (Unit {0}) SlateError) (new : Handle) (after : Known (List Batch)) (made : ℕ) : Type 0 where
-  pub flushed : IsFlushed keep made result old.result old new
+  pub flushed : IsFlushed keep made result old.result old.tasks old new
   pub stored : Stores k made flush_type old before result new after

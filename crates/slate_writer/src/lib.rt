@@ -13,6 +13,7 @@ mod segments;
 mod sizes;
 mod states;
 mod tables;
+mod tasks;
 mod times;
 mod transaction_reads;
 mod transactions;

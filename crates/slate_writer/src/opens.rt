@@ -12,9 +12,11 @@ ghost use Rattle.slate_model.specs.Segments.{Extractor, IsExtractor, extractor_n
 ghost use Rattle.slate_model.specs.Stores.{by_objects};
 ghost use Rattle.slate_model.specs.Write.{last_number};
 ghost use Rattle.slate_replay.specs.Replay.{calls_after};
+ghost use Rattle.slate_writer.specs.Tasks.{tasks_of};
 ghost use Rattle.slate_writer.specs.Opening.{CallsOpening, FindsLog, FindsNext, Fits, HasLogs, IsOfFinding, IsOfManifest, PutsOpening, Recovers, recovery_calls};
 
 use crate::WriterState;
+use crate::tasks::start_tasks;
 use slate_errors::SlateError;
 use slate_reads::IndexedTable;
 use slate_replay::Replayed;
@@ -33,11 +35,11 @@ pub struct WriterOptions {
     /// From how many bytes of keys and values on that aren't stored a write is refused with `Backpressure`: those that
     /// aren't in tables yet, and once more those that aren't in the log. At 0 each write is.
     pub max_unflushed_bytes: u64,
-    /// Whether the handle is to run a compactor. None runs yet.
+    /// Whether a task of a compactor runs for the handle. It does nothing of its own: a compaction is a call of `compact`.
     pub compactor: bool,
-    /// Whether the handle is to run a compaction worker. None runs yet.
+    /// Whether a task of a compaction worker runs for it, likewise.
     pub compaction_worker: bool,
-    /// Whether the handle is to run a collector. None runs yet.
+    /// Whether a task of a collector runs for it. It does nothing of its own: garbage is collected by `sweep`.
     pub collector: bool,
 }
 
@@ -88,7 +90,7 @@ impl WriterState {
         extractor: Option<&E>,
     ) -> Result<WriterState, SlateError>
         ensures opens { (x : Option Extractor) → IsExtractor E.may_name E.may_extract (option_copied extractor.entry) x → (made : ℕ) ×
-            OpensHandle (by_objects (S.objects store.old)) x made options.now.wal_enabled options.now.max_unflushed_bytes
+            OpensHandle (by_objects (S.objects store.old)) x made options.now.wal_enabled options.now.max_unflushed_bytes (tasks_of options.now)
             (known S.objects S.faults store.old) result (known S.objects S.faults store.new) }
         // Memory begins after the tables of the manifest.
         ensures floor { IfOk result (λ h. h.line.floor ≡ h.view.manifest.last_l0_seq) }
@@ -98,6 +100,7 @@ impl WriterState {
     {
         let tracker = SequenceTracker::new(alloc)?;
         let name = name_of(alloc, extractor)?;
+        let tasks = start_tasks(alloc, options)?;
         let (view, last) = find_next(alloc, store, extractor, name)?;
         put_opening(alloc, store, &view, last + 1)?;
         let memory = recover(alloc, store, &view, last)?;
@@ -118,6 +121,7 @@ impl WriterState {
             memory,
             segments,
             status: StatusRecord::new(alloc, durable, view),
+            tasks,
         })
     }
 }

@@ -13,6 +13,7 @@ use slate_reads::IndexedTable;
 use slate_seqtrack::SequenceTracker;
 use slate_status::{DbStatus, StatusRecord, copies};
 use slate_store::VersionedManifest;
+use slate_tasks::Tasks;
 use slate_transactions::TrackedWrites;
 use slate_types::{Batch, NoMemory, Seq};
 use std::alloc::Global;
@@ -24,7 +25,8 @@ use std::marker::Model;
 /// compaction these are the batches that it accepted and that aren't in the tables of its manifest. Its memory grows with
 /// them, and with the prefixes of their keys, where it writes with an extractor; once the bytes that aren't stored reach its
 /// limit (`WriterOptions`), it accepts no batch until a flush. It keeps when its batches were written, of at most 8192
-/// (`find_ts`, `find_seq`), and from its first transaction on, for good, which batch last wrote each key.
+/// (`find_ts`, `find_seq`), and from its first transaction on, for good, which batch last wrote each key. Tasks run for it
+/// until it is closed.
 #[derive(Drop)]
 pub struct WriterState {
     pub(crate) keeps_log: bool,
@@ -43,6 +45,7 @@ pub struct WriterState {
     pub(crate) counted: u64,
     pub(crate) unlogged: u64,
     pub(crate) status: StatusRecord,
+    pub(crate) tasks: Tasks,
 }
 
 impl Model for WriterState {

@@ -16,10 +16,12 @@ returns-clause-managed g c = λ managed.
     let old = c.args.self.now in
     let t = g.S.Store.objects c.args.store.now in
     let before = known g.S.Store.objects g.S.Store.faults c.args.store.now in
-    let answer : Ended = record { fault = c.match-closed.fault; tasks = c.new.result } in
-    let new = follower_of (record c.self.inside { status = c.report_closed.new.self }) in
-    let closed : new ≡ closed_follower old = ap (λ s. follower_of (record c.self.inside { status = s })) c.report_closed.ensures.closed ∙ ap closed_follower c.self.view_is in
-    let tasks : answer ≡ ended answer.fault = ap (λ x. record (ended c.match-closed.fault) { tasks = x }) c.new.ensures in
+    let answer : Ended = record { fault = c.match-closed.fault; tasks = c.end.result } in
+    let new = follower_of (record c.self.inside { status = c.report_closed.new.self; tasks = c.end.new.self }) in
+    let closed : new ≡ closed_follower old =
+    ap (λ s. follower_of (record c.self.inside { status = s; tasks = c.end.new.self })) c.report_closed.ensures.closed
+    ∙ (ap (λ x. record (closed_follower (follower_of c.self.inside)) { tasks = x }) c.end.ensures.none ∙ ap closed_follower c.self.view_is) in
+    let tasks : answer ≡ ended old.tasks answer.fault = ap (λ x. ended x c.match-closed.fault) (c.end.ensures.ended ∙ ap (λ (f : Follower). f.tasks) c.self.view_is) in
     elim c.match-closed.branch [
       | in-Some-Err w ↦
           let was : old.result ≡ Some (Err w.in-Some-Err.fault) = search rules in
@@ -35,8 +37,8 @@ returns-clause-managed g c = λ managed.
           let open_ : old.result ≡ None = search rules in
           let leased : is_some old.lease ≡ is_managed old.mode = subst (λ (f : Follower). is_some f.lease ≡ is_managed f.mode) c.self.view_is c.self.invariant.leased in
           let held = has-lease old.lease (leased ∙ managed) in
-          let ends = some_at (λ lease. (made : ℕ) × EndsLease (by_objects t) made lease before (ended e.result) after) old.lease held.0 held.1 e.ensures.ends in
-          let is : answer ≡ ended e.result = tasks ∙ ap ended w.fault-is in
+          let ends = some_at (λ lease. (made : ℕ) × EndsLease (by_objects t) made lease before (ended old.tasks e.result) after) old.lease held.0 held.1 e.ensures.ends in
+          let is : answer ≡ ended old.tasks e.result = tasks ∙ ap (ended old.tasks) w.fault-is in
           subst (λ s. (made : ℕ) × ClosesManaged (by_objects t) made old before answer new (known g.S.Store.objects g.S.Store.faults s)) (sym w.store-is)
           (ends.0, closes-first t old new before answer closed tasks ends.0 after held.0 open_ held.1 (subst (λ a. EndsLease (by_objects t) ends.0 held.0 before a after) (sym is) ends.1))
     ]

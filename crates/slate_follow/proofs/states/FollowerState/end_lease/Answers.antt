@@ -10,7 +10,7 @@ returns-in-Ok-clause-ends g c =
     let l = c.in_ok-lease.lease in
     let held : c.args.self.now.lease ≡ Some l = search rules in
     let follows : WhereModelled (λ o o'. (made : ℕ) × FollowsPlan (to_delete l.id) o (Ok tt) made o') (g.S.Store.objects c.args.store.now) (g.S.Store.objects c.delete_checkpoint.new.store) = search rules in
-    let ends = ends-so (g.S.Store.objects c.args.store.now) (g.S.Store.objects c.delete_checkpoint.new.store) (g.S.Store.faults c.args.store.now) (g.S.Store.faults c.delete_checkpoint.new.store) (g.S.Store.calls c.args.store.now) (g.S.Store.calls c.delete_checkpoint.new.store) l (Ok tt) follows (search rules) (search rules) in
+    let ends = ends-so (g.S.Store.objects c.args.store.now) (g.S.Store.objects c.delete_checkpoint.new.store) (g.S.Store.faults c.args.store.now) (g.S.Store.faults c.delete_checkpoint.new.store) (g.S.Store.calls c.args.store.now) (g.S.Store.calls c.delete_checkpoint.new.store) l c.args.self.now.tasks (Ok tt) follows (search rules) (search rules) in
     rw held ends
 
 pub returns-in-Err-clause-ends : goal.returns-in-Err-clause-ends
@@ -19,5 +19,5 @@ returns-in-Err-clause-ends g c =
     let e = c.in-Err.refusal in
     let held : c.args.self.now.lease ≡ Some l = search rules in
     let follows : WhereModelled (λ o o'. (made : ℕ) × FollowsPlan (to_delete l.id) o (Err e) made o') (g.S.Store.objects c.args.store.now) (g.S.Store.objects c.delete_checkpoint.new.store) = search rules in
-    let ends = ends-so (g.S.Store.objects c.args.store.now) (g.S.Store.objects c.delete_checkpoint.new.store) (g.S.Store.faults c.args.store.now) (g.S.Store.faults c.delete_checkpoint.new.store) (g.S.Store.calls c.args.store.now) (g.S.Store.calls c.delete_checkpoint.new.store) l (Err e) follows (search rules) (search rules) in
+    let ends = ends-so (g.S.Store.objects c.args.store.now) (g.S.Store.objects c.delete_checkpoint.new.store) (g.S.Store.faults c.args.store.now) (g.S.Store.faults c.delete_checkpoint.new.store) (g.S.Store.calls c.args.store.now) (g.S.Store.calls c.delete_checkpoint.new.store) l c.args.self.now.tasks (Err e) follows (search rules) (search rules) in
     rw held (rw c.error_of_refusal.ensures ends)

@@ -27,6 +27,7 @@ invariant_of-self-2 g c =
       fits = i.fits;
       number = i.number;
       unsegmented = i.unsegmented;
+      running = i.running;
       leased = ap is_some (sym held) ∙ i.leased;
     }
 

@@ -32,5 +32,6 @@ invariant_of-self-2 c =
       fits = omega (arith, ends, lengths, fits);
       number = omega (arith, at, ends, lengths, count);
       unsegmented = i.unsegmented;
+      running = i.running;
       leased = i.leased;
     })

@@ -6,6 +6,7 @@ use Rattle.slate_model.specs.Handle.{Handle, latest_tick}
 use Rattle.slate_model.specs.Open.{AreSegmented, opened_manifest, replayed}
 use Rattle.slate_model.specs.Segments.{extractor_name, ops_of, segments_of, unsegmented_refusal}
 use Rattle.slate_writer.specs.Opening.{FindsNext}
+use Rattle.slate_writer.specs.Tasks.{tasks_of}
 use Rattle.slate_writer.proofs.Counted.{counted-none}
 use Rattle.slate_writer.proofs.Openings.{calls-of, calls-of-ok, calls-of-puts, calls-of-segments, found_view, has_logs, none_modelled, opened_modelled, opens_err, opens_ok, puts_modelled, recovered_at, recovered_modelled, recovery_modelled, segment-faults, segmented_finding, segmented_modelled, segmented_putting, segmented_recovering, segmented_refusing, segments_modelled, untracked_modelled, whole_modelled}
 use Rattle.slate_writer.proofs.states.WriterState.open.Goals as goal
@@ -13,18 +14,23 @@ use Rattle.slate_writer.proofs.states.WriterState.open.Goals as goal
 pub returns-in_err-tracker-clause-opens : goal.returns-in_err-tracker-clause-opens
 returns-in_err-tracker-clause-opens g c x lawful =
     let p = err_from_is_err_and c.from_residual.result c.from_residual.ensures.1 in
-    rw (p.1, p.2) (opens_err x c.args.options.now.wal_enabled c.args.options.now.max_unflushed_bytes _ _ _ (search rules) (untracked_modelled x _) (λ o is sound. tt))
+    rw (p.1, p.2) (opens_err x c.args.options.now.wal_enabled c.args.options.now.max_unflushed_bytes (tasks_of c.args.options.now) _ _ _ (search rules) (untracked_modelled x _) (λ o is sound. tt))
 
 pub returns-in_err-name-clause-opens : goal.returns-in_err-name-clause-opens
 returns-in_err-name-clause-opens g c x lawful =
     let p = err_from_is_err_and c.from_residual-in_err-name.result c.from_residual-in_err-name.ensures.1 in
-    rw (p.1, p.2) (opens_err x c.args.options.now.wal_enabled c.args.options.now.max_unflushed_bytes _ _ _ (search rules) (untracked_modelled x _) (λ o is sound. tt))
+    rw (p.1, p.2) (opens_err x c.args.options.now.wal_enabled c.args.options.now.max_unflushed_bytes (tasks_of c.args.options.now) _ _ _ (search rules) (untracked_modelled x _) (λ o is sound. tt))
+
+pub returns-in_err-tasks-clause-opens : goal.returns-in_err-tasks-clause-opens
+returns-in_err-tasks-clause-opens g c x lawful =
+    let p = err_from_is_err_and c.from_residual-in_err-tasks.result c.from_residual-in_err-tasks.ensures.1 in
+    rw (p.1, p.2) (opens_err x c.args.options.now.wal_enabled c.args.options.now.max_unflushed_bytes (tasks_of c.args.options.now) _ _ _ (search rules) (untracked_modelled x _) (λ o is sound. tt))
 
 pub returns-in_err-view-clause-opens : goal.returns-in_err-view-clause-opens
 returns-in_err-view-clause-opens g c x lawful =
     let p = err_from_is_err_and c.from_residual-in_err-view.result c.from_residual-in_err-view.ensures.1 in
     let v = c.in_err-view.ensures in
-    rw (p.1, p.2) (opens_err x c.args.options.now.wal_enabled c.args.options.now.max_unflushed_bytes _ _ _ (search rules)
+    rw (p.1, p.2) (opens_err x c.args.options.now.wal_enabled c.args.options.now.max_unflushed_bytes (tasks_of c.args.options.now) _ _ _ (search rules)
     (none_modelled x _ v.kept v.kind (v.fits x lawful (c.in_ok-name.ensures x lawful))) (λ o is sound. segmented_finding x (replayed (opened_manifest (extractor_name x) o) (content o)) _ v.kind))
 
 pub returns-in_err-put_opening-clause-opens : goal.returns-in_err-put_opening-clause-opens
@@ -36,7 +42,7 @@ returns-in_err-put_opening-clause-opens g c x lawful =
     let last = c.in_ok-view.last in
     let found = subst (λ name. IfSome (g.S.Store.objects c.args.store.now) (λ o. FindsNext name o (view, last))) named v.where_modelled in
     let puts = c.in_err-put_opening.ensures.where_modelled in
-    rw (p.1, p.2) (opens_err x c.args.options.now.wal_enabled c.args.options.now.max_unflushed_bytes _ _ _ (search rules)
+    rw (p.1, p.2) (opens_err x c.args.options.now.wal_enabled c.args.options.now.max_unflushed_bytes (tasks_of c.args.options.now) _ _ _ (search rules)
     (puts_modelled x view last found (v.fits x lawful named) v.kept _ puts) (λ o is sound. segmented_putting x view (last + 1) _ v.kept puts o (replayed (opened_manifest (extractor_name x) o) (content o)) is))
 
 pub returns-in_err-memory-clause-opens : goal.returns-in_err-memory-clause-opens
@@ -49,7 +55,7 @@ returns-in_err-memory-clause-opens g c x lawful =
     let found = subst (λ name. IfSome (g.S.Store.objects c.args.store.now) (λ o. FindsNext name o (view, last))) named v.where_modelled in
     let puts = c.in_ok-put_opening.ensures.where_modelled in
     let recovers = c.in_err-memory.ensures.where_modelled in
-    rw (p.1, p.2) (opens_err x c.args.options.now.wal_enabled c.args.options.now.max_unflushed_bytes _ _ _ (search rules)
+    rw (p.1, p.2) (opens_err x c.args.options.now.wal_enabled c.args.options.now.max_unflushed_bytes (tasks_of c.args.options.now) _ _ _ (search rules)
     (recovery_modelled x view last found (v.fits x lawful named) v.kept puts _ c.in_err-memory.ensures.kept recovers) (λ o is sound. segmented_recovering x view last (last + 1) _ v.kept puts recovers o (replayed (opened_manifest (extractor_name x) o) (content o)) is))
 
 pub returns-in_err-segments-clause-opens : goal.returns-in_err-segments-clause-opens
@@ -64,7 +70,7 @@ returns-in_err-segments-clause-opens g c x lawful =
     let recovers = c.in_ok-memory.ensures.where_modelled in
     let e = c.in_err-segments.field-0.0 in
     let refused = segmented_refusing x c.batches.result.now e (c.in_err-segments.ensures.err x lawful) in
-    rw (p.1, p.2) (opens_err x c.args.options.now.wal_enabled c.args.options.now.max_unflushed_bytes _ _ _
+    rw (p.1, p.2) (opens_err x c.args.options.now.wal_enabled c.args.options.now.max_unflushed_bytes (tasks_of c.args.options.now) _ _ _
     (segment-faults _ _ _ (search rules) c.in_err-segments.ensures.kind)
     (segments_modelled x view last found (v.fits x lawful named) v.kept puts _ c.in_ok-memory.ensures.kept c.in_err-segments.ensures.kind)
     (λ o is sound. segmented_modelled x view last found (v.fits x lawful named) v.kept puts c.in_ok-memory.memory (Err e) recovers (subst (λ bs. AreSegmented {A = Handle} x bs (Err e)) c.batches.ensures.value refused) o is sound))
@@ -82,15 +88,15 @@ returns-clause-opens g c x lawful =
     let recovers = c.in_ok-memory.ensures.where_modelled in
     let segments = c.in_ok-segments.ensures.ok x lawful in
     let options = c.args.options.now in
-    rw c.new-2.ensures (opens_ok x options.wal_enabled options.max_unflushed_bytes _ _ _ (search rules)
+    rw c.new-2.ensures (opens_ok x options.wal_enabled options.max_unflushed_bytes (tasks_of options) _ _ _ (search rules)
     (opened_modelled x view last found fits v.kept puts _ c.in_ok-memory.ensures.kept)
-    (record { keeps = search rules; limit_is = search rules; unclosed = search rules; epoch = search rules; counter = search rules; durable = search rules; tabled = omega arith })
+    (record { keeps = search rules; limit_is = search rules; tasked = c.in_ok-tasks.ensures; unclosed = search rules; epoch = search rules; counter = search rules; durable = search rules; tabled = omega arith })
     (found_view _ view last found)
     (λ o is sound. whole_modelled x view last found fits v.kept puts memory recovers (subst (λ bs. unsegmented_refusal x (ops_of bs) ≡ None) c.batches.ensures.value segments.0) o is sound)
-    (λ o is sound. recovered_at x options.wal_enabled options.max_unflushed_bytes view memory c.batches-2.result.now _ _ _ c.batches-2.ensures.value
+    (λ o is sound. recovered_at x options.wal_enabled options.max_unflushed_bytes (tasks_of options) view memory c.batches-2.result.now _ _ _ _ c.batches-2.ensures.value
     (segments.1 ∙ ap (segments_of x) c.batches.ensures.value)
-    (search rules ∙ (c.latest_tick.ensures ∙ (ap (latest_tick _) c.batches-3.ensures.value ∙ ap (λ t. latest_tick t memory) (search rules)))) c.in_ok-tracker.ensures
-    ∙ recovered_modelled x view last found fits v.kept puts options.wal_enabled options.max_unflushed_bytes memory recovers o is sound))
+    (search rules ∙ (c.latest_tick.ensures ∙ (ap (latest_tick _) c.batches-3.ensures.value ∙ ap (λ t. latest_tick t memory) (search rules)))) c.in_ok-tracker.ensures c.in_ok-tasks.ensures
+    ∙ recovered_modelled x view last found fits v.kept puts options.wal_enabled options.max_unflushed_bytes (tasks_of options) memory recovers o is sound))
 
 pub returns-clause-replays : goal.returns-clause-replays
 returns-clause-replays g c =

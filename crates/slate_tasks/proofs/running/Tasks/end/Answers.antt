@@ -1,0 +1,14 @@
+use Rattle.std.proofs.Common.{◌+◌, true, drop, map, subst, arith}
+use Rattle.slate_errors.specs.Tasks.{task_text}
+use Rattle.slate_tasks.specs.Running.{Runs}
+use Rattle.slate_tasks.proofs.Ending.{next-name}
+use Rattle.slate_tasks.proofs.running.Tasks.end.Goals as goal
+
+pub loop-name-preserved : goal.loop-name-preserved
+loop-name-preserved c =
+    let names = c.names-name-items.result.now in
+    let i = c.loop-name.name-index in
+    record {
+      listed = c.loop-name.invariant.listed;
+      runs = c.shut.ensures (map task_text (drop (i + 1) names)) (subst (λ ns. Runs true ns c.loop-name.self-inside.executor) (next-name names i _ (omega arith)) c.loop-name.invariant.runs);
+    }

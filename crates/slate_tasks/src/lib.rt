@@ -1,0 +1,10 @@
+//! The background tasks of a handle, or of a reader that follows a database: they are registered when it is opened, and ended
+//! by its close.
+#![tactic(auto)]
+
+mod handlers;
+mod running;
+#[cfg(test)]
+mod tests;
+
+pub use running::Tasks;

@@ -1,14 +1,14 @@
 -- Registering a group makes it run, and shutting the first one down that runs leaves the others.
-use Rattle.std.proofs.Common.{◌≡◌, ℕ, ◌<◌, suc, zero, Bool, true, false, ◌||◌, cond, not, List, [], ◌∷◌, ◌++◌, length, map, drop, get_or, add-one, Option, Some, None, Result, Ok, refl, sym, ap, subst, ◌∙◌, inl, inr, ◌⊎◌, ◌+◌, arith}
+use Rattle.std.proofs.Common.{◌≡◌, ℕ, ◌<◌, suc, zero, Bool, true, false, ◌||◌, cond, not, List, [], ◌∷◌, ◌++◌, length, map, drop, get_or, add-one, Option, Some, None, Ok, refl, sym, ap, subst, ◌∙◌, inl, inr, ◌⊎◌, ◌+◌, arith}
 use Rattle.std.proofs.Math.ListN.{set}
 use Rattle.std.proofs.Math.Seq.{drop-cons}
-use Rattle.std.specs.Prelude.{nat_eq, nat_lt, is_none, slice_get, slice_set, MatchOption}
+use Rattle.std.specs.Prelude.{nat_eq, is_none, MatchOption}
 use Rattle.std.specs.Cmp.Lexicographic.{pointwise, same_text}
-use Rattle.std.specs.List.{list_any, position, position_or_len}
+use Rattle.std.specs.List.{position_or_len}
 use Rattle.std.proofs.lemmas.Bool.{lt-ltb}
 use Rattle.std.proofs.lemmas.Cmp.{nat_list_eq_equiv}
 use Rattle.std.proofs.lemmas.List.Quantifiers.{position-Some}
-use Rattle.std.proofs.lemmas.Option.{get_or_from_slice_get, slice_get_within}
+use Rattle.std.proofs.lemmas.Option.{get_or_from_slice_get}
 use Rattle.slate_errors.specs.Tasks.{task_text}
 use Rattle.slate_errors.specs.declared.endings.TaskName.{TaskName}
 use Rattle.slate_dispatch.specs.declared.groups.Member.{Member}

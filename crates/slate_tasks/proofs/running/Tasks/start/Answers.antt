@@ -1,4 +1,4 @@
-use Rattle.std.proofs.Common.{◌≡◌, ◌+◌, List, [], ◌∷◌, ◌++◌, false, map, subst, sym, ap, ◌∙◌, arith, take, get_or}
+use Rattle.std.proofs.Common.{List, [], ◌∷◌, ◌++◌, false, map, subst, sym, ap, ◌∙◌, arith, get_or}
 use Rattle.std.proofs.lemmas.List.{map-append, take_more}
 use Rattle.slate_errors.specs.Tasks.{task_text}
 use Rattle.slate_errors.specs.declared.endings.TaskName.{TaskName}

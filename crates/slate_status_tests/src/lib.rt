@@ -2,4 +2,12 @@
 #![tactic(auto)]
 
 #[cfg(test)]
+mod errors;
+#[cfg(test)]
+mod records;
+#[cfg(test)]
+mod samples;
+#[cfg(test)]
 mod status;
+#[cfg(test)]
+mod texts;

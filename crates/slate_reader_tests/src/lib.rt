@@ -2,6 +2,8 @@
 #![tactic(auto)]
 
 #[cfg(test)]
+mod databases;
+#[cfg(test)]
 mod follow;
 #[cfg(test)]
 mod managed;
@@ -9,3 +11,7 @@ mod managed;
 mod replay;
 #[cfg(test)]
 mod segments;
+#[cfg(test)]
+mod sessions;
+#[cfg(test)]
+mod texts;

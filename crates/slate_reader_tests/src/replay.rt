@@ -7,7 +7,7 @@ use std::alloc::Global;
 use std::test::Fail;
 
 // Log files, each with its id and the numbers of its batches.
-pub(crate) type Logs = &'static [(u64, &'static [u64])];
+type Logs = &'static [(u64, &'static [u64])];
 
 const LOGS: Logs = &[(1, &[]), (2, &[1, 2]), (3, &[3])];
 
@@ -32,33 +32,49 @@ const CASES: [(u64, u64, u64, Logs, Replayed, usize); 9] = [
     ),
 ];
 
-pub(crate) fn store_of(alloc: Global, logs: Logs) -> Result<MemoryStore, Fail> {
+// Empty batches with these numbers.
+pub(crate) fn batches_of(alloc: Global, numbers: &[u64]) -> Result<Vec<Batch>, Fail> {
+    let mut batches = Vec::new(alloc);
+    for number in numbers {
+        batches.push(Batch {
+            number: *number,
+            create_ts: 0,
+            ops: Seq::of(Vec::new(alloc)),
+        })?;
+    }
+    Ok(batches)
+}
+
+fn store_of(alloc: Global, logs: Logs) -> Result<MemoryStore, Fail> {
     let mut store = MemoryStore::new(alloc);
     for (id, numbers) in logs {
-        let mut batches = Vec::new(alloc);
-        for number in *numbers {
-            batches.push(Batch {
-                number: *number,
-                create_ts: 0,
-                ops: Seq::of(Vec::new(alloc)),
-            })?;
-        }
+        let batches = batches_of(alloc, numbers)?;
         store.put_log(alloc, *id, batches.as_slice())?;
     }
     Ok(store)
 }
 
+// How two replays end, one after the other, and how many batches they append.
+fn replayed(
+    alloc: Global,
+    logs: Logs,
+    floor: u64,
+    mark: u64,
+    last: u64,
+) -> Result<(Replayed, Replayed, usize), Fail> {
+    let mut store = store_of(alloc, logs)?;
+    let mut memory = IndexedTable::new(alloc);
+    let first = replay(alloc, &mut store, &mut memory, floor, mark, last)?;
+    let second = replay(alloc, &mut store, &mut memory, floor, mark, last)?;
+    Ok((first, second, memory.batches().len()))
+}
+
 // Another replay ends as the first one, and appends nothing.
 #[test]
 fn replays(rt: HostRuntime) -> Result<(), Fail> {
-    let alloc = rt.alloc();
     for (floor, mark, last, logs, end, count) in CASES {
-        let mut store = store_of(alloc, logs)?;
-        let mut memory = IndexedTable::new(alloc);
-        let first = replay(alloc, &mut store, &mut memory, floor, mark, last);
-        let second = replay(alloc, &mut store, &mut memory, floor, mark, last);
-        assert_eq!(rt; (first, second), (Ok(end), Ok(end)));
-        assert_eq!(rt; memory.batches().len(), count);
+        let answer = replayed(rt.alloc(), logs, floor, mark, last)?;
+        assert_eq!(rt; answer, (end, end, count));
     }
     Ok(())
 }

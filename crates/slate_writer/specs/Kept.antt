@@ -1,5 +1,5 @@
 -- What a handle keeps in memory, and the handle of the model that it represents.
-use Rattle.std.specs.Prelude.{◌≡◌, ◌+◌, ◌<◌, ◌≤◌, ◌^◌, length, min, option_map, IfSome}
+use Rattle.std.specs.Prelude.{◌≡◌, true, ◌+◌, ◌<◌, ◌≤◌, ◌^◌, length, min, option_map, IfSome}
 use Rattle.slate_seqtrack.specs.Tracker.{last_number}
 use Rattle.slate_types.specs.Line.{AreNumberedFrom, batches_above}
 use Rattle.slate_model.specs.Handle.{Handle}
@@ -28,11 +28,12 @@ handle_of a =
     }
 
 -- the batches in memory are numbered from the floor on, none past the last of them is stored or tracked, their prefixes
--- rise, and those above a number have so many bytes
+-- rise, and so do those of the view where the handle says so, and those above a number have so many bytes
 pub record IsKept (a : Inside) : Type 0 where
   pub numbered : AreNumberedFrom a.floor a.memory
   pub fits : a.floor + length a.memory < 2 ^ 64
   pub durable : a.status.durable ≤ a.floor + length a.memory
   pub tracked : IfSome (last_number a.tracker.pairs) (λ last. last ≤ a.floor + length a.memory)
   pub rising : AreRising a.segments.items
+  pub stored : a.stored_rise ≡ true → AreRising a.status.manifest.manifest.segments
   pub counted : a.unlogged ≡ min (size_of (batches_above a.counted a.memory)) most_bytes

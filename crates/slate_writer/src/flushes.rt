@@ -126,13 +126,11 @@ impl WriterState {
         let mark = latest.manifest.replay_after_wal_id;
         match append_log(alloc, store, mark, self.to_log()) {
             Ok(()) => {
-                let accepted = self.accepted();
-                self.status.report_view(accepted, latest);
+                self.go_by_stored(latest);
                 Ok(())
             }
             Err(error) => {
-                let durable = self.durable();
-                self.status.report_view(durable, latest);
+                self.go_by(latest);
                 Err(error)
             }
         }

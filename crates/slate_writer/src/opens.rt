@@ -16,6 +16,7 @@ ghost use Rattle.slate_writer.specs.Tasks.{tasks_of};
 ghost use Rattle.slate_writer.specs.Opening.{CallsOpening, FindsLog, FindsNext, Fits, HasLogs, IsOfFinding, IsOfManifest, PutsOpening, Recovers, recovery_calls};
 
 use crate::WriterState;
+use crate::segments::rise;
 use crate::tasks::start_tasks;
 use slate_errors::SlateError;
 use slate_reads::IndexedTable;
@@ -120,6 +121,7 @@ impl WriterState {
             unlogged: 0,
             memory,
             segments,
+            stored_rise: rise(view.manifest.segments.as_slice()),
             status: StatusRecord::new(alloc, durable, view),
             tasks,
         })

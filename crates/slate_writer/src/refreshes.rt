@@ -79,8 +79,7 @@ impl WriterState {
         ensures answer { IfSome (S.objects store.old) (λ o. RefreshAnswer self.old o result self.new.view) }
     {
         let latest = current_manifest(alloc, store, self.epoch)?;
-        let durable = self.durable();
-        self.status.report_view(durable, latest);
+        self.go_by(latest);
         Ok(())
     }
 
@@ -98,8 +97,7 @@ impl WriterState {
         self.counter = index;
         match joined {
             Ok(manifest) => {
-                let durable = self.durable();
-                self.status.report_view(durable, manifest);
+                self.go_by(manifest);
                 Ok(())
             }
             Err(refusal) => Err(error_of_refusal(refusal)),

@@ -124,7 +124,7 @@ fn least_nesting<'a>(known: &'a [Bytes], prefix: &[u8]) -> Option<&'a Bytes>
 }
 
 /// Whether prefixes rise.
-fn rise(prefixes: &[Bytes]) -> bool
+pub(crate) fn rise(prefixes: &[Bytes]) -> bool
     ensures { result ≡ true → AreRising prefixes.now }
 {
     for i in 1..prefixes.len() {
@@ -242,10 +242,12 @@ pub(crate) fn take_prefixes<E: PrefixExtractor>(
     alloc: Global,
     extractor: Option<&E>,
     stored: &[Bytes],
+    rising: bool,
     segments: &[Bytes],
     ops: &[KeyOp],
 ) -> Result<Vec<Bytes>, SlateError>
-    requires { AreRising segments.now }
+    requires stored { rising ≡ true → AreRising stored.now }
+    requires segments { AreRising segments.now }
     ensures ok { (x : Option Extractor) → IsExtractor E.may_name E.may_extract (option_copied extractor.entry) x → IfOk result (λ taken.
         (segment_refusal x (stored.now ++ segments.now) ops.now ≡ None) × HaveSame taken.items (prefixes_by x ops.now)) }
     ensures err { (x : Option Extractor) → IsExtractor E.may_name E.may_extract (option_copied extractor.entry) x → IfErr result (λ error.
@@ -255,7 +257,6 @@ pub(crate) fn take_prefixes<E: PrefixExtractor>(
     let Some(extractor) = extractor else {
         return Ok(taken);
     };
-    let rising = rise(stored);
     for op in ops {
         let key = &op.key;
         take_prefix(alloc, extractor, stored, rising, segments, &mut taken, key)?;

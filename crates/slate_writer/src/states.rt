@@ -6,7 +6,7 @@ ghost use Rattle.slate_status.specs.Segments.{AreRising as AreRisingPrefixes};
 ghost use Rattle.slate_model.specs.Handle.{accepted, has_untabled, kept_handle, to_log, untabled_segments};
 ghost use Rattle.slate_model.specs.Status.{handle_status};
 
-use crate::segments::clear_unless;
+use crate::segments::{clear_unless, rise};
 use bytes::Bytes;
 use slate_errors::CloseFault;
 use slate_reads::IndexedTable;
@@ -35,6 +35,8 @@ pub struct WriterState {
     pub(crate) memory: IndexedTable,
     /// The prefixes of the batches in memory, rising.
     pub(crate) segments: Vec<Bytes>,
+    /// Whether the prefixes of the manifest that it goes by rise.
+    pub(crate) stored_rise: bool,
     pub(crate) epoch: u64,
     pub(crate) counter: u64,
     pub(crate) tick: i64,
@@ -110,6 +112,24 @@ impl WriterState {
         ensures { result.now ≡ self.now.view }
     {
         self.status.manifest()
+    }
+
+    /// Takes a manifest as the one that it goes by.
+    pub(crate) fn go_by(&mut self, manifest: VersionedManifest)
+        ensures { self.new ≡ record self.old { view = manifest } }
+    {
+        let durable = self.durable();
+        self.stored_rise = rise(manifest.manifest.segments.as_slice());
+        self.status.report_view(durable, manifest);
+    }
+
+    /// Takes a manifest as the one that it goes by, and all its batches as stored.
+    pub(crate) fn go_by_stored(&mut self, manifest: VersionedManifest)
+        ensures { self.new ≡ record self.old { durable = accepted self.old; view = manifest } }
+    {
+        let accepted = self.accepted();
+        self.stored_rise = rise(manifest.manifest.segments.as_slice());
+        self.status.report_view(accepted, manifest);
     }
 
     /// Whether it accepted batches that aren't in the tables of the manifest that it goes by.

@@ -34,19 +34,17 @@ impl WriterState {
         ensures calls { S.calls store.new ≤ S.calls store.old + 5 }
     {
         let latest = current_manifest(alloc, store, self.epoch)?;
-        let accepted = self.accepted();
-        if accepted <= latest.manifest.last_l0_seq {
-            self.status.report_view(accepted, latest);
+        if self.accepted() <= latest.manifest.last_l0_seq {
+            self.go_by_stored(latest);
             return Ok(());
         }
         match self.commit_table(alloc, store, &latest) {
             Ok(next) => {
-                self.status.report_view(accepted, next);
+                self.go_by_stored(next);
                 Ok(())
             }
             Err(error) => {
-                let durable = self.durable();
-                self.status.report_view(durable, latest);
+                self.go_by(latest);
                 Err(error)
             }
         }

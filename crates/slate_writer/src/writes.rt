@@ -56,12 +56,11 @@ impl WriterState {
     /// on.
     ///
     /// It takes time linear in the batch's operations, and for each key that the handle doesn't have yet a logarithm of
-    /// its keys; with an extractor also time linear in the prefixes of the manifest, once, a logarithm of the known ones
-    /// for each byte of an operation's prefix, and, where one is new, a copy of those of the handle's batches and a shift
-    /// of those of the operations before. Where the prefixes of the manifest don't rise, each operation takes time linear
-    /// in them. Once a transaction began on the handle it also takes a logarithm of the tracked keys for each operation.
-    /// Where it is accepted, its number and its creation time in whole seconds, rounded down, are tracked, at most one in
-    /// 60 seconds. SlateDB's `write`.
+    /// its keys; with an extractor also a logarithm of the known prefixes for each byte of an operation's prefix, and, where
+    /// one is new, a copy of those of the handle's batches and a shift of those of the operations before. Where the
+    /// prefixes of the manifest don't rise, each operation takes time linear in them. Once a transaction began on the
+    /// handle it also takes a logarithm of the tracked keys for each operation. Where it is accepted, its number and its
+    /// creation time in whole seconds, rounded down, are tracked, at most one in 60 seconds. SlateDB's `write`.
     pub fn write<E: PrefixExtractor>(
         &mut self,
         alloc: Global,
@@ -174,7 +173,7 @@ impl WriterState {
     {
         let stored = self.view().manifest.segments.as_slice();
         let segments = self.untabled_segments();
-        take_prefixes(alloc, extractor, stored, segments, ops)
+        take_prefixes(alloc, extractor, stored, self.stored_rise, segments, ops)
     }
 
     /// The prefixes of the handle's batches once these are taken, where they are others than before.

@@ -36,6 +36,7 @@ forgotten a n end unlogged memory bs segments rising kept end_is left same count
       durable = omega (arith, end_is, many, all, fewer, kept.durable);
       tracked = ends-later _ _ a.tracker.pairs (omega (arith, end_is, many, all, fewer)) kept.tracked;
       rising = rising;
+      stored = kept.stored;
       counted = counted;
     }
 

@@ -132,5 +132,6 @@ invariant_of-result g c =
       durable = search rules;
       tracked = rw c.in_ok-tracker.ensures tt;
       rising = c.in_ok-segments.ensures.rising;
+      stored = search rules;
       counted = counted-none c.in_ok-view.view.manifest.last_l0_seq c.in_ok-memory.memory c.batches-2.result.now c.in_ok-memory.ensures.numbered c.batches-2.ensures.value;
     }

@@ -48,6 +48,7 @@ invariant_of-self-2 g c =
       durable = simp length-append (omega (arith, c.self.invariant.durable));
       tracked = ends-pushed c.self.inside.floor memory _ c.self.inside.tracker _ _ c.self.invariant.tracked next c.track.ensures.taken;
       rising = rw c.replace.ensures (subst (λ (h : Handle). AreRising (unwrap_or c.in-Ok.admitted.1 h.segments)) (sym c.self.view_is) rises);
+      stored = c.self.invariant.stored;
       counted = counted-push c.durable-durable.result memory _ _ c.ops_size-size.result _ (omega (arith, durable, next, c.self.invariant.durable)) counted size c.saturating_add-unlogged.ensures;
     })
 

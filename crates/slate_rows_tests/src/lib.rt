@@ -2,8 +2,20 @@
 #![tactic(auto)]
 
 #[cfg(test)]
-mod lists;
+mod asks;
 #[cfg(test)]
-mod rows;
+mod batches;
+#[cfg(test)]
+mod operators;
+#[cfg(test)]
+mod ranges;
+#[cfg(test)]
+mod reads;
+#[cfg(test)]
+mod recencies;
+#[cfg(test)]
+mod scans;
+#[cfg(test)]
+mod sources;
 #[cfg(test)]
 mod tables;

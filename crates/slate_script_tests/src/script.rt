@@ -11,9 +11,11 @@ use slate_types::{ConcatOperator, KeyValue, NoMemory, Seq};
 use std::alloc::Global;
 use std::test::Fail;
 
+const BLANK: &[&[u8]] = &[b"", b"#", b"# 0 open"];
+
 #[test]
 fn blank_lines(rt: HostRuntime) -> Result<(), Fail> {
-    for line in [b"".as_slice(), b"#".as_slice(), b"# 0 open".as_slice()] {
+    for line in BLANK {
         assert!(rt; matches!(read_line(rt.alloc(), line)?, LineAnswer::Blank));
     }
     Ok(())
@@ -46,16 +48,19 @@ fn puts(rt: HostRuntime) -> Result<(), Fail> {
     Ok(())
 }
 
+// Scripts, and the first line of each that is none.
+const REFUSED_SCRIPTS: &[(&[u8], u64)] = &[
+    (b"# c\n\n0 open\r\n0 fly", 4),
+    (b"0 fly\n0 fly\n", 1),
+    (b"0 open\r\r\n", 1),
+];
+
 // Comments and blank lines are counted; a carriage return before a newline or at the end is dropped.
 #[test]
 fn refused_scripts(rt: HostRuntime) -> Result<(), Fail> {
-    for (script, line) in [
-        (b"# c\n\n0 open\r\n0 fly".as_slice(), 4),
-        (b"0 fly\n0 fly\n".as_slice(), 1),
-        (b"0 open\r\r\n".as_slice(), 1),
-    ] {
+    for (script, line) in REFUSED_SCRIPTS {
         let fault = read_script(rt.alloc(), script).err();
-        assert_eq!(rt; fault, Some(ScriptFault::Line(line)));
+        assert_eq!(rt; fault, Some(ScriptFault::Line(*line)));
     }
     Ok(())
 }
@@ -296,12 +301,13 @@ fn run_options(
     operator: Option<ConcatOperator>,
     segments: Option<u8>,
     max_unflushed_bytes: u64,
+    is_full: bool,
 ) -> RunOptions {
     let options = Options {
         max_unflushed_bytes,
-        compactor: true,
-        compaction_worker: true,
-        collector: true,
+        compactor: is_full,
+        compaction_worker: is_full,
+        collector: is_full,
     };
     RunOptions {
         operator,
@@ -310,90 +316,90 @@ fn run_options(
     }
 }
 
-// `--merge concat`, `--segments N` and `--limit N`, in any order.
+// Words, and the operator, the length of segments, the limit and whether the run isn't bare, which they spell.
+type Worded = (
+    &'static [&'static str],
+    Option<ConcatOperator>,
+    Option<u8>,
+    u64,
+    bool,
+);
+
+const CONCAT: Option<ConcatOperator> = Some(ConcatOperator);
+
+const WORDS: &[Worded] = &[
+    (&[], None, None, 1_073_741_824, true),
+    (&["--merge", "concat"], CONCAT, None, 1_073_741_824, true),
+    (
+        &["--limit", "18446744073709551615"],
+        None,
+        None,
+        u64::MAX,
+        true,
+    ),
+    (
+        &["--limit", "0", "--merge", "concat"],
+        CONCAT,
+        None,
+        0,
+        true,
+    ),
+    (
+        &["--merge", "concat", "--limit", "008"],
+        CONCAT,
+        None,
+        8,
+        true,
+    ),
+    (&["--segments", "1"], None, Some(1), 1_073_741_824, true),
+    (
+        &["--limit", "8", "--segments", "255", "--merge", "concat"],
+        CONCAT,
+        Some(255),
+        8,
+        true,
+    ),
+    (&["--bare", "--limit", "8"], None, None, 8, false),
+    (&["--limit", "8", "--bare"], None, None, 8, false),
+];
+
+// `--merge concat`, `--segments N`, `--limit N` and `--bare`, in any order.
 #[test]
 fn words(rt: HostRuntime) -> Result<(), Fail> {
-    let concat = Some(ConcatOperator);
-    for (words, want) in [
-        ([].as_slice(), run_options(None, None, 1_073_741_824)),
-        (
-            ["--merge", "concat"].as_slice(),
-            run_options(concat, None, 1_073_741_824),
-        ),
-        (
-            ["--limit", "18446744073709551615"].as_slice(),
-            run_options(None, None, u64::MAX),
-        ),
-        (
-            ["--limit", "0", "--merge", "concat"].as_slice(),
-            run_options(concat, None, 0),
-        ),
-        (
-            ["--merge", "concat", "--limit", "008"].as_slice(),
-            run_options(concat, None, 8),
-        ),
-        (
-            ["--segments", "1"].as_slice(),
-            run_options(None, Some(1), 1_073_741_824),
-        ),
-        (
-            ["--limit", "8", "--segments", "255", "--merge", "concat"].as_slice(),
-            run_options(concat, Some(255), 8),
-        ),
-    ] {
+    for (words, operator, segments, limit, is_full) in WORDS {
+        let want = run_options(*operator, *segments, *limit, *is_full);
         assert_eq!(rt; read(rt.alloc(), words)?, Some(want));
     }
     Ok(())
 }
 
-// `--bare` has no value, and stands anywhere.
-#[test]
-fn bare(rt: HostRuntime) -> Result<(), Fail> {
-    let options = Options {
-        max_unflushed_bytes: 8,
-        compactor: false,
-        compaction_worker: false,
-        collector: false,
-    };
-    let want = Some(RunOptions {
-        operator: None,
-        segments: None,
-        options,
-    });
-    for words in [
-        ["--bare", "--limit", "8"].as_slice(),
-        ["--limit", "8", "--bare"].as_slice(),
-    ] {
-        assert_eq!(rt; read(rt.alloc(), words)?, want);
-    }
-    Ok(())
-}
+const REFUSED: &[&[&str]] = &[
+    &[""],
+    &["--bare", "--bare"],
+    &["--bare", "8"],
+    &["--limit", "--bare"],
+    &["--merge"],
+    &["--merge", "sum"],
+    &["concat", "--merge"],
+    &["--merge", "concat", "--merge", "concat"],
+    &["--limit"],
+    &["--limit", ""],
+    &["--limit", "-1"],
+    &["--limit", "18446744073709551616"],
+    &["--limit", "8", "--limit", "8"],
+    &["--limit", "8", "--merge", "concat", "--limit", "9"],
+    &["--limit", "--merge", "concat"],
+    &["--merge", "concat", "--limit"],
+    &["--segments"],
+    &["--segments", "0"],
+    &["--segments", "256"],
+    &["--segments", "2", "--segments", "2"],
+];
 
 // An option that is another, stands twice, or has another value or none.
 #[test]
 fn refused_words(rt: HostRuntime) -> Result<(), Fail> {
-    for words in [
-        [""].as_slice(),
-        ["--bare", "--bare"].as_slice(),
-        ["--bare", "8"].as_slice(),
-        ["--limit", "--bare"].as_slice(),
-        ["--merge"].as_slice(),
-        ["--merge", "sum"].as_slice(),
-        ["concat", "--merge"].as_slice(),
-        ["--merge", "concat", "--merge", "concat"].as_slice(),
-        ["--limit"].as_slice(),
-        ["--limit", ""].as_slice(),
-        ["--limit", "-1"].as_slice(),
-        ["--limit", "18446744073709551616"].as_slice(),
-        ["--limit", "8", "--limit", "8"].as_slice(),
-        ["--limit", "8", "--merge", "concat", "--limit", "9"].as_slice(),
-        ["--limit", "--merge", "concat"].as_slice(),
-        ["--merge", "concat", "--limit"].as_slice(),
-        ["--segments"].as_slice(),
-        ["--segments", "0"].as_slice(),
-        ["--segments", "256"].as_slice(),
-        ["--segments", "2", "--segments", "2"].as_slice(),
-    ] {
+    for words in REFUSED {
         assert_eq!(rt; read(rt.alloc(), words)?, None);
     }
     Ok(())

@@ -21,85 +21,90 @@ fn every_byte(rt: HostRuntime) -> Result<(), Fail> {
     Ok(())
 }
 
+const PRINTED: &[(&[u8], &[u8])] = &[
+    (b"", b"%"),
+    (b"abc", b"abc"),
+    (b"\x00 \x7f\xff%~!", b"%00%20%7f%ff%25~!"),
+];
+
 #[test]
 fn printed_words(rt: HostRuntime) -> Result<(), Fail> {
-    for (bytes, want) in [
-        (b"".as_slice(), b"%".as_slice()),
-        (b"abc".as_slice(), b"abc".as_slice()),
-        (
-            b"\x00 \x7f\xff%~!".as_slice(),
-            b"%00%20%7f%ff%25~!".as_slice(),
-        ),
-    ] {
+    for (bytes, want) in PRINTED {
         let mut word = Vec::from_slice(rt.alloc(), b"= ")?;
         write_byte_word(&mut word, bytes)?;
         assert_eq!(rt; &word[..2], b"= ".as_slice());
-        assert_eq!(rt; &word[2..], want);
+        assert_eq!(rt; &word[2..], *want);
     }
     Ok(())
 }
+
+const WORDS: &[(&[u8], Option<&[u8]>)] = &[
+    (b"%", Some(b"")),
+    (b"a", Some(b"a")),
+    (b"%41", Some(b"A")),
+    (b"x%4a%4Ay", Some(b"xJJy")),
+    (b"%25", Some(b"%")),
+    (b"\xff;#", Some(b"\xff;#")),
+    (b"", None),
+    (b"a%", None),
+    (b"%4", None),
+    (b"%%", None),
+    (b"%g0", None),
+    (b"a b", None),
+    (b"a\r", None),
+    (b"a\n", None),
+];
 
 // Both readers of a word answer the same.
 #[test]
 fn read_words(rt: HostRuntime) -> Result<(), Fail> {
     let alloc = rt.alloc();
-    for (field, want) in [
-        (b"%".as_slice(), Some(b"".as_slice())),
-        (b"a".as_slice(), Some(b"a".as_slice())),
-        (b"%41".as_slice(), Some(b"A".as_slice())),
-        (b"x%4a%4Ay".as_slice(), Some(b"xJJy".as_slice())),
-        (b"%25".as_slice(), Some(b"%".as_slice())),
-        (b"\xff;#".as_slice(), Some(b"\xff;#".as_slice())),
-        (b"".as_slice(), None),
-        (b"a%".as_slice(), None),
-        (b"%4".as_slice(), None),
-        (b"%%".as_slice(), None),
-        (b"%g0".as_slice(), None),
-        (b"a b".as_slice(), None),
-        (b"a\r".as_slice(), None),
-        (b"a\n".as_slice(), None),
-    ] {
+    for (field, want) in WORDS {
         let read = read_byte_word(alloc, field)?;
-        assert_eq!(rt; read.as_ref().map(|word| word.as_slice()), want);
+        assert_eq!(rt; read.as_ref().map(|word| word.as_slice()), *want);
         let shared = read_shared_word(alloc, Bytes::copy_from_slice(alloc, field)?)?;
-        assert_eq!(rt; shared.as_ref().map(|word| word.as_slice()), want);
+        assert_eq!(rt; shared.as_ref().map(|word| word.as_slice()), *want);
     }
     Ok(())
 }
 
+const NUMBERS: &[(&[u8], Option<u64>)] = &[
+    (b"0", Some(0)),
+    (b"007", Some(7)),
+    (b"18446744073709551615", Some(u64::MAX)),
+    (b"18446744073709551616", None),
+    (b"", None),
+    (b"+1", None),
+    (b"-1", None),
+    (b"1a", None),
+    (b"1 ", None),
+];
+
 #[test]
 fn numbers(rt: HostRuntime) {
-    for (field, want) in [
-        (b"0".as_slice(), Some(0)),
-        (b"007".as_slice(), Some(7)),
-        (b"18446744073709551615".as_slice(), Some(u64::MAX)),
-        (b"18446744073709551616".as_slice(), None),
-        (b"".as_slice(), None),
-        (b"+1".as_slice(), None),
-        (b"-1".as_slice(), None),
-        (b"1a".as_slice(), None),
-        (b"1 ".as_slice(), None),
-    ] {
-        assert_eq!(rt; read_number(field), want);
+    for (field, want) in NUMBERS {
+        assert_eq!(rt; read_number(field), *want);
     }
 }
 
+const MOMENTS: &[(&[u8], Option<(i64, Option<i64>)>)] = &[
+    (b"0", Some((0, None))),
+    (b"9223372036854775807", Some((i64::MAX, None))),
+    (b"5/12", Some((5, Some(12)))),
+    (b"12/05", Some((12, Some(5)))),
+    (b"9223372036854775808", None),
+    (b"1/9223372036854775808", None),
+    (b"0/", None),
+    (b"/0", None),
+    (b"1/2/3", None),
+    (b"x", None),
+    (b"", None),
+];
+
 #[test]
 fn moments(rt: HostRuntime) {
-    for (field, want) in [
-        (b"0".as_slice(), Some((0, None))),
-        (b"9223372036854775807".as_slice(), Some((i64::MAX, None))),
-        (b"5/12".as_slice(), Some((5, Some(12)))),
-        (b"12/05".as_slice(), Some((12, Some(5)))),
-        (b"9223372036854775808".as_slice(), None),
-        (b"1/9223372036854775808".as_slice(), None),
-        (b"0/".as_slice(), None),
-        (b"/0".as_slice(), None),
-        (b"1/2/3".as_slice(), None),
-        (b"x".as_slice(), None),
-        (b"".as_slice(), None),
-    ] {
-        assert_eq!(rt; read_moment(field), want);
+    for (field, want) in MOMENTS {
+        assert_eq!(rt; read_moment(field), *want);
     }
 }
 

@@ -1,9 +1,10 @@
 // Tests of openings that find a log file missing, with and without another handle that is opened meanwhile.
 use crate::store::write_once;
+use crate::writes::NO_EXTRACTOR;
 use slate_errors::SlateError;
 use slate_reads::Table;
 use slate_store::{Listing, LogFile, Manifest, MemoryStore, Store, TableId, VersionedManifest};
-use slate_types::{Batch, FixedPrefix, StoreError};
+use slate_types::{Batch, StoreError};
 use slate_writer::{WriterOptions, WriterState};
 use std::alloc::Global;
 use std::test::Fail;
@@ -134,32 +135,35 @@ fn open_without(alloc: Global, lost: u64, opened_at: u64) -> Result<(Opening, u6
         opened_at,
         calls: 0,
     };
-    let extractor: Option<&FixedPrefix> = None;
-    let opening = match WriterState::open(alloc, &mut store, &WriterOptions::default(), extractor) {
+    let opening = open(alloc, &mut store);
+    Ok((opening, store.calls))
+}
+
+fn open<S: Store>(alloc: Global, store: &mut S) -> Opening {
+    match WriterState::open(alloc, store, &WriterOptions::default(), NO_EXTRACTOR) {
         Ok(_) => Opening::Opened,
         Err(SlateError::WalTruncated(id)) => Opening::Truncated(id),
         Err(SlateError::Fenced) => Opening::Fenced,
         Err(_) => Opening::Failed,
-    };
-    Ok((opening, store.calls))
+    }
 }
+
+// The log file that is lost, the call before which another handle is opened, the answer, and after how many calls it comes.
+const LOST: &[(u64, u64, Opening, u64)] = &[
+    (1, 9, Opening::Truncated(1), 6),
+    (3, 9, Opening::Truncated(3), 8),
+    (3, 8, Opening::Fenced, 8),
+    (4, 9, Opening::Fenced, 9),
+    (5, 9, Opening::Opened, 8),
+];
 
 // The opening reads the log files up to the one that is lost, and then the latest manifest once more: it names that log
 // file, unless another handle was opened before that call. The fence that it puts itself isn't read.
 #[test]
 fn lost_log_files(rt: HostRuntime) -> Result<(), Fail> {
-    for (lost, opened_at, opening, calls) in [
-        (1, 9, Opening::Truncated(1), 6),
-        (3, 9, Opening::Truncated(3), 8),
-        (3, 8, Opening::Fenced, 8),
-        (4, 9, Opening::Fenced, 9),
-        (5, 9, Opening::Opened, 8),
-    ] {
-        assert_eq!(rt;
-            open_without(rt.alloc(), lost, opened_at)?,
-            (opening, calls),
-            "without {lost}"
-        );
+    for (lost, opened_at, opening, calls) in LOST {
+        let found = open_without(rt.alloc(), *lost, *opened_at)?;
+        assert_eq!(rt; found, (*opening, *calls), "without {lost}");
     }
     Ok(())
 }

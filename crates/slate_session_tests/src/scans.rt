@@ -1,36 +1,28 @@
 // Tests of scans of a handle that writes.
+use crate::writes::{NO_EXTRACTOR, Written, write};
 use slate_errors::SlateError;
 use slate_store::MemoryStore;
 use slate_types::{
-    ByteRange, CloseOptions, ConcatOperator, DurabilityLevel, FixedPrefix, FlushType,
-    IterationOrder, KeyValue, NoMemory, ScanOptions, WriteBatch,
+    ByteRange, CloseOptions, ConcatOperator, DurabilityLevel, FlushType, IterationOrder, KeyValue,
+    NoMemory, ScanOptions,
 };
 use slate_writer::{WriterOptions, WriterState};
 use std::alloc::Global;
 use std::process::Abort;
 use std::test::Fail;
 
-const NO_EXTRACTOR: Option<&FixedPrefix> = None;
+// The first batch, and the second, which merges `b`.
+const FIRST: &[Written] = &[(b"a", false, None), (b"b", false, None)];
 
-// Two batches. The second merges `b`.
-fn two_batches(alloc: Global) -> Result<(WriteBatch, WriteBatch), NoMemory> {
-    let mut first = WriteBatch::new(alloc);
-    first.put(alloc, b"a", b"1")?;
-    first.put(alloc, b"b", b"2")?;
-    let mut second = WriteBatch::new(alloc);
-    second.merge(alloc, b"b", b"3")?;
-    second.put(alloc, b"c", b"4")?;
-    Ok((first, second))
-}
+const SECOND: &[Written] = &[(b"b", true, None), (b"c", false, None)];
 
 // A handle with two batches, of which the first is stored.
 fn handle(alloc: Global, store: &mut MemoryStore) -> Result<WriterState, Fail> {
-    let (first, second) = two_batches(alloc)?;
     let options = WriterOptions::default();
     let mut writer = WriterState::open(alloc, store, &options, NO_EXTRACTOR)?;
-    writer.write(alloc, first, 1, None, NO_EXTRACTOR)?;
+    write(alloc, &mut writer, 1, FIRST)?;
     writer.flush(alloc, store, FlushType::Wal)?;
-    writer.write(alloc, second, 2, None, NO_EXTRACTOR)?;
+    write(alloc, &mut writer, 2, SECOND)?;
     Ok(writer)
 }
 
@@ -59,30 +51,30 @@ fn text_of(alloc: Global, rows: &[KeyValue]) -> Result<Vec<u8>, NoMemory> {
 }
 
 // Levels, orders and snapshots, and the rows that a scan gives by them.
-const CASES: [(DurabilityLevel, IterationOrder, Option<u64>, &[u8]); 4] = [
+const CASES: &[(DurabilityLevel, IterationOrder, Option<u64>, &[u8])] = &[
     (
         DurabilityLevel::Memory,
         IterationOrder::Ascending,
         None,
-        b"a=1@1 b=23@2 c=4@2 ",
+        b"a=x@1 b=xx@2 c=x@2 ",
     ),
     (
         DurabilityLevel::Memory,
         IterationOrder::Descending,
         None,
-        b"c=4@2 b=23@2 a=1@1 ",
+        b"c=x@2 b=xx@2 a=x@1 ",
     ),
     (
         DurabilityLevel::Memory,
         IterationOrder::Ascending,
         Some(1),
-        b"a=1@1 b=2@1 ",
+        b"a=x@1 b=x@1 ",
     ),
     (
         DurabilityLevel::Remote,
         IterationOrder::Descending,
         None,
-        b"b=2@1 a=1@1 ",
+        b"b=x@1 a=x@1 ",
     ),
 ];
 
@@ -93,14 +85,14 @@ fn assert_cases(
     store: &mut MemoryStore,
     writer: &WriterState,
 ) -> Result<(), Fail> {
-    for (durability_filter, order, snapshot, want) in CASES {
+    for (level, order, snapshot, want) in CASES {
         let options = ScanOptions {
-            durability_filter,
+            durability_filter: *level,
             dirty: false,
-            order,
+            order: *order,
         };
-        let found = scanned(alloc, store, writer, &options, snapshot)?;
-        assert_eq!(rt; found.as_slice(), want);
+        let found = scanned(alloc, store, writer, &options, *snapshot)?;
+        assert_eq!(rt; found.as_slice(), *want);
     }
     Ok(())
 }

@@ -27,26 +27,27 @@ fn play(alloc: Global, read: u64, write: u64) -> Result<(u8, Vec<u8>, Left), Fai
     Ok((finished.status, text, left_in(alloc, &mut store)?))
 }
 
+const OPENED: Left = (Some(1), 1, 0);
+
+// A read and a write that fail, the status, what is written, and what is left in the store.
+const FAILED: &[(u64, u64, u8, &[u8], Left)] = &[
+    (1, 0, 3, b"", (None, 0, 0)),
+    (4, 0, 3, b"", (None, 0, 0)),
+    (7, 0, 3, b"", (None, 0, 0)),
+    (0, 1, 4, b"", OPENED),
+    (0, 9, 4, b"handle 0", OPENED),
+    (0, 10, 0, b"handle 0\n", OPENED),
+];
+
 // Where a read fails, the one that would show the end too, nothing is run or written. Where a write fails, the run is
 // whole, and the text before that write is written.
 #[test]
 fn failing_streams(rt: HostRuntime) -> Result<(), Fail> {
-    let nothing = (None, 0, 0);
-    let opened = (Some(1), 1, 0);
-    for (read, write, status, text, left) in [
-        (1, 0, 3, b"".as_slice(), nothing),
-        (4, 0, 3, b"".as_slice(), nothing),
-        (7, 0, 3, b"".as_slice(), nothing),
-        (0, 1, 4, b"".as_slice(), opened),
-        (0, 9, 4, b"handle 0".as_slice(), opened),
-        (0, 10, 0, b"handle 0\n".as_slice(), opened),
-    ] {
-        let (ended, written, stored) = play(rt.alloc(), read, write)?;
-        assert_eq!(rt;
-            (ended, written.as_slice(), stored),
-            (status, text, left),
-            "{read} {write}"
-        );
+    for (read, write, status, text, left) in FAILED {
+        let (ended, written, stored) = play(rt.alloc(), *read, *write)?;
+        assert_eq!(rt; ended, *status, "{read} {write}");
+        assert_eq!(rt; written.as_slice(), *text, "{read} {write}");
+        assert_eq!(rt; stored, *left, "{read} {write}");
     }
     Ok(())
 }
@@ -71,51 +72,37 @@ fn apply_one(
     print_replies(text, &[reply])
 }
 
-fn put(alloc: Global, value: &[u8]) -> Result<Action, NoMemory> {
-    Ok(Action::Put {
-        handle: 0,
-        key: Bytes::copy_from_slice(alloc, b"a")?,
-        value: Bytes::copy_from_slice(alloc, value)?,
-        expire: Some(99),
+// An opening, a put, a durable get, a flush, and the same get from then on.
+fn action(alloc: Global, moment: i64) -> Result<Action, NoMemory> {
+    Ok(match moment {
+        0 => Action::Open { wal: true },
+        1 => Action::Put {
+            handle: 0,
+            key: Bytes::copy_from_slice(alloc, b"a")?,
+            value: Bytes::copy_from_slice(alloc, b"x")?,
+            expire: Some(99),
+        },
+        3 => Action::Flush {
+            handle: 0,
+            flush_type: Some(FlushType::Wal),
+        },
+        _ => Action::Get {
+            object: 0,
+            key: Bytes::copy_from_slice(alloc, b"a")?,
+            remote: true,
+        },
     })
 }
 
-fn get(alloc: Global) -> Result<Action, NoMemory> {
-    Ok(Action::Get {
-        object: 0,
-        key: Bytes::copy_from_slice(alloc, b"a")?,
-        remote: true,
-    })
-}
-
-// The text of the replies to an opening, a put, a durable get, a flush and the same get.
+// The text of the replies to these, at the moments 0 to 4.
 fn applied(alloc: Global) -> Result<Vec<u8>, NoMemory> {
     let mut store = MemoryStore::new(alloc);
     let mut live = LiveState::new(alloc, &OPTIONS);
     let mut text = Vec::new(alloc);
-    let flush = Action::Flush {
-        handle: 0,
-        flush_type: Some(FlushType::Wal),
-    };
-    apply_one(
-        alloc,
-        &mut live,
-        &mut store,
-        &mut text,
-        0,
-        Action::Open { wal: true },
-    )?;
-    apply_one(
-        alloc,
-        &mut live,
-        &mut store,
-        &mut text,
-        1,
-        put(alloc, b"x")?,
-    )?;
-    apply_one(alloc, &mut live, &mut store, &mut text, 2, get(alloc)?)?;
-    apply_one(alloc, &mut live, &mut store, &mut text, 3, flush)?;
-    apply_one(alloc, &mut live, &mut store, &mut text, 4, get(alloc)?)?;
+    for moment in 0..5 {
+        let action = action(alloc, moment)?;
+        apply_one(alloc, &mut live, &mut store, &mut text, moment, action)?;
+    }
     Ok(text)
 }
 

@@ -37,9 +37,11 @@ fn passes(alloc: Global, text: &[u8], piece: usize) -> Result<bool, Fail>
     Ok(write_whole(&mut sink, bytes.as_slice()) && sink.written() == text)
 }
 
+const TEXTS: &[&[u8]] = &[b"", b"a", b"three pieces"];
+
 #[test]
 fn pieces(rt: HostRuntime) -> Result<(), Fail> {
-    for text in [b"".as_slice(), b"a".as_slice(), b"three pieces".as_slice()] {
+    for text in TEXTS {
         for piece in [1, 4, 5, 12, 100] {
             assert!(rt; passes(rt.alloc(), text, piece)?, "pieces of {piece}");
         }
@@ -54,21 +56,25 @@ fn read_twice(alloc: Global, failing: u64) -> Result<(Option<InputFault>, Vec<u8
     Ok((fault, read_whole(alloc, &mut source, MAX_SCRIPT)?))
 }
 
+const READ_FAILED: Option<InputFault> = Some(InputFault::Failed);
+
+// A read that fails, the fault, and what is left.
+const READS: &[(u64, Option<InputFault>, &[u8])] = &[
+    (0, None, b""),
+    (1, READ_FAILED, b"abcdefgh"),
+    (2, READ_FAILED, b"defgh"),
+    (3, READ_FAILED, b"gh"),
+    (4, READ_FAILED, b""),
+    (u64::MAX, None, b""),
+];
+
 // Each read fails in turn, the one that would show the end too. What came before it is lost, and what is left comes.
 #[test]
 fn failing_reads(rt: HostRuntime) -> Result<(), Fail> {
-    let failed = Some(InputFault::Failed);
-    for (failing, want, rest) in [
-        (0, None, b"".as_slice()),
-        (1, failed, b"abcdefgh".as_slice()),
-        (2, failed, b"defgh".as_slice()),
-        (3, failed, b"gh".as_slice()),
-        (4, failed, b"".as_slice()),
-        (u64::MAX, None, b"".as_slice()),
-    ] {
-        let (fault, bytes) = read_twice(rt.alloc(), failing)?;
-        assert_eq!(rt; fault, want, "at call {failing}");
-        assert_eq!(rt; bytes.as_slice(), rest, "at call {failing}");
+    for (failing, want, rest) in READS {
+        let (fault, bytes) = read_twice(rt.alloc(), *failing)?;
+        assert_eq!(rt; fault, *want, "at call {failing}");
+        assert_eq!(rt; bytes.as_slice(), *rest, "at call {failing}");
     }
     Ok(())
 }
@@ -81,19 +87,22 @@ fn write_twice(alloc: Global, failing: u64) -> Result<(bool, Vec<u8>), Fail> {
     Ok((whole, Vec::from_slice(alloc, sink.written())?))
 }
 
+// A write that fails, whether the whole text was written, and what is there after one more.
+const WRITES: &[(u64, bool, &[u8])] = &[
+    (0, true, b"abcdefgh."),
+    (1, false, b"."),
+    (2, false, b"abc."),
+    (3, false, b"abcdef."),
+    (4, true, b"abcdefgh"),
+];
+
 // Each write fails in turn. What was written before it stays, and more can be written.
 #[test]
 fn failing_writes(rt: HostRuntime) -> Result<(), Fail> {
-    for (failing, want, text) in [
-        (0, true, b"abcdefgh.".as_slice()),
-        (1, false, b".".as_slice()),
-        (2, false, b"abc.".as_slice()),
-        (3, false, b"abcdef.".as_slice()),
-        (4, true, b"abcdefgh".as_slice()),
-    ] {
-        let (whole, written) = write_twice(rt.alloc(), failing)?;
-        assert_eq!(rt; whole, want, "at call {failing}");
-        assert_eq!(rt; written.as_slice(), text, "at call {failing}");
+    for (failing, want, text) in WRITES {
+        let (whole, written) = write_twice(rt.alloc(), *failing)?;
+        assert_eq!(rt; whole, *want, "at call {failing}");
+        assert_eq!(rt; written.as_slice(), *text, "at call {failing}");
     }
     Ok(())
 }

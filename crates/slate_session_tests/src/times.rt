@@ -1,44 +1,94 @@
 // Tests of when the batches of a handle were written, at moments before the first second.
-use bytes::Bytes;
-use slate_seqtrack::FindOption;
+use crate::times::Lookup::{NumberOf, SecondOf};
+use crate::writes::{NO_EXTRACTOR, write};
+use slate_seqtrack::FindOption::{self, RoundDown, RoundUp};
 use slate_store::MemoryStore;
-use slate_types::{FixedPrefix, KeyOp, Op, Seq, WriteBatch};
 use slate_writer::{WriterOptions, WriterState};
 use std::alloc::Global;
 use std::test::Fail;
 
+// What a handle is asked: when a number was written, or which one was at a second.
+enum Lookup {
+    SecondOf(u64, FindOption),
+    NumberOf(i64, FindOption),
+}
+
 // A handle that wrote a batch at each of these moments, in milliseconds.
 fn written_at(alloc: Global, moments: &[i64]) -> Result<WriterState, Fail> {
-    let extractor: Option<&FixedPrefix> = None;
     let mut store = MemoryStore::new(alloc);
-    let mut writer = WriterState::open(alloc, &mut store, &WriterOptions::default(), extractor)?;
+    let options = WriterOptions::default();
+    let mut writer = WriterState::open(alloc, &mut store, &options, NO_EXTRACTOR)?;
     for moment in moments {
-        let key = Bytes::copy_from_slice(alloc, b"a")?;
-        let ops = Seq::of(vec![in alloc;
-            KeyOp {
-                key,
-                op: Op::Delete
-            },
-        ]?);
-        if let Err(refusal) = writer.write(alloc, WriteBatch { ops }, *moment, None, extractor) {
-            return Err(refusal.error.into());
-        }
+        write(alloc, &mut writer, *moment, &[(b"a", false, None)])?;
     }
     Ok(writer)
 }
 
+// The text of the answers, with a semicolon after each.
+fn answers(alloc: Global, moments: &[i64], lookups: &[Lookup]) -> Result<Vec<u8>, Fail> {
+    let writer = written_at(alloc, moments)?;
+    let mut text = Vec::new(alloc);
+    for lookup in lookups {
+        match found(&writer, lookup) {
+            Some(found) => text.extend_from_slice(format!(in alloc; "{found};")?.as_bytes())?,
+            None => text.extend_from_slice(b"none;")?,
+        }
+    }
+    Ok(text)
+}
+
+fn found(writer: &WriterState, lookup: &Lookup) -> Option<i64> {
+    match lookup {
+        SecondOf(number, find) => writer.find_ts(*number, *find),
+        NumberOf(second, find) => Some(writer.find_seq(*second, *find)? as i64),
+    }
+}
+
+// Moments, what is asked, and the answers.
+const CASES: &[(&[i64], &[Lookup], &[u8])] = &[
+    (
+        &[-1, 58_999, 59_000],
+        AT_MINUS_1,
+        b"-1;-1;59;1;none;3;none;",
+    ),
+    (
+        &[-1000, 58_999, 59_000],
+        AT_MINUS_1,
+        b"-1;-1;59;1;none;3;none;",
+    ),
+    (
+        &[-1001, 57_999, 58_000],
+        AT_MINUS_2,
+        b"-2;-2;58;1;none;3;none;",
+    ),
+];
+
+const AT_MINUS_1: &[Lookup] = &[
+    SecondOf(1, RoundDown),
+    SecondOf(2, RoundDown),
+    SecondOf(2, RoundUp),
+    NumberOf(-1, RoundUp),
+    NumberOf(-2, RoundDown),
+    NumberOf(0, RoundUp),
+    NumberOf(60, RoundUp),
+];
+
+const AT_MINUS_2: &[Lookup] = &[
+    SecondOf(1, RoundDown),
+    SecondOf(2, RoundDown),
+    SecondOf(2, RoundUp),
+    NumberOf(-2, RoundUp),
+    NumberOf(-3, RoundDown),
+    NumberOf(-1, RoundUp),
+    NumberOf(59, RoundUp),
+];
+
 // A batch is tracked under its second, rounded down, and the next one 60 seconds later.
 #[test]
 fn seconds_are_rounded_down(rt: HostRuntime) -> Result<(), Fail> {
-    for (first, second, late) in [(-1, -1, 59_000), (-1000, -1, 59_000), (-1001, -2, 58_000)] {
-        let writer = written_at(rt.alloc(), &[first, late - 1, late])?;
-        assert_eq!(rt; writer.find_ts(1, FindOption::RoundDown), Some(second));
-        assert_eq!(rt; writer.find_ts(2, FindOption::RoundDown), Some(second));
-        assert_eq!(rt; writer.find_ts(2, FindOption::RoundUp), Some(second + 60));
-        assert_eq!(rt; writer.find_seq(second, FindOption::RoundUp), Some(1));
-        assert_eq!(rt; writer.find_seq(second - 1, FindOption::RoundDown), None);
-        assert_eq!(rt; writer.find_seq(second + 1, FindOption::RoundUp), Some(3));
-        assert_eq!(rt; writer.find_seq(second + 61, FindOption::RoundUp), None);
+    for (moments, lookups, want) in CASES {
+        let text = answers(rt.alloc(), moments, lookups)?;
+        assert_eq!(rt; text.as_slice(), *want);
     }
     Ok(())
 }

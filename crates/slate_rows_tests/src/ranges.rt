@@ -54,20 +54,22 @@ pc pd pe ;pc pd ;pc ;"
     Ok(())
 }
 
-// The suffix may begin with the prefix's own bytes, and a prefix has no next one where all its bytes are the greatest.
+const ENDS: &[&[u8]] = &[b"a", b"a\xff", b"a\xff\xff", b"b", b"\xff", b"\xff\xff"];
+
+fn prefixes_text(alloc: Global, prefixes: &[&[u8]]) -> Result<Vec<u8>, NoMemory> {
+    let mut text = Vec::new(alloc);
+    for prefix in prefixes {
+        print_keys(&mut text, &ByteRange::prefix(alloc, prefix)?, ENDS)?;
+    }
+    Ok(text)
+}
+
+// The keys with a prefix end before the next prefix, and there is none behind one of the greatest bytes alone.
 #[test]
 fn prefixes(rt: HostRuntime) -> Result<(), Fail> {
-    let alloc = rt.alloc();
-    let mut text = Vec::new(alloc);
-    let from_a = range(alloc, Included(b"a"), Open)?;
-    let behind = ByteRange::prefix_and_subrange(alloc, b"ab", &from_a)?;
-    print_keys(&mut text, &behind, &[b"ab", b"aba", b"b"])?;
-    let keys: &[&[u8]] = &[b"a", b"a\xff", b"a\xff\xff", b"b", b"\xff", b"\xff\xff"];
-    print_keys(&mut text, &ByteRange::prefix(alloc, b"a\xff")?, keys)?;
-    print_keys(&mut text, &ByteRange::prefix(alloc, b"\xff")?, keys)?;
     assert_eq!(rt;
-        text.as_slice(),
-        b"aba ;a\xff a\xff\xff ;\xff \xff\xff ;".as_slice()
+        prefixes_text(rt.alloc(), &[b"a\xff", b"\xff", b""])?.as_slice(),
+        b"a\xff a\xff\xff ;\xff \xff\xff ;a a\xff a\xff\xff b \xff \xff\xff ;".as_slice()
     );
     Ok(())
 }

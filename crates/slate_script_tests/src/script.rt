@@ -21,30 +21,21 @@ fn blank_lines(rt: HostRuntime) -> Result<(), Fail> {
     Ok(())
 }
 
+// The first command of a script, as it is shown.
+fn first_command(alloc: Global, script: &[u8]) -> Result<String, Fail> {
+    match read_script(alloc, script)?.as_slice().first() {
+        Some(command) => Ok(format!(in alloc; "{:?}", command)?),
+        None => Err("a command".into()),
+    }
+}
+
 #[test]
 fn puts(rt: HostRuntime) -> Result<(), Fail> {
-    let LineAnswer::Command(command) = read_line(
-        rt.alloc(),
-        b"007/9 put 18446744073709551615 %41 x#;",
-    )?
-    else {
-        return Err("a command".into());
-    };
-    assert_eq!(rt; command.moment, 7);
-    assert_eq!(rt; command.second, Some(9));
-    let Action::Put {
-        handle,
-        key,
-        value,
-        expire,
-    } = &command.action
-    else {
-        return Err("a put".into());
-    };
-    assert_eq!(rt; *handle, u64::MAX);
-    assert_eq!(rt; key.as_slice(), b"A".as_slice());
-    assert_eq!(rt; value.as_slice(), b"x#;".as_slice());
-    assert_eq!(rt; *expire, None);
+    let text = first_command(rt.alloc(), b"007/9 put 18446744073709551615 %41 x#;")?;
+    assert_eq!(rt;
+        text.as_str(),
+        r#"Command { moment: 7, second: Some(9), action: Put { handle: 18446744073709551615, key: b"A", value: b"x#;", expire: None } }"#
+    );
     Ok(())
 }
 

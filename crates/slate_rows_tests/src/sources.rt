@@ -60,24 +60,21 @@ pub(crate) fn stored(alloc: Global, listed: &[Listed]) -> Result<Table, NoMemory
 fn memory(alloc: Global, listed: &[Listed]) -> Result<IndexedTable, NoMemory> {
     let mut table = IndexedTable::new(alloc);
     for one in listed {
-        push(&mut table, alloc, one)?;
+        if !push(&mut table, alloc, one)? {
+            return Err(NoMemory);
+        }
     }
     Ok(table)
 }
 
-// Adds a batch to a table, where its number is above the last one, and tells whether it was.
+// Adds a batch to a table, where its number is above the last one, and tells whether it did.
 pub(crate) fn push(
     table: &mut IndexedTable,
     alloc: Global,
     listed: &Listed,
 ) -> Result<bool, NoMemory> {
-    if !table.is_above_last(listed.0) {
-        return Ok(false);
-    }
-    match table.push(batch(alloc, listed)?) {
-        Ok(()) => Ok(true),
-        Err(_batch) => Err(NoMemory),
-    }
+    let batch = batch(alloc, listed)?;
+    Ok(table.is_above_last(batch.number) && table.push(batch).is_ok())
 }
 
 fn batch(alloc: Global, listed: &Listed) -> Result<Batch, NoMemory> {

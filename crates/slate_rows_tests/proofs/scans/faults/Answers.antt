@@ -1,5 +1,5 @@
 use Rattle.std.specs.List.Sorted.{IsStrictlySortedBy}
-use Rattle.slate_rows_tests.proofs.rows.faults.Goals as goal
+use Rattle.slate_rows_tests.proofs.scans.faults.Goals as goal
 
 pub of_rows-requires-clause-in_order : goal.of_rows-requires-clause-in_order
 unfolding IsStrictlySortedBy

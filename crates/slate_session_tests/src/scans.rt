@@ -51,7 +51,7 @@ fn text_of(alloc: Global, rows: &[KeyValue]) -> Result<Vec<u8>, NoMemory> {
 }
 
 // Levels, orders and snapshots, and the rows that a scan gives by them.
-const CASES: &[(DurabilityLevel, IterationOrder, Option<u64>, &[u8])] = &[
+const CASES: [(DurabilityLevel, IterationOrder, Option<u64>, &[u8]); 4] = [
     (
         DurabilityLevel::Memory,
         IterationOrder::Ascending,
@@ -85,14 +85,14 @@ fn assert_cases(
     store: &mut MemoryStore,
     writer: &WriterState,
 ) -> Result<(), Fail> {
-    for (level, order, snapshot, want) in CASES {
+    for (durability_filter, order, snapshot, want) in CASES {
         let options = ScanOptions {
-            durability_filter: *level,
+            durability_filter,
             dirty: false,
-            order: *order,
+            order,
         };
-        let found = scanned(alloc, store, writer, &options, *snapshot)?;
-        assert_eq!(rt; found.as_slice(), *want);
+        let found = scanned(alloc, store, writer, &options, snapshot)?;
+        assert_eq!(rt; found.as_slice(), want);
     }
     Ok(())
 }

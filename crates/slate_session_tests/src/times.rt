@@ -1,9 +1,10 @@
 // Tests of when the batches of a handle were written, at moments before the first second.
 use crate::times::Lookup::{NumberOf, SecondOf};
-use crate::writes::{NO_EXTRACTOR, write};
+use crate::writes::{open_new, write};
+use slate_errors::SlateError;
 use slate_seqtrack::FindOption::{self, RoundDown, RoundUp};
-use slate_store::MemoryStore;
-use slate_writer::{WriterOptions, WriterState};
+use slate_types::NoMemory;
+use slate_writer::WriterState;
 use std::alloc::Global;
 use std::test::Fail;
 
@@ -14,10 +15,8 @@ enum Lookup {
 }
 
 // A handle that wrote a batch at each of these moments, in milliseconds.
-fn written_at(alloc: Global, moments: &[i64]) -> Result<WriterState, Fail> {
-    let mut store = MemoryStore::new(alloc);
-    let options = WriterOptions::default();
-    let mut writer = WriterState::open(alloc, &mut store, &options, NO_EXTRACTOR)?;
+fn written_at(alloc: Global, moments: &[i64]) -> Result<WriterState, SlateError> {
+    let mut writer = open_new(alloc)?;
     for moment in moments {
         write(alloc, &mut writer, *moment, &[(b"a", false, None)])?;
     }
@@ -29,18 +28,21 @@ fn answers(alloc: Global, moments: &[i64], lookups: &[Lookup]) -> Result<Vec<u8>
     let writer = written_at(alloc, moments)?;
     let mut text = Vec::new(alloc);
     for lookup in lookups {
-        match found(&writer, lookup) {
-            Some(found) => text.extend_from_slice(format!(in alloc; "{found};")?.as_bytes())?,
-            None => text.extend_from_slice(b"none;")?,
-        }
+        text.extend_from_slice(found(alloc, &writer, lookup)?.as_bytes())?;
     }
     Ok(text)
 }
 
-fn found(writer: &WriterState, lookup: &Lookup) -> Option<i64> {
+fn found(alloc: Global, writer: &WriterState, lookup: &Lookup) -> Result<String, NoMemory> {
     match lookup {
-        SecondOf(number, find) => writer.find_ts(*number, *find),
-        NumberOf(second, find) => Some(writer.find_seq(*second, *find)? as i64),
+        SecondOf(number, find) => match writer.find_ts(*number, *find) {
+            Some(second) => Ok(format!(in alloc; "{second};")?),
+            None => Ok(String::from_str(alloc, "none;")?),
+        },
+        NumberOf(second, find) => match writer.find_seq(*second, *find) {
+            Some(number) => Ok(format!(in alloc; "{number};")?),
+            None => Ok(String::from_str(alloc, "none;")?),
+        },
     }
 }
 

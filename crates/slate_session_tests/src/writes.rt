@@ -12,6 +12,12 @@ pub(crate) const NO_EXTRACTOR: Option<&FixedPrefix> = None;
 // A key, whether it is merged or put, and a time of expiry.
 pub(crate) type Written = (&'static [u8], bool, Option<i64>);
 
+// A handle of a new database, whose store is gone.
+pub(crate) fn open_new(alloc: Global) -> Result<WriterState, SlateError> {
+    let mut store = MemoryStore::new(alloc);
+    WriterState::open(alloc, &mut store, &WriterOptions::default(), NO_EXTRACTOR)
+}
+
 // Writes a batch of these, as they stand, at a moment.
 pub(crate) fn write(
     alloc: Global,
@@ -53,9 +59,7 @@ fn refused(
     alloc: Global,
     written: &[Written],
 ) -> Result<Option<(Bytes, Option<i64>, Option<i64>)>, Fail> {
-    let mut store = MemoryStore::new(alloc);
-    let options = WriterOptions::default();
-    let mut writer = WriterState::open(alloc, &mut store, &options, NO_EXTRACTOR)?;
+    let mut writer = open_new(alloc)?;
     match write(alloc, &mut writer, 1, written) {
         Ok(()) => Ok(None),
         Err(

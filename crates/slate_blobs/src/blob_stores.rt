@@ -35,12 +35,22 @@ pub const TABLE_BYTES: u64 = 64 * 1024 * 1024;
 /// Over folders that aren't modelled, as those of a directory, a table that is kept may be answered though another
 /// process has removed its blob. That is right: a table is put once under its id and never changed, so what is answered
 /// is what was put, as by a read that came before the removal.
-#[derive(Drop)]
 pub struct BlobStore<N: Blobs<u64>, T: Blobs<TableId>> {
     manifests: N,
     logs: N,
     tables: TableFolder<T>,
     count: CallCount,
+}
+
+impl<N: Blobs<u64> + Drop, T: Blobs<TableId> + Drop> Drop for BlobStore<N, T> {
+    fn drop(self) {
+        let BlobStore {
+            manifests: _,
+            logs: _,
+            tables: _,
+            count: _,
+        } = self;
+    }
 }
 
 impl<N: Blobs<u64>, T: Blobs<TableId>> BlobStore<N, T> {

@@ -18,7 +18,6 @@ pub(crate) struct KeptTable {
 /// The tables that are kept. Their bytes are within the bound.
 ///
 /// A call takes time linear in the tables that are kept, and copies none.
-#[derive(Drop)]
 pub(crate) struct KeptTables {
     // the oldest first
     tables: Vec<KeptTable>,
@@ -26,6 +25,16 @@ pub(crate) struct KeptTables {
     bound: u64,
     ghost counted: { bytes ≡ bytes_of tables.items },
     ghost bounded: { bytes ≤ bound },
+}
+
+impl Drop for KeptTables {
+    fn drop(self) {
+        let KeptTables {
+            tables: _,
+            bytes: _,
+            bound: _,
+        } = self;
+    }
 }
 
 impl KeptTables {

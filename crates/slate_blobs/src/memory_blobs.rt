@@ -12,10 +12,15 @@ use std::collections::BTreeMap;
 ///
 /// A call takes a look-up, logarithmic in the blobs, but for the listing, which is linear in them. A put copies the
 /// bytes, and a get shares them.
-#[derive(Drop)]
 pub struct MemoryBlobs<K: Copy + Ord> {
     blobs: BTreeMap<K, Bytes>,
     calls: u64,
+}
+
+impl<K: Copy + Ord + Drop> Drop for MemoryBlobs<K> {
+    fn drop(self) {
+        let MemoryBlobs { blobs: _, calls: _ } = self;
+    }
 }
 
 impl<K: Copy + Ord> MemoryBlobs<K> {

@@ -20,13 +20,22 @@ use std::marker::Model;
 /// The blobs of tables, with those tables of them that are kept decoded. A contract sees the blobs.
 ///
 /// Where they are modelled, each table that is kept is what is stored under its id.
-#[derive(Drop)]
 pub(crate) struct TableFolder<T: Blobs<TableId>> {
     blobs: T,
     // none before the first table is kept
     kept: Option<KeptTables>,
     // how many bytes of tables are kept
     bound: u64,
+}
+
+impl<T: Blobs<TableId> + Drop> Drop for TableFolder<T> {
+    fn drop(self) {
+        let TableFolder {
+            blobs: _,
+            kept: _,
+            bound: _,
+        } = self;
+    }
 }
 
 impl<T: Blobs<TableId>> Model for TableFolder<T> {

@@ -25,12 +25,22 @@ use std::marker::PhantomData;
 ///
 /// A call is one of the system's, or a few; a put waits for the disk twice, and a removal once. A listing is linear in
 /// the names of the folder.
-#[derive(Drop)]
 pub struct DirectoryBlobs<R: Files + Copy, K: FileId> {
     folder: Folder<R>,
     extension: &'static str,
     count: CallCount,
     ids: PhantomData<K>,
+}
+
+impl<R: Files + Copy + Drop, K: FileId + Drop> Drop for DirectoryBlobs<R, K> {
+    fn drop(self) {
+        let DirectoryBlobs {
+            folder: _,
+            extension: _,
+            count: _,
+            ids: _,
+        } = self;
+    }
 }
 
 impl<R: Files + Copy, K: FileId> DirectoryBlobs<R, K> {

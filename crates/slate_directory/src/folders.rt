@@ -12,11 +12,16 @@ use std::{fs, io};
 const NAMES_ROOM: usize = 8192;
 
 /// A folder of the system's, by its path.
-#[derive(Drop)]
 pub(crate) struct Folder<R: Files + Copy> {
     files: R,
     /// It ends in a slash.
     path: String,
+}
+
+impl<R: Files + Copy + Drop> Drop for Folder<R> {
+    fn drop(self) {
+        let Folder { files: _, path: _ } = self;
+    }
 }
 
 impl<R: Files + Copy> Folder<R> {

@@ -3,8 +3,13 @@ use crate::{Task, TurnAnswer};
 use slate_errors::CloseFault;
 
 /// A task in a box, whichever it is. It is used like the task inside.
-#[derive(Drop)]
 pub struct BoxedTask(pub Box<dyn Task>);
+
+impl Drop for BoxedTask {
+    fn drop(self) {
+        let BoxedTask(_) = self;
+    }
+}
 
 impl Task for BoxedTask {
     ghost use Rattle.std.specs.Prelude.{◌≡◌};

@@ -25,10 +25,18 @@ pub struct ExecutorRefusal<T> {
 /// Groups are registered before the start. A task that ends writes its result to the close cell, where the first result
 /// stays, and is finished with what the cell then holds. The result of a group is the first error that one of its
 /// tasks ended with, else Ok. An error cancels every task of every group.
-#[derive(Drop)]
 pub struct Executor<T> {
     groups: Vec<Group<T>>,
     is_started: bool,
+}
+
+impl<T: Drop> Drop for Executor<T> {
+    fn drop(self) {
+        let Executor {
+            groups: _,
+            is_started: _,
+        } = self;
+    }
 }
 
 impl<T> Model for Executor<T> {

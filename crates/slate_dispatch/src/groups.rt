@@ -10,10 +10,15 @@ use slate_types::Name;
 use std::marker::Model;
 
 /// A task of a group, and its result once it has ended.
-#[derive(Drop)]
 pub(crate) struct Member<T> {
     pub(crate) task: T,
     pub(crate) ended: Option<Result<(), CloseFault>>,
+}
+
+impl<T: Drop> Drop for Member<T> {
+    fn drop(self) {
+        let Member { task: _, ended: _ } = self;
+    }
 }
 
 impl<T: Task> Member<T> {
@@ -94,11 +99,20 @@ fn cancel_members<T: Task>(members: &mut [Member<T>])
 }
 
 /// Tasks under one name. A contract sees the name, the members, and the first error that one ended with, else Ok.
-#[derive(Drop)]
 pub(crate) struct Group<T> {
     name: Name,
     members: Vec<Member<T>>,
     result: Result<(), CloseFault>,
+}
+
+impl<T: Drop> Drop for Group<T> {
+    fn drop(self) {
+        let Group {
+            name: _,
+            members: _,
+            result: _,
+        } = self;
+    }
 }
 
 impl<T> Model for Group<T> {

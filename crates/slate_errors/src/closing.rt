@@ -35,9 +35,15 @@ pub enum CloseFault {
 }
 
 /// The result with which something closed. The first one that is written stays.
-#[derive(Debug, Drop)]
+#[derive(Debug)]
 pub struct CloseCell {
     recorded: Option<Result<(), CloseFault>>,
+}
+
+impl Drop for CloseCell {
+    fn drop(self) {
+        let CloseCell { recorded: _ } = self;
+    }
 }
 
 impl Model for CloseCell {

@@ -28,7 +28,6 @@ pub(crate) struct Following {
 ///
 /// A contract sees it as a follower whose line is the batches that it keeps in memory: those that aren't in the tables of
 /// the manifest that it goes by.
-#[derive(Drop)]
 pub struct FollowerState {
     pub(crate) following: Following,
     /// At how many bytes a table in memory is cut.
@@ -44,6 +43,21 @@ pub struct FollowerState {
     pub(crate) status: StatusRecord,
     /// The task that runs until it is closed, unless it stays at a checkpoint.
     pub(crate) tasks: Tasks,
+}
+
+impl Drop for FollowerState {
+    fn drop(self) {
+        let FollowerState {
+            following: _,
+            limit: _,
+            kept: _,
+            segments: _,
+            mark: _,
+            lease: _,
+            status: _,
+            tasks: _,
+        } = self;
+    }
 }
 
 impl Model for FollowerState {

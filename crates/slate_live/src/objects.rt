@@ -24,7 +24,6 @@ use slate_writer::WriterState;
 use std::alloc::Global;
 
 /// Something that commands name by its number.
-#[derive(Drop)]
 pub enum Object {
     /// A handle that writes.
     Handle(WriterState),
@@ -32,6 +31,16 @@ pub enum Object {
     Snapshot(HandleSnapshot),
     /// A reader that follows a database.
     Follower(FollowerState),
+}
+
+impl Drop for Object {
+    fn drop(self) {
+        match self {
+            Object::Handle(_) => {}
+            Object::Snapshot(_) => {}
+            Object::Follower(_) => {}
+        }
+    }
 }
 
 impl Object {

@@ -37,11 +37,20 @@ pub struct Write {
 }
 
 /// The live objects of a run, by their numbers, and the writes that they accepted.
-#[derive(Drop)]
 pub struct LiveState {
     options: Options,
     objects: Vec<Object>,
     writes: Vec<Write>,
+}
+
+impl Drop for LiveState {
+    fn drop(self) {
+        let LiveState {
+            options: _,
+            objects: _,
+            writes: _,
+        } = self;
+    }
 }
 
 impl Model for LiveState {

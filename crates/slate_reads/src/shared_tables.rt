@@ -10,9 +10,15 @@ use std::sync::Arc;
 
 /// A stored table: batches with rising numbers, which are never changed. Copies share the batches and their indexes. A
 /// contract sees the list of batches.
-#[derive(Debug, Drop)]
+#[derive(Debug)]
 pub struct Table {
     shared: Arc<IndexedTable, Global>,
+}
+
+impl Drop for Table {
+    fn drop(self) {
+        let Table { shared: _ } = self;
+    }
 }
 
 impl Model for Table {

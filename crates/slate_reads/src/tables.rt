@@ -31,13 +31,25 @@ pub(crate) struct Entry {
 ///
 /// It keeps two indexes: for reads of a key an entry for each operation, which leads to the one before it on the same
 /// key, with a hash map from each key to its last entry; and for scans the set of the keys, in order.
-#[derive(Debug, Drop)]
+#[derive(Debug)]
 pub struct IndexedTable {
     pub(crate) batches: Window<Batch>,
     pub(crate) entries: Window<Entry>,
     pub(crate) latest: HashMap<Bytes, Option<usize>>,
     pub(crate) order: BTreeSet<Bytes>,
     size: u128,
+}
+
+impl Drop for IndexedTable {
+    fn drop(self) {
+        let IndexedTable {
+            batches: _,
+            entries: _,
+            latest: _,
+            order: _,
+            size: _,
+        } = self;
+    }
 }
 
 impl Model for IndexedTable {

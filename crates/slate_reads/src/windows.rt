@@ -8,11 +8,21 @@ use std::mem;
 
 /// The items of a growing list from some place on. Its front can be taken away, and the items that stay keep their
 /// places. A contract sees them as a run.
-#[derive(Debug, Drop)]
+#[derive(Debug)]
 pub(crate) struct Window<T> {
     items: Vec<T>,
     gone: usize,
     start: usize,
+}
+
+impl<T: Drop> Drop for Window<T> {
+    fn drop(self) {
+        let Window {
+            items: _,
+            gone: _,
+            start: _,
+        } = self;
+    }
 }
 
 impl<T> Model for Window<T> {

@@ -24,7 +24,7 @@ struct Kept {
 }
 
 /// An iterator over the rows of a range, which may end with a fault. SlateDB's `DbIterator`.
-#[derive(Debug, Drop)]
+#[derive(Debug)]
 pub struct DbIterator {
     range: ByteRange,
     order: IterationOrder,
@@ -32,6 +32,19 @@ pub struct DbIterator {
     fault: Option<ReadFault>,
     returned: Option<Bytes>,
     answered: Option<ReadFault>,
+}
+
+impl Drop for DbIterator {
+    fn drop(self) {
+        let DbIterator {
+            range: _,
+            order: _,
+            rows: _,
+            fault: _,
+            returned: _,
+            answered: _,
+        } = self;
+    }
 }
 
 impl Model for DbIterator {
@@ -122,7 +135,14 @@ impl DbIterator {
     pub fn into_rows(self, alloc: Global) -> Result<Seq<KeyValue>, ReadFault>
         ensures { Reads (all_rows self.rows self.fault) result }
     {
-        let DbIterator { rows, fault, .. } = self;
+        let DbIterator {
+            range: _,
+            order: _,
+            rows,
+            fault,
+            returned: _,
+            answered: _,
+        } = self;
         if let Some(fault) = fault {
             return Err(fault);
         }
@@ -149,7 +169,14 @@ impl DbIterator {
         let mut list = Vec::new(alloc);
         self.take_rows(&mut list, count)?;
         self.seek(key)?;
-        let DbIterator { rows, fault, .. } = self;
+        let DbIterator {
+            range: _,
+            order: _,
+            rows,
+            fault,
+            returned: _,
+            answered: _,
+        } = self;
         if let Some(fault) = fault {
             return Err(SeekFault::Stored(fault));
         }

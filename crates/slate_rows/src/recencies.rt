@@ -12,9 +12,15 @@ use std::collections::VecDeque;
 use std::marker::Model;
 
 /// An iterator over operations, each on its own. A contract sees the list of those that are left.
-#[derive(Debug, Drop)]
+#[derive(Debug)]
 pub struct DbRecencyIterator {
     entries: VecDeque<RowEntry>,
+}
+
+impl Drop for DbRecencyIterator {
+    fn drop(self) {
+        let DbRecencyIterator { entries: _ } = self;
+    }
 }
 
 impl Model for DbRecencyIterator {

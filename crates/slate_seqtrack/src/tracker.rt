@@ -27,13 +27,25 @@ const DEFAULT_INTERVAL_SECS: u64 = 60;
 /// Pairs of a sequence number and the time of its write, at most one an interval and in bounded room: where there are
 /// more than the capacity, every other one goes. Neither numbers nor times fall along the list. SlateDB's
 /// `SequenceTracker`.
-#[derive(Debug, Drop)]
+#[derive(Debug)]
 pub struct SequenceTracker {
     sequence_numbers: Vec<u64>,
     timestamps: Vec<i64>,
     capacity: u32,
     interval_secs: u64,
     last_recorded_ts: Option<i64>,
+}
+
+impl Drop for SequenceTracker {
+    fn drop(self) {
+        let SequenceTracker {
+            sequence_numbers: _,
+            timestamps: _,
+            capacity: _,
+            interval_secs: _,
+            last_recorded_ts: _,
+        } = self;
+    }
 }
 
 impl Model for SequenceTracker {

@@ -14,13 +14,25 @@ use std::marker::Model;
 /// The status of a database with its version, and the result with which it closed. Each report that changes the status
 /// raises the version by one and answers true, and so does each `report_fence_manifest`; every other report changes
 /// nothing and answers false. At the greatest `u64` the version stays, and counts as risen.
-#[derive(Debug, Drop)]
+#[derive(Debug)]
 pub struct StatusRecord {
     version: u64,
     durable: u64,
     manifest: VersionedManifest,
     segments: Seq<Bytes>,
     closed: CloseCell,
+}
+
+impl Drop for StatusRecord {
+    fn drop(self) {
+        let StatusRecord {
+            version: _,
+            durable: _,
+            manifest: _,
+            segments: _,
+            closed: _,
+        } = self;
+    }
 }
 
 impl Model for StatusRecord {

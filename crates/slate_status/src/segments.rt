@@ -11,9 +11,15 @@ use std::alloc::Global;
 use std::collections::BTreeSet;
 
 /// A segment, by the prefix of its keys. Segments are ordered by it. SlateDB's type of this name.
-#[derive(Debug, PartialEq, Eq, PartialOrd, Ord, Drop)]
+#[derive(Debug, PartialEq, Eq, PartialOrd, Ord)]
 pub struct SegmentPrefix {
     pub prefix: Bytes,
+}
+
+impl Drop for SegmentPrefix {
+    fn drop(self) {
+        let SegmentPrefix { prefix: _ } = self;
+    }
 }
 
 /// Copies of prefixes, which share their bytes.

@@ -44,11 +44,20 @@ impl Fate {
 /// A store over another one, whose calls fail as a list says. A call that the list names answers `Failed`; it is made
 /// or not, as the list says. Where the list names a call twice, the first counts. All other calls are those of the
 /// store inside. Each call takes time linear in the list besides.
-#[derive(Drop)]
 pub struct FaultyStore<S> {
     inner: S,
     failing: Seq<FailingCall>,
     count: CallCount,
+}
+
+impl<S: Drop> Drop for FaultyStore<S> {
+    fn drop(self) {
+        let FaultyStore {
+            inner: _,
+            failing: _,
+            count: _,
+        } = self;
+    }
 }
 
 impl<S> Model for FaultyStore<S> {
@@ -85,7 +94,12 @@ impl<S> FaultyStore<S> {
     pub fn into_inner(self) -> S
         ensures { result ≡ self.inner }
     {
-        self.inner
+        let FaultyStore {
+            inner,
+            failing: _,
+            count: _,
+        } = self;
+        inner
     }
 
     /// Counts a call, and answers what becomes of it. It counts a failure.

@@ -7,9 +7,15 @@ use std::marker::Model;
 use std::sync::Arc;
 
 /// A stored log file: its batches, which are never changed. Copies share them. A contract sees the list of batches.
-#[derive(Debug, Drop)]
+#[derive(Debug)]
 pub struct LogFile {
     shared: Arc<Seq<Batch>, Global>,
+}
+
+impl Drop for LogFile {
+    fn drop(self) {
+        let LogFile { shared: _ } = self;
+    }
 }
 
 impl Model for LogFile {

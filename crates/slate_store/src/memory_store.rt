@@ -16,12 +16,22 @@ use std::collections::BTreeMap;
 /// A call takes a look-up, logarithmic in the objects, but for the listing, which is linear in them. One that puts a log
 /// file copies its batches and their lists of operations, and one that puts or gives a manifest copies its lists; a log
 /// file that is given is shared, a table that is put or given is shared too, and so are the bytes of keys and values.
-#[derive(Drop)]
 pub struct MemoryStore {
     manifests: BTreeMap<u64, Manifest>,
     logs: BTreeMap<u64, LogFile>,
     tables: BTreeMap<TableId, Table>,
     calls: u64,
+}
+
+impl Drop for MemoryStore {
+    fn drop(self) {
+        let MemoryStore {
+            manifests: _,
+            logs: _,
+            tables: _,
+            calls: _,
+        } = self;
+    }
 }
 
 impl MemoryStore {

@@ -13,10 +13,18 @@ use std::mem;
 
 /// Tasks of an executor that run under their names. A contract sees the names of those that run, in the order in which they
 /// were registered.
-#[derive(Drop)]
 pub struct Tasks {
     executor: Executor<Dispatcher<NoWork>>,
     running: Ending,
+}
+
+impl Drop for Tasks {
+    fn drop(self) {
+        let Tasks {
+            executor: _,
+            running: _,
+        } = self;
+    }
 }
 
 impl Model for Tasks {

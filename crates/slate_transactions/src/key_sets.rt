@@ -9,9 +9,15 @@ use std::collections::BTreeSet;
 use std::marker::Model;
 
 /// A set of keys. A contract sees the list of them, in order.
-#[derive(Debug, Drop)]
+#[derive(Debug)]
 pub struct KeySet {
     pub(crate) keys: BTreeSet<Bytes>,
+}
+
+impl Drop for KeySet {
+    fn drop(self) {
+        let KeySet { keys: _ } = self;
+    }
 }
 
 impl Model for KeySet {

@@ -17,12 +17,22 @@ use std::marker::Model;
 
 /// Operations that a transaction adds one by one, as those of a `WriteBatch`, with those of each key at hand. A contract
 /// sees a batch with the number at which the transaction began and the creation time 0.
-#[derive(Debug, Drop)]
+#[derive(Debug)]
 pub struct OwnWrites {
     start: u64,
     ops: Vec<KeyOp>,
     /// The operations on each key, as such a batch; a key without one may be there.
     pub(crate) by_key: BTreeMap<Bytes, Batch>,
+}
+
+impl Drop for OwnWrites {
+    fn drop(self) {
+        let OwnWrites {
+            start: _,
+            ops: _,
+            by_key: _,
+        } = self;
+    }
 }
 
 impl Model for OwnWrites {
@@ -67,9 +77,12 @@ impl OwnWrites {
     pub fn into_batch(self) -> WriteBatch
         ensures { result.ops ≡ self.ops }
     {
-        WriteBatch {
-            ops: Seq::of(self.ops),
-        }
+        let OwnWrites {
+            start: _,
+            ops,
+            by_key: _,
+        } = self;
+        WriteBatch { ops: Seq::of(ops) }
     }
 
     /// Adds a put, which removes the earlier operations on the key. It copies key and value. Where memory ran out the

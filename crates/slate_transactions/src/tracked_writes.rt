@@ -13,9 +13,15 @@ use std::marker::Model;
 
 /// The last writes of a handle: for each key the number of the last batch with a write of it that is tracked, and 0 for a
 /// key without one. It keeps each key for good, in order.
-#[derive(Debug, Drop)]
+#[derive(Debug)]
 pub struct TrackedWrites {
     pub(crate) last: BTreeMap<Bytes, u64>,
+}
+
+impl Drop for TrackedWrites {
+    fn drop(self) {
+        let TrackedWrites { last: _ } = self;
+    }
 }
 
 impl Model for TrackedWrites {

@@ -91,10 +91,16 @@ impl MergeOperator for ConcatOperator {
 }
 
 /// Cuts off a prefix of a fixed length. A key that is shorter has none. It is lawful. A contract sees the length.
-#[derive(Debug, Drop)]
+#[derive(Debug)]
 pub struct FixedPrefix {
     name: Name,
     length: u8,
+}
+
+impl Drop for FixedPrefix {
+    fn drop(self) {
+        let FixedPrefix { name: _, length: _ } = self;
+    }
 }
 
 impl Model for FixedPrefix {

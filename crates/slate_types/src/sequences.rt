@@ -8,9 +8,15 @@ use std::alloc::AllocError;
 use std::marker::Model;
 
 /// A list of values, as records hold it. A contract sees the list.
-#[derive(Debug, Drop)]
+#[derive(Debug)]
 pub struct Seq<T> {
     pub(crate) list: Vec<T>,
+}
+
+impl<T: Drop> Drop for Seq<T> {
+    fn drop(self) {
+        let Seq { list: _ } = self;
+    }
 }
 
 impl<T> Model for Seq<T> {
@@ -40,7 +46,8 @@ impl<T> Seq<T> {
     pub fn into_vec(self) -> Vec<T>
         ensures { result.items ≡ self }
     {
-        self.list
+        let Seq { list } = self;
+        list
     }
 }
 
@@ -69,9 +76,15 @@ impl<T: Eq> Eq for Seq<T> {
 }
 
 /// A text, as records hold it. A contract sees its bytes.
-#[derive(Debug, Drop)]
+#[derive(Debug)]
 pub struct Name {
     text: String,
+}
+
+impl Drop for Name {
+    fn drop(self) {
+        let Name { text: _ } = self;
+    }
 }
 
 impl Model for Name {

@@ -27,7 +27,6 @@ use std::marker::Model;
 /// limit (`WriterOptions`), it accepts no batch until a flush. It keeps when its batches were written, of at most 8192
 /// (`find_ts`, `find_seq`), and from its first transaction on, for good, which batch last wrote each key. Tasks run for it
 /// until it is closed.
-#[derive(Drop)]
 pub struct WriterState {
     pub(crate) keeps_log: bool,
     pub(crate) limit: u64,
@@ -48,6 +47,28 @@ pub struct WriterState {
     pub(crate) unlogged: u64,
     pub(crate) status: StatusRecord,
     pub(crate) tasks: Tasks,
+}
+
+impl Drop for WriterState {
+    fn drop(self) {
+        let WriterState {
+            keeps_log: _,
+            limit: _,
+            floor: _,
+            memory: _,
+            segments: _,
+            stored_rise: _,
+            epoch: _,
+            counter: _,
+            tick: _,
+            tracker: _,
+            tracked: _,
+            counted: _,
+            unlogged: _,
+            status: _,
+            tasks: _,
+        } = self;
+    }
 }
 
 impl Model for WriterState {

@@ -23,7 +23,6 @@ use uuid::Uuid;
 
 /// Operations that are read by the transaction alone until they are committed as one batch, and what it read before. Its
 /// calls speak of the handle that they are given, which is to be the one on which it began. SlateDB's `DbTransaction`.
-#[derive(Drop)]
 pub struct Transaction {
     pub(crate) id: Uuid,
     pub(crate) level: IsolationLevel,
@@ -31,6 +30,19 @@ pub struct Transaction {
     pub(crate) unmarked: KeySet,
     pub(crate) read: KeySet,
     pub(crate) scanned: Vec<ByteRange>,
+}
+
+impl Drop for Transaction {
+    fn drop(self) {
+        let Transaction {
+            id: _,
+            level: _,
+            own: _,
+            unmarked: _,
+            read: _,
+            scanned: _,
+        } = self;
+    }
 }
 
 impl Model for Transaction {
@@ -221,8 +233,22 @@ impl Transaction {
         if self.is_in_conflict(writer) {
             return Err(SlateError::TransactionConflict);
         }
-        let batch = self.own.into_batch();
-        match writer.write_but(alloc, batch, &self.unmarked, moment, second, extractor) {
+        let Transaction {
+            id: _,
+            level: _,
+            own,
+            unmarked,
+            read: _,
+            scanned: _,
+        } = self;
+        match writer.write_but(
+            alloc,
+            own.into_batch(),
+            &unmarked,
+            moment,
+            second,
+            extractor,
+        ) {
             Ok(written) => Ok(Some(written)),
             Err(refusal) => Err(refusal.error),
         }

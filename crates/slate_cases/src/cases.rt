@@ -80,7 +80,7 @@ impl Case {
     }
 }
 
-fn is_newline(byte: &u8) -> bool {
+pub(crate) fn is_newline(byte: &u8) -> bool {
     *byte == b'\n'
 }
 

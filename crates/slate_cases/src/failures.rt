@@ -1,9 +1,9 @@
-// Why a case fails, and the words for it.
+// Why a file fails, and the words for it.
 use std::alloc::AllocError;
 use std::io;
 use thiserror::Error;
 
-/// Why a case failed.
+/// Why a file failed.
 #[derive(Debug, Drop, Error)]
 pub enum Failure {
     /// The line with this number stands before the script, and sets nothing.
@@ -28,6 +28,22 @@ pub enum Failure {
         found: String,
         wanted: String,
     },
+    /// The file of calls names no subject in its first line.
+    #[error("the first line is not `calls` with a subject")]
+    SubjectMissing,
+    /// The line with this number is no call of the subject.
+    #[error("line {0} is no call of the subject")]
+    Call(u64),
+    /// The call in the line with this number was answered otherwise.
+    #[error("line {number} is answered {found:?}, and {wanted:?} was wanted")]
+    Answer {
+        number: u64,
+        found: String,
+        wanted: String,
+    },
+    /// Memory ran out in a call.
+    #[error("no memory")]
+    NoMemory,
     /// The file can't be read.
     #[error(transparent)]
     File(#[from] io::Error),

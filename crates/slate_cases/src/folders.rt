@@ -1,13 +1,13 @@
-// Reading the case files of a folder: their names, and the bytes of one.
+// Reading the files of a folder: the names of those that are run, and the bytes of one.
 use std::{fs, io};
 
-/// The names of the case files in a folder, in order.
+/// The names of the case files and the files of calls in a folder, in order.
 pub fn case_names(rt: &HostRuntime, folder: &str) -> io::Result<Vec<String>> {
     let mut names = Vec::new(rt.alloc());
     for entry in fs::read_dir(rt, folder)? {
         let entry = entry?;
         let name = entry.file_name();
-        if name.ends_with(".case") {
+        if name.ends_with(".case") || name.ends_with(".calls") {
             names.push(String::from_str(rt.alloc(), name)?)?;
         }
     }

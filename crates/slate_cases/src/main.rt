@@ -1,11 +1,15 @@
-//! The program `slate_cases`: runs scripts from files over fresh stores, and names those that didn't come out as their
-//! file says. It takes the name of a folder, or no word, for the folder in which it runs. `docs/FORMATS.md` has the form
-//! of a file.
+//! The program `slate_cases`: runs scripts and calls of the library from files, and names those files that didn't come
+//! out as they say. It takes the name of a folder, or no word, for the folder in which it runs. `docs/FORMATS.md` has the
+//! forms of the files.
 #![tactic(auto)]
 
+mod calls;
 mod cases;
 mod failures;
 mod folders;
+mod printing;
+mod streams;
+mod subjects;
 mod trials;
 
 use cases::Case;
@@ -24,7 +28,7 @@ fn main(rt: HostRuntime) -> ExitCode {
     }
 }
 
-/// Runs the cases of the folder that the command line names. It answers whether all came out as they were to.
+/// Runs the files of the folder that the command line names. It answers whether all came out as they were to.
 fn run_folder(rt: &HostRuntime) -> io::Result<bool> {
     let folder = read_folder(rt)?;
     let names = folders::case_names(rt, folder.as_str())?;
@@ -48,9 +52,12 @@ fn read_folder(rt: &HostRuntime) -> io::Result<String> {
     }
 }
 
-/// Runs the case of one file.
+/// Runs the case or the calls of one file.
 fn run_file(rt: &HostRuntime, folder: &str, name: &str) -> Result<(), Failure> {
     let text = folders::read_file(rt, folder, name)?;
+    if name.ends_with(".calls") {
+        return calls::run_calls(rt.alloc(), text.as_slice());
+    }
     let case = Case::parse(rt.alloc(), text.as_slice())?;
     trials::run_case(rt.alloc(), case)
 }

@@ -6,11 +6,7 @@ mod contended;
 #[cfg(test)]
 mod scans;
 #[cfg(test)]
-mod session;
-#[cfg(test)]
 mod store;
-#[cfg(test)]
-mod streams;
 #[cfg(test)]
 mod times;
 #[cfg(test)]

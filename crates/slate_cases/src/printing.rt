@@ -1,0 +1,72 @@
+// What several subjects read and print: words, numbers and rows.
+use crate::subjects::CallFailure;
+use bytes::Bytes;
+use slate_text::{read_byte_word, read_number, write_byte_word, write_number, write_signed};
+use slate_types::{KeyValue, NoMemory};
+use std::alloc::Global;
+
+/// The number that a word spells.
+pub fn number_of(word: &[u8]) -> Result<u64, CallFailure> {
+    read_number(word).ok_or(CallFailure::Unread)
+}
+
+/// The time that a word spells, in milliseconds or seconds, with `-` before one that is negative.
+pub fn time_of(word: &[u8]) -> Result<i64, CallFailure> {
+    let (digits, negative) = match word {
+        [b'-', digits @ ..] => (digits, true),
+        _ => (word, false),
+    };
+    let time = i64::try_from(number_of(digits)?).map_err(|_error| CallFailure::Unread)?;
+    Ok(if negative {
+        0i64.saturating_sub(time)
+    } else {
+        time
+    })
+}
+
+/// The bytes that a word spells.
+pub fn bytes_of(alloc: Global, word: &[u8]) -> Result<Bytes, CallFailure> {
+    read_byte_word(alloc, word)?.ok_or(CallFailure::Unread)
+}
+
+/// Appends a text.
+pub fn print_text(answer: &mut Vec<u8>, text: &str) -> Result<(), CallFailure> {
+    Ok(answer.extend_from_slice(text.as_bytes())?)
+}
+
+/// Appends a number.
+pub fn print_number(answer: &mut Vec<u8>, number: u64) -> Result<(), CallFailure> {
+    Ok(write_number(answer, number)?)
+}
+
+/// Appends bytes as a word.
+pub fn print_bytes(answer: &mut Vec<u8>, bytes: &[u8]) -> Result<(), CallFailure> {
+    Ok(write_byte_word(answer, bytes)?)
+}
+
+/// Appends rows with a blank between each two, each as `key=value@number+time`, and `-end` where it expires.
+pub fn print_rows(answer: &mut Vec<u8>, rows: &[KeyValue]) -> Result<(), CallFailure> {
+    let mut between = "";
+    for row in rows {
+        print_text(answer, between)?;
+        print_row(answer, row)?;
+        between = " ";
+    }
+    Ok(())
+}
+
+/// Appends a row, as `print_rows` does.
+pub fn print_row(answer: &mut Vec<u8>, row: &KeyValue) -> Result<(), NoMemory> {
+    write_byte_word(answer, row.key.as_slice())?;
+    answer.push(b'=')?;
+    write_byte_word(answer, row.value.as_slice())?;
+    answer.push(b'@')?;
+    write_number(answer, row.seq)?;
+    answer.push(b'+')?;
+    write_signed(answer, row.create_ts)?;
+    if let Some(end) = row.expire_ts {
+        answer.push(b'-')?;
+        write_signed(answer, end)?;
+    }
+    Ok(())
+}

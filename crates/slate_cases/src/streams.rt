@@ -1,0 +1,162 @@
+// The subject `streams`: sources and sinks in memory that fail as told, and sessions over them.
+use crate::printing::{bytes_of, number_of, print_bytes, print_number, print_text};
+use crate::subjects::CallFailure;
+use slate_live::{
+    InputFault, ReadAnswer, SliceSource, Source, VecSink, read_whole, session, write_whole,
+};
+use slate_store::{MemoryStore, Store};
+use slate_types::Seq;
+use std::alloc::Global;
+
+/// A source, a sink, and the store of the sessions that read the one and write to the other.
+#[derive(Drop)]
+pub struct Streams {
+    source: SliceSource,
+    sink: VecSink,
+    store: MemoryStore,
+}
+
+impl Streams {
+    /// An empty source, and a sink to which nothing is written.
+    pub fn new(alloc: Global) -> Streams {
+        let none = Seq::of(Vec::new(alloc));
+        Streams {
+            source: SliceSource::new(Vec::new(alloc), 1, none),
+            sink: VecSink::new(alloc, 1, Seq::of(Vec::new(alloc))),
+            store: MemoryStore::new(alloc),
+        }
+    }
+
+    /// Makes one of the calls that `docs/FORMATS.md` lists.
+    pub fn call(
+        &mut self,
+        alloc: Global,
+        words: &[&[u8]],
+        answer: &mut Vec<u8>,
+    ) -> Result<(), CallFailure> {
+        match words {
+            [b"source", text, piece, failing @ ..] => {
+                let text = Vec::from_slice(alloc, bytes_of(alloc, text)?.as_slice())?;
+                let failing = failing_of(alloc, failing)?;
+                self.source = SliceSource::new(text, piece_of(piece)?, failing);
+                Ok(())
+            }
+            [b"sink", piece, failing @ ..] => {
+                self.sink = VecSink::new(alloc, piece_of(piece)?, failing_of(alloc, failing)?);
+                Ok(())
+            }
+            [b"read", limit] => self.read(alloc, limit, answer),
+            [b"flow", left, limit] => flow(alloc, left, limit, answer),
+            [b"write", text] => {
+                let text = bytes_of(alloc, text)?;
+                let whole = write_whole(&mut self.sink, text.as_slice());
+                print_text(answer, if whole { "whole" } else { "failed" })
+            }
+            [b"written"] => print_bytes(answer, self.sink.written()),
+            [b"session"] => {
+                let (source, sink) = (&mut self.source, &mut self.sink);
+                let finished = session(alloc, &[], source, sink, &mut self.store);
+                print_number(answer, u64::from(finished.status))
+            }
+            [b"stored"] => print_stored(alloc, &mut self.store, answer),
+            _ => Err(CallFailure::Unread),
+        }
+    }
+
+    /// Reads the source to its end, and prints the bytes.
+    fn read(
+        &mut self,
+        alloc: Global,
+        limit: &[u8],
+        answer: &mut Vec<u8>,
+    ) -> Result<(), CallFailure> {
+        match read_whole(alloc, &mut self.source, size_of(limit)?) {
+            Ok(bytes) => print_bytes(answer, bytes.as_slice()),
+            Err(fault) => print_fault(answer, fault),
+        }
+    }
+}
+
+/// Bytes that nothing holds, which come as many at a time as there is room for.
+#[derive(Drop)]
+struct Unheld {
+    left: usize,
+}
+
+impl Source for Unheld {
+    ghost use Rattle.std.specs.Prelude.{None};
+
+    ghost left = { λ _. None };
+
+    ghost faults = { λ _. 0 };
+
+    fn read(&mut self, buf: &mut [u8]) -> ReadAnswer {
+        let count = self.left.min(buf.len());
+        if count == 0 {
+            return ReadAnswer::End;
+        }
+        self.left -= count;
+        ReadAnswer::Got(count)
+    }
+}
+
+/// Reads a source of so many bytes, and prints how many came.
+fn flow(alloc: Global, left: &[u8], limit: &[u8], answer: &mut Vec<u8>) -> Result<(), CallFailure> {
+    let left = size_of(left)?;
+    match read_whole(alloc, &mut Unheld { left }, size_of(limit)?) {
+        Ok(bytes) => print_number(answer, bytes.len() as u64),
+        Err(fault) => print_fault(answer, fault),
+    }
+}
+
+/// The id of the latest manifest and that of the last log file, and how many batches this one has.
+fn print_stored(
+    alloc: Global,
+    store: &mut MemoryStore,
+    answer: &mut Vec<u8>,
+) -> Result<(), CallFailure> {
+    let Ok(latest) = store.latest_manifest(alloc) else {
+        return Err(CallFailure::Memory);
+    };
+    let Ok(last) = store.last_log(alloc, 0) else {
+        return Err(CallFailure::Memory);
+    };
+    match latest {
+        Some(latest) => print_number(answer, latest.id)?,
+        None => print_text(answer, "none")?,
+    }
+    let batches = match store.read_log(alloc, last) {
+        Ok(log) => log.batches().len(),
+        Err(_) => 0,
+    };
+    print_text(answer, " ")?;
+    print_number(answer, last)?;
+    print_text(answer, " ")?;
+    print_number(answer, batches as u64)
+}
+
+fn print_fault(answer: &mut Vec<u8>, fault: InputFault) -> Result<(), CallFailure> {
+    match fault {
+        InputFault::Failed => print_text(answer, "failed"),
+        InputFault::TooLong => print_text(answer, "too long"),
+        InputFault::NoMemory => Err(CallFailure::Memory),
+    }
+}
+
+fn size_of(word: &[u8]) -> Result<usize, CallFailure> {
+    usize::try_from(number_of(word)?).map_err(|_error| CallFailure::Unread)
+}
+
+/// How many bytes come or go at a time, which is at least one.
+fn piece_of(word: &[u8]) -> Result<usize, CallFailure> {
+    Ok(size_of(word)?.max(1))
+}
+
+/// The numbers of the calls that fail.
+fn failing_of(alloc: Global, words: &[&[u8]]) -> Result<Seq<u64>, CallFailure> {
+    let mut failing = Vec::new(alloc);
+    for word in words {
+        failing.push(number_of(word)?)?;
+    }
+    Ok(Seq::of(failing))
+}

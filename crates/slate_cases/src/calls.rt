@@ -3,24 +3,26 @@ use crate::cases::is_newline;
 use crate::failures::Failure;
 use crate::subjects::{CallFailure, Subject};
 use std::alloc::Global;
+use std::cell::Cell;
 
 const ARROW: &[u8; 4] = b" -> ";
 
 /// Makes the calls of a file one after the other, and answers the first that isn't answered as the file says.
-pub fn run_calls(alloc: Global, text: &[u8]) -> Result<(), Failure> {
+pub fn run_calls(rt: HostRuntime, text: &[u8]) -> Result<(), Failure> {
+    let left = Cell::new(0);
     let mut lines = text.split(is_newline);
     let name = lines
         .next()
         .and_then(|line| line.strip_prefix(b"calls "))
         .ok_or(Failure::SubjectMissing)?;
-    let mut subject = Subject::new(alloc, name).ok_or(Failure::SubjectMissing)?;
+    let mut subject = Subject::new(rt, name, &left).ok_or(Failure::SubjectMissing)?;
     let mut number = 1u64;
     for line in lines {
         number = number.saturating_add(1);
         match line {
             [] | [b'#', ..] => {}
-            b"anew" => subject = Subject::new(alloc, name).ok_or(Failure::SubjectMissing)?,
-            _ => take_line(alloc, number, line, &mut subject)?,
+            b"anew" => subject = Subject::new(rt, name, &left).ok_or(Failure::SubjectMissing)?,
+            _ => take_line(rt.alloc(), number, line, &mut subject)?,
         }
     }
     Ok(())
@@ -31,7 +33,7 @@ fn take_line(
     alloc: Global,
     number: u64,
     line: &[u8],
-    subject: &mut Subject,
+    subject: &mut Subject<'_>,
 ) -> Result<(), Failure> {
     let (call, wanted) = split_at_arrow(line);
     let words: Vec<&[u8]> = call.split(|byte| *byte == b' ').collect(alloc)?;

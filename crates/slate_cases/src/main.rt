@@ -3,13 +3,24 @@
 //! forms of the files.
 #![tactic(auto)]
 
+mod blob_stores;
 mod calls;
 mod cases;
+mod databases;
+mod directories;
+mod ending_files;
 mod failures;
 mod folders;
+mod handles;
+mod object_calls;
+mod operators;
 mod printing;
+mod readers;
+mod store_calls;
 mod streams;
 mod subjects;
+mod told_stores;
+mod transactions;
 mod trials;
 
 use cases::Case;
@@ -56,7 +67,7 @@ fn read_folder(rt: &HostRuntime) -> io::Result<String> {
 fn run_file(rt: &HostRuntime, folder: &str, name: &str) -> Result<(), Failure> {
     let text = folders::read_file(rt, folder, name)?;
     if name.ends_with(".calls") {
-        return calls::run_calls(rt.alloc(), text.as_slice());
+        return calls::run_calls(*rt, text.as_slice());
     }
     let case = Case::parse(rt.alloc(), text.as_slice())?;
     trials::run_case(rt.alloc(), case)

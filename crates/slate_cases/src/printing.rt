@@ -1,6 +1,7 @@
 // What several subjects read and print: words, numbers and rows.
 use crate::subjects::CallFailure;
 use bytes::Bytes;
+use slate_errors::{SlateError, write_error};
 use slate_text::{read_byte_word, read_number, write_byte_word, write_number, write_signed};
 use slate_types::{KeyValue, NoMemory};
 use std::alloc::Global;
@@ -39,18 +40,58 @@ pub fn print_number(answer: &mut Vec<u8>, number: u64) -> Result<(), CallFailure
     Ok(write_number(answer, number)?)
 }
 
+/// Appends a time.
+pub fn print_time(answer: &mut Vec<u8>, time: i64) -> Result<(), CallFailure> {
+    Ok(write_signed(answer, time)?)
+}
+
 /// Appends bytes as a word.
 pub fn print_bytes(answer: &mut Vec<u8>, bytes: &[u8]) -> Result<(), CallFailure> {
     Ok(write_byte_word(answer, bytes)?)
 }
 
-/// Appends rows with a blank between each two, each as `key=value@number+time`, and `-end` where it expires.
+/// The numbers that words spell.
+pub fn numbers_of(alloc: Global, words: &[&[u8]]) -> Result<Vec<u64>, CallFailure> {
+    let mut numbers = Vec::new(alloc);
+    for word in words {
+        numbers.push(number_of(word)?)?;
+    }
+    Ok(numbers)
+}
+
+/// Appends a blank, where something stands before it.
+pub fn print_blank(answer: &mut Vec<u8>) -> Result<(), CallFailure> {
+    if !answer.is_empty() {
+        answer.push(b' ')?;
+    }
+    Ok(())
+}
+
+/// Appends a number, with a blank between it and what stands before it.
+pub fn add_number(answer: &mut Vec<u8>, number: u64) -> Result<(), CallFailure> {
+    print_blank(answer)?;
+    print_number(answer, number)
+}
+
+/// Appends numbers, with a blank before each that doesn't stand first.
+pub fn print_numbers(answer: &mut Vec<u8>, numbers: &[u64]) -> Result<(), CallFailure> {
+    for number in numbers {
+        add_number(answer, *number)?;
+    }
+    Ok(())
+}
+
+/// Appends an error, as `error` and its text.
+pub fn print_error(answer: &mut Vec<u8>, error: &SlateError) -> Result<(), CallFailure> {
+    print_text(answer, "error ")?;
+    Ok(write_error(answer, error)?)
+}
+
+/// Appends rows, each as `key=value@number+time`, and `-end` where it expires, with a blank between each two.
 pub fn print_rows(answer: &mut Vec<u8>, rows: &[KeyValue]) -> Result<(), CallFailure> {
-    let mut between = "";
     for row in rows {
-        print_text(answer, between)?;
+        print_blank(answer)?;
         print_row(answer, row)?;
-        between = " ";
     }
     Ok(())
 }

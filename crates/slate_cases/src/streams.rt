@@ -1,10 +1,13 @@
 // The subject `streams`: sources and sinks in memory that fail as told, and sessions over them.
-use crate::printing::{bytes_of, number_of, print_bytes, print_number, print_text};
+ghost use Rattle.std.specs.Prelude.{◌≤◌, IfOk};
+
+use crate::printing::{bytes_of, number_of, numbers_of, print_bytes, print_number, print_text};
+use crate::store_calls::print_stored;
 use crate::subjects::CallFailure;
 use slate_live::{
     InputFault, ReadAnswer, SliceSource, Source, VecSink, read_whole, session, write_whole,
 };
-use slate_store::{MemoryStore, Store};
+use slate_store::MemoryStore;
 use slate_types::Seq;
 use std::alloc::Global;
 
@@ -37,12 +40,16 @@ impl Streams {
         match words {
             [b"source", text, piece, failing @ ..] => {
                 let text = Vec::from_slice(alloc, bytes_of(alloc, text)?.as_slice())?;
-                let failing = failing_of(alloc, failing)?;
+                let failing = Seq::of(numbers_of(alloc, failing)?);
                 self.source = SliceSource::new(text, piece_of(piece)?, failing);
                 Ok(())
             }
             [b"sink", piece, failing @ ..] => {
-                self.sink = VecSink::new(alloc, piece_of(piece)?, failing_of(alloc, failing)?);
+                self.sink = VecSink::new(
+                    alloc,
+                    piece_of(piece)?,
+                    Seq::of(numbers_of(alloc, failing)?),
+                );
                 Ok(())
             }
             [b"read", limit] => self.read(alloc, limit, answer),
@@ -109,32 +116,6 @@ fn flow(alloc: Global, left: &[u8], limit: &[u8], answer: &mut Vec<u8>) -> Resul
     }
 }
 
-/// The id of the latest manifest and that of the last log file, and how many batches this one has.
-fn print_stored(
-    alloc: Global,
-    store: &mut MemoryStore,
-    answer: &mut Vec<u8>,
-) -> Result<(), CallFailure> {
-    let Ok(latest) = store.latest_manifest(alloc) else {
-        return Err(CallFailure::Memory);
-    };
-    let Ok(last) = store.last_log(alloc, 0) else {
-        return Err(CallFailure::Memory);
-    };
-    match latest {
-        Some(latest) => print_number(answer, latest.id)?,
-        None => print_text(answer, "none")?,
-    }
-    let batches = match store.read_log(alloc, last) {
-        Ok(log) => log.batches().len(),
-        Err(_) => 0,
-    };
-    print_text(answer, " ")?;
-    print_number(answer, last)?;
-    print_text(answer, " ")?;
-    print_number(answer, batches as u64)
-}
-
 fn print_fault(answer: &mut Vec<u8>, fault: InputFault) -> Result<(), CallFailure> {
     match fault {
         InputFault::Failed => print_text(answer, "failed"),
@@ -148,15 +129,8 @@ fn size_of(word: &[u8]) -> Result<usize, CallFailure> {
 }
 
 /// How many bytes come or go at a time, which is at least one.
-fn piece_of(word: &[u8]) -> Result<usize, CallFailure> {
+fn piece_of(word: &[u8]) -> Result<usize, CallFailure>
+    ensures { IfOk result (λ piece. 1 ≤ piece) }
+{
     Ok(size_of(word)?.max(1))
-}
-
-/// The numbers of the calls that fail.
-fn failing_of(alloc: Global, words: &[&[u8]]) -> Result<Seq<u64>, CallFailure> {
-    let mut failing = Vec::new(alloc);
-    for word in words {
-        failing.push(number_of(word)?)?;
-    }
-    Ok(Seq::of(failing))
 }

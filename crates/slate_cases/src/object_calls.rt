@@ -1,0 +1,355 @@
+// Calls on all objects of a told store: checkpoints, compactions and sweeps, and what a test puts and looks at.
+use crate::printing::{
+    add_number, number_of, print_blank, print_error, print_number, print_numbers, print_text,
+    print_time, time_of,
+};
+use crate::store_calls::{batches_of, print_done, print_store_error, table_of};
+use crate::subjects::CallFailure;
+use crate::told_stores::ToldStore;
+use slate_model::error_of_refusal;
+use slate_store::{
+    Checkpoint, FailingCall, Manifest, Store, StoreError, StoreRefusal, TableId, compact_tables,
+    delete_checkpoint, refresh_checkpoint, replace_checkpoint, sweep, write_checkpoint,
+};
+use slate_types::{Batch, NoMemory, Seq};
+use std::alloc::Global;
+use uuid::Uuid;
+
+/// Makes a call on the checkpoints of a store. Their ids are noted in order.
+pub fn call_checkpoints(
+    alloc: Global,
+    store: &mut ToldStore,
+    ids: &mut Vec<Uuid>,
+    words: &[&[u8]],
+    answer: &mut Vec<u8>,
+) -> Result<(), CallFailure> {
+    match words {
+        [b"list"] => list_checkpoints(alloc, store, ids.as_slice(), answer),
+        [b"delete", noted] => {
+            let id = noted_id(ids.as_slice(), noted)?;
+            print_refusal(answer, delete_checkpoint(alloc, store, id))
+        }
+        [b"write", lifetime, moment] => {
+            let (lifetime, moment) = (lifetime_of(lifetime)?, time_of(moment)?);
+            let made = write_checkpoint(alloc, store, lifetime, moment);
+            print_made(ids, made, answer)
+        }
+        [b"replace", noted, lifetime, moment] => {
+            let id = noted_id(ids.as_slice(), noted)?;
+            let (lifetime, moment) = (number_of(lifetime)?, time_of(moment)?);
+            let made = replace_checkpoint(alloc, store, id, lifetime, moment);
+            print_made(ids, made, answer)
+        }
+        [b"refresh", noted, lifetime, moment] => {
+            let id = noted_id(ids.as_slice(), noted)?;
+            let (lifetime, moment) = (number_of(lifetime)?, time_of(moment)?);
+            let made = refresh_checkpoint(alloc, store, id, lifetime, moment);
+            print_made(ids, made, answer)
+        }
+        _ => Err(CallFailure::Unread),
+    }
+}
+
+/// Notes the id of a checkpoint that was made, where it is new, and appends the checkpoint.
+fn print_made(
+    ids: &mut Vec<Uuid>,
+    made: Result<Checkpoint, StoreRefusal>,
+    answer: &mut Vec<u8>,
+) -> Result<(), CallFailure> {
+    match made {
+        Ok(checkpoint) => {
+            note(ids, checkpoint.id)?;
+            print_checkpoint(answer, ids.as_slice(), &checkpoint)
+        }
+        Err(refusal) => print_refusal(answer, Err(refusal)),
+    }
+}
+
+fn note(ids: &mut Vec<Uuid>, id: Uuid) -> Result<(), CallFailure> {
+    let is_noted = ids.as_slice().contains(&id);
+    if is_noted {
+        return Ok(());
+    }
+    Ok(ids.push(id)?)
+}
+
+/// Makes one of the other calls.
+pub fn call_objects(
+    alloc: Global,
+    store: &mut ToldStore,
+    words: &[&[u8]],
+    answer: &mut Vec<u8>,
+) -> Result<(), CallFailure> {
+    match words {
+        [b"database", tables] => {
+            let made = make_database(alloc, store, number_of(tables)?);
+            print_done(answer, made?)
+        }
+        [b"batches"] => print_batches_named(alloc, store, answer),
+        [b"compact", epoch, index] => {
+            compact(alloc, store, number_of(epoch)?, number_of(index)?, answer)
+        }
+        [b"sweep", moment] => match sweep(alloc, store, time_of(moment)?) {
+            Ok(count) => print_number(answer, count),
+            Err(refusal) => print_refusal(answer, Err(refusal)),
+        },
+        [b"leases"] => print_leases(alloc, store, answer),
+        [b"calls"] => print_number(answer, store.calls()),
+        [b"faulty_calls"] => print_number(answer, store.faulty_calls()),
+        [b"fail", failing @ ..] => {
+            let failing = failing_of(alloc, failing)?;
+            store.let_fail(alloc, Seq::of(failing));
+            Ok(())
+        }
+        [b"contend", lost, raised_at] => {
+            store.contend(number_of(lost)?, number_of(raised_at)?);
+            Ok(())
+        }
+        [b"rivals", count] => {
+            store.let_others_put(number_of(count)?);
+            Ok(())
+        }
+        _ => Err(CallFailure::Unread),
+    }
+}
+
+fn lifetime_of(word: &[u8]) -> Result<Option<u64>, CallFailure> {
+    match word {
+        b"none" => Ok(None),
+        _ => Ok(Some(number_of(word)?)),
+    }
+}
+
+fn noted_id(ids: &[Uuid], noted: &[u8]) -> Result<Uuid, CallFailure> {
+    let index = usize::try_from(number_of(noted)?).map_err(|_error| CallFailure::Unread)?;
+    ids.get(index).copied().ok_or(CallFailure::Unread)
+}
+
+/// The calls that fail, each with its number and how it fails.
+fn failing_of(alloc: Global, words: &[&[u8]]) -> Result<Vec<FailingCall>, CallFailure> {
+    let mut failing = Vec::new(alloc);
+    for pair in words.chunks(2) {
+        let (number, landed) = match pair {
+            [number, b"landed"] => (number, true),
+            [number, b"lost"] => (number, false),
+            _ => return Err(CallFailure::Unread),
+        };
+        let at = number_of(number)?;
+        failing.push(FailingCall { at, landed })?;
+    }
+    Ok(failing)
+}
+
+/// Appends the error of a refusal, where there is one.
+fn print_refusal(
+    answer: &mut Vec<u8>,
+    refused: Result<(), StoreRefusal>,
+) -> Result<(), CallFailure> {
+    match refused {
+        Ok(()) => Ok(()),
+        Err(refusal) => print_error(answer, &error_of_refusal(refusal)),
+    }
+}
+
+/// Appends which of the noted ids a checkpoint has, the manifest that it keeps, and when its lease began and ends.
+fn print_checkpoint(
+    answer: &mut Vec<u8>,
+    ids: &[Uuid],
+    checkpoint: &Checkpoint,
+) -> Result<(), CallFailure> {
+    let Some(noted) = ids.iter().position(|id| *id == checkpoint.id) else {
+        return print_text(answer, "another");
+    };
+    print_text(answer, "checkpoint")?;
+    add_number(answer, noted as u64)?;
+    print_text(answer, " manifest")?;
+    add_number(answer, checkpoint.manifest_id)?;
+    print_text(answer, " from ")?;
+    print_time(answer, checkpoint.create_ms)?;
+    print_end(answer, checkpoint)
+}
+
+fn print_end(answer: &mut Vec<u8>, checkpoint: &Checkpoint) -> Result<(), CallFailure> {
+    match checkpoint.expire_ms {
+        None => Ok(()),
+        Some(end) => {
+            print_text(answer, " to ")?;
+            print_time(answer, end)
+        }
+    }
+}
+
+/// Appends the checkpoints of the latest manifest.
+fn list_checkpoints(
+    alloc: Global,
+    store: &mut ToldStore,
+    ids: &[Uuid],
+    answer: &mut Vec<u8>,
+) -> Result<(), CallFailure> {
+    match store.latest_manifest(alloc) {
+        Ok(None) => print_text(answer, "none"),
+        Ok(Some(latest)) => {
+            for checkpoint in latest.manifest.checkpoints.as_slice() {
+                print_blank(answer)?;
+                print_checkpoint(answer, ids, checkpoint)?;
+            }
+            Ok(())
+        }
+        Err(error) => print_store_error(answer, error),
+    }
+}
+
+/// Appends the id of the latest manifest, and for each of its checkpoints `KEPT@END`, the manifest that it keeps and the
+/// end of its lease.
+fn print_leases(
+    alloc: Global,
+    store: &mut ToldStore,
+    answer: &mut Vec<u8>,
+) -> Result<(), CallFailure> {
+    match store.latest_manifest(alloc) {
+        Ok(None) => print_text(answer, "none"),
+        Ok(Some(latest)) => {
+            print_number(answer, latest.id)?;
+            for checkpoint in latest.manifest.checkpoints.as_slice() {
+                add_number(answer, checkpoint.manifest_id)?;
+                print_text(answer, "@")?;
+                print_time(answer, checkpoint.expire_ms.unwrap_or(-1))?;
+            }
+            Ok(())
+        }
+        Err(error) => print_store_error(answer, error),
+    }
+}
+
+/// Puts a database of the epoch 1 with so many tables of one batch each, whose last number is in the log file 2.
+fn make_database(
+    alloc: Global,
+    store: &mut ToldStore,
+    tables: u64,
+) -> Result<Result<(), StoreError>, CallFailure> {
+    let mut ids = Vec::new(alloc);
+    for index in 0..tables.min(100) {
+        let id = TableId { epoch: 1, index };
+        let table = table_of(alloc, &[index.saturating_add(1)])?;
+        if let Err(error) = store.put_table(alloc, id, &table) {
+            return Ok(Err(error));
+        }
+        ids.push(id)?;
+    }
+    let manifest = Manifest {
+        tables: Seq::of(ids),
+        last_l0_seq: tables,
+        replay_after_wal_id: 1,
+        next_wal_id: 2,
+        ..first_manifest(alloc)
+    };
+    let last = batches_of(alloc, &[tables.saturating_add(1)])?;
+    Ok(put_rest(alloc, store, &manifest, last.as_slice()))
+}
+
+fn put_rest(
+    alloc: Global,
+    store: &mut ToldStore,
+    manifest: &Manifest,
+    last: &[Batch],
+) -> Result<(), StoreError> {
+    store.put_manifest(alloc, 1, manifest)?;
+    store.put_log(alloc, 1, &[])?;
+    store.put_log(alloc, 2, last)
+}
+
+/// The manifest of a database without tables.
+pub fn first_manifest(alloc: Global) -> Manifest {
+    Manifest {
+        writer_epoch: 1,
+        initialized: true,
+        tables: Seq::of(Vec::new(alloc)),
+        last_l0_seq: 0,
+        last_tick: 0,
+        replay_after_wal_id: 0,
+        next_wal_id: 1,
+        checkpoints: Seq::of(Vec::new(alloc)),
+        segments: Seq::of(Vec::new(alloc)),
+        extractor_name: None,
+    }
+}
+
+/// Joins tables, and appends how many are left and the next index.
+fn compact(
+    alloc: Global,
+    store: &mut ToldStore,
+    epoch: u64,
+    index: u64,
+    answer: &mut Vec<u8>,
+) -> Result<(), CallFailure> {
+    let mut index = index;
+    match compact_tables(alloc, store, epoch, &mut index) {
+        Ok(latest) => {
+            print_number(answer, latest.manifest.tables.as_slice().len() as u64)?;
+            print_text(answer, " next ")?;
+            print_number(answer, index)
+        }
+        Err(refusal) => print_refusal(answer, Err(refusal)),
+    }
+}
+
+/// Appends the numbers of the batches that are stored, in order. All that the latest manifest names has to be there, and
+/// the manifests of its checkpoints with their tables.
+fn print_batches_named(
+    alloc: Global,
+    store: &mut ToldStore,
+    answer: &mut Vec<u8>,
+) -> Result<(), CallFailure> {
+    let mut numbers = Vec::new(alloc);
+    match add_named(alloc, store, &mut numbers) {
+        Ok(()) => print_numbers(answer, numbers.as_slice()),
+        Err(error) => print_store_error(answer, error),
+    }
+}
+
+fn add_named(
+    alloc: Global,
+    store: &mut ToldStore,
+    numbers: &mut Vec<u64>,
+) -> Result<(), StoreError> {
+    let Some(latest) = store.latest_manifest(alloc)? else {
+        return Ok(());
+    };
+    let manifest = &latest.manifest;
+    add_tables(alloc, store, manifest, numbers)?;
+    let last = store.last_log(alloc, manifest.replay_after_wal_id)?;
+    for before in manifest.replay_after_wal_id..last {
+        add_log(alloc, store, before.saturating_add(1), numbers)?;
+    }
+    for checkpoint in manifest.checkpoints.as_slice() {
+        let kept = store.read_manifest(alloc, checkpoint.manifest_id)?;
+        add_tables(alloc, store, &kept, &mut Vec::new(alloc))?;
+    }
+    Ok(())
+}
+
+fn add_tables(
+    alloc: Global,
+    store: &mut ToldStore,
+    manifest: &Manifest,
+    numbers: &mut Vec<u64>,
+) -> Result<(), StoreError> {
+    for id in manifest.tables.as_slice() {
+        for batch in store.read_table(alloc, *id)?.batches() {
+            numbers.push(batch.number).map_err(NoMemory::from)?;
+        }
+    }
+    Ok(())
+}
+
+fn add_log(
+    alloc: Global,
+    store: &mut ToldStore,
+    id: u64,
+    numbers: &mut Vec<u64>,
+) -> Result<(), StoreError> {
+    for batch in store.read_log(alloc, id)?.batches() {
+        numbers.push(batch.number).map_err(NoMemory::from)?;
+    }
+    Ok(())
+}

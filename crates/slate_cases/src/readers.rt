@@ -1,0 +1,187 @@
+// Calls of a reader of a database beside those of script lines, and what others put for it.
+use crate::databases::Database;
+use crate::handles::ops_of;
+use crate::object_calls::first_manifest;
+use crate::printing::{bytes_of, number_of, print_error, print_number, print_text, time_of};
+use crate::store_calls::{print_done, print_store_error, push};
+use crate::subjects::CallFailure;
+use crate::told_stores::ToldStore;
+use bytes::Bytes;
+use slate_follow::{DbReaderMode, DbReaderOptions, FollowerState, PollAnswer};
+use slate_reads::{IndexedTable, Table};
+use slate_store::{LogFile, Manifest, Store, TableId};
+use slate_types::{Batch, Name, NoMemory, PrefixExtractor, Seq};
+use std::alloc::Global;
+
+impl Database {
+    /// Makes a call of the reader.
+    pub fn call_reader(
+        &mut self,
+        alloc: Global,
+        words: &[&[u8]],
+        answer: &mut Vec<u8>,
+    ) -> Result<(), CallFailure> {
+        if let [b"open", size] = words {
+            return self.open_reader(alloc, number_of(size)?, answer);
+        }
+        let reader = self.reader.as_mut().ok_or(CallFailure::Unread)?;
+        match words {
+            [b"poll", moment] => {
+                let extractor = self.extractor.as_ref();
+                match reader.poll(alloc, &mut self.store, extractor, time_of(moment)?) {
+                    Ok(polled) => print_polled(answer, polled),
+                    Err(error) => print_error(answer, &error),
+                }
+            }
+            [b"mark"] => print_number(answer, reader.mark()),
+            [b"tables"] => print_number(answer, reader.tables_in_memory()),
+            _ => Err(CallFailure::Unread),
+        }
+    }
+
+    /// Opens a reader of the latest manifest, which cuts its tables in memory at so many bytes.
+    fn open_reader(
+        &mut self,
+        alloc: Global,
+        size: u64,
+        answer: &mut Vec<u8>,
+    ) -> Result<(), CallFailure> {
+        let options = DbReaderOptions {
+            max_memtable_bytes: size,
+            ..DbReaderOptions::default()
+        };
+        let (mode, extractor) = (DbReaderMode::FollowLatest, self.extractor.as_ref());
+        match FollowerState::open(alloc, &mut self.store, mode, &options, extractor, 0) {
+            Ok((reader, polled)) => {
+                self.reader = Some(reader);
+                print_polled(answer, polled)
+            }
+            Err(error) => print_error(answer, &error),
+        }
+    }
+
+    /// Puts what another handle would put.
+    pub fn put(
+        &mut self,
+        alloc: Global,
+        words: &[&[u8]],
+        answer: &mut Vec<u8>,
+    ) -> Result<(), CallFailure> {
+        let store = &mut self.store;
+        match words {
+            [b"first"] => {
+                let mut manifest = first_manifest(alloc);
+                if let Some(extractor) = &self.extractor {
+                    let name = String::from_str(alloc, extractor.name())?;
+                    manifest.extractor_name = Some(Name::of(name));
+                }
+                print_done(answer, store.put_manifest(alloc, 1, &manifest))
+            }
+            [b"log", number, ops @ ..] => {
+                let batch = Batch {
+                    number: number_of(number)?,
+                    create_ts: 0,
+                    ops: ops_of(alloc, ops)?,
+                };
+                print_done(answer, store.put_log(alloc, batch.number, &[batch]))
+            }
+            [b"table", last] => put_table(alloc, store, number_of(last)?, answer),
+            [b"last", number] => {
+                let number = number_of(number)?;
+                put_changed(alloc, store, Change::Last(number), answer)
+            }
+            [b"segment", prefix] => {
+                let prefix = bytes_of(alloc, prefix)?;
+                let segments = Seq::of(vec![in alloc; prefix]?);
+                put_changed(alloc, store, Change::Segments(segments), answer)
+            }
+            _ => Err(CallFailure::Unread),
+        }
+    }
+}
+
+fn print_polled(answer: &mut Vec<u8>, polled: PollAnswer) -> Result<(), CallFailure> {
+    let (word, at) = match polled {
+        PollAnswer::Whole { at } => ("whole at ", at),
+        PollAnswer::Truncated { at } => ("truncated at ", at),
+    };
+    print_text(answer, word)?;
+    print_number(answer, at)
+}
+
+/// What a manifest has that is otherwise the one before.
+#[derive(Drop)]
+enum Change {
+    /// Another last number in its tables.
+    Last(u64),
+    /// Other segments.
+    Segments(Seq<Bytes>),
+    /// The table of the log files up to this one, in place of all others.
+    Tabled(u64),
+}
+
+/// The table that has the batches up to a number, each of the log file of its number.
+fn table_up_to(last: u64) -> TableId {
+    TableId {
+        epoch: 1,
+        index: last,
+    }
+}
+
+fn changed(alloc: Global, latest: &mut Manifest, change: Change) -> Result<(), CallFailure> {
+    match change {
+        Change::Last(number) => latest.last_l0_seq = number,
+        Change::Segments(segments) => latest.segments = segments,
+        Change::Tabled(last) => {
+            latest.tables = Seq::of(vec![in alloc; table_up_to(last)]?);
+            latest.last_l0_seq = last;
+            latest.replay_after_wal_id = last;
+            latest.next_wal_id = last.saturating_add(1);
+        }
+    }
+    Ok(())
+}
+
+/// Puts the latest manifest with a change under the next id.
+fn put_changed(
+    alloc: Global,
+    store: &mut ToldStore,
+    change: Change,
+    answer: &mut Vec<u8>,
+) -> Result<(), CallFailure> {
+    match store.latest_manifest(alloc) {
+        Ok(None) => Err(CallFailure::Unread),
+        Ok(Some(mut latest)) => {
+            changed(alloc, &mut latest.manifest, change)?;
+            let id = latest.id.saturating_add(1);
+            print_done(answer, store.put_manifest(alloc, id, &latest.manifest))
+        }
+        Err(error) => print_store_error(answer, error),
+    }
+}
+
+/// Puts the table of the log files up to one, and a manifest that names it in place of all others.
+fn put_table(
+    alloc: Global,
+    store: &mut ToldStore,
+    last: u64,
+    answer: &mut Vec<u8>,
+) -> Result<(), CallFailure> {
+    let mut table = IndexedTable::new(alloc);
+    for earlier in 0..last {
+        match store.read_log(alloc, earlier.saturating_add(1)) {
+            Ok(log) => add_log(&mut table, &log)?,
+            Err(error) => return print_store_error(answer, error),
+        }
+    }
+    let table = Table::new(alloc, table).map_err(|_table| NoMemory)?;
+    print_done(answer, store.put_table(alloc, table_up_to(last), &table))?;
+    put_changed(alloc, store, Change::Tabled(last), answer)
+}
+
+fn add_log(table: &mut IndexedTable, log: &LogFile) -> Result<(), CallFailure> {
+    for batch in log.batches() {
+        push(table, batch.clone()?)?;
+    }
+    Ok(())
+}

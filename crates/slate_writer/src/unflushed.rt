@@ -1,4 +1,4 @@
-// How much a handle has that isn't stored yet.
+// The unflushed bytes of a handle, and the refusal of a write by them.
 ghost use Rattle.std.specs.Prelude.{◌≡◌, min};
 ghost use Rattle.slate_model.specs.Handle.{to_log, unstored, untabled};
 ghost use Rattle.slate_model.specs.Unflushed.{limit_refusal, most_bytes, unflushed};
@@ -9,10 +9,10 @@ use crate::sizes::size_of;
 use slate_errors::SlateError;
 
 impl WriterState {
-    /// How many bytes of keys and values the handle accepted that aren't stored: those of the batches that aren't in the
-    /// tables of the manifest that it goes by, and, where it keeps a log, once more those of the batches above the durable
-    /// number. A delete counts its key. A sum above the greatest `u64` counts as that. Where it reaches the handle's
-    /// `max_unflushed_bytes`, `write` answers `Backpressure`.
+    /// How many unflushed bytes of keys and values the handle has: those of the batches that aren't in the tables of
+    /// the manifest that it goes by, and, where it keeps a log, once more those of the batches above the durable
+    /// number, which aren't in the log yet. A delete counts its key. A sum above the greatest `u64` counts as that.
+    /// Where it reaches the handle's `max_unflushed_bytes`, `write` answers `Backpressure`.
     ///
     /// It is answered of a closed handle, too. It takes no memory, and constant time over a store that only handles wrote;
     /// else time linear in the operations in memory. What SlateDB holds its writers back by.
@@ -22,7 +22,7 @@ impl WriterState {
         self.untabled_size().saturating_add(self.to_log_size())
     }
 
-    /// The refusal of a write where what isn't stored reaches the limit.
+    /// The refusal of a write where the unflushed bytes reach the limit.
     pub(crate) fn limit_refusal(&self) -> Option<SlateError>
         ensures { result ≡ limit_refusal (unflushed self.now) self.now.limit }
     {

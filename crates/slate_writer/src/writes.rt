@@ -41,7 +41,7 @@ impl WriterState {
     ///
     /// It is refused, in this order, on a closed handle (`Closed` or the error that closed it), without an operation
     /// (`EmptyBatch`), with an empty key (`EmptyKey`), where it merges one key under two times of expiry
-    /// (`IncompatibleMergeTtls`, which names the first such merge), where the bytes that aren't stored have reached the
+    /// (`IncompatibleMergeTtls`, which names the first such merge), where the unflushed bytes have reached the
     /// handle's limit (`Backpressure`, which names both: what `unflushed` answers, without the batch's own bytes, and
     /// `max_unflushed_bytes`), where a key has no segment (below), after the greatest number (`InvalidDBState`), and
     /// where both moments are below the creation time of the batch before (`InvalidClockTick`). A refusal, and want of

@@ -22,14 +22,16 @@ usage: slate [--store DIR] [--merge concat] [--segments N] [--limit N] [--bare]
 
 With --store DIR the database is kept in the directory DIR, which is made where
 it isn't there: what a flush answered is there for later runs, also after a
-crash. Any number of runs may use one directory at once.
+crash. Any number of runs may use one directory at once, but while one sweeps no
+other may write.
 With --merge concat the operands of a key are appended; without it a merge is
 refused. With --segments N, from 1 to 255, the first N bytes of a key name its
 segment: a shorter key is refused, and so is a database that was made with
 another N, or without. With --limit N a write is refused where its handle has N
-bytes of keys and values or more that aren't stored; without it N is
-1,073,741,824. With --bare a handle registers no compactor, no compaction worker
-and no garbage collector; the tasks of the rest are ended by its close.
+unflushed bytes or more: those of keys and values that aren't in a table, and
+once more those that aren't in the log it keeps; without it N is 1,073,741,824.
+With --bare a handle registers no compactor, no compaction worker and no garbage
+collector; the tasks of the rest are ended by its close.
 
 A line of the script is a moment in milliseconds and a command, as in
   0 open

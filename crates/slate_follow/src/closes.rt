@@ -16,12 +16,12 @@ impl FollowerState {
     /// Closes the reader, and ends its task, `manifest_poller`, which it lists. One that stays at a checkpoint has no task,
     /// and a second close lists none. From then on its gets and polls answer `Closed`.
     ///
-    /// One that keeps a checkpoint of its own first takes it out of the latest manifest, where it is there, so that a sweep
-    /// may remove what only it kept. It is closed then, whether or not that failed; where it did, the answer has the fault,
-    /// and the checkpoint lapses when its lease ends. The fault is `ObjectStoreError` for a fault of the store,
-    /// `LatestTransactionalObjectVersionMissing` where there is no manifest, `InvalidDBState` where no id is left for
-    /// another, `TransactionalObjectTimeout` where eight times another manifest was put first, and `NoMemory`. A reader
-    /// in another mode doesn't touch the store.
+    /// One that keeps a checkpoint of its own first takes it out of the latest manifest, where it is there, so that a
+    /// sweep may remove what only it kept. It is closed then, whether or not that failed; where it did, the answer has
+    /// the fault, and the checkpoint lapses when its lease ends. The fault is `ObjectStoreError` for a fault of the
+    /// store, `LatestTransactionalObjectVersionMissing` where there is no manifest, `InvalidDBState` where no id is
+    /// left for another, `TransactionalObjectTimeout` where eight times another manifest was put first, and `NoMemory`.
+    /// A reader in another mode doesn't touch the store.
     ///
     /// A reader that was closed before answers the error that was recorded, and none where it closed cleanly, and doesn't
     /// touch the store; what was recorded first stays. It calls the store at most twice for each of eight tries, and takes

@@ -142,14 +142,14 @@ impl FollowerState {
     /// stays as it is, and answers `Whole` without a call of the store.
     ///
     /// One that follows the latest goes by the latest manifest then, and `moment` isn't looked at. One that keeps a
-    /// checkpoint of its own goes by the same manifest as before while the latest one has the same tables, last number in
-    /// them and segments, and takes what log files have that are new. Where one of these differs, it puts a manifest after
-    /// the latest one with a new checkpoint in place of the old one, whose lease begins at `moment`, and goes by that. Else
-    /// it renews its lease, so that it ends a lifetime after `moment`, where `moment` is after its end less half the
-    /// lifetime, rounded down. Where the lease is over and a sweep took its checkpoint out, the renewal puts a new one,
-    /// and the reader goes by that manifest. So it keeps its checkpoint, and no sweep removes a table that it reads, while
-    /// the moments of its polls and of sweeps are less than half the lifetime after its last poll that answered, or its
-    /// opening.
+    /// checkpoint of its own goes by the same manifest as before while the latest one has the same tables, last number
+    /// in them and segments, and takes what log files have that are new. Where one of these differs, it puts a manifest
+    /// after the latest one with a new checkpoint in place of the old one, whose lease begins at `moment`, and goes by
+    /// that. Else it renews its lease, so that it ends a lifetime after `moment`, where `moment` is after its end less
+    /// half the lifetime, rounded down. Where the lease is over and a sweep took its checkpoint out, the renewal puts a
+    /// new one, and the reader goes by that manifest. So it keeps its checkpoint, and no sweep removes a table that it
+    /// reads, while the moments of its polls and of sweeps are less than half the lifetime after its last poll that
+    /// answered, or its opening.
     ///
     /// It calls the store twice, once more where it puts a manifest, and once for each log file that it reads: those above
     /// both the replay mark and its own mark, up to which it has what the log files have. Where a lease is due whose

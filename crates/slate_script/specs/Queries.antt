@@ -11,8 +11,8 @@ use Rattle.slate_script.specs.Values.{◌>>=◌, range_of, order_of, after_order
 abbrev pub get_form : List (List ℕ) → Option Action
 get_form (o ∷ k ∷ fields) = do
   object ← number_of o
-  key ← word_of k
   remote ← remote_of fields
+  key ← word_of k
   Some (actions.Get object key remote)
 get_form fields = None
 
@@ -20,8 +20,8 @@ get_form fields = None
 abbrev pub scan_form : List (List ℕ) → Option Action
 scan_form (o ∷ l ∷ h ∷ fields) = do
   object ← number_of o
-  range ← range_of l h
   remote ← remote_of (after_order fields)
+  range ← range_of l h
   Some (actions.Scan object range (order_of fields) remote)
 scan_form fields = None
 
@@ -29,10 +29,10 @@ scan_form fields = None
 abbrev pub seek_form : List (List ℕ) → Option Action
 seek_form (o ∷ l ∷ h ∷ t ∷ k ∷ fields) = do
   object ← number_of o
-  range ← range_of l h
   take ← number_of t
-  key ← word_of k
   remote ← remote_of (after_order fields)
+  key ← word_of k
+  range ← range_of l h
   Some (actions.Seek object range take key (order_of fields) remote)
 seek_form fields = None
 

@@ -17,18 +17,18 @@ use Rattle.slate_script.specs.Values.{◌>>=◌, expiry_of}
 -- KEY VALUE, KEY VALUE EXPIRE of a put
 abbrev pub put_of : List (List ℕ) → Option KeyOp
 put_of (k ∷ v ∷ fields) = do
+  expire ← expiry_of fields
   key ← word_of k
   value ← word_of v
-  expire ← expiry_of fields
   Some (record { key = key; op = Put value expire })
 put_of fields = None
 
 -- KEY VALUE, KEY VALUE EXPIRE of a merge
 abbrev pub merge_of : List (List ℕ) → Option KeyOp
 merge_of (k ∷ v ∷ fields) = do
+  expire ← expiry_of fields
   key ← word_of k
   operand ← word_of v
-  expire ← expiry_of fields
   Some (record { key = key; op = Merge operand expire })
 merge_of fields = None
 

@@ -18,10 +18,10 @@ fn read_get(alloc: Global, fields: &[Bytes]) -> Result<Option<Action>, NoMemory>
     let Some(object) = read_number(object.as_slice()) else {
         return Ok(None);
     };
-    let Some(key) = read_word(alloc, key)? else {
+    let Some(remote) = read_remote(behind) else {
         return Ok(None);
     };
-    let Some(remote) = read_remote(behind) else {
+    let Some(key) = read_word(alloc, key)? else {
         return Ok(None);
     };
     Ok(Some(Action::Get {
@@ -40,11 +40,11 @@ fn read_scan(alloc: Global, fields: &[Bytes]) -> Result<Option<Action>, NoMemory
     let Some(object) = read_number(object.as_slice()) else {
         return Ok(None);
     };
-    let Some(range) = read_range(alloc, low, high)? else {
-        return Ok(None);
-    };
     let (order, behind) = read_order(behind);
     let Some(remote) = read_remote(behind) else {
+        return Ok(None);
+    };
+    let Some(range) = read_range(alloc, low, high)? else {
         return Ok(None);
     };
     Ok(Some(Action::Scan {
@@ -64,17 +64,17 @@ fn read_seek(alloc: Global, fields: &[Bytes]) -> Result<Option<Action>, NoMemory
     let Some(object) = read_number(object.as_slice()) else {
         return Ok(None);
     };
-    let Some(range) = read_range(alloc, low, high)? else {
+    let Some(take) = read_number(take.as_slice()) else {
         return Ok(None);
     };
-    let Some(take) = read_number(take.as_slice()) else {
+    let (order, behind) = read_order(behind);
+    let Some(remote) = read_remote(behind) else {
         return Ok(None);
     };
     let Some(key) = read_word(alloc, key)? else {
         return Ok(None);
     };
-    let (order, behind) = read_order(behind);
-    let Some(remote) = read_remote(behind) else {
+    let Some(range) = read_range(alloc, low, high)? else {
         return Ok(None);
     };
     Ok(Some(Action::Seek {

@@ -19,13 +19,13 @@ fn read_put(alloc: Global, fields: &[Bytes]) -> Result<Option<KeyOp>, NoMemory>
     let [key, value, behind @ ..] = fields else {
         return Ok(None);
     };
+    let Some(expire) = read_expiry(behind) else {
+        return Ok(None);
+    };
     let Some(key) = read_word(alloc, key)? else {
         return Ok(None);
     };
     let Some(value) = read_word(alloc, value)? else {
-        return Ok(None);
-    };
-    let Some(expire) = read_expiry(behind) else {
         return Ok(None);
     };
     Ok(Some(KeyOp {
@@ -40,13 +40,13 @@ fn read_merge(alloc: Global, fields: &[Bytes]) -> Result<Option<KeyOp>, NoMemory
     let [key, operand, behind @ ..] = fields else {
         return Ok(None);
     };
+    let Some(expire) = read_expiry(behind) else {
+        return Ok(None);
+    };
     let Some(key) = read_word(alloc, key)? else {
         return Ok(None);
     };
     let Some(operand) = read_word(alloc, operand)? else {
-        return Ok(None);
-    };
-    let Some(expire) = read_expiry(behind) else {
         return Ok(None);
     };
     Ok(Some(KeyOp {

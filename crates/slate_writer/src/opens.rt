@@ -33,8 +33,9 @@ use std::alloc::Global;
 pub struct WriterOptions {
     /// Whether the handle keeps a log. One that keeps none stores what it accepts in tables alone.
     pub wal_enabled: bool,
-    /// From how many unflushed bytes on a write is refused with `Backpressure`: those of the keys and values that aren't in
-    /// tables yet, and, where the handle keeps a log, once more those that aren't in the log. At 0 each write is.
+    /// From how many unflushed bytes on a write is refused with `Backpressure`: those of the keys and values that
+    /// aren't in tables yet, and, where the handle keeps a log, once more those that aren't in the log. At 0 each write
+    /// is.
     pub max_unflushed_bytes: u64,
     /// Whether a task of a compactor runs for the handle. It does nothing of its own: a compaction is a call of `compact`.
     pub compactor: bool,

@@ -22,11 +22,11 @@ use std::marker::Model;
 /// A handle that writes, without the store that it writes to. SlateDB's `Db`, as a plain value.
 ///
 /// A contract sees it as a handle whose line is the batches that it keeps in memory: after each flush, refresh and
-/// compaction these are the batches that it accepted and that aren't in the tables of its manifest. Its memory grows with
-/// them, and with the prefixes of their keys, where it writes with an extractor; once the unflushed bytes reach its limit
-/// (`WriterOptions`), it accepts no batch until a flush brings them below. It keeps when its batches were written, of at
-/// most 8192 (`find_ts`, `find_seq`), and from its first transaction on, for good, which batch last wrote each key. Tasks
-/// run for it until it is closed.
+/// compaction these are the batches that it accepted and that aren't in the tables of its manifest. Its memory grows
+/// with them, and with the prefixes of their keys, where it writes with an extractor; once the unflushed bytes reach
+/// its limit (`WriterOptions`), it accepts no batch until a flush brings them below. It keeps when its batches were
+/// written, of at most 8192 (`find_ts`, `find_seq`), and from its first transaction on, for good, which batch last
+/// wrote each key. Tasks run for it until it is closed.
 pub struct WriterState {
     pub(crate) keeps_log: bool,
     pub(crate) limit: u64,

@@ -241,14 +241,8 @@ impl Transaction {
             read: _,
             scanned: _,
         } = self;
-        match writer.write_but(
-            alloc,
-            own.into_batch(),
-            &unmarked,
-            moment,
-            second,
-            extractor,
-        ) {
+        let batch = own.into_batch();
+        match writer.write_but(alloc, batch, &unmarked, moment, second, extractor) {
             Ok(written) => Ok(Some(written)),
             Err(refusal) => Err(refusal.error),
         }

@@ -9,10 +9,10 @@ use crate::sizes::size_of;
 use slate_errors::SlateError;
 
 impl WriterState {
-    /// How many unflushed bytes of keys and values the handle has: those of the batches that aren't in the tables of the
-    /// manifest that it goes by, and, where it keeps a log, once more those of the batches above the durable number, which
-    /// aren't in the log yet. A delete counts its key. A sum above the greatest `u64` counts as that. Where it reaches the
-    /// handle's `max_unflushed_bytes`, `write` answers `Backpressure`.
+    /// How many unflushed bytes of keys and values the handle has: those of the batches that aren't in the tables of
+    /// the manifest that it goes by, and, where it keeps a log, once more those of the batches above the durable
+    /// number, which aren't in the log yet. A delete counts its key. A sum above the greatest `u64` counts as that.
+    /// Where it reaches the handle's `max_unflushed_bytes`, `write` answers `Backpressure`.
     ///
     /// It is answered of a closed handle, too. It takes no memory, and constant time over a store that only handles wrote;
     /// else time linear in the operations in memory. What SlateDB holds its writers back by.

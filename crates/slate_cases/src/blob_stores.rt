@@ -1,5 +1,5 @@
 // The subject `blobs`: a store over blobs in memory, which counts the gets of tables and whose folders may be out of reach.
-use crate::printing::{bytes_of, number_of, numbers_of, print_number};
+use crate::printing::{bytes_of, number_of, numbers_of, print_number, split_name};
 use crate::store_calls::{batches_of, call_store, print_done, table_id};
 use crate::subjects::CallFailure;
 use bytes::Bytes;
@@ -81,6 +81,23 @@ impl<K: Copy + Ord + Drop> Blobs<K> for Folder<K> {
     }
 }
 
+#[derive(Clone, Copy)]
+enum Call {
+    LogBlob,
+    TableBlob,
+    Open,
+    OpenUnreached,
+    Gets,
+}
+
+const CALLS: &[(&[u8], Call)] = &[
+    (b"log_blob", Call::LogBlob),
+    (b"table_blob", Call::TableBlob),
+    (b"open", Call::Open),
+    (b"open_unreached", Call::OpenUnreached),
+    (b"gets", Call::Gets),
+];
+
 /// The blobs that are put before a store is made of them, and that store.
 #[derive(Drop)]
 pub struct BlobStores {
@@ -108,29 +125,32 @@ impl BlobStores {
         words: &[&[u8]],
         answer: &mut Vec<u8>,
     ) -> Result<(), CallFailure> {
-        match words {
-            [b"log_blob", id, blob @ ..] => {
+        let Ok((call, others)) = split_name(CALLS, words) else {
+            return match &mut self.store {
+                Some(store) => call_store(alloc, store, words, answer),
+                None => Err(CallFailure::Unread),
+            };
+        };
+        match (call, others) {
+            (Call::LogBlob, [id, blob @ ..]) => {
                 let (id, blob) = (number_of(id)?, blob_of(alloc, blob)?);
                 print_done(answer, self.logs.put_if_absent(alloc, id, blob.as_slice()))
             }
-            [b"table_blob", epoch, index, blob @ ..] => {
+            (Call::TableBlob, [epoch, index, blob @ ..]) => {
                 let (id, blob) = (table_id(epoch, index)?, blob_of(alloc, blob)?);
                 print_done(
                     answer,
                     self.tables.put_if_absent(alloc, id, blob.as_slice()),
                 )
             }
-            [b"open"] => self.open(alloc, None, true),
-            [b"open", b"unreached"] => self.open(alloc, None, false),
-            [b"open", bound] => self.open(alloc, Some(number_of(bound)?), true),
-            [b"gets"] => match &self.gets {
+            (Call::Open, []) => self.open(alloc, None, true),
+            (Call::Open, [bound]) => self.open(alloc, Some(number_of(bound)?), true),
+            (Call::OpenUnreached, []) => self.open(alloc, None, false),
+            (Call::Gets, []) => match &self.gets {
                 Some(gets) => print_number(answer, gets.get()),
                 None => Err(CallFailure::Unread),
             },
-            _ => match &mut self.store {
-                Some(store) => call_store(alloc, store, words, answer),
-                None => Err(CallFailure::Unread),
-            },
+            _ => Err(CallFailure::Unread),
         }
     }
 
@@ -157,18 +177,28 @@ impl BlobStores {
     }
 }
 
+#[derive(Clone, Copy)]
+enum Content {
+    Log,
+    Table,
+    Bytes,
+}
+
+const CONTENTS: &[(&[u8], Content)] = &[
+    (b"log", Content::Log),
+    (b"table", Content::Table),
+    (b"bytes", Content::Bytes),
+];
+
 /// The bytes of a blob: of a log file or of a table of batches without operations, or others.
 fn blob_of(alloc: Global, words: &[&[u8]]) -> Result<Vec<u8>, CallFailure> {
-    match words {
-        [b"log", numbers @ ..] => {
-            let batches = batches_of(alloc, numbers_of(alloc, numbers)?.as_slice())?;
-            Ok(encode_log(alloc, batches.as_slice())?)
-        }
-        [b"table", numbers @ ..] => {
-            let batches = batches_of(alloc, numbers_of(alloc, numbers)?.as_slice())?;
-            Ok(encode_table(alloc, batches.as_slice())?)
-        }
-        [b"bytes", bytes] => Ok(Vec::from_slice(alloc, bytes_of(alloc, bytes)?.as_slice())?),
-        _ => Err(CallFailure::Unread),
+    let (content, words) = split_name(CONTENTS, words)?;
+    if let (Content::Bytes, [bytes]) = (content, words) {
+        return Ok(Vec::from_slice(alloc, bytes_of(alloc, bytes)?.as_slice())?);
+    }
+    let batches = batches_of(alloc, numbers_of(alloc, words)?.as_slice())?;
+    match content {
+        Content::Log => Ok(encode_log(alloc, batches.as_slice())?),
+        _ => Ok(encode_table(alloc, batches.as_slice())?),
     }
 }

@@ -1,7 +1,7 @@
 // The subject `database`: a store that fails as told, and what is opened over it, by script lines and by calls.
 use crate::object_calls::{call_checkpoints, call_objects};
-use crate::operators::{Cuts, Letters, Refusing};
-use crate::printing::{bytes_of, number_of, print_number, print_text};
+use crate::operators::{Cuts, Refusing, extractor_of, operator_of};
+use crate::printing::{number_of, print_number, print_text, split_name};
 use crate::store_calls::{call_store, print_store_error};
 use crate::subjects::CallFailure;
 use crate::told_stores::ToldStore;
@@ -9,10 +9,9 @@ use slate_follow::FollowerState;
 use slate_live::{LineAnswer, LiveState, Options, print_replies, read_line};
 use slate_reads::IndexedTable;
 use slate_replay::{Replayed, replay};
-use slate_types::{FixedPrefix, Name, StoreError};
+use slate_types::StoreError;
 use slate_writer::{Transaction, WriterState};
 use std::alloc::{AllocError, Global};
-use std::str;
 use uuid::Uuid;
 
 const OPTIONS: Options = Options {
@@ -21,6 +20,35 @@ const OPTIONS: Options = Options {
     compaction_worker: true,
     collector: true,
 };
+
+#[derive(Clone, Copy)]
+enum Call {
+    Store,
+    Objects,
+    Checkpoint,
+    Handle,
+    Transaction,
+    Reader,
+    Put,
+    Replay,
+    Restart,
+    Operator,
+    Extractor,
+}
+
+const CALLS: &[(&[u8], Call)] = &[
+    (b"store", Call::Store),
+    (b"objects", Call::Objects),
+    (b"checkpoint", Call::Checkpoint),
+    (b"handle", Call::Handle),
+    (b"transaction", Call::Transaction),
+    (b"reader", Call::Reader),
+    (b"put", Call::Put),
+    (b"replay", Call::Replay),
+    (b"restart", Call::Restart),
+    (b"operator", Call::Operator),
+    (b"extractor", Call::Extractor),
+];
 
 /// A store, the objects of a session over it, and one handle and one reader beside these.
 #[derive(Drop)]
@@ -58,61 +86,34 @@ impl Database {
         words: &[&[u8]],
         answer: &mut Vec<u8>,
     ) -> Result<(), CallFailure> {
-        match words {
-            [b"store", words @ ..] => call_store(alloc, &mut self.store, words, answer),
-            [b"objects", words @ ..] => call_objects(alloc, &mut self.store, words, answer),
-            [b"checkpoint", words @ ..] => {
+        let Ok((call, others)) = split_name(CALLS, words) else {
+            return self.apply_line(alloc, words, answer);
+        };
+        match call {
+            Call::Store => call_store(alloc, &mut self.store, others, answer),
+            Call::Objects => call_objects(alloc, &mut self.store, others, answer),
+            Call::Checkpoint => {
                 let (store, ids) = (&mut self.store, &mut self.checkpoints);
-                call_checkpoints(alloc, store, ids, words, answer)
+                call_checkpoints(alloc, store, ids, others, answer)
             }
-            [b"handle", words @ ..] => self.call_handle(alloc, words, answer),
-            [b"transaction", words @ ..] => self.call_transaction(alloc, words, answer),
-            [b"reader", words @ ..] => self.call_reader(alloc, words, answer),
-            [b"put", words @ ..] => self.put(alloc, words, answer),
-            [b"replay", floor, mark, last] => {
-                let (floor, mark) = (number_of(floor)?, number_of(mark)?);
-                replay_twice(
-                    alloc,
-                    &mut self.store,
-                    floor,
-                    mark,
-                    number_of(last)?,
-                    answer,
-                )
-            }
-            [b"restart"] => {
+            Call::Handle => self.call_handle(alloc, others, answer),
+            Call::Transaction => self.call_transaction(alloc, others, answer),
+            Call::Reader => self.call_reader(alloc, others, answer),
+            Call::Put => self.put(alloc, others, answer),
+            Call::Replay => replay_twice(alloc, &mut self.store, others, answer),
+            Call::Restart => {
                 self.live = LiveState::new(alloc, &OPTIONS);
                 Ok(())
             }
-            [b"operator", words @ ..] => self.set_operator(alloc, words),
-            [b"extractor", words @ ..] => self.set_extractor(alloc, words),
-            _ => self.apply_line(alloc, words, answer),
-        }
-    }
-
-    fn set_operator(&mut self, alloc: Global, words: &[&[u8]]) -> Result<(), CallFailure> {
-        let refused = match words {
-            [b"concat"] => None,
-            [b"refusing", key] => Some(bytes_of(alloc, key)?),
-            _ => return Err(CallFailure::Unread),
-        };
-        self.operator = Some(Refusing { refused });
-        Ok(())
-    }
-
-    fn set_extractor(&mut self, alloc: Global, words: &[&[u8]]) -> Result<(), CallFailure> {
-        self.extractor = match words {
-            [b"none"] => None,
-            [b"fixed", length] => {
-                let length = u8::try_from(number_of(length)?);
-                let length = length.map_err(|_error| CallFailure::Unread)?;
-                Some(Cuts::Fixed(FixedPrefix::new(alloc, length)?))
+            Call::Operator => {
+                self.operator = Some(operator_of(alloc, others)?);
+                Ok(())
             }
-            [b"letters", name, most] => Some(letters(alloc, name, most, false)?),
-            [b"letters", name, most, b"dashes"] => Some(letters(alloc, name, most, true)?),
-            _ => return Err(CallFailure::Unread),
-        };
-        Ok(())
+            Call::Extractor => {
+                self.extractor = extractor_of(alloc, others)?;
+                Ok(())
+            }
+        }
     }
 
     /// Does the command of a script line, and prints its reply.
@@ -134,16 +135,6 @@ impl Database {
         print_replies(&mut text, &[reply])?;
         join_lines(answer, text.as_slice())
     }
-}
-
-fn letters(alloc: Global, name: &[u8], most: &[u8], dashes: bool) -> Result<Cuts, CallFailure> {
-    let name = str::from_utf8(name).map_err(|_error| CallFailure::Unread)?;
-    let most = usize::try_from(number_of(most)?).map_err(|_error| CallFailure::Unread)?;
-    Ok(Cuts::Letters(Letters {
-        name: Name::of(String::from_str(alloc, name)?),
-        most,
-        dashes,
-    }))
 }
 
 /// The words with a blank between each two.
@@ -177,11 +168,13 @@ fn join_lines(answer: &mut Vec<u8>, text: &[u8]) -> Result<(), CallFailure> {
 fn replay_twice(
     alloc: Global,
     store: &mut ToldStore,
-    floor: u64,
-    mark: u64,
-    last: u64,
+    words: &[&[u8]],
     answer: &mut Vec<u8>,
 ) -> Result<(), CallFailure> {
+    let [floor, mark, last] = words else {
+        return Err(CallFailure::Unread);
+    };
+    let (floor, mark, last) = (number_of(floor)?, number_of(mark)?, number_of(last)?);
     let mut memory = IndexedTable::new(alloc);
     let first = replay(alloc, store, &mut memory, floor, mark, last);
     print_replayed(answer, first)?;

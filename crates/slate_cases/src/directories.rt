@@ -1,15 +1,38 @@
 // The subject `directory`: two stores over one directory, whose calls of the system fail after a number of them.
 use crate::ending_files::EndingFiles;
-use crate::printing::{bytes_of, number_of, print_bytes, print_text};
+use crate::printing::{bytes_of, number_of, print_bytes, print_text, split_name, text_of};
 use crate::store_calls::call_store;
 use crate::subjects::CallFailure;
 use slate_directory::{DirectoryStore, open_directory};
-use std::alloc::{AllocError, Global};
+use std::alloc::Global;
 use std::cell::Cell;
-use std::{fs, str};
+use std::{fs, io};
 
 /// The folder in which the directory lies.
 const FOLDER: &str = "slate_directory";
+
+#[derive(Clone, Copy)]
+enum Call {
+    EndAfter,
+    Open,
+    OpenOther,
+    Store,
+    Other,
+    Remove,
+    File,
+    PutFile,
+}
+
+const CALLS: &[(&[u8], Call)] = &[
+    (b"end_after", Call::EndAfter),
+    (b"open", Call::Open),
+    (b"open_other", Call::OpenOther),
+    (b"store", Call::Store),
+    (b"other", Call::Other),
+    (b"remove", Call::Remove),
+    (b"file", Call::File),
+    (b"put_file", Call::PutFile),
+];
 
 /// The stores that are open.
 #[derive(Drop)]
@@ -38,35 +61,46 @@ impl<'a> Directory<'a> {
         words: &[&[u8]],
         answer: &mut Vec<u8>,
     ) -> Result<(), CallFailure> {
-        match words {
-            [b"end_after", count] => {
+        let (call, words) = split_name(CALLS, words)?;
+        match (call, words) {
+            (Call::EndAfter, [count]) => {
                 self.files.left.set(number_of(count)?);
                 Ok(())
             }
-            [b"open", path] => open(alloc, self.files, &mut self.store, path, answer),
-            [b"open_other", path] => open(alloc, self.files, &mut self.other, path, answer),
-            [b"store", words @ ..] => call_of(alloc, &mut self.store, words, answer),
-            [b"other", words @ ..] => call_of(alloc, &mut self.other, words, answer),
-            [b"remove"] => match fs::remove_dir_all(&self.files.rt, FOLDER) {
-                Ok(()) => Ok(()),
-                Err(_) => print_text(answer, "failed"),
-            },
-            [b"file", path] => {
-                let path = path_of(alloc, path)?;
-                match fs::read(&self.files.rt, path.as_str()) {
-                    Ok(bytes) => print_bytes(answer, bytes.as_slice()),
-                    Err(_) => print_text(answer, "absent"),
-                }
-            }
-            [b"put_file", path, bytes] => {
+            (Call::Open, [path]) => open(alloc, self.files, &mut self.store, path, answer),
+            (Call::OpenOther, [path]) => open(alloc, self.files, &mut self.other, path, answer),
+            (Call::Store, words) => call_of(alloc, &mut self.store, words, answer),
+            (Call::Other, words) => call_of(alloc, &mut self.other, words, answer),
+            (Call::Remove, []) => print_unless(answer, fs::remove_dir_all(&self.files.rt, FOLDER)),
+            (Call::File, [path]) => self.read_file(alloc, path, answer),
+            (Call::PutFile, [path, bytes]) => {
                 let (path, bytes) = (path_of(alloc, path)?, bytes_of(alloc, bytes)?);
-                match fs::write(&self.files.rt, path.as_str(), bytes.as_slice()) {
-                    Ok(()) => Ok(()),
-                    Err(_) => print_text(answer, "failed"),
-                }
+                let put = fs::write(&self.files.rt, path.as_str(), bytes.as_slice());
+                print_unless(answer, put)
             }
             _ => Err(CallFailure::Unread),
         }
+    }
+
+    fn read_file(
+        &self,
+        alloc: Global,
+        path: &[u8],
+        answer: &mut Vec<u8>,
+    ) -> Result<(), CallFailure> {
+        let path = path_of(alloc, path)?;
+        match fs::read(&self.files.rt, path.as_str()) {
+            Ok(bytes) => print_bytes(answer, bytes.as_slice()),
+            Err(_) => print_text(answer, "absent"),
+        }
+    }
+}
+
+/// Appends nothing, or that it failed.
+fn print_unless(answer: &mut Vec<u8>, done: io::Result<()>) -> Result<(), CallFailure> {
+    match done {
+        Ok(()) => Ok(()),
+        Err(_) => print_text(answer, "failed"),
     }
 }
 
@@ -102,6 +136,6 @@ fn call_of(
 
 /// A path in the folder.
 fn path_of(alloc: Global, path: &[u8]) -> Result<String, CallFailure> {
-    let path = str::from_utf8(path).map_err(|_error| CallFailure::Unread)?;
+    let path = text_of(path)?;
     Ok(format!(in alloc; "{FOLDER}/{path}")?)
 }

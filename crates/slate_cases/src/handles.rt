@@ -1,10 +1,12 @@
 // Calls of the handle of a database, beside those of script lines.
 use crate::databases::Database;
+use crate::operators::Cuts;
 use crate::printing::{
-    bytes_of, number_of, print_blank, print_bytes, print_error, print_number, print_text,
-    print_time, time_of,
+    bytes_of, is_none, look_up, number_of, print_blank, print_bytes, print_error, print_number,
+    print_text, print_time, split_name, time_of,
 };
 use crate::subjects::CallFailure;
+use crate::told_stores::ToldStore;
 use slate_errors::{Ended, SlateError};
 use slate_live::FindOption;
 use slate_rows::DbRecencyIterator;
@@ -14,6 +16,34 @@ use slate_types::{
 use slate_writer::{WriterOptions, WriterState};
 use std::alloc::Global;
 
+#[derive(Clone, Copy)]
+enum Call {
+    Open,
+    Write,
+    Flush,
+    Compact,
+    Close,
+    Recent,
+    Ts,
+    Seq,
+}
+
+const CALLS: &[(&[u8], Call)] = &[
+    (b"open", Call::Open),
+    (b"write", Call::Write),
+    (b"flush", Call::Flush),
+    (b"compact", Call::Compact),
+    (b"close", Call::Close),
+    (b"recent", Call::Recent),
+    (b"ts", Call::Ts),
+    (b"seq", Call::Seq),
+];
+
+const FLUSHES: &[(&[u8], FlushType)] = &[
+    (b"wal", FlushType::Wal),
+    (b"memtable", FlushType::MemTable),
+];
+
 impl Database {
     /// Makes a call of the handle.
     pub fn call_handle(
@@ -22,45 +52,35 @@ impl Database {
         words: &[&[u8]],
         answer: &mut Vec<u8>,
     ) -> Result<(), CallFailure> {
-        if words == [b"open".as_slice()].as_slice() {
+        let (call, words) = split_name(CALLS, words)?;
+        if let (Call::Open, []) = (call, words) {
             return self.open_handle(alloc, answer);
         }
         let store = &mut self.store;
-        let handle = self.handle.as_mut().ok_or(CallFailure::Unread)?;
-        match words {
-            [b"write", moment, ops @ ..] => {
+        let Some(handle) = &mut self.handle else {
+            return Err(CallFailure::Unread);
+        };
+        match (call, words) {
+            (Call::Write, [moment, ops @ ..]) => {
                 let batch = WriteBatch {
                     ops: ops_of(alloc, ops)?,
                 };
                 let extractor = self.extractor.as_ref();
-                match handle.write(alloc, batch, time_of(moment)?, None, extractor) {
-                    Ok(written) => print_number(answer, written.number),
-                    Err(refusal) => print_error(answer, &refusal.error),
-                }
+                write(alloc, handle, batch, time_of(moment)?, extractor, answer)
             }
-            [b"flush", b"wal"] => print_end(answer, handle.flush(alloc, store, FlushType::Wal)),
-            [b"flush", b"memtable"] => {
-                print_end(answer, handle.flush(alloc, store, FlushType::MemTable))
+            (Call::Flush, [kind]) => match look_up(FLUSHES, kind) {
+                Some(kind) => print_end(answer, handle.flush(alloc, store, kind)),
+                None => Err(CallFailure::Unread),
+            },
+            (Call::Compact, []) => print_end(answer, handle.compact(alloc, store)),
+            (Call::Close, []) => {
+                let ended = handle.close(alloc, store, &CloseOptions::default());
+                print_ended(answer, &ended)
             }
-            [b"compact"] => print_end(answer, handle.compact(alloc, store)),
-            [b"close"] => {
-                print_ended(
-                    answer,
-                    &handle.close(alloc, store, &CloseOptions::default()),
-                )
-            }
-            [b"recent", prefix, level] => {
-                let options = ScanOptions {
-                    durability_filter: level_of(level)?,
-                    ..ScanOptions::default()
-                };
-                let prefix = bytes_of(alloc, prefix)?;
-                match handle.scan_by_recency(alloc, store, prefix.as_slice(), &options) {
-                    Ok(found) => print_entries(answer, found),
-                    Err(error) => print_error(answer, &error),
-                }
-            }
-            _ => look_up(handle, words, answer),
+            (Call::Recent, [prefix, level]) => recent(alloc, handle, store, prefix, level, answer),
+            (Call::Ts, [number, direction]) => find_ts(handle, number, direction, answer),
+            (Call::Seq, [second, direction]) => find_seq(handle, second, direction, answer),
+            _ => Err(CallFailure::Unread),
         }
     }
 
@@ -77,72 +97,116 @@ impl Database {
     }
 }
 
-/// When a number was written, or which one was at a second.
-fn look_up(handle: &WriterState, words: &[&[u8]], answer: &mut Vec<u8>) -> Result<(), CallFailure> {
-    match words {
-        [b"ts", number, direction] => {
-            match handle.find_ts(number_of(number)?, find_option(direction)?) {
-                Some(second) => print_time(answer, second),
-                None => print_text(answer, "none"),
-            }
-        }
-        [b"seq", second, direction] => {
-            match handle.find_seq(time_of(second)?, find_option(direction)?) {
-                Some(number) => print_number(answer, number),
-                None => print_text(answer, "none"),
-            }
-        }
-        _ => Err(CallFailure::Unread),
+fn write(
+    alloc: Global,
+    handle: &mut WriterState,
+    batch: WriteBatch,
+    moment: i64,
+    extractor: Option<&Cuts>,
+    answer: &mut Vec<u8>,
+) -> Result<(), CallFailure> {
+    match handle.write(alloc, batch, moment, None, extractor) {
+        Ok(written) => print_number(answer, written.number),
+        Err(refusal) => print_error(answer, &refusal.error),
     }
 }
 
-fn find_option(word: &[u8]) -> Result<FindOption, CallFailure> {
-    match word {
-        b"up" => Ok(FindOption::RoundUp),
-        b"down" => Ok(FindOption::RoundDown),
-        _ => Err(CallFailure::Unread),
+fn recent(
+    alloc: Global,
+    handle: &WriterState,
+    store: &mut ToldStore,
+    prefix: &[u8],
+    level: &[u8],
+    answer: &mut Vec<u8>,
+) -> Result<(), CallFailure> {
+    let options = ScanOptions {
+        durability_filter: level_of(level)?,
+        ..ScanOptions::default()
+    };
+    let prefix = bytes_of(alloc, prefix)?;
+    match handle.scan_by_recency(alloc, store, prefix.as_slice(), &options) {
+        Ok(found) => print_entries(answer, found),
+        Err(error) => print_error(answer, &error),
     }
 }
+
+/// When a number was written.
+fn find_ts(
+    handle: &WriterState,
+    number: &[u8],
+    direction: &[u8],
+    answer: &mut Vec<u8>,
+) -> Result<(), CallFailure> {
+    match handle.find_ts(number_of(number)?, direction_of(direction)?) {
+        Some(second) => print_time(answer, second),
+        None => print_text(answer, "none"),
+    }
+}
+
+/// Which number was written at a second.
+fn find_seq(
+    handle: &WriterState,
+    second: &[u8],
+    direction: &[u8],
+    answer: &mut Vec<u8>,
+) -> Result<(), CallFailure> {
+    match handle.find_seq(time_of(second)?, direction_of(direction)?) {
+        Some(number) => print_number(answer, number),
+        None => print_text(answer, "none"),
+    }
+}
+
+const DIRECTIONS: &[(&[u8], FindOption)] = &[
+    (b"up", FindOption::RoundUp),
+    (b"down", FindOption::RoundDown),
+];
+
+fn direction_of(word: &[u8]) -> Result<FindOption, CallFailure> {
+    look_up(DIRECTIONS, word).ok_or(CallFailure::Unread)
+}
+
+const LEVELS: &[(&[u8], DurabilityLevel)] = &[
+    (b"memory", DurabilityLevel::Memory),
+    (b"remote", DurabilityLevel::Remote),
+];
 
 /// The level that a word names.
 pub fn level_of(word: &[u8]) -> Result<DurabilityLevel, CallFailure> {
-    match word {
-        b"memory" => Ok(DurabilityLevel::Memory),
-        b"remote" => Ok(DurabilityLevel::Remote),
-        _ => Err(CallFailure::Unread),
-    }
+    look_up(LEVELS, word).ok_or(CallFailure::Unread)
 }
 
-/// The operations that words spell, as they stand.
+/// Whether an operation is a merge.
+const OPS: &[(&[u8], bool)] = &[(b"put", false), (b"merge", true)];
+
+/// The operations that words spell, as they stand, four words each.
 pub fn ops_of(alloc: Global, words: &[&[u8]]) -> Result<Seq<KeyOp>, CallFailure> {
     let mut ops = Vec::new(alloc);
-    let mut left = words;
-    for _ in 0..words.len() {
-        let (key, op, after) = match left {
-            [] => break,
-            [b"put", key, value, expiry, after @ ..] => {
-                let value = bytes_of(alloc, value)?;
-                (key, Op::Put(value, expiry_of(expiry)?), after)
-            }
-            [b"merge", key, value, expiry, after @ ..] => {
-                let value = bytes_of(alloc, value)?;
-                (key, Op::Merge(value, expiry_of(expiry)?), after)
-            }
-            [b"delete", key, after @ ..] => (key, Op::Delete, after),
-            _ => return Err(CallFailure::Unread),
-        };
-        let key = bytes_of(alloc, key)?;
-        ops.push(KeyOp { key, op })?;
-        left = after;
+    for words in words.chunks(4) {
+        ops.push(op_of(alloc, words)?)?;
     }
     Ok(Seq::of(ops))
 }
 
+fn op_of(alloc: Global, words: &[&[u8]]) -> Result<KeyOp, CallFailure> {
+    let (is_merge, [key, value, expiry]) = split_name(OPS, words)? else {
+        return Err(CallFailure::Unread);
+    };
+    let expiry = expiry_of(expiry)?;
+    let key = bytes_of(alloc, key)?;
+    let value = bytes_of(alloc, value)?;
+    let op = if is_merge {
+        Op::Merge(value, expiry)
+    } else {
+        Op::Put(value, expiry)
+    };
+    Ok(KeyOp { key, op })
+}
+
 fn expiry_of(word: &[u8]) -> Result<Option<i64>, CallFailure> {
-    match word {
-        b"none" => Ok(None),
-        _ => Ok(Some(time_of(word)?)),
+    if is_none(word) {
+        return Ok(None);
     }
+    Ok(Some(time_of(word)?))
 }
 
 /// Appends nothing, or an error.

@@ -1,7 +1,7 @@
 // Calls on all objects of a told store: checkpoints, compactions and sweeps, and what a test puts and looks at.
 use crate::printing::{
-    add_number, number_of, print_blank, print_error, print_number, print_numbers, print_text,
-    print_time, time_of,
+    add_number, is_none, look_up, number_of, print_blank, print_error, print_number, print_numbers,
+    print_text, print_time, size_of, split_name, time_of,
 };
 use crate::store_calls::{batches_of, print_done, print_store_error, table_of};
 use crate::subjects::CallFailure;
@@ -15,6 +15,23 @@ use slate_types::{Batch, NoMemory, Seq};
 use std::alloc::Global;
 use uuid::Uuid;
 
+#[derive(Clone, Copy)]
+enum CheckpointCall {
+    Write,
+    Replace,
+    Refresh,
+    Delete,
+    List,
+}
+
+const CHECKPOINT_CALLS: &[(&[u8], CheckpointCall)] = &[
+    (b"write", CheckpointCall::Write),
+    (b"replace", CheckpointCall::Replace),
+    (b"refresh", CheckpointCall::Refresh),
+    (b"delete", CheckpointCall::Delete),
+    (b"list", CheckpointCall::List),
+];
+
 /// Makes a call on the checkpoints of a store. Their ids are noted in order.
 pub fn call_checkpoints(
     alloc: Global,
@@ -23,24 +40,25 @@ pub fn call_checkpoints(
     words: &[&[u8]],
     answer: &mut Vec<u8>,
 ) -> Result<(), CallFailure> {
-    match words {
-        [b"list"] => list_checkpoints(alloc, store, ids.as_slice(), answer),
-        [b"delete", noted] => {
+    let (call, words) = split_name(CHECKPOINT_CALLS, words)?;
+    match (call, words) {
+        (CheckpointCall::List, []) => list_checkpoints(alloc, store, ids.as_slice(), answer),
+        (CheckpointCall::Delete, [noted]) => {
             let id = noted_id(ids.as_slice(), noted)?;
             print_refusal(answer, delete_checkpoint(alloc, store, id))
         }
-        [b"write", lifetime, moment] => {
+        (CheckpointCall::Write, [lifetime, moment]) => {
             let (lifetime, moment) = (lifetime_of(lifetime)?, time_of(moment)?);
             let made = write_checkpoint(alloc, store, lifetime, moment);
             print_made(ids, made, answer)
         }
-        [b"replace", noted, lifetime, moment] => {
+        (CheckpointCall::Replace, [noted, lifetime, moment]) => {
             let id = noted_id(ids.as_slice(), noted)?;
             let (lifetime, moment) = (number_of(lifetime)?, time_of(moment)?);
             let made = replace_checkpoint(alloc, store, id, lifetime, moment);
             print_made(ids, made, answer)
         }
-        [b"refresh", noted, lifetime, moment] => {
+        (CheckpointCall::Refresh, [noted, lifetime, moment]) => {
             let id = noted_id(ids.as_slice(), noted)?;
             let (lifetime, moment) = (number_of(lifetime)?, time_of(moment)?);
             let made = refresh_checkpoint(alloc, store, id, lifetime, moment);
@@ -73,6 +91,33 @@ fn note(ids: &mut Vec<Uuid>, id: Uuid) -> Result<(), CallFailure> {
     Ok(ids.push(id)?)
 }
 
+#[derive(Clone, Copy)]
+enum ObjectCall {
+    Database,
+    Batches,
+    Compact,
+    Sweep,
+    Leases,
+    Calls,
+    FaultyCalls,
+    Fail,
+    Contend,
+    Rivals,
+}
+
+const OBJECT_CALLS: &[(&[u8], ObjectCall)] = &[
+    (b"database", ObjectCall::Database),
+    (b"batches", ObjectCall::Batches),
+    (b"compact", ObjectCall::Compact),
+    (b"sweep", ObjectCall::Sweep),
+    (b"leases", ObjectCall::Leases),
+    (b"calls", ObjectCall::Calls),
+    (b"faulty_calls", ObjectCall::FaultyCalls),
+    (b"fail", ObjectCall::Fail),
+    (b"contend", ObjectCall::Contend),
+    (b"rivals", ObjectCall::Rivals),
+];
+
 /// Makes one of the other calls.
 pub fn call_objects(
     alloc: Global,
@@ -80,64 +125,90 @@ pub fn call_objects(
     words: &[&[u8]],
     answer: &mut Vec<u8>,
 ) -> Result<(), CallFailure> {
-    match words {
-        [b"database", tables] => {
+    let (call, words) = split_name(OBJECT_CALLS, words)?;
+    match (call, words) {
+        (ObjectCall::Database, [tables]) => {
             let made = make_database(alloc, store, number_of(tables)?);
             print_done(answer, made?)
         }
-        [b"batches"] => print_batches_named(alloc, store, answer),
-        [b"compact", epoch, index] => {
+        (ObjectCall::Batches, []) => print_batches_named(alloc, store, answer),
+        (ObjectCall::Compact, [epoch, index]) => {
             compact(alloc, store, number_of(epoch)?, number_of(index)?, answer)
         }
-        [b"sweep", moment] => match sweep(alloc, store, time_of(moment)?) {
-            Ok(count) => print_number(answer, count),
-            Err(refusal) => print_refusal(answer, Err(refusal)),
-        },
-        [b"leases"] => print_leases(alloc, store, answer),
-        [b"calls"] => print_number(answer, store.calls()),
-        [b"faulty_calls"] => print_number(answer, store.faulty_calls()),
-        [b"fail", failing @ ..] => {
+        (ObjectCall::Sweep, [moment]) => remove(alloc, store, time_of(moment)?, answer),
+        (ObjectCall::Leases, []) => print_leases(alloc, store, answer),
+        (ObjectCall::Calls, []) => print_number(answer, store.calls()),
+        (ObjectCall::FaultyCalls, []) => print_number(answer, store.faulty_calls()),
+        _ => tell(alloc, store, call, words),
+    }
+}
+
+/// Tells a store what to do from here on.
+fn tell(
+    alloc: Global,
+    store: &mut ToldStore,
+    call: ObjectCall,
+    words: &[&[u8]],
+) -> Result<(), CallFailure> {
+    match (call, words) {
+        (ObjectCall::Fail, failing) => {
             let failing = failing_of(alloc, failing)?;
             store.let_fail(alloc, Seq::of(failing));
-            Ok(())
         }
-        [b"contend", lost, raised_at] => {
+        (ObjectCall::Contend, [lost, raised_at]) => {
             store.contend(number_of(lost)?, number_of(raised_at)?);
-            Ok(())
         }
-        [b"rivals", count] => {
-            store.let_others_put(number_of(count)?);
-            Ok(())
-        }
-        _ => Err(CallFailure::Unread),
+        (ObjectCall::Rivals, [count]) => store.let_others_put(number_of(count)?),
+        _ => return Err(CallFailure::Unread),
+    }
+    Ok(())
+}
+
+/// Removes what nothing needs, and appends how many objects.
+fn remove(
+    alloc: Global,
+    store: &mut ToldStore,
+    moment: i64,
+    answer: &mut Vec<u8>,
+) -> Result<(), CallFailure> {
+    match sweep(alloc, store, moment) {
+        Ok(count) => print_number(answer, count),
+        Err(refusal) => print_refusal(answer, Err(refusal)),
     }
 }
 
 fn lifetime_of(word: &[u8]) -> Result<Option<u64>, CallFailure> {
-    match word {
-        b"none" => Ok(None),
-        _ => Ok(Some(number_of(word)?)),
+    if is_none(word) {
+        return Ok(None);
     }
+    Ok(Some(number_of(word)?))
 }
 
 fn noted_id(ids: &[Uuid], noted: &[u8]) -> Result<Uuid, CallFailure> {
-    let index = usize::try_from(number_of(noted)?).map_err(|_error| CallFailure::Unread)?;
-    ids.get(index).copied().ok_or(CallFailure::Unread)
+    ids.get(size_of(noted)?).copied().ok_or(CallFailure::Unread)
 }
+
+/// Whether a call that fails is made all the same.
+const LANDED: &[(&[u8], bool)] = &[(b"landed", true), (b"lost", false)];
 
 /// The calls that fail, each with its number and how it fails.
 fn failing_of(alloc: Global, words: &[&[u8]]) -> Result<Vec<FailingCall>, CallFailure> {
     let mut failing = Vec::new(alloc);
     for pair in words.chunks(2) {
-        let (number, landed) = match pair {
-            [number, b"landed"] => (number, true),
-            [number, b"lost"] => (number, false),
-            _ => return Err(CallFailure::Unread),
-        };
-        let at = number_of(number)?;
-        failing.push(FailingCall { at, landed })?;
+        failing.push(failing_call(pair)?)?;
     }
     Ok(failing)
+}
+
+fn failing_call(words: &[&[u8]]) -> Result<FailingCall, CallFailure> {
+    let [number, how] = words else {
+        return Err(CallFailure::Unread);
+    };
+    let at = number_of(number)?;
+    match look_up(LANDED, how) {
+        Some(landed) => Ok(FailingCall { at, landed }),
+        None => Err(CallFailure::Unread),
+    }
 }
 
 /// Appends the error of a refusal, where there is one.

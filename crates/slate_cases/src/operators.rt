@@ -1,4 +1,6 @@
 // Merge operators and prefix extractors that calls name.
+use crate::printing::{bytes_of, number_of, size_of, split_name, text_of};
+use crate::subjects::CallFailure;
 use bytes::Bytes;
 use slate_types::{ConcatOperator, FixedPrefix, MergeFault, MergeOperator, Name, PrefixExtractor};
 use std::alloc::Global;
@@ -76,4 +78,62 @@ impl Letters {
             .unwrap_or(letters.len());
         letters.get(..length)
     }
+}
+
+/// Whether it refuses the operands of a key.
+const OPERATORS: &[(&[u8], bool)] = &[(b"concat", false), (b"refusing", true)];
+
+/// The operator that words spell.
+pub fn operator_of(alloc: Global, words: &[&[u8]]) -> Result<Refusing, CallFailure> {
+    let refused = match split_name(OPERATORS, words)? {
+        (false, []) => None,
+        (true, [key]) => Some(bytes_of(alloc, key)?),
+        _ => return Err(CallFailure::Unread),
+    };
+    Ok(Refusing { refused })
+}
+
+#[derive(Clone, Copy)]
+enum CutsName {
+    None,
+    Fixed,
+    Letters,
+    LettersAndDashes,
+}
+
+const EXTRACTORS: &[(&[u8], CutsName)] = &[
+    (b"none", CutsName::None),
+    (b"fixed", CutsName::Fixed),
+    (b"letters", CutsName::Letters),
+    (b"letters_and_dashes", CutsName::LettersAndDashes),
+];
+
+/// The extractor that words spell, where they spell one.
+pub fn extractor_of(alloc: Global, words: &[&[u8]]) -> Result<Option<Cuts>, CallFailure> {
+    match split_name(EXTRACTORS, words)? {
+        (CutsName::None, []) => Ok(None),
+        (CutsName::Fixed, [length]) => {
+            let Ok(length) = u8::try_from(number_of(length)?) else {
+                return Err(CallFailure::Unread);
+            };
+            Ok(Some(Cuts::Fixed(FixedPrefix::new(alloc, length)?)))
+        }
+        (CutsName::Letters, [name, most]) => letters(alloc, name, most, false),
+        (CutsName::LettersAndDashes, [name, most]) => letters(alloc, name, most, true),
+        _ => Err(CallFailure::Unread),
+    }
+}
+
+fn letters(
+    alloc: Global,
+    name: &[u8],
+    most: &[u8],
+    dashes: bool,
+) -> Result<Option<Cuts>, CallFailure> {
+    let (name, most) = (text_of(name)?, size_of(most)?);
+    Ok(Some(Cuts::Letters(Letters {
+        name: Name::of(String::from_str(alloc, name)?),
+        most,
+        dashes,
+    })))
 }

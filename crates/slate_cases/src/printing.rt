@@ -2,13 +2,58 @@
 use crate::subjects::CallFailure;
 use bytes::Bytes;
 use slate_errors::{SlateError, write_error};
-use slate_text::{read_byte_word, read_number, write_byte_word, write_number, write_signed};
+use slate_text::{
+    read_byte_word, read_number, read_time, write_byte_word, write_number, write_signed, write_text,
+};
 use slate_types::{KeyValue, NoMemory};
 use std::alloc::Global;
+use std::str;
+
+/// What a word stands for in a table.
+pub fn look_up<T: Copy>(table: &[(&[u8], T)], word: &[u8]) -> Option<T> {
+    for (spelled, meaning) in table {
+        if *spelled == word {
+            return Some(*meaning);
+        }
+    }
+    None
+}
+
+/// What the first of several words stands for in a table, and the others.
+pub fn split_name<'a, 'b, T: Copy>(
+    table: &[(&[u8], T)],
+    words: &'a [&'b [u8]],
+) -> Result<(T, &'a [&'b [u8]]), CallFailure> {
+    let Some((name, others)) = words.split_first() else {
+        return Err(CallFailure::Unread);
+    };
+    match look_up(table, name) {
+        Some(meaning) => Ok((meaning, others)),
+        None => Err(CallFailure::Unread),
+    }
+}
+
+/// Whether a word says that there is nothing.
+pub fn is_none(word: &[u8]) -> bool {
+    word == b"none".as_slice()
+}
 
 /// The number that a word spells.
 pub fn number_of(word: &[u8]) -> Result<u64, CallFailure> {
     read_number(word).ok_or(CallFailure::Unread)
+}
+
+/// The number of a place or of bytes that a word spells.
+pub fn size_of(word: &[u8]) -> Result<usize, CallFailure> {
+    Ok(number_of(word)? as usize)
+}
+
+/// The text that a word is.
+pub fn text_of(word: &[u8]) -> Result<&str, CallFailure> {
+    match str::from_utf8(word) {
+        Ok(text) => Ok(text),
+        Err(_) => Err(CallFailure::Unread),
+    }
 }
 
 /// The time that a word spells, in milliseconds or seconds, with `-` before one that is negative.
@@ -17,7 +62,7 @@ pub fn time_of(word: &[u8]) -> Result<i64, CallFailure> {
         [b'-', digits @ ..] => (digits, true),
         _ => (word, false),
     };
-    let time = i64::try_from(number_of(digits)?).map_err(|_error| CallFailure::Unread)?;
+    let time = read_time(digits).ok_or(CallFailure::Unread)?;
     Ok(if negative {
         0i64.saturating_sub(time)
     } else {
@@ -32,7 +77,7 @@ pub fn bytes_of(alloc: Global, word: &[u8]) -> Result<Bytes, CallFailure> {
 
 /// Appends a text.
 pub fn print_text(answer: &mut Vec<u8>, text: &str) -> Result<(), CallFailure> {
-    Ok(answer.extend_from_slice(text.as_bytes())?)
+    Ok(write_text(answer, text)?)
 }
 
 /// Appends a number.
@@ -61,10 +106,10 @@ pub fn numbers_of(alloc: Global, words: &[&[u8]]) -> Result<Vec<u64>, CallFailur
 
 /// Appends a blank, where something stands before it.
 pub fn print_blank(answer: &mut Vec<u8>) -> Result<(), CallFailure> {
-    if !answer.is_empty() {
-        answer.push(b' ')?;
+    if answer.is_empty() {
+        return Ok(());
     }
-    Ok(())
+    print_text(answer, " ")
 }
 
 /// Appends a number, with a blank between it and what stands before it.
@@ -99,15 +144,17 @@ pub fn print_rows(answer: &mut Vec<u8>, rows: &[KeyValue]) -> Result<(), CallFai
 /// Appends a row, as `print_rows` does.
 pub fn print_row(answer: &mut Vec<u8>, row: &KeyValue) -> Result<(), NoMemory> {
     write_byte_word(answer, row.key.as_slice())?;
-    answer.push(b'=')?;
+    write_text(answer, "=")?;
     write_byte_word(answer, row.value.as_slice())?;
-    answer.push(b'@')?;
+    write_text(answer, "@")?;
     write_number(answer, row.seq)?;
-    answer.push(b'+')?;
+    write_text(answer, "+")?;
     write_signed(answer, row.create_ts)?;
-    if let Some(end) = row.expire_ts {
-        answer.push(b'-')?;
-        write_signed(answer, end)?;
+    match row.expire_ts {
+        None => Ok(()),
+        Some(end) => {
+            write_text(answer, "-")?;
+            write_signed(answer, end)
+        }
     }
-    Ok(())
 }

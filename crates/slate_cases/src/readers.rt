@@ -2,7 +2,10 @@
 use crate::databases::Database;
 use crate::handles::ops_of;
 use crate::object_calls::first_manifest;
-use crate::printing::{bytes_of, number_of, print_error, print_number, print_text, time_of};
+use crate::operators::Cuts;
+use crate::printing::{
+    bytes_of, number_of, print_error, print_number, print_text, split_name, time_of,
+};
 use crate::store_calls::{print_done, print_store_error, push};
 use crate::subjects::CallFailure;
 use crate::told_stores::ToldStore;
@@ -10,8 +13,40 @@ use bytes::Bytes;
 use slate_follow::{DbReaderMode, DbReaderOptions, FollowerState, PollAnswer};
 use slate_reads::{IndexedTable, Table};
 use slate_store::{LogFile, Manifest, Store, TableId};
-use slate_types::{Batch, Name, NoMemory, PrefixExtractor, Seq};
+use slate_types::{Batch, Name, PrefixExtractor, Seq};
 use std::alloc::Global;
+
+#[derive(Clone, Copy)]
+enum Call {
+    Open,
+    Poll,
+    Mark,
+    Tables,
+}
+
+const CALLS: &[(&[u8], Call)] = &[
+    (b"open", Call::Open),
+    (b"poll", Call::Poll),
+    (b"mark", Call::Mark),
+    (b"tables", Call::Tables),
+];
+
+#[derive(Clone, Copy)]
+enum Put {
+    First,
+    Log,
+    Table,
+    Last,
+    Segment,
+}
+
+const PUTS: &[(&[u8], Put)] = &[
+    (b"first", Put::First),
+    (b"log", Put::Log),
+    (b"table", Put::Table),
+    (b"last", Put::Last),
+    (b"segment", Put::Segment),
+];
 
 impl Database {
     /// Makes a call of the reader.
@@ -21,20 +56,23 @@ impl Database {
         words: &[&[u8]],
         answer: &mut Vec<u8>,
     ) -> Result<(), CallFailure> {
-        if let [b"open", size] = words {
+        let (call, words) = split_name(CALLS, words)?;
+        if let (Call::Open, [size]) = (call, words) {
             return self.open_reader(alloc, number_of(size)?, answer);
         }
-        let reader = self.reader.as_mut().ok_or(CallFailure::Unread)?;
-        match words {
-            [b"poll", moment] => {
-                let extractor = self.extractor.as_ref();
-                match reader.poll(alloc, &mut self.store, extractor, time_of(moment)?) {
+        let Some(reader) = &mut self.reader else {
+            return Err(CallFailure::Unread);
+        };
+        match (call, words) {
+            (Call::Poll, [moment]) => {
+                let (moment, extractor) = (time_of(moment)?, self.extractor.as_ref());
+                match reader.poll(alloc, &mut self.store, extractor, moment) {
                     Ok(polled) => print_polled(answer, polled),
                     Err(error) => print_error(answer, &error),
                 }
             }
-            [b"mark"] => print_number(answer, reader.mark()),
-            [b"tables"] => print_number(answer, reader.tables_in_memory()),
+            (Call::Mark, []) => print_number(answer, reader.mark()),
+            (Call::Tables, []) => print_number(answer, reader.tables_in_memory()),
             _ => Err(CallFailure::Unread),
         }
     }
@@ -67,17 +105,11 @@ impl Database {
         words: &[&[u8]],
         answer: &mut Vec<u8>,
     ) -> Result<(), CallFailure> {
+        let (put, words) = split_name(PUTS, words)?;
         let store = &mut self.store;
-        match words {
-            [b"first"] => {
-                let mut manifest = first_manifest(alloc);
-                if let Some(extractor) = &self.extractor {
-                    let name = String::from_str(alloc, extractor.name())?;
-                    manifest.extractor_name = Some(Name::of(name));
-                }
-                print_done(answer, store.put_manifest(alloc, 1, &manifest))
-            }
-            [b"log", number, ops @ ..] => {
+        match (put, words) {
+            (Put::First, []) => put_first(alloc, store, self.extractor.as_ref(), answer),
+            (Put::Log, [number, ops @ ..]) => {
                 let batch = Batch {
                     number: number_of(number)?,
                     create_ts: 0,
@@ -85,12 +117,12 @@ impl Database {
                 };
                 print_done(answer, store.put_log(alloc, batch.number, &[batch]))
             }
-            [b"table", last] => put_table(alloc, store, number_of(last)?, answer),
-            [b"last", number] => {
+            (Put::Table, [last]) => put_table(alloc, store, number_of(last)?, answer),
+            (Put::Last, [number]) => {
                 let number = number_of(number)?;
                 put_changed(alloc, store, Change::Last(number), answer)
             }
-            [b"segment", prefix] => {
+            (Put::Segment, [prefix]) => {
                 let prefix = bytes_of(alloc, prefix)?;
                 let segments = Seq::of(vec![in alloc; prefix]?);
                 put_changed(alloc, store, Change::Segments(segments), answer)
@@ -98,6 +130,21 @@ impl Database {
             _ => Err(CallFailure::Unread),
         }
     }
+}
+
+/// Puts the first manifest, with the name of an extractor.
+fn put_first(
+    alloc: Global,
+    store: &mut ToldStore,
+    extractor: Option<&Cuts>,
+    answer: &mut Vec<u8>,
+) -> Result<(), CallFailure> {
+    let mut manifest = first_manifest(alloc);
+    if let Some(extractor) = extractor {
+        let name = String::from_str(alloc, extractor.name())?;
+        manifest.extractor_name = Some(Name::of(name));
+    }
+    print_done(answer, store.put_manifest(alloc, 1, &manifest))
 }
 
 fn print_polled(answer: &mut Vec<u8>, polled: PollAnswer) -> Result<(), CallFailure> {
@@ -174,7 +221,9 @@ fn put_table(
             Err(error) => return print_store_error(answer, error),
         }
     }
-    let table = Table::new(alloc, table).map_err(|_table| NoMemory)?;
+    let Ok(table) = Table::new(alloc, table) else {
+        return Err(CallFailure::Memory);
+    };
     print_done(answer, store.put_table(alloc, table_up_to(last), &table))?;
     put_changed(alloc, store, Change::Tabled(last), answer)
 }

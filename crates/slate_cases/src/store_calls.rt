@@ -1,10 +1,40 @@
 // The calls of any store, with the answers that they print.
-use crate::printing::{add_number, number_of, numbers_of, print_number, print_numbers, print_text};
+use crate::printing::{
+    add_number, number_of, numbers_of, print_number, print_numbers, print_text, split_name,
+};
 use crate::subjects::CallFailure;
 use slate_reads::{IndexedTable, Table};
 use slate_store::{Store, TableId};
-use slate_types::{Batch, NoMemory, Seq, StoreError};
+use slate_types::{Batch, Seq, StoreError};
 use std::alloc::Global;
+
+/// A call of a store.
+#[derive(Clone, Copy)]
+enum StoreCall {
+    PutLog,
+    ReadLog,
+    LastLog,
+    RemoveLog,
+    PutTable,
+    ReadTable,
+    RemoveTable,
+    LatestManifest,
+    Stored,
+    List,
+}
+
+const CALLS: &[(&[u8], StoreCall)] = &[
+    (b"put_log", StoreCall::PutLog),
+    (b"read_log", StoreCall::ReadLog),
+    (b"last_log", StoreCall::LastLog),
+    (b"remove_log", StoreCall::RemoveLog),
+    (b"put_table", StoreCall::PutTable),
+    (b"read_table", StoreCall::ReadTable),
+    (b"remove_table", StoreCall::RemoveTable),
+    (b"latest_manifest", StoreCall::LatestManifest),
+    (b"stored", StoreCall::Stored),
+    (b"list", StoreCall::List),
+];
 
 /// Makes one of the calls of a store that `docs/FORMATS.md` lists.
 pub fn call_store<S: Store>(
@@ -13,27 +43,51 @@ pub fn call_store<S: Store>(
     words: &[&[u8]],
     answer: &mut Vec<u8>,
 ) -> Result<(), CallFailure> {
-    match words {
-        [b"put_log", id, numbers @ ..] => put_log(alloc, store, id, numbers, answer),
-        [b"read_log", id] => read_log(alloc, store, id, answer),
-        [b"last_log", after] => match store.last_log(alloc, number_of(after)?) {
-            Ok(id) => print_number(answer, id),
-            Err(error) => print_store_error(answer, error),
-        },
-        [b"remove_log", id] => print_done(answer, store.remove_log(alloc, number_of(id)?)),
-        [b"put_table", epoch, index, numbers @ ..] => {
-            put_table(alloc, store, table_id(epoch, index)?, numbers, answer)
+    let (call, words) = split_name(CALLS, words)?;
+    match (call, words) {
+        (StoreCall::LatestManifest, []) => latest_manifest(alloc, store, answer),
+        (StoreCall::Stored, []) => print_stored(alloc, store, answer),
+        (StoreCall::List, []) => list(alloc, store, answer),
+        (StoreCall::PutLog, [id, numbers @ ..]) => put_log(alloc, store, id, numbers, answer),
+        (StoreCall::ReadLog, [id]) => read_log(alloc, store, id, answer),
+        (StoreCall::LastLog, [after]) => last_log(alloc, store, after, answer),
+        (StoreCall::RemoveLog, [id]) => {
+            print_done(answer, store.remove_log(alloc, number_of(id)?))
         }
-        [b"read_table", epoch, index] => {
-            read_table(alloc, store, table_id(epoch, index)?, answer)
+        (_, [epoch, index, numbers @ ..]) => {
+            let id = table_id(epoch, index)?;
+            call_table(alloc, store, call, id, numbers, answer)
         }
-        [b"remove_table", epoch, index] => {
-            print_done(answer, store.remove_table(alloc, table_id(epoch, index)?))
-        }
-        [b"latest_manifest"] => latest_manifest(alloc, store, answer),
-        [b"stored"] => print_stored(alloc, store, answer),
-        [b"list"] => list(alloc, store, answer),
         _ => Err(CallFailure::Unread),
+    }
+}
+
+/// Makes a call on a table.
+fn call_table<S: Store>(
+    alloc: Global,
+    store: &mut S,
+    call: StoreCall,
+    id: TableId,
+    numbers: &[&[u8]],
+    answer: &mut Vec<u8>,
+) -> Result<(), CallFailure> {
+    match call {
+        StoreCall::PutTable => put_table(alloc, store, id, numbers, answer),
+        StoreCall::ReadTable => read_table(alloc, store, id, answer),
+        StoreCall::RemoveTable => print_done(answer, store.remove_table(alloc, id)),
+        _ => Err(CallFailure::Unread),
+    }
+}
+
+fn last_log<S: Store>(
+    alloc: Global,
+    store: &mut S,
+    after: &[u8],
+    answer: &mut Vec<u8>,
+) -> Result<(), CallFailure> {
+    match store.last_log(alloc, number_of(after)?) {
+        Ok(id) => print_number(answer, id),
+        Err(error) => print_store_error(answer, error),
     }
 }
 
@@ -87,7 +141,10 @@ pub fn table_of(alloc: Global, numbers: &[u64]) -> Result<Table, CallFailure> {
     for number in numbers {
         push(&mut table, empty_batch(alloc, *number))?;
     }
-    Ok(Table::new(alloc, table).map_err(|_table| NoMemory)?)
+    match Table::new(alloc, table) {
+        Ok(table) => Ok(table),
+        Err(_) => Err(CallFailure::Memory),
+    }
 }
 
 /// Adds a batch to a table, where its number is above those there.
@@ -95,7 +152,10 @@ pub fn push(table: &mut IndexedTable, batch: Batch) -> Result<(), CallFailure> {
     if !table.is_above_last(batch.number) {
         return Err(CallFailure::Unread);
     }
-    table.push(batch).map_err(|_batch| CallFailure::Memory)
+    match table.push(batch) {
+        Ok(()) => Ok(()),
+        Err(_) => Err(CallFailure::Memory),
+    }
 }
 
 /// The id of a table.
@@ -215,7 +275,10 @@ fn find_stored<S: Store>(
     alloc: Global,
     store: &mut S,
 ) -> Result<(Option<u64>, u64, usize), StoreError> {
-    let manifest = store.latest_manifest(alloc)?.map(|latest| latest.id);
+    let manifest = match store.latest_manifest(alloc)? {
+        Some(latest) => Some(latest.id),
+        None => None,
+    };
     let last = store.last_log(alloc, 0)?;
     let batches = match store.read_log(alloc, last) {
         Err(StoreError::NotFound) => 0,

@@ -1,7 +1,9 @@
 // The subject `streams`: sources and sinks in memory that fail as told, and sessions over them.
 ghost use Rattle.std.specs.Prelude.{◌≤◌, IfOk};
 
-use crate::printing::{bytes_of, number_of, numbers_of, print_bytes, print_number, print_text};
+use crate::printing::{
+    bytes_of, numbers_of, print_bytes, print_number, print_text, size_of, split_name,
+};
 use crate::store_calls::print_stored;
 use crate::subjects::CallFailure;
 use slate_live::{
@@ -10,6 +12,29 @@ use slate_live::{
 use slate_store::MemoryStore;
 use slate_types::Seq;
 use std::alloc::Global;
+
+#[derive(Clone, Copy)]
+enum Call {
+    Source,
+    Sink,
+    Read,
+    Flow,
+    Write,
+    Written,
+    Session,
+    Stored,
+}
+
+const CALLS: &[(&[u8], Call)] = &[
+    (b"source", Call::Source),
+    (b"sink", Call::Sink),
+    (b"read", Call::Read),
+    (b"flow", Call::Flow),
+    (b"write", Call::Write),
+    (b"written", Call::Written),
+    (b"session", Call::Session),
+    (b"stored", Call::Stored),
+];
 
 /// A source, a sink, and the store of the sessions that read the one and write to the other.
 #[derive(Drop)]
@@ -37,35 +62,33 @@ impl Streams {
         words: &[&[u8]],
         answer: &mut Vec<u8>,
     ) -> Result<(), CallFailure> {
-        match words {
-            [b"source", text, piece, failing @ ..] => {
+        let (call, words) = split_name(CALLS, words)?;
+        match (call, words) {
+            (Call::Source, [text, piece, failing @ ..]) => {
                 let text = Vec::from_slice(alloc, bytes_of(alloc, text)?.as_slice())?;
                 let failing = Seq::of(numbers_of(alloc, failing)?);
                 self.source = SliceSource::new(text, piece_of(piece)?, failing);
                 Ok(())
             }
-            [b"sink", piece, failing @ ..] => {
-                self.sink = VecSink::new(
-                    alloc,
-                    piece_of(piece)?,
-                    Seq::of(numbers_of(alloc, failing)?),
-                );
+            (Call::Sink, [piece, failing @ ..]) => {
+                let failing = Seq::of(numbers_of(alloc, failing)?);
+                self.sink = VecSink::new(alloc, piece_of(piece)?, failing);
                 Ok(())
             }
-            [b"read", limit] => self.read(alloc, limit, answer),
-            [b"flow", left, limit] => flow(alloc, left, limit, answer),
-            [b"write", text] => {
+            (Call::Read, [limit]) => self.read(alloc, limit, answer),
+            (Call::Flow, [left, limit]) => flow(alloc, left, limit, answer),
+            (Call::Write, [text]) => {
                 let text = bytes_of(alloc, text)?;
                 let whole = write_whole(&mut self.sink, text.as_slice());
                 print_text(answer, if whole { "whole" } else { "failed" })
             }
-            [b"written"] => print_bytes(answer, self.sink.written()),
-            [b"session"] => {
+            (Call::Written, []) => print_bytes(answer, self.sink.written()),
+            (Call::Session, []) => {
                 let (source, sink) = (&mut self.source, &mut self.sink);
                 let finished = session(alloc, &[], source, sink, &mut self.store);
                 print_number(answer, u64::from(finished.status))
             }
-            [b"stored"] => print_stored(alloc, &mut self.store, answer),
+            (Call::Stored, []) => print_stored(alloc, &mut self.store, answer),
             _ => Err(CallFailure::Unread),
         }
     }
@@ -122,10 +145,6 @@ fn print_fault(answer: &mut Vec<u8>, fault: InputFault) -> Result<(), CallFailur
         InputFault::TooLong => print_text(answer, "too long"),
         InputFault::NoMemory => Err(CallFailure::Memory),
     }
-}
-
-fn size_of(word: &[u8]) -> Result<usize, CallFailure> {
-    usize::try_from(number_of(word)?).map_err(|_error| CallFailure::Unread)
 }
 
 /// How many bytes come or go at a time, which is at least one.

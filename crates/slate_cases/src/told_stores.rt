@@ -15,7 +15,7 @@ pub struct ToldStore {
     /// The log file that isn't found when it is read.
     lost: Option<u64>,
     /// The call from which on the latest manifest has the next epoch, since another handle was opened.
-    raised_at: Option<u64>,
+    raised_at: u64,
     /// How many times another puts a manifest under the id before a put of one.
     rivals: u64,
     calls: u64,
@@ -30,7 +30,7 @@ impl ToldStore {
         ToldStore {
             inner: FaultyStore::new(MemoryStore::new(alloc), Seq::of(Vec::new(alloc))),
             lost: None,
-            raised_at: None,
+            raised_at: u64::MAX,
             rivals: 0,
             calls: 0,
         }
@@ -57,7 +57,7 @@ impl ToldStore {
     /// Loses a log file, and lets another handle be opened before the call of a number, counted from here.
     pub fn contend(&mut self, lost: u64, raised_at: u64) {
         self.lost = Some(lost);
-        self.raised_at = Some(raised_at);
+        self.raised_at = raised_at;
         self.calls = 0;
     }
 
@@ -88,7 +88,7 @@ impl Store for ToldStore {
         let Some(mut latest) = self.inner.latest_manifest(alloc)? else {
             return Ok(None);
         };
-        if self.raised_at.is_some_and(|at| at <= self.calls) {
+        if self.raised_at <= self.calls {
             latest.manifest.writer_epoch = latest.manifest.writer_epoch.saturating_add(1);
         }
         Ok(Some(latest))

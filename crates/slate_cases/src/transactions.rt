@@ -1,16 +1,47 @@
 // Calls of the transactions of a database's handle.
 use crate::databases::Database;
 use crate::handles::{level_of, print_end};
-use crate::operators::Refusing;
 use crate::printing::{
-    bytes_of, number_of, print_error, print_number, print_row, print_rows, print_text, time_of,
+    bytes_of, look_up, print_error, print_number, print_row, print_rows, print_text, size_of,
+    split_name, time_of,
 };
 use crate::subjects::CallFailure;
-use crate::told_stores::ToldStore;
+use bytes::Bytes;
+use slate_rows::DbIterator;
 use slate_types::{ByteRange, KeyBound, ReadOptions, ScanOptions};
-use slate_writer::{IsolationLevel, Transaction, WriterState};
+use slate_writer::{IsolationLevel, Transaction};
 use std::alloc::Global;
 use uuid::Uuid;
+
+#[derive(Clone, Copy)]
+enum Call {
+    Put,
+    Merge,
+    Delete,
+    MarkRead,
+    UnmarkWrite,
+    Get,
+    Scan,
+    Commit,
+    Rollback,
+}
+
+const CALLS: &[(&[u8], Call)] = &[
+    (b"put", Call::Put),
+    (b"merge", Call::Merge),
+    (b"delete", Call::Delete),
+    (b"mark_read", Call::MarkRead),
+    (b"unmark_write", Call::UnmarkWrite),
+    (b"get", Call::Get),
+    (b"scan", Call::Scan),
+    (b"commit", Call::Commit),
+    (b"rollback", Call::Rollback),
+];
+
+const LEVELS: &[(&[u8], IsolationLevel)] = &[
+    (b"snapshot", IsolationLevel::Snapshot),
+    (b"serializable", IsolationLevel::SerializableSnapshot),
+];
 
 impl Database {
     /// Makes a call of a transaction, which is named by how many began before it.
@@ -20,37 +51,85 @@ impl Database {
         words: &[&[u8]],
         answer: &mut Vec<u8>,
     ) -> Result<(), CallFailure> {
-        match words {
-            [b"begin", b"snapshot"] => self.begin(alloc, IsolationLevel::Snapshot, answer),
-            [b"begin", b"serializable"] => {
-                self.begin(alloc, IsolationLevel::SerializableSnapshot, answer)
-            }
-            [own, b"commit", moment] => {
+        if let Some(level) = begun_level(words) {
+            return self.begin(alloc, level, answer);
+        }
+        let Some((own, words)) = words.split_first() else {
+            return Err(CallFailure::Unread);
+        };
+        let (call, words) = split_name(CALLS, words)?;
+        match (call, words) {
+            (Call::Commit, [moment]) => {
+                let moment = time_of(moment)?;
                 let transaction = self.taken(own)?;
-                self.commit(alloc, transaction, time_of(moment)?, answer)
+                self.commit(alloc, transaction, moment, answer)
             }
-            [own, b"rollback"] => {
+            (Call::Rollback, []) => {
                 let transaction = self.taken(own)?;
-                let handle = self.handle.as_mut().ok_or(CallFailure::Unread)?;
+                self.roll_back(transaction)
+            }
+            (Call::Get, [key, level]) => self.get(alloc, size_of(own)?, key, level, answer),
+            (Call::Scan, [low, high]) => self.scan(alloc, size_of(own)?, low, high, answer),
+            _ => match self.transactions.get_mut(size_of(own)?) {
+                Some(Some(transaction)) => operate(alloc, transaction, call, words),
+                _ => Err(CallFailure::Unread),
+            },
+        }
+    }
+
+    fn roll_back(&mut self, transaction: Transaction) -> Result<(), CallFailure> {
+        match &mut self.handle {
+            Some(handle) => {
                 transaction.rollback(handle);
                 Ok(())
             }
-            [own, words @ ..] => {
-                let index = index_of(own)?;
-                let Some(Some(transaction)) = self.transactions.get_mut(index) else {
-                    return Err(CallFailure::Unread);
-                };
-                let handle = self.handle.as_ref().ok_or(CallFailure::Unread)?;
-                let operator = self.operator.as_ref();
-                match words {
-                    [b"get", ..] | [b"scan", ..] => {
-                        let store = &mut self.store;
-                        read(alloc, transaction, handle, store, operator, words, answer)
-                    }
-                    _ => operate(alloc, transaction, words),
-                }
-            }
-            [] => Err(CallFailure::Unread),
+            None => Err(CallFailure::Unread),
+        }
+    }
+
+    fn get(
+        &mut self,
+        alloc: Global,
+        own: usize,
+        key: &[u8],
+        level: &[u8],
+        answer: &mut Vec<u8>,
+    ) -> Result<(), CallFailure> {
+        let options = ReadOptions {
+            durability_filter: level_of(level)?,
+            dirty: false,
+        };
+        let key = bytes_of(alloc, key)?;
+        let (Some(Some(transaction)), Some(handle)) = (self.transactions.get_mut(own), &self.handle)
+        else {
+            return Err(CallFailure::Unread);
+        };
+        let (store, operator) = (&mut self.store, self.operator.as_ref());
+        match transaction.get(alloc, handle, store, key.as_slice(), &options, operator) {
+            Ok(Some(row)) => Ok(print_row(answer, &row)?),
+            Ok(None) => print_text(answer, "none"),
+            Err(error) => print_error(answer, &error),
+        }
+    }
+
+    fn scan(
+        &mut self,
+        alloc: Global,
+        own: usize,
+        low: &[u8],
+        high: &[u8],
+        answer: &mut Vec<u8>,
+    ) -> Result<(), CallFailure> {
+        let range = range_of(alloc, low, high)?;
+        let (Some(Some(transaction)), Some(handle)) = (self.transactions.get_mut(own), &self.handle)
+        else {
+            return Err(CallFailure::Unread);
+        };
+        let (store, operator) = (&mut self.store, self.operator.as_ref());
+        let options = ScanOptions::default();
+        match transaction.scan(alloc, handle, store, &range, &options, operator) {
+            Ok(rows) => print_found(alloc, answer, rows),
+            Err(error) => print_error(answer, &error),
         }
     }
 
@@ -60,7 +139,9 @@ impl Database {
         level: IsolationLevel,
         answer: &mut Vec<u8>,
     ) -> Result<(), CallFailure> {
-        let handle = self.handle.as_mut().ok_or(CallFailure::Unread)?;
+        let Some(handle) = &mut self.handle else {
+            return Err(CallFailure::Unread);
+        };
         match handle.begin(alloc, level, Uuid::nil()) {
             Ok(transaction) => {
                 print_number(answer, transaction.seqnum())?;
@@ -72,8 +153,10 @@ impl Database {
     }
 
     fn taken(&mut self, own: &[u8]) -> Result<Transaction, CallFailure> {
-        let slot = self.transactions.get_mut(index_of(own)?);
-        slot.and_then(Option::take).ok_or(CallFailure::Unread)
+        match self.transactions.get_mut(size_of(own)?) {
+            Some(slot) => slot.take().ok_or(CallFailure::Unread),
+            None => Err(CallFailure::Unread),
+        }
     }
 
     fn commit(
@@ -83,7 +166,9 @@ impl Database {
         moment: i64,
         answer: &mut Vec<u8>,
     ) -> Result<(), CallFailure> {
-        let handle = self.handle.as_mut().ok_or(CallFailure::Unread)?;
+        let Some(handle) = &mut self.handle else {
+            return Err(CallFailure::Unread);
+        };
         match transaction.commit(alloc, handle, moment, None, self.extractor.as_ref()) {
             Ok(Some(written)) => print_number(answer, written.number),
             Ok(None) => print_text(answer, "nothing"),
@@ -92,68 +177,48 @@ impl Database {
     }
 }
 
-fn index_of(word: &[u8]) -> Result<usize, CallFailure> {
-    usize::try_from(number_of(word)?).map_err(|_error| CallFailure::Unread)
-}
-
 fn operate(
     alloc: Global,
     transaction: &mut Transaction,
+    call: Call,
     words: &[&[u8]],
 ) -> Result<(), CallFailure> {
-    let (name, key, value) = match words {
-        [name, key, value] => (name, bytes_of(alloc, key)?, bytes_of(alloc, value)?),
-        [name, key] => (name, bytes_of(alloc, key)?, bytes_of(alloc, b"%")?),
+    let (key, value) = match words {
+        [key, value] => (bytes_of(alloc, key)?, bytes_of(alloc, value)?),
+        [key] => (bytes_of(alloc, key)?, Bytes::new()),
         _ => return Err(CallFailure::Unread),
     };
     let (key, value) = (key.as_slice(), value.as_slice());
-    match *name {
-        b"put" => transaction.put(alloc, key, value)?,
-        b"merge" => transaction.merge(alloc, key, value)?,
-        b"delete" => transaction.delete(alloc, key)?,
-        b"mark_read" => transaction.mark_read(alloc, key)?,
-        b"unmark_write" => transaction.unmark_write(alloc, key)?,
+    match call {
+        Call::Put => transaction.put(alloc, key, value)?,
+        Call::Merge => transaction.merge(alloc, key, value)?,
+        Call::Delete => transaction.delete(alloc, key)?,
+        Call::MarkRead => transaction.mark_read(alloc, key)?,
+        Call::UnmarkWrite => transaction.unmark_write(alloc, key)?,
         _ => return Err(CallFailure::Unread),
     }
     Ok(())
 }
 
-fn read(
-    alloc: Global,
-    transaction: &mut Transaction,
-    handle: &WriterState,
-    store: &mut ToldStore,
-    operator: Option<&Refusing>,
-    words: &[&[u8]],
-    answer: &mut Vec<u8>,
-) -> Result<(), CallFailure> {
+/// The level of a transaction that these words begin.
+fn begun_level(words: &[&[u8]]) -> Option<IsolationLevel> {
     match words {
-        [b"get", key, level] => {
-            let options = ReadOptions {
-                durability_filter: level_of(level)?,
-                dirty: false,
-            };
-            let key = bytes_of(alloc, key)?;
-            match transaction.get(alloc, handle, store, key.as_slice(), &options, operator) {
-                Ok(Some(row)) => Ok(print_row(answer, &row)?),
-                Ok(None) => print_text(answer, "none"),
-                Err(error) => print_error(answer, &error),
-            }
-        }
-        [b"scan", low, high] => {
-            let range = ByteRange {
-                low: KeyBound::Included(bytes_of(alloc, low)?),
-                high: KeyBound::Excluded(bytes_of(alloc, high)?),
-            };
-            let options = ScanOptions::default();
-            match transaction.scan(alloc, handle, store, &range, &options, operator) {
-                Ok(rows) => match rows.into_rows(alloc) {
-                    Ok(rows) => print_rows(answer, rows.as_slice()),
-                    Err(fault) => print_end(answer, Err(fault.into())),
-                },
-                Err(error) => print_error(answer, &error),
-            }
-        }
-        _ => Err(CallFailure::Unread),
+        [first, level] if *first == b"begin".as_slice() => look_up(LEVELS, level),
+        _ => None,
+    }
+}
+
+/// The keys from the first on, up to the second.
+fn range_of(alloc: Global, low: &[u8], high: &[u8]) -> Result<ByteRange, CallFailure> {
+    Ok(ByteRange {
+        low: KeyBound::Included(bytes_of(alloc, low)?),
+        high: KeyBound::Excluded(bytes_of(alloc, high)?),
+    })
+}
+
+fn print_found(alloc: Global, answer: &mut Vec<u8>, rows: DbIterator) -> Result<(), CallFailure> {
+    match rows.into_rows(alloc) {
+        Ok(rows) => print_rows(answer, rows.as_slice()),
+        Err(fault) => print_end(answer, Err(fault.into())),
     }
 }

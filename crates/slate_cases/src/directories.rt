@@ -1,11 +1,10 @@
-// The subject `directory`: two stores over one directory, whose calls of the system fail after a number of them.
-use crate::ending_files::EndingFiles;
-use crate::printing::{bytes_of, number_of, print_bytes, print_text, split_name, text_of};
+// The subject `directory`: two stores over one directory.
+use crate::printing::{bytes_of, print_bytes, print_text, split_name, text_of};
 use crate::store_calls::call_store;
 use crate::subjects::CallFailure;
 use slate_directory::{DirectoryStore, open_directory};
 use std::alloc::Global;
-use std::cell::Cell;
+use std::fs::Files;
 use std::{fs, io};
 
 /// The folder in which the directory lies.
@@ -13,7 +12,6 @@ const FOLDER: &str = "slate_directory";
 
 #[derive(Clone, Copy)]
 enum Call {
-    EndAfter,
     Open,
     OpenOther,
     Store,
@@ -24,7 +22,6 @@ enum Call {
 }
 
 const CALLS: &[(&[u8], Call)] = &[
-    (b"end_after", Call::EndAfter),
     (b"open", Call::Open),
     (b"open_other", Call::OpenOther),
     (b"store", Call::Store),
@@ -34,21 +31,20 @@ const CALLS: &[(&[u8], Call)] = &[
     (b"put_file", Call::PutFile),
 ];
 
-/// The stores that are open.
+/// The stores that are open over the system's files.
 #[derive(Drop)]
-pub struct Directory<'a> {
-    files: EndingFiles<'a>,
-    store: Option<DirectoryStore<EndingFiles<'a>>>,
-    other: Option<DirectoryStore<EndingFiles<'a>>>,
+pub struct Directory<F: Files + Copy> {
+    files: F,
+    store: Option<DirectoryStore<F>>,
+    other: Option<DirectoryStore<F>>,
 }
 
-impl<'a> Directory<'a> {
-    /// No store, and no directory. `left` is how many calls of the system are left.
-    pub fn new(rt: HostRuntime, left: &'a Cell<u64>) -> Directory<'a> {
-        let _ = fs::remove_dir_all(&rt, FOLDER);
-        left.set(u64::MAX);
+impl<F: Files + Copy> Directory<F> {
+    /// No store, and no directory.
+    pub fn new(alloc: Global, files: F) -> Directory<F> {
+        let _ = fs::remove_dir_all(&(files, alloc), FOLDER);
         Directory {
-            files: EndingFiles { rt, left },
+            files,
             store: None,
             other: None,
         }
@@ -63,52 +59,29 @@ impl<'a> Directory<'a> {
     ) -> Result<(), CallFailure> {
         let (call, words) = split_name(CALLS, words)?;
         match (call, words) {
-            (Call::EndAfter, [count]) => {
-                self.files.left.set(number_of(count)?);
-                Ok(())
-            }
             (Call::Open, [path]) => open(alloc, self.files, &mut self.store, path, answer),
             (Call::OpenOther, [path]) => open(alloc, self.files, &mut self.other, path, answer),
             (Call::Store, words) => call_of(alloc, &mut self.store, words, answer),
             (Call::Other, words) => call_of(alloc, &mut self.other, words, answer),
-            (Call::Remove, []) => print_unless(answer, fs::remove_dir_all(&self.files.rt, FOLDER)),
-            (Call::File, [path]) => self.read_file(alloc, path, answer),
+            (Call::Remove, []) => {
+                print_unless(answer, fs::remove_dir_all(&(self.files, alloc), FOLDER))
+            }
+            (Call::File, [path]) => read_file(alloc, self.files, path, answer),
             (Call::PutFile, [path, bytes]) => {
                 let (path, bytes) = (path_of(alloc, path)?, bytes_of(alloc, bytes)?);
-                let put = fs::write(&self.files.rt, path.as_str(), bytes.as_slice());
+                let put = fs::write(&self.files, path.as_str(), bytes.as_slice());
                 print_unless(answer, put)
             }
             _ => Err(CallFailure::Unread),
         }
     }
-
-    fn read_file(
-        &self,
-        alloc: Global,
-        path: &[u8],
-        answer: &mut Vec<u8>,
-    ) -> Result<(), CallFailure> {
-        let path = path_of(alloc, path)?;
-        match fs::read(&self.files.rt, path.as_str()) {
-            Ok(bytes) => print_bytes(answer, bytes.as_slice()),
-            Err(_) => print_text(answer, "absent"),
-        }
-    }
-}
-
-/// Appends nothing, or that it failed.
-fn print_unless(answer: &mut Vec<u8>, done: io::Result<()>) -> Result<(), CallFailure> {
-    match done {
-        Ok(()) => Ok(()),
-        Err(_) => print_text(answer, "failed"),
-    }
 }
 
 /// Opens a store, in place of the one before.
-fn open<'a>(
+fn open<F: Files + Copy>(
     alloc: Global,
-    files: EndingFiles<'a>,
-    store: &mut Option<DirectoryStore<EndingFiles<'a>>>,
+    files: F,
+    store: &mut Option<DirectoryStore<F>>,
     path: &[u8],
     answer: &mut Vec<u8>,
 ) -> Result<(), CallFailure> {
@@ -122,15 +95,36 @@ fn open<'a>(
     }
 }
 
-fn call_of(
+fn call_of<F: Files + Copy>(
     alloc: Global,
-    store: &mut Option<DirectoryStore<EndingFiles<'_>>>,
+    store: &mut Option<DirectoryStore<F>>,
     words: &[&[u8]],
     answer: &mut Vec<u8>,
 ) -> Result<(), CallFailure> {
     match store {
         Some(store) => call_store(alloc, store, words, answer),
         None => Err(CallFailure::Unread),
+    }
+}
+
+fn read_file<F: Files + Copy>(
+    alloc: Global,
+    files: F,
+    path: &[u8],
+    answer: &mut Vec<u8>,
+) -> Result<(), CallFailure> {
+    let path = path_of(alloc, path)?;
+    match fs::read(&(files, alloc), path.as_str()) {
+        Ok(bytes) => print_bytes(answer, bytes.as_slice()),
+        Err(_) => print_text(answer, "absent"),
+    }
+}
+
+/// Appends nothing, or that it failed.
+fn print_unless(answer: &mut Vec<u8>, done: io::Result<()>) -> Result<(), CallFailure> {
+    match done {
+        Ok(()) => Ok(()),
+        Err(_) => print_text(answer, "failed"),
     }
 }
 

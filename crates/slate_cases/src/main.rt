@@ -24,7 +24,9 @@ mod transactions;
 mod trials;
 
 use cases::Case;
+use ending_files::EndingFiles;
 use failures::Failure;
+use std::cell::Cell;
 use std::process::ExitCode;
 use std::{env, io};
 
@@ -67,7 +69,12 @@ fn read_folder(rt: &HostRuntime) -> io::Result<String> {
 fn run_file(rt: &HostRuntime, folder: &str, name: &str) -> Result<(), Failure> {
     let text = folders::read_file(rt, folder, name)?;
     if name.ends_with(".calls") {
-        return calls::run_calls(*rt, text.as_slice());
+        let left = Cell::new(u64::MAX);
+        let files = EndingFiles {
+            rt: *rt,
+            left: &left,
+        };
+        return calls::run_calls(rt.alloc(), files, &left, text.as_slice());
     }
     let case = Case::parse(rt.alloc(), text.as_slice())?;
     trials::run_case(rt.alloc(), case)

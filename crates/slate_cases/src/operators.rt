@@ -118,13 +118,13 @@ pub fn extractor_of(alloc: Global, words: &[&[u8]]) -> Result<Option<Cuts>, Call
             };
             Ok(Some(Cuts::Fixed(FixedPrefix::new(alloc, length)?)))
         }
-        (CutsName::Letters, [name, most]) => letters(alloc, name, most, false),
-        (CutsName::LettersAndDashes, [name, most]) => letters(alloc, name, most, true),
+        (CutsName::Letters, [name, most]) => letter_cuts(alloc, name, most, false),
+        (CutsName::LettersAndDashes, [name, most]) => letter_cuts(alloc, name, most, true),
         _ => Err(CallFailure::Unread),
     }
 }
 
-fn letters(
+fn letter_cuts(
     alloc: Global,
     name: &[u8],
     most: &[u8],

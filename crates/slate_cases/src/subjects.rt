@@ -2,10 +2,11 @@
 use crate::blob_stores::BlobStores;
 use crate::databases::Database;
 use crate::directories::Directory;
+use crate::printing::look_up;
 use crate::streams::Streams;
 use slate_types::NoMemory;
 use std::alloc::{AllocError, AllocFailed, Global};
-use std::cell::Cell;
+use std::fs::Files;
 
 /// Why a call gives no answer.
 #[derive(Clone, Copy, Debug, PartialEq, Eq)]
@@ -34,26 +35,39 @@ impl<T: Drop> From<AllocFailed<T>> for CallFailure {
     }
 }
 
+#[derive(Clone, Copy)]
+enum Kind {
+    Blobs,
+    Database,
+    Directory,
+    Streams,
+}
+
+const KINDS: &[(&[u8], Kind)] = &[
+    (b"blobs", Kind::Blobs),
+    (b"database", Kind::Database),
+    (b"directory", Kind::Directory),
+    (b"streams", Kind::Streams),
+];
+
 /// What a file calls.
 #[derive(Drop)]
-pub enum Subject<'a> {
+pub enum Subject<F: Files + Copy> {
     Blobs(BlobStores),
     Database(Database),
-    Directory(Directory<'a>),
+    Directory(Directory<F>),
     Streams(Streams),
 }
 
-impl<'a> Subject<'a> {
-    /// A fresh subject of this name, where there is one. `left` counts the calls of the system that one may still make.
-    pub fn new(rt: HostRuntime, name: &[u8], left: &'a Cell<u64>) -> Option<Subject<'a>> {
-        let alloc = rt.alloc();
-        match name {
-            b"blobs" => Some(Subject::Blobs(BlobStores::new(alloc))),
-            b"database" => Some(Subject::Database(Database::new(alloc))),
-            b"directory" => Some(Subject::Directory(Directory::new(rt, left))),
-            b"streams" => Some(Subject::Streams(Streams::new(alloc))),
-            _ => None,
-        }
+impl<F: Files + Copy> Subject<F> {
+    /// A fresh subject of this name, where there is one.
+    pub fn new(alloc: Global, files: F, name: &[u8]) -> Option<Subject<F>> {
+        Some(match look_up(KINDS, name)? {
+            Kind::Blobs => Subject::Blobs(BlobStores::new(alloc)),
+            Kind::Database => Subject::Database(Database::new(alloc)),
+            Kind::Directory => Subject::Directory(Directory::new(alloc, files)),
+            Kind::Streams => Subject::Streams(Streams::new(alloc)),
+        })
     }
 
     /// Makes the call that these words spell, and appends its answer.

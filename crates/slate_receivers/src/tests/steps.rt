@@ -16,7 +16,7 @@ use std::sync::Wait;
 use std::test::Fail;
 
 /// Manifests are named by their ids, and segments are prefixes of one letter.
-enum Step {
+pub(super) enum Step {
     /// The report of a durable number and a manifest without segments, as an opening found them.
     Opening(u64, u64),
     /// The report of a durable number.
@@ -113,7 +113,7 @@ fn receive<R: Wait>(
     }
 }
 
-fn report<R: Wait>(
+pub(super) fn report<R: Wait>(
     manager: &StatusManager,
     rt: &R,
     alloc: Global,
@@ -170,11 +170,7 @@ fn rising(alloc: Global, text: &[u8]) -> Result<Seq<Bytes>, NoMemory>
     Ok(Seq::of(union(alloc, list.as_slice(), &[])?))
 }
 
-pub(super) fn manifest(
-    alloc: Global,
-    id: u64,
-    segments: &[u8],
-) -> Result<VersionedManifest, NoMemory> {
+fn manifest(alloc: Global, id: u64, segments: &[u8]) -> Result<VersionedManifest, NoMemory> {
     let manifest = Manifest {
         writer_epoch: 1,
         initialized: true,

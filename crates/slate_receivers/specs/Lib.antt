@@ -1,0 +1,5 @@
+pub mod Asked
+pub mod Looks
+pub mod Moments
+pub mod Outcomes
+pub mod Reported

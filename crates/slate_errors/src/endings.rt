@@ -36,17 +36,11 @@ impl TaskName {
 const CAPACITY: usize = 5;
 
 /// The names of the tasks that a close ended, in order: at most five. It takes no memory. A contract sees the list.
-#[derive(Debug)]
+#[derive(Debug, Drop)]
 pub struct Ending {
     // The names stand in front; what follows them means nothing.
     names: [TaskName; CAPACITY],
     count: usize,
-}
-
-impl Drop for Ending {
-    fn drop(self) {
-        let Ending { names: _, count: _ } = self;
-    }
 }
 
 impl Model for Ending {

@@ -13,22 +13,21 @@ use slate_types::{ByteRange, FlushType, IterationOrder, NoMemory};
 use std::alloc::Global;
 
 /// The most puts that the generator makes.
-pub const MAX_GENERATED: u64 = 20_000;
+pub const MAX_GENERATED: u16 = 20_000;
 
-/// The commands of the generator with a seed and so many puts, at most `MAX_GENERATED`: a handle and a reader of the latest
+/// The commands of the generator with a seed and so many puts: a handle and a reader of the latest
 /// state are opened; then come the puts, under 101 keys in turn, each at the moment of its number, with a flush to the log
 /// after each 16, a flush to a table and a poll after each 64, and a compaction and a sweep after each 256; at the end a flush
 /// to the log, a poll and a scan of all keys. It takes linear time and memory.
-pub fn generate(alloc: Global, seed: u64, count: u64) -> Result<Vec<Command>, NoMemory>
-    requires { count ≤ 20000 }
+pub fn generate(alloc: Global, seed: u64, count: u16) -> Result<Vec<Command>, NoMemory>
     ensures { IfOk result (λ commands. commands.items ≡ generated seed count) }
 {
     let mut commands = Vec::new(alloc);
     add_openings(&mut commands)?;
     for number in 0..count {
-        add_turn(alloc, &mut commands, seed, number + 1)?;
+        add_turn(alloc, &mut commands, seed, u64::from(number) + 1)?;
     }
-    add_ending(&mut commands, count)?;
+    add_ending(&mut commands, u64::from(count))?;
     Ok(commands)
 }
 
@@ -67,7 +66,7 @@ fn add_turn(
     seed: u64,
     number: u64,
 ) -> Result<(), NoMemory>
-    requires { number ≤ 20000 }
+    requires { number < 2 ^ 32 }
     ensures { OnOk result (commands.new.items ≡ commands.old.items ++ turn seed number) }
 {
     add_put(alloc, commands, seed, number)?;
@@ -82,7 +81,7 @@ fn add_put(
     seed: u64,
     number: u64,
 ) -> Result<(), NoMemory>
-    requires { number ≤ 20000 }
+    requires { number < 2 ^ 32 }
     ensures { OnOk result (commands.new.items ≡ commands.old.items ++ timed number (actions.Put 0 (generated_key seed number) (generated_value number) None) ∷ []) }
 {
     commands.reserve(1)?;
@@ -101,7 +100,7 @@ fn add_put(
 }
 
 fn generated_key(alloc: Global, seed: u64, number: u64) -> Result<Bytes, NoMemory>
-    requires { number ≤ 20000 }
+    requires { number < 2 ^ 32 }
     ensures { IfOk result (λ key. key ≡ generated_key seed number) }
 {
     numbered(alloc, "k", (seed % 101 + 37 * number) % 101)
@@ -123,7 +122,7 @@ fn numbered(alloc: Global, letter: &str, number: u64) -> Result<Bytes, NoMemory>
 }
 
 fn add_log_flush(commands: &mut Vec<Command>, number: u64) -> Result<(), NoMemory>
-    requires { number ≤ 20000 }
+    requires { number < 2 ^ 32 }
     ensures { OnOk result (commands.new.items ≡ commands.old.items ++ each 16 number (log_flush number)) }
 {
     if number % 16 != 0 {
@@ -135,7 +134,7 @@ fn add_log_flush(commands: &mut Vec<Command>, number: u64) -> Result<(), NoMemor
 }
 
 fn add_table_flush(commands: &mut Vec<Command>, number: u64) -> Result<(), NoMemory>
-    requires { number ≤ 20000 }
+    requires { number < 2 ^ 32 }
     ensures { OnOk result (commands.new.items ≡ commands.old.items ++ each 64 number (table_flush number)) }
 {
     if number % 64 != 0 {
@@ -148,7 +147,7 @@ fn add_table_flush(commands: &mut Vec<Command>, number: u64) -> Result<(), NoMem
 }
 
 fn add_compaction(commands: &mut Vec<Command>, number: u64) -> Result<(), NoMemory>
-    requires { number ≤ 20000 }
+    requires { number < 2 ^ 32 }
     ensures { OnOk result (commands.new.items ≡ commands.old.items ++ each 256 number (compaction number)) }
 {
     if number % 256 != 0 {
@@ -170,7 +169,7 @@ fn flush(flush_type: FlushType) -> Action
 }
 
 fn add_ending(commands: &mut Vec<Command>, count: u64) -> Result<(), NoMemory>
-    requires { count ≤ 20000 }
+    requires { count < 2 ^ 32 }
     ensures { OnOk result (commands.new.items ≡ commands.old.items ++ ending count) }
 {
     commands.reserve(3)?;

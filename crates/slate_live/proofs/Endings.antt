@@ -8,19 +8,25 @@ use Rattle.slate_types.specs.Prefix.{fixed_prefix}
 use Rattle.slate_model.specs.Segments.{IsExtractor}
 use Rattle.slate_reads.specs.Read.{IsOperator}
 use Rattle.slate_script.specs.declared.options.RunOptions.{RunOptions}
+use Rattle.slate_script.specs.declared.options.SessionWords.{SessionWords}
+use Rattle.slate_script.specs.declared.options.SessionWords.TheVariants.{Script, Generator}
 use Rattle.slate_script.specs.declared.replies.Reply.{Reply}
-use Rattle.slate_live.specs.Session.{Ends, KeepsOutput, Sides, fixed_extractor}
+use Rattle.slate_live.specs.Session.{Ends, KeepsOutput, KeepsSource, Sides, fixed_extractor}
 use Rattle.slate_live.specs.declared.sessions.Outcome.TheVariants.{NoMemory, WordsRefused}
 
--- words that spell no options end a session before anything is read
-pub ends-refused : (words : Option RunOptions) (replies : List Reply) (s : Sides) → words ≡ None → replies ≡ [] → Ends words replies WordsRefused s s
+-- words that ask for nothing end a session before anything is read
+pub ends-refused : (words : Option SessionWords) (replies : List Reply) (s : Sides) → words ≡ None → replies ≡ [] → Ends words replies WordsRefused s s
 ends-refused words replies s refused none =
     inl (record { refused = refused; ending_is = refl; nothing = refl; no_reply = none })
 
 -- want of memory ends it before anything is run
-pub ends-unrun : (words : Option RunOptions) (options : RunOptions) (replies : List Reply) (s s' : Sides) → words ≡ Some options → KeepsOutput s s' → replies ≡ [] → Ends words replies NoMemory s s'
-ends-unrun words options replies s s' accepted output none =
-    inr (inl (record { options = options; accepted = accepted; stops = tt; output = output; no_reply = none }))
+pub ends-unrun : (options : RunOptions) (replies : List Reply) (s s' : Sides) → KeepsOutput s s' → replies ≡ [] → Ends (Some (Script options)) replies NoMemory s s'
+ends-unrun options replies s s' output none =
+    inr (inl (record { asked = Script options; accepted = refl; stops = tt; output = output; no_reply = none }))
+
+pub ends-ungenerated : (seed count : ℕ) (replies : List Reply) (s s' : Sides) → KeepsSource s s' → KeepsOutput s s' → replies ≡ [] → Ends (Some (Generator seed count)) replies NoMemory s s'
+ends-ungenerated seed count replies s s' source output none =
+    inr (inl (record { asked = Generator seed count; accepted = refl; stops = (refl, source); output = output; no_reply = none }))
 
 -- the operator of a session is lawful
 pub appends : (o : Option ConcatOperator) → IsOperator (λ operator key existing operand answer. answer ≡ concat key existing operand) o (option_map (λ operator. concat) o)

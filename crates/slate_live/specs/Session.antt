@@ -19,6 +19,10 @@ use Rattle.slate_script.specs.Replies.{replies_text}
 use Rattle.slate_script.specs.Scripts.{script_of}
 use Rattle.slate_script.specs.declared.commands.Command.{Command}
 use Rattle.slate_script.specs.declared.options.RunOptions.{RunOptions}
+use Rattle.slate_script.specs.declared.options.SessionWords.{SessionWords}
+use Rattle.slate_script.specs.declared.options.SessionWords.TheVariants.{Script, Generator}
+use Rattle.slate_script.specs.Generator.{generated, summary_text}
+use Rattle.slate_script.specs.Options.{nothing_given, run_options}
 use Rattle.slate_script.specs.declared.replies.Reply.{Reply}
 use Rattle.slate_live.specs.Run.{IsRun}
 use Rattle.slate_live.specs.Settings.{Settings}
@@ -83,6 +87,10 @@ abbrev pub settings_of : RunOptions → Settings
 settings_of words =
     record { merge = option_map (λ operator. concat) words.operator; extractor = option_map fixed_extractor words.segments; options = words.options }
 
+-- what the commands of the generator are run with: no operator and no extractor, and the options where no word says one
+abbrev pub generator_settings : Settings
+generator_settings = settings_of (run_options nothing_given)
+
 -- why no script came of a source
 abbrev pub StopsReading : Outcome → (left left' : Option (List ℕ)) → (faults faults' : ℕ) → Type 0
 StopsReading (LineRefused number) left left' faults faults' = (bytes : List ℕ) × WasRead bytes left left' × (script_of bytes ≡ Err number)
@@ -116,24 +124,34 @@ pub record KeepsOutput (s s' : Sides) : Type 0 where
   pub store : s'.store ≡ s.store
 
 -- The words were refused: nothing was read, run or written.
-pub record RefusesWords (words : Option RunOptions) (replies : List Reply) (ending : Outcome) (s s' : Sides) : Type 0 where
+pub record RefusesWords (words : Option SessionWords) (replies : List Reply) (ending : Outcome) (s s' : Sides) : Type 0 where
   pub refused : words ≡ None
   pub ending_is : ending ≡ WordsRefused
   pub nothing : s' ≡ s
   pub no_reply : replies ≡ []
 
--- No script came of the source: nothing was run or written.
-pub record RunsNothing (words : Option RunOptions) (replies : List Reply) (ending : Outcome) (s s' : Sides) : Type 0 where
-  pub options : RunOptions
-  pub accepted : words ≡ Some options
-  pub stops : StopsReading ending s.left s'.left s.source_faults s'.source_faults
+-- the source stays as it is
+pub record KeepsSource (s s' : Sides) : Type 0 where
+  pub left : s'.left ≡ s.left
+  pub source_faults : s'.source_faults ≡ s.source_faults
+
+-- Why nothing was run: no script came of the source, or memory ran out. The generator doesn't look at the source.
+abbrev pub Stops : SessionWords → Outcome → Sides → Sides → Type 0
+Stops (Script options) ending s s' = StopsReading ending s.left s'.left s.source_faults s'.source_faults
+Stops (Generator seed count) ending s s' = (ending ≡ NoMemory) × KeepsSource s s'
+
+-- Nothing was run or written.
+pub record RunsNothing (words : Option SessionWords) (replies : List Reply) (ending : Outcome) (s s' : Sides) : Type 0 where
+  pub asked : SessionWords
+  pub accepted : words ≡ Some asked
+  pub stops : Stops asked ending s s'
   pub output : KeepsOutput s s'
   pub no_reply : replies ≡ []
 
 -- The script was read whole, its commands were run, and the text of the replies was written, or writing it ended.
-pub record RunsScript (words : Option RunOptions) (replies : List Reply) (ending : Outcome) (s s' : Sides) : Type 0 where
+pub record RunsScript (words : Option SessionWords) (replies : List Reply) (ending : Outcome) (s s' : Sides) : Type 0 where
   pub options : RunOptions
-  pub accepted : words ≡ Some options
+  pub accepted : words ≡ Some (Script options)
   pub bytes : List ℕ
   pub read : WasRead bytes s.left s'.left
   pub commands : List Command
@@ -141,14 +159,22 @@ pub record RunsScript (words : Option RunOptions) (replies : List Reply) (ending
   pub run : IsRun (settings_of options) commands replies s.store s'.store
   pub writing : EndsWriting ending (replies_text replies) s.written s'.written s.sink_faults s'.sink_faults
 
-abbrev pub Ends : Option RunOptions → List Reply → Outcome → Sides → Sides → Type 0
-Ends words replies ending s s' =
-    RefusesWords words replies ending s s' ⊎ (RunsNothing words replies ending s s' ⊎ RunsScript words replies ending s s')
+-- The commands of the generator were run, and the summary of the replies was written, or writing it ended. The source wasn't
+-- looked at.
+pub record RunsGenerator (words : Option SessionWords) (replies : List Reply) (ending : Outcome) (s s' : Sides) : Type 0 where
+  pub seed : ℕ
+  pub count : ℕ
+  pub accepted : words ≡ Some (Generator seed count)
+  pub source : KeepsSource s s'
+  pub run : IsRun generator_settings (generated seed count) replies s.store s'.store
+  pub writing : EndsWriting ending (summary_text (length (generated seed count)) replies) s.written s'.written s.sink_faults s'.sink_faults
 
--- what a session that meets no fault needs: words that spell options, and a script within the limit, of script lines
-pub record IsGiven (words : Option RunOptions) (s s' : Sides) : Type 0 where
-  pub options : RunOptions
-  pub accepted : words ≡ Some options
+abbrev pub Ends : Option SessionWords → List Reply → Outcome → Sides → Sides → Type 0
+Ends words replies ending s s' =
+    RefusesWords words replies ending s s' ⊎ (RunsNothing words replies ending s s' ⊎ (RunsScript words replies ending s s' ⊎ RunsGenerator words replies ending s s'))
+
+-- a script within the limit, of script lines, that is read and whose replies are written without a fault
+pub record HasScript (s s' : Sides) : Type 0 where
   pub bytes : List ℕ
   pub left : s.left ≡ Some bytes
   pub limit : length bytes ≤ MAX_SCRIPT
@@ -156,3 +182,9 @@ pub record IsGiven (words : Option RunOptions) (s s' : Sides) : Type 0 where
   pub script : script_of bytes ≡ Ok commands
   pub reading : HasRisen s.source_faults s'.source_faults → ⊥
   pub writing : HasRisen s.sink_faults s'.sink_faults → ⊥
+
+-- what a session that meets no fault needs, by its words
+abbrev pub IsGiven : Option SessionWords → Sides → Sides → Type 0
+IsGiven None s s' = ⊥
+IsGiven (Some (Script options)) s s' = HasScript s s'
+IsGiven (Some (Generator seed count)) s s' = HasRisen s.sink_faults s'.sink_faults → ⊥

@@ -14,8 +14,9 @@ mod states;
 pub use runs::run;
 pub use sessions::{Finished, Outcome, session};
 pub use slate_script::{
-    Action, Command, LineAnswer, MAX_SCRIPT, Options, Reply, RunOptions, ScriptFault,
-    print_replies, read_line, read_script, script_fields,
+    Action, Command, LineAnswer, MAX_GENERATED, MAX_SCRIPT, Options, Reply, RunOptions,
+    ScriptFault, SessionWords, generate, print_replies, print_summary, read_line, read_script,
+    script_fields,
 };
 pub use slate_seqtrack::FindOption;
 pub use slate_streams::{

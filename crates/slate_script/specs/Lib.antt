@@ -4,6 +4,7 @@ pub mod Writes
 pub mod Queries
 pub mod Lookups
 pub mod Forms
+pub mod Generator
 pub mod Scripts
 pub mod Replies
 pub mod Options

@@ -1,11 +1,13 @@
--- The words of the command line: options in any order, each at most once.
-use Rattle.std.specs.Prelude.{ℕ, Bool, false, not, true, ◌&&◌, nat_lt, List, [], ◌∷◌, Option, Some, None, codes, is_none, unwrap_or, if◌then◌else◌}
+-- The words of the command line: options in any order, each at most once, or those of the generator.
+use Rattle.std.specs.Prelude.{ℕ, Bool, false, not, true, ◌&&◌, nat_le, nat_lt, List, [], ◌∷◌, Option, Some, None, codes, is_none, unwrap_or, if◌then◌else◌}
 use Rattle.std.specs.Option.{option_map}
 use Rattle.std.specs.Str.{bytes_eq}
 use Rattle.slate_types.specs.declared.operators.ConcatOperator.{ConcatOperator}
 use Rattle.slate_text.specs.Numbers.{number_of}
 use Rattle.slate_script.specs.declared.options.Given.{Given}
 use Rattle.slate_script.specs.declared.options.RunOptions.{RunOptions}
+use Rattle.slate_script.specs.declared.options.SessionWords.{SessionWords}
+use Rattle.slate_script.specs.declared.options.SessionWords.TheVariants.{Script, Generator}
 use Rattle.slate_script.specs.Values.{◌>>=◌}
 
 -- no option
@@ -57,3 +59,17 @@ run_options given = record {
 -- the options that words spell
 abbrev pub options_of : List (List ℕ) → Option RunOptions
 options_of words = option_map run_options (with_words nothing_given None words)
+
+-- ---- the words of a session
+-- the seed and the count of puts of a generator
+abbrev pub generator_of : List (List ℕ) → Option SessionWords
+generator_of (s ∷ c ∷ []) = do
+  seed ← number_of s
+  count ← number_of c
+  if nat_le count 20000 then Some (Generator seed count) else None
+generator_of words = None
+
+-- what words ask for: `gen SEED COUNT` for the commands of the generator, or the options of a script
+abbrev pub words_of : List (List ℕ) → Option SessionWords
+words_of [] = option_map Script (options_of [])
+words_of (word ∷ words) = if bytes_eq word (codes "gen") then generator_of words else option_map Script (options_of (word ∷ words))

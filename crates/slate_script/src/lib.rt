@@ -4,6 +4,7 @@
 mod commands;
 mod fields;
 mod forms;
+mod generator;
 mod laws;
 mod lookups;
 mod options;
@@ -17,8 +18,9 @@ mod writes;
 pub use commands::{Action, Command, LineAnswer, ScriptFault};
 pub use fields::script_fields;
 pub use forms::read_line;
+pub use generator::{MAX_GENERATED, generate, print_summary};
 pub use laws::bounds_read_again;
-pub use options::{Options, RunOptions, read_words};
+pub use options::{Options, RunOptions, SessionWords, read_words};
 pub use printing::print_replies;
 pub use replies::Reply;
 pub use scripts::{MAX_SCRIPT, read_script};

@@ -24,7 +24,7 @@ fn write_expiry(out: &mut Vec<u8>, time: Option<i64>) -> Result<(), NoMemory>
 }
 
 // A number behind a text.
-fn write_labelled(out: &mut Vec<u8>, label: &str, number: u64) -> Result<(), NoMemory>
+pub(crate) fn write_labelled(out: &mut Vec<u8>, label: &str, number: u64) -> Result<(), NoMemory>
     ensures ok { OnOk result (out.new.items ≡ out.old.items ++ (label.now ++ decimal number)) }
     ensures err { OnErr result (take (length out.old.items) out.new.items ≡ out.old.items) }
 {

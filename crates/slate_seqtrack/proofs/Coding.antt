@@ -1,10 +1,11 @@
 -- The forms of a difference of differences, as they are written.
-use Rattle.std.proofs.Common.{◌≡◌, refl, sym, ◌∙◌, ap, ℕ, ◌+◌, ◌^◌, ◌<◌, ◌≤◌, suc, true, false, nat_eq, ℤ, pos, negsuc, List, [], ◌∷◌, ◌++◌, length, get_or, drop, drop-cons, add-one, ◌-ℤ◌, Bool, Result, Ok, Err, MatchResult, w32, arith}
+use Rattle.std.proofs.Common.{◌≡◌, refl, Option, None, Some, MatchOption, sym, ◌∙◌, ap, ℕ, ◌+◌, ◌^◌, ◌<◌, ◌≤◌, suc, true, false, nat_eq, ℤ, pos, negsuc, List, [], ◌∷◌, ◌++◌, ◌&&◌, map, length, get_or, drop, drop-cons, add-one, ◌-ℤ◌, Bool, Result, Ok, Err, MatchResult, w32, arith}
 use lib.Signed.{mag}
+use Rattle.std.specs.Option.{is_some}
 use mir.Val.{of_z}
 use Rattle.std.specs.Int.RustNames.{unsigned_abs}
 use Rattle.std.proofs.lemmas.Bool.{lt-ltb, le-ltb}
-use Rattle.std.proofs.lemmas.List.{append_assoc, append-nil, drop_all}
+use Rattle.std.proofs.lemmas.List.{append_assoc, append-nil, drop_all, drop-map}
 use Rattle.std.proofs.lemmas.Int.{ints}
 use Rattle.slate_seqtrack.specs.Bits.{low_bits, IsPadded}
 use Rattle.slate_seqtrack.specs.Block.{in_0, in_7, in_9, in_12, in_32, IsFirstCode, IsSigned, IsUnsigned, AreLater, AreValues, fits_i32, later_fit, is_encodable}
@@ -126,3 +127,26 @@ AreValues-behind (Err e) values later first start mid new front values-is signed
 pub IsWrittenBlock-of : (values : List ℤ) (bytes : List ℕ) (counted all count bits : List Bool) → AreValues IsFirstCode values bits → IsUnsigned 32 (length values) count → counted ≡ [] ++ count → all ≡ counted ++ bits →
     IsPadded all bytes → IsWrittenBlock values bytes
 IsWrittenBlock-of values bytes counted all count bits are is counted-is all-is padded = (all, (count, bits, all-is ∙ ap (λ c. c ++ bits) counted-is, is, are), padded)
+
+-- ---- whether values fit
+pub later_fit-next : {X : Type 0} (f : X → ℤ) (values : List X) (i : ℕ) (x : X) (previous delta : ℤ) → i < length values → get_or values i x ≡ x →
+    later_fit previous delta (drop i (map f values)) ≡ (fits_i32 ((f x -ℤ previous) -ℤ delta) && later_fit (f x) (f x -ℤ previous) (drop (i + 1) (map f values)))
+later_fit-next f values i x previous delta within at = rw (drop-map f i values, drop-map f (i + 1) values, add-one, drop-cons values i x within, at) refl
+
+pub is_absent : {A : Type 0} (P : Type 0) (Q : A → Type 0) (found : Option A) → MatchOption found P Q → is_some found ≡ false → P
+is_absent P Q None absent is = absent
+is_absent P Q (Some x) there is = absurd (let e : true ≡ false = is in cc)
+
+pub is_present : {A : Type 0} (P Q : Type 0) (R : A → Type 0) (found : Option A) → MatchOption found P (λ x. R x × Q) → is_some found ≡ true → Q
+is_present P Q R None absent is = absurd (let e : false ≡ true = is in cc)
+is_present P Q R (Some x) there is = there.1
+
+pub go_on : {X : Type 0} (f : X → ℤ) (values : List X) (i : ℕ) (x : X) (whole : Bool) (previous delta : ℤ) → whole ≡ later_fit previous delta (drop i (map f values)) →
+    i < length values → x ≡ get_or values i x → fits_i32 ((f x -ℤ previous) -ℤ delta) ≡ true → whole ≡ later_fit (f x) (f x -ℤ previous) (drop (i + 1) (map f values))
+go_on f values i x whole previous delta is within at fits =
+    is ∙ later_fit-next f values i x previous delta within (sym at) ∙ ap (λ b. b && later_fit (f x) (f x -ℤ previous) (drop (i + 1) (map f values))) fits
+
+pub end_at : {X : Type 0} (f : X → ℤ) (values : List X) (i : ℕ) (x : X) (whole : Bool) (previous delta : ℤ) → whole ≡ later_fit previous delta (drop i (map f values)) →
+    i < length values → x ≡ get_or values i x → fits_i32 ((f x -ℤ previous) -ℤ delta) ≡ false → false ≡ whole
+end_at f values i x whole previous delta is within at wide =
+    sym (is ∙ later_fit-next f values i x previous delta within (sym at) ∙ ap (λ b. b && later_fit (f x) (f x -ℤ previous) (drop (i + 1) (map f values))) wide)

@@ -4,6 +4,7 @@ pub mod Coding
 pub mod Evens
 pub mod Grammar
 pub mod Lists
+pub mod Packing
 pub mod Pairing
 pub mod Rising
 pub mod Searching

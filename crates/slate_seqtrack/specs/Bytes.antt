@@ -6,9 +6,10 @@ use Rattle.std.specs.declared.cmp.Ordering.{Ordering}
 use Rattle.std.specs.Ordering.{is_le, nat_cmp, int_cmp}
 use Rattle.slate_seqtrack.specs.declared.faults.TrackerFault.{TrackerFault}
 use Rattle.slate_seqtrack.specs.declared.faults.TrackerFault.TheVariants.{Empty, Version, ShortLength, CountMismatch, Falls}
-use Rattle.slate_seqtrack.specs.Block.{fits_i64, IsBlock}
+use Rattle.slate_seqtrack.specs.Block.{fits_i64, is_encodable, IsBlock}
 use Rattle.slate_seqtrack.specs.Reading.{block_at}
-use Rattle.slate_seqtrack.specs.Tracker.{Tracker, paired}
+use Rattle.slate_seqtrack.specs.Thinning.{last_alone}
+use Rattle.slate_seqtrack.specs.Tracker.{Tracker, numbers_of, paired, times_of}
 
 -- numbers are taken as signed ones of the same bits
 abbrev pub as_signed : List ℕ → List ℤ
@@ -16,6 +17,14 @@ as_signed = map (cast_signed w64)
 
 abbrev pub as_unsigned : List ℤ → List ℕ
 as_unsigned = map (cast_unsigned w64)
+
+-- whether both lists of a tracker can be written
+abbrev pub has_bytes : Tracker → Bool
+has_bytes tracker = is_encodable (as_signed (numbers_of tracker)) && is_encodable (times_of tracker)
+
+-- a tracker that can be written: where it can't, its last pair alone
+abbrev pub packed : Tracker → Tracker
+packed tracker = if has_bytes tracker then tracker else record tracker { pairs = last_alone tracker.pairs }
 
 abbrev pub AreTrackerBytes : (List ℤ → List ℕ → Type 0) → List ℕ → List ℤ → List ℕ → Type 0
 AreTrackerBytes Block numbers times bytes =

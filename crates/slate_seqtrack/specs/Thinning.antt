@@ -10,3 +10,9 @@ evens (x ∷ y ∷ xs) = x ∷ evens xs
 -- a list as it stays where it may have so many elements
 abbrev pub thinned : {X : Type 0} → ℕ → List X → List X
 thinned capacity xs = if nat_lt capacity (length xs) then evens xs else xs
+
+-- the last element alone
+abbrev pub last_alone : {X : Type 0} → List X → List X
+last_alone [] = []
+last_alone (x ∷ []) = x ∷ []
+last_alone (x ∷ y ∷ xs) = last_alone (y ∷ xs)

@@ -1,6 +1,6 @@
 // Writing a block of numbers.
-ghost use Rattle.std.specs.Prelude.{◌≡◌, ◌<◌, ◌≤◌, ◌^◌, ◌++◌, Bool, List, ℤ, pos, ◌-ℤ◌, true, false, length, OnOk, OnErr, MatchOption, MatchResult};
-ghost use Rattle.std.specs.Int.{w32, cast_unsigned};
+ghost use Rattle.std.specs.Prelude.{◌≡◌, ◌<◌, ◌≤◌, ◌^◌, ◌++◌, Bool, List, ℤ, pos, ◌-ℤ◌, true, false, map, length, OnOk, OnErr, MatchOption, MatchResult};
+ghost use Rattle.std.specs.Int.{w32, w64, cast_signed, cast_unsigned};
 ghost use Rattle.slate_seqtrack.specs.Bits.{low_bits};
 ghost use Rattle.slate_seqtrack.specs.Block.{IsFirstCode, AreLater, AreValues, fits_i32, later_fit, is_encodable};
 ghost use Rattle.slate_seqtrack.specs.Writing.{IsWrittenBlock, IsWriteFault};
@@ -51,6 +51,52 @@ fn push_later(writer: &mut BitWriter, first: i64, later: &[i64]) -> Result<(), T
         previous = *value;
     }
     Ok(())
+}
+
+/// A number that a block has as a signed one of the same 64 bits.
+pub(crate) trait Word: Copy {
+    /// The signed number.
+    ghost signed: { Self → ℤ };
+
+    fn signed(self) -> i64
+        ensures { result ≡ signed self };
+}
+
+impl Word for i64 {
+    ghost signed = { λ value. value };
+
+    fn signed(self) -> i64 {
+        self
+    }
+}
+
+impl Word for u64 {
+    ghost signed = { cast_signed w64 };
+
+    fn signed(self) -> i64 {
+        self.cast_signed()
+    }
+}
+
+/// Whether a block of these values can be written: no difference of differences leaves 32 signed bits. It takes no
+/// memory, and linear time.
+pub(crate) fn is_encodable<T: Word>(values: &[T]) -> bool
+    ensures { result ≡ is_encodable (map T.signed values.now) }
+{
+    let Some((first, later)) = values.split_first() else {
+        return true;
+    };
+    let mut before = first.signed();
+    let mut previous = before;
+    for value in later {
+        let value = value.signed();
+        if delta_of_deltas(before, previous, value).is_none() {
+            return false;
+        }
+        before = previous;
+        previous = value;
+    }
+    true
 }
 
 /// How the difference of a value to the one before it differs from the difference before that one, where 32 signed

@@ -4,15 +4,17 @@ ghost use Rattle.std.specs.Ordering.{nat_cmp, int_cmp};
 ghost use Rattle.std.specs.Vec.{vec_len, vec_capacity};
 ghost use Rattle.slate_seqtrack.specs.declared.faults.TrackerFault.TheVariants.{NoMemory as Memory};
 ghost use Rattle.slate_seqtrack.specs.Block.{is_encodable};
-ghost use Rattle.slate_seqtrack.specs.Bytes.{as_signed, AreTrackerBytes, BeginsWithTracker, tracker_at};
+ghost use Rattle.slate_seqtrack.specs.Bytes.{as_signed, AreTrackerBytes, BeginsWithTracker, has_bytes, packed, tracker_at};
+ghost use Rattle.slate_seqtrack.specs.Thinning.{last_alone};
 ghost use Rattle.slate_seqtrack.specs.Lookup.{IsPartner};
 ghost use Rattle.slate_seqtrack.specs.Reading.{IsReadFault};
 ghost use Rattle.slate_seqtrack.specs.Writing.{IsWrittenBlock, IsWriteFault};
 ghost use Rattle.slate_seqtrack.specs.Tracker.{fresh, numbers_of, times_of, is_early, last_number, recording, inserted, extended};
 
 use crate::bytes::{read_lists, write_lists};
+use crate::encoding::is_encodable;
 use crate::lookups::partner_of;
-use crate::thinning::push_thinned;
+use crate::thinning::{keep_last, push_thinned};
 use crate::{FindOption, TrackedSeq, TrackerFault};
 use slate_types::NoMemory;
 use std::alloc::Global;
@@ -186,6 +188,33 @@ impl SequenceTracker {
         ensures { result.now ≡ times_of self.now }
     {
         self.timestamps.as_slice()
+    }
+
+    /// Whether `to_bytes` has bytes for the tracker: in neither of its lists does the difference between two neighbouring
+    /// differences leave 32 signed bits. It takes no memory, and linear time.
+    pub fn encodable(&self) -> bool
+        ensures { result ≡ has_bytes self.now }
+    {
+        is_encodable(self.numbers()) && is_encodable(self.times())
+    }
+
+    /// Keeps the last pair alone where the tracker isn't encodable, and else changes nothing. Then it is encodable, and
+    /// what is inserted later is inserted as before. It takes no memory, and linear time.
+    pub fn pack(&mut self)
+        ensures packed { self.new ≡ packed self.old }
+        ensures encodable { has_bytes self.new ≡ true }
+    {
+        if !self.encodable() {
+            self.keep_last_pair();
+        }
+    }
+
+    /// Keeps the last pair alone.
+    fn keep_last_pair(&mut self)
+        ensures { self.new ≡ record self.old { pairs = last_alone self.old.pairs } }
+    {
+        keep_last(&mut self.sequence_numbers);
+        keep_last(&mut self.timestamps);
     }
 
     /// The bytes of the two lists. NotEncodable exactly where in one of them the difference between two neighbouring

@@ -8,25 +8,17 @@ use Rattle.slate_reads.specs.Read.{IsOperator}
 use Rattle.slate_script.specs.Replies.{replies_text}
 use Rattle.slate_live.specs.Run.{IsRun}
 use Rattle.slate_live.specs.Session.{EndsWriting, fixed_extractor, settings_of}
-use Rattle.slate_live.specs.declared.sessions.Outcome.TheVariants.{NoMemory, WordsRefused}
+use Rattle.slate_live.specs.declared.sessions.Outcome.TheVariants.{NoMemory}
 use Rattle.slate_model.specs.Known.{known}
-use Rattle.slate_live.proofs.Endings.{appends, ends-refused, ends-unrun, extracts}
-use Rattle.slate_live.proofs.sessions.session.Goals as goal
-
-pub returns-in_default-clause-ends : goal.returns-in_default-clause-ends
-returns-in_default-clause-ends g c = (
-  WordsRefused,
-  c.finished.ensures.status,
-  c.finished.ensures.line,
-  ends-refused _ _ _ (sym c.read_words.ensures ∙ c.in_default.is) (c.finished.ensures.replies ∙ c.new.ensures.items),
-)
+use Rattle.slate_live.proofs.Endings.{appends, ends-unrun, extracts}
+use Rattle.slate_live.proofs.sessions.run_script.Goals as goal
 
 pub returns-in_default-extractor_of-clause-ends : goal.returns-in_default-extractor_of-clause-ends
 returns-in_default-extractor_of-clause-ends g c = (
   NoMemory,
   c.finished-in_default-extractor_of.ensures.status,
   c.finished-in_default-extractor_of.ensures.line,
-  ends-unrun _ c.in-Some.words _ _ _ (sym c.read_words.ensures ∙ c.in-Some.is)
+  ends-unrun c.args.options _ _ _
       (record { written = refl; sink_faults = refl; store = refl })
       (c.finished-in_default-extractor_of.ensures.replies ∙ c.new-in_default-extractor_of.ensures.items),
 )
@@ -37,14 +29,14 @@ returns-in_default-run-clause-ends g c =
       NoMemory,
       c.finished-in_default-run.ensures.status,
       c.finished-in_default-run.ensures.line,
-      ends-unrun _ c.in-Some.words _ _ _ (sym c.read_words.ensures ∙ c.in-Some.is)
+      ends-unrun c.args.options _ _ _
           (record { written = refl; sink_faults = refl; store = ap (known g.S.Store.objects g.S.Store.faults) kept })
           (c.finished-in_default-run.ensures.replies ∙ c.new-in_default-run.ensures.items),
     )
 
 pub returns-clause-ends : goal.returns-clause-ends
 returns-clause-ends g c =
-    let words = c.in-Some.words in
+    let words = c.args.options in
     let script = c.in-Ok.ensures.reads in
     let merge = option_map (λ operator. concat) words.operator in
     let lawful = subst (λ o. IsOperator (λ operator key existing operand answer. answer ≡ concat key existing operand) o merge) (sym c.as_ref.ensures.value) (appends words.operator) in
@@ -56,9 +48,9 @@ returns-clause-ends g c =
       c.write_replies-ending.result,
       c.finished-2.ensures.status,
       c.finished-2.ensures.line,
-      inr (inr (record {
+      inr (inr (inl (record {
         options = words;
-        accepted = sym c.read_words.ensures ∙ c.in-Some.is;
+        accepted = refl;
         bytes = script.0;
         read = script.1;
         commands = c.in-Ok.commands.items;
@@ -66,5 +58,5 @@ returns-clause-ends g c =
         run = subst (λ commands. IsRun (settings_of words) commands c.finished-2.result.replies before after) c.as_slice.ensures.value
             (subst (λ replies. IsRun (settings_of words) c.as_slice.result.now replies before after) (sym c.finished-2.ensures.replies) (c.in-Ok-run.ensures.leads (settings_of words) lawful cuts refl));
         writing = subst (λ replies. EndsWriting c.write_replies-ending.result (replies_text replies) (g.O.Sink.written c.args.sink.now) (g.O.Sink.written c.write_replies-ending.new.sink) (g.O.Sink.faults c.args.sink.now) (g.O.Sink.faults c.write_replies-ending.new.sink)) same c.write_replies-ending.ensures.writes;
-      })),
+      }))),
     )

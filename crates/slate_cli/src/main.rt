@@ -18,6 +18,7 @@ store in memory or over a directory, and prints a reply per command.
 
 usage: slate [--store DIR] [--merge concat] [--segments N] [--limit N] [--bare]
              < SCRIPT
+       slate [--store DIR] gen SEED COUNT
        slate --help | --version
 
 With --store DIR the database is kept in the directory DIR, which is made where
@@ -32,6 +33,10 @@ unflushed bytes or more: those of keys and values that aren't in a table, and
 once more those that aren't in the log it keeps; without it N is 1,073,741,824.
 With --bare a handle registers no compactor, no compaction worker and no garbage
 collector; the tasks of the rest are ended by its close.
+
+With gen no script is read: COUNT puts, at most 20,000, under 101 keys by SEED
+are run, with flushes, polls, compactions and sweeps between, and a summary of
+the replies is printed in four lines.
 
 A line of the script is a moment in milliseconds and a command, as in
   0 open
@@ -76,8 +81,8 @@ fn answer(rt: &HostRuntime, words: &[String]) -> u8 {
     }
 }
 
-/// Runs the script from standard input over a directory, which isn't touched where the words spell no options. It
-/// answers the exit status.
+/// Runs the script from standard input, or the generator, over a directory, which isn't touched where the words ask for
+/// neither. It answers the exit status.
 fn run_over_directory(rt: &HostRuntime, path: &str, words: &[String]) -> u8 {
     if read_words(words).is_none() {
         return report(rt, Outcome::WordsRefused);

@@ -3,23 +3,40 @@
 //! forms of the files.
 #![tactic(auto)]
 
+mod batches;
+mod bits;
 mod blob_stores;
 mod calls;
 mod cases;
+mod data_subjects;
 mod databases;
 mod directories;
+mod dispatchers;
 mod ending_files;
+mod errors;
+mod executors;
 mod failures;
 mod folders;
 mod handles;
+mod keys;
+mod lines;
+mod manifests;
 mod object_calls;
+mod objects;
 mod operators;
 mod printing;
+mod ranges;
 mod readers;
+mod replies;
+mod rows;
+mod statuses;
 mod store_calls;
 mod streams;
 mod subjects;
+mod tasks;
+mod texts;
 mod told_stores;
+mod trackers;
 mod transactions;
 mod trials;
 

@@ -1,12 +1,13 @@
 // What several subjects read and print: words, numbers and rows.
 use crate::subjects::CallFailure;
 use bytes::Bytes;
-use slate_errors::{SlateError, write_error};
+use slate_errors::{CloseFault, SlateError, write_error};
 use slate_text::{
-    read_byte_word, read_number, read_time, write_byte_word, write_number, write_signed, write_text,
+    read_byte_word, read_number, write_byte_word, write_number, write_signed, write_text,
 };
 use slate_types::{KeyValue, NoMemory};
 use std::alloc::Global;
+use std::fmt::Debug;
 use std::str;
 
 /// What a word stands for in a table.
@@ -56,18 +57,43 @@ pub fn text_of(word: &[u8]) -> Result<&str, CallFailure> {
     }
 }
 
-/// The time that a word spells, in milliseconds or seconds, with `-` before one that is negative.
+/// The time that a word spells, in milliseconds or seconds, or another signed number: with `-` before one that is negative.
 pub fn time_of(word: &[u8]) -> Result<i64, CallFailure> {
-    let (digits, negative) = match word {
-        [b'-', digits @ ..] => (digits, true),
-        _ => (word, false),
-    };
-    let time = read_time(digits).ok_or(CallFailure::Unread)?;
-    Ok(if negative {
-        0i64.saturating_sub(time)
-    } else {
-        time
-    })
+    match text_of(word)?.parse() {
+        Ok(time) => Ok(time),
+        Err(_) => Err(CallFailure::Unread),
+    }
+}
+
+/// The time at which something ends, or `none`.
+pub fn end_of(word: &[u8]) -> Result<Option<i64>, CallFailure> {
+    if is_none(word) {
+        return Ok(None);
+    }
+    Ok(Some(time_of(word)?))
+}
+
+/// The number that a word spells, where it has 32 bits.
+pub fn short_of(word: &[u8]) -> Result<u32, CallFailure> {
+    match u32::try_from(number_of(word)?) {
+        Ok(number) => Ok(number),
+        Err(_) => Err(CallFailure::Unread),
+    }
+}
+
+/// What a word stands for in a table.
+pub fn name_in<T: Copy>(table: &[(&[u8], T)], word: &[u8]) -> Result<T, CallFailure> {
+    look_up(table, word).ok_or(CallFailure::Unread)
+}
+
+const OUTCOMES: &[(&[u8], Result<(), CloseFault>)] = &[
+    (b"ok", Ok(())),
+    (b"fenced", Err(CloseFault::Fenced)),
+];
+
+/// The result with which something closes.
+pub fn outcome_of(word: &[u8]) -> Result<Result<(), CloseFault>, CallFailure> {
+    name_in(OUTCOMES, word)
 }
 
 /// The bytes that a word spells.
@@ -157,4 +183,24 @@ pub fn print_row(answer: &mut Vec<u8>, row: &KeyValue) -> Result<(), NoMemory> {
             write_signed(answer, end)
         }
     }
+}
+
+/// Appends a value as `Debug` shows it.
+pub fn print_debug<T: Debug>(
+    alloc: Global,
+    answer: &mut Vec<u8>,
+    value: &T,
+) -> Result<(), CallFailure> {
+    let text = format!(in alloc; "{value:?}")?;
+    print_text(answer, text.as_str())
+}
+
+/// Appends `error` and why something was refused, as `Debug` shows it.
+pub fn print_fault<F: Debug>(
+    alloc: Global,
+    answer: &mut Vec<u8>,
+    fault: &F,
+) -> Result<(), CallFailure> {
+    print_text(answer, "error ")?;
+    print_debug(alloc, answer, fault)
 }

@@ -1,5 +1,6 @@
 // The things that files call, and why a line can't be called.
 use crate::blob_stores::BlobStores;
+use crate::data_subjects::DataSubject;
 use crate::databases::Database;
 use crate::directories::Directory;
 use crate::printing::look_up;
@@ -54,6 +55,7 @@ const KINDS: &[(&[u8], Kind)] = &[
 #[derive(Drop)]
 pub enum Subject<F: Files + Copy> {
     Blobs(BlobStores),
+    Data(DataSubject),
     Database(Database),
     Directory(Directory<F>),
     Streams(Streams),
@@ -62,11 +64,12 @@ pub enum Subject<F: Files + Copy> {
 impl<F: Files + Copy> Subject<F> {
     /// A fresh subject of this name, where there is one.
     pub fn new(alloc: Global, files: F, name: &[u8]) -> Option<Subject<F>> {
-        Some(match look_up(KINDS, name)? {
-            Kind::Blobs => Subject::Blobs(BlobStores::new(alloc)),
-            Kind::Database => Subject::Database(Database::new(alloc)),
-            Kind::Directory => Subject::Directory(Directory::new(alloc, files)),
-            Kind::Streams => Subject::Streams(Streams::new(alloc)),
+        Some(match look_up(KINDS, name) {
+            Some(Kind::Blobs) => Subject::Blobs(BlobStores::new(alloc)),
+            Some(Kind::Database) => Subject::Database(Database::new(alloc)),
+            Some(Kind::Directory) => Subject::Directory(Directory::new(alloc, files)),
+            Some(Kind::Streams) => Subject::Streams(Streams::new(alloc)),
+            None => Subject::Data(DataSubject::new(alloc, name)?),
         })
     }
 
@@ -79,6 +82,7 @@ impl<F: Files + Copy> Subject<F> {
     ) -> Result<(), CallFailure> {
         match self {
             Subject::Blobs(blobs) => blobs.call(alloc, words, answer),
+            Subject::Data(subject) => subject.call(alloc, words, answer),
             Subject::Database(database) => database.call(alloc, words, answer),
             Subject::Directory(directory) => directory.call(alloc, words, answer),
             Subject::Streams(streams) => streams.call(alloc, words, answer),

@@ -1,0 +1,6 @@
+use Rattle.std.specs.List.Sorted.{IsStrictlySortedBy}
+use Rattle.slate_cases.proofs.rows.print_broken.Goals as goal
+
+pub of_rows-requires-clause-in_order : goal.of_rows-requires-clause-in_order
+unfolding IsStrictlySortedBy
+of_rows-requires-clause-in_order g c = rw (c.of.ensures, c.new.ensures.items) tt

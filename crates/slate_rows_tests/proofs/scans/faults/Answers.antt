@@ -1,6 +1,0 @@
-use Rattle.std.specs.List.Sorted.{IsStrictlySortedBy}
-use Rattle.slate_rows_tests.proofs.scans.faults.Goals as goal
-
-pub of_rows-requires-clause-in_order : goal.of_rows-requires-clause-in_order
-unfolding IsStrictlySortedBy
-of_rows-requires-clause-in_order g c = rw (c.of.ensures, c.new.ensures.items) tt

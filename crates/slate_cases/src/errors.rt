@@ -42,8 +42,7 @@ pub fn call_errors(
         (Call::Invalid, [message, source @ ..]) => print_invalid(alloc, message, source, answer),
         (Call::Source, [source, error @ ..]) => {
             let source = name_of(alloc, source)?;
-            let error = Error::from(error_of(alloc, error)?);
-            Ok(error.with_source(source).write_text(answer)?)
+            print_with_source(answer, Error::from(error_of(alloc, error)?), source)
         }
         _ => print_of(alloc, call, &error_of(alloc, words)?, answer),
     }
@@ -73,15 +72,24 @@ fn print_invalid(
     source: &[&[u8]],
     answer: &mut Vec<u8>,
 ) -> Result<(), CallFailure> {
-    let error = Error::invalid(name_of(alloc, message)?);
+    let message = name_of(alloc, message)?;
     match source {
-        [] => Ok(error.write_text(answer)?),
+        [] => print_message(answer, message),
         [source] => {
             let source = name_of(alloc, source)?;
-            Ok(error.with_source(source).write_text(answer)?)
+            print_with_source(answer, Error::invalid(message), source)
         }
         _ => Err(CallFailure::Unread),
     }
+}
+
+fn print_message(answer: &mut Vec<u8>, message: Name) -> Result<(), CallFailure> {
+    Ok(Error::invalid(message).write_text(answer)?)
+}
+
+/// Prints an error with a source of its own.
+fn print_with_source(answer: &mut Vec<u8>, error: Error, source: Name) -> Result<(), CallFailure> {
+    Ok(error.with_source(source).write_text(answer)?)
 }
 
 /// Prints what each of the three questions answers of an error: whether an id was taken, whether an object is missing, and

@@ -254,20 +254,35 @@ fn run_pair<T: Task>(
     second: T,
     answer: &mut Vec<u8>,
 ) -> Result<(), CallFailure> {
-    let mut tasks = Vec::with_capacity(alloc, 2)?;
+    let mut executor = pair_of(alloc, first, second)?;
+    let mut cell = CloseCell::new();
+    print_turn(alloc, &mut executor, &mut cell, answer)?;
+    print_turn(alloc, &mut executor, &mut cell, answer)?;
+    print_debug(alloc, answer, &cell.read())
+}
+
+/// An executor of one group of two tasks.
+fn pair_of<T: Task>(alloc: Global, first: T, second: T) -> Result<Executor<T>, CallFailure> {
+    let name = Name::of(String::from_str(alloc, "pair")?);
+    let mut tasks = Vec::new(alloc);
     tasks.push(first)?;
     tasks.push(second)?;
     let mut executor = Executor::new(alloc);
-    let name = Name::of(String::from_str(alloc, "pair")?);
-    if executor.add_handlers(alloc, name, tasks).is_err() {
-        return Err(CallFailure::Memory);
+    match executor.add_handlers(alloc, name, tasks) {
+        Ok(()) => Ok(executor),
+        Err(_refusal) => Err(CallFailure::Memory),
     }
+}
+
+/// Gives each task a turn, and prints the result of the pair.
+fn print_turn<T: Task>(
+    alloc: Global,
+    executor: &mut Executor<T>,
+    cell: &mut CloseCell,
+    answer: &mut Vec<u8>,
+) -> Result<(), CallFailure> {
     let _started = executor.start();
-    let mut cell = CloseCell::new();
-    for _ in 0..2 {
-        executor.turn(&mut cell, 0, 0);
-        print_debug(alloc, answer, &executor.join_task("pair"))?;
-        print_text(answer, " ")?;
-    }
-    print_debug(alloc, answer, &cell.read())
+    executor.turn(cell, 0, 0);
+    print_debug(alloc, answer, &executor.join_task("pair"))?;
+    print_text(answer, " ")
 }

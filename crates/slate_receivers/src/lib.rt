@@ -5,8 +5,6 @@ mod clocks;
 mod managers;
 mod receivers;
 mod shared;
-#[cfg(test)]
-mod tests;
 mod waiters;
 mod write_handles;
 

@@ -49,9 +49,13 @@ impl SharedRecord {
 
     /// Waits until the version is past this one.
     pub(crate) fn wait_past<R: Wait>(&self, rt: &R, version: u64) {
-        let record = self.record.lock(rt);
-        self.changed
-            .wait_while(rt, record, |record| !is_past(record, version));
+        let mut record = self.record.lock(rt);
+        for _ in rt.forever() {
+            if is_past(&record, version) {
+                return;
+            }
+            record = self.changed.wait(rt, record);
+        }
     }
 
     /// Whether the number is durable.

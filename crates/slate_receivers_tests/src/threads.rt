@@ -1,9 +1,9 @@
 // Tests of receivers and handles that wait in another thread.
-use crate::tests::handles::{awaited, two_writes};
-use crate::tests::steps::Step::{Close, Durable, Stored};
-use crate::tests::steps::{Step, manager, report};
-use crate::{StatusManager, StatusReceiver, WriteHandle};
+use crate::handles::{awaited, two_writes};
+use crate::steps::Step::{Close, Durable, Stored};
+use crate::steps::{Step, manager, report};
 use slate_errors::CloseFault;
+use slate_receivers::{StatusManager, StatusReceiver, WriteHandle};
 use slate_types::NoMemory;
 use std::alloc::Global;
 use std::sync::Wait;

@@ -2,13 +2,13 @@
 ghost use Rattle.std.specs.Prelude.{IfOk};
 ghost use Rattle.slate_status.specs.Segments.{AreRising};
 
-use crate::tests::steps::Step::{
+use crate::steps::Step::{
     Add, Await, Borrow, Both, Changed, Close, Closed, Durable, Memory, Opening, Status, Stored,
     Update, Write,
 };
-use crate::{StatusManager, StatusReceiver};
 use bytes::Bytes;
-use slate_status::{CloseFault, DbStatus, StatusRecord, union};
+use slate_receivers::{StatusManager, StatusReceiver};
+use slate_status::{CloseFault, DbStatus, SegmentPrefix, StatusRecord, union};
 use slate_store::{Manifest, VersionedManifest};
 use slate_types::{NoMemory, Seq};
 use std::alloc::Global;
@@ -16,7 +16,7 @@ use std::sync::Wait;
 use std::test::Fail;
 
 /// Manifests are named by their ids, and segments are prefixes of one letter.
-pub(super) enum Step {
+pub(crate) enum Step {
     /// The report of a durable number and a manifest without segments, as an opening found them.
     Opening(u64, u64),
     /// The report of a durable number.
@@ -51,7 +51,7 @@ struct Session {
 }
 
 /// A manager of a durable number and a manifest without segments.
-pub(super) fn manager(alloc: Global, durable: u64, id: u64) -> Result<StatusManager, NoMemory> {
+pub(crate) fn manager(alloc: Global, durable: u64, id: u64) -> Result<StatusManager, NoMemory> {
     let first = StatusRecord::new(alloc, durable, manifest(alloc, id, b"")?);
     StatusManager::new(alloc, first)
 }
@@ -113,7 +113,7 @@ fn receive<R: Wait>(
     }
 }
 
-pub(super) fn report<R: Wait>(
+pub(crate) fn report<R: Wait>(
     manager: &StatusManager,
     rt: &R,
     alloc: Global,
@@ -154,23 +154,27 @@ fn report_segments<R: Wait>(
 }
 
 /// A prefix for each byte of the text.
-fn prefixes(alloc: Global, text: &[u8]) -> Result<Vec<Bytes>, NoMemory> {
+fn prefixes(alloc: Global, text: &'static [u8]) -> Result<Vec<Bytes>, NoMemory> {
     let mut list = Vec::new(alloc);
-    for byte in text {
-        list.push(Bytes::copy_from_slice(alloc, &[*byte])?)?;
+    for letter in text.chunks(1) {
+        list.push(Bytes::from_static(letter))?;
     }
     Ok(list)
 }
 
 /// The prefixes of a text, rising.
-fn rising(alloc: Global, text: &[u8]) -> Result<Seq<Bytes>, NoMemory>
+fn rising(alloc: Global, text: &'static [u8]) -> Result<Seq<Bytes>, NoMemory>
     ensures { IfOk result AreRising }
 {
     let list = prefixes(alloc, text)?;
     Ok(Seq::of(union(alloc, list.as_slice(), &[])?))
 }
 
-fn manifest(alloc: Global, id: u64, segments: &[u8]) -> Result<VersionedManifest, NoMemory> {
+fn manifest(
+    alloc: Global,
+    id: u64,
+    segments: &'static [u8],
+) -> Result<VersionedManifest, NoMemory> {
     let manifest = Manifest {
         writer_epoch: 1,
         initialized: true,
@@ -189,7 +193,12 @@ fn manifest(alloc: Global, id: u64, segments: &[u8]) -> Result<VersionedManifest
 fn print(text: &mut Vec<u8>, alloc: Global, status: &DbStatus) -> Result<(), NoMemory> {
     let (durable, id) = (status.durable_seq, status.current_manifest.id);
     text.extend_from_slice(format!(in alloc; "{durable} {id} ")?.as_bytes())?;
-    for segment in status.list_segments(alloc)?.as_slice() {
+    let segments = status.list_segments(alloc)?;
+    print_segments(text, segments.as_slice())
+}
+
+fn print_segments(text: &mut Vec<u8>, segments: &[SegmentPrefix]) -> Result<(), NoMemory> {
+    for segment in segments {
         text.extend_from_slice(segment.prefix.as_slice())?;
     }
     Ok(text.push(b';')?)

@@ -1,9 +1,9 @@
 // Tests of the handles of writes, in one thread.
 ghost use Rattle.std.specs.Prelude.{◌≡◌};
 
-use crate::tests::steps::manager;
-use crate::{DurabilityWaiter, StatusManager, WriteHandle};
+use crate::steps::manager;
 use slate_errors::{CloseFault, Error, SlateError};
+use slate_receivers::{DurabilityWaiter, StatusManager, WriteHandle};
 use slate_status::DurableAnswer;
 use slate_types::NoMemory;
 use std::alloc::Global;
@@ -62,7 +62,7 @@ fn polled<R: Wait>(rt: &R, handle: &mut WriteHandle) -> char {
 }
 
 /// How the wait of a handle ends.
-pub(super) fn awaited<R: Wait>(rt: &R, mut handle: WriteHandle) -> char {
+pub(crate) fn awaited<R: Wait>(rt: &R, mut handle: WriteHandle) -> char {
     letter(&handle.await_durable(rt))
 }
 
@@ -80,7 +80,7 @@ fn waiter_of_the_callers_own(rt: HostRuntime) -> Result<(), Fail> {
 }
 
 /// A manager, and the handles of the writes 1 and 2.
-pub(super) fn two_writes(
+pub(crate) fn two_writes(
     alloc: Global,
 ) -> Result<(StatusManager, WriteHandle, WriteHandle), NoMemory> {
     let manager = manager(alloc, 0, 1)?;

@@ -1,5 +1,5 @@
 // Tests of clocks.
-use crate::{Clock, HandClock, SystemClock};
+use slate_receivers::{Clock, HandClock, SystemClock};
 use slate_types::Seq;
 use std::cell::Cell;
 use std::io::ErrorKind;

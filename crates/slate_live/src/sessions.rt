@@ -159,12 +159,7 @@ fn write_replies<O: Sink>(alloc: Global, sink: &mut O, replies: &[Reply]) -> Out
 }
 
 /// Writes the summary of the replies to so many commands of the generator to a sink.
-fn write_summary<O: Sink>(
-    alloc: Global,
-    sink: &mut O,
-    commands: u64,
-    replies: &[Reply],
-) -> Outcome
+fn write_summary<O: Sink>(alloc: Global, sink: &mut O, commands: u64, replies: &[Reply]) -> Outcome
     ensures faults { O.faults sink.old ≤ O.faults sink.new }
     ensures writes { EndsWriting result (summary_text commands replies.now) (O.written sink.old) (O.written sink.new) (O.faults sink.old) (O.faults sink.new) }
 {

@@ -1,6 +1,8 @@
-use Rattle.std.proofs.Common.{◌≡◌, inr, ap, refl, sym, subst, ◌∙◌, None}
+use Rattle.std.proofs.Common.{◌≡◌, inr, ap, refl, sym, subst, ◌∙◌, length, None}
+use Rattle.slate_types.specs.Operator.{concat}
+use Rattle.slate_reads.specs.Read.{IsOperator}
 use Rattle.slate_script.specs.Generator.{generated, summary_text}
-use Rattle.slate_script.specs.Options.{nothing_given, run_options}
+use Rattle.slate_script.specs.declared.options.RunOptions.{RunOptions}
 use Rattle.slate_live.specs.Run.{IsRun}
 use Rattle.slate_live.specs.Session.{EndsWriting, generator_settings}
 use Rattle.slate_live.specs.declared.sessions.Outcome.TheVariants.{NoMemory}
@@ -32,8 +34,26 @@ pub returns-clause-ends : goal.returns-clause-ends
 returns-clause-ends g c left faults =
     let before = known g.S.Store.objects g.S.Store.faults c.args.store.now in
     let after = known g.S.Store.objects g.S.Store.faults c.run.new.store in
-    let given = c.default.ensures in
-    let made = c.in-Ok.ensures in
-    let leads = c.in-Ok-run.ensures.leads generator_settings in
-    let writes = c.write_summary-ending.ensures.writes in
-    ?
+    let written = g.O.Sink.written c.args.sink.now in
+    let written-after = g.O.Sink.written c.write_summary-ending.new.sink in
+    let failed = g.O.Sink.faults c.args.sink.now in
+    let failed-after = g.O.Sink.faults c.write_summary-ending.new.sink in
+    let commands : c.as_slice.result.now ≡ generated c.args.seed c.args.count = c.as_slice.ensures.value ∙ c.in-Ok.ensures in
+    let counted : c.len.result ≡ length (generated c.args.seed c.args.count) = c.len.ensures ∙ sym c.as_slice.ensures.len ∙ ap length commands in
+    let replied : c.as_slice-2.result.now ≡ c.finished-2.result.replies = c.as_slice-2.ensures.value ∙ sym c.finished-2.ensures.replies in
+    let lawful = subst (λ o. IsOperator (λ operator key existing operand answer. answer ≡ concat key existing operand) o None) (sym (c.as_ref.ensures.value ∙ ap (λ (o : RunOptions). o.operator) c.default-options.ensures)) tt in
+    let same = sym (ap (λ (o : RunOptions). o.options) c.default-options.ensures) in (
+      c.write_summary-ending.result,
+      c.finished-2.ensures.status,
+      c.finished-2.ensures.line,
+      inr (inr (inr (record {
+        seed = c.args.seed;
+        count = c.args.count;
+        accepted = refl;
+        source = record { left = refl; source_faults = refl };
+        run = subst (λ commands. IsRun generator_settings commands c.finished-2.result.replies before after) commands
+            (subst (λ replies. IsRun generator_settings c.as_slice.result.now replies before after) (sym c.finished-2.ensures.replies) (c.in-Ok-run.ensures.leads generator_settings lawful tt same));
+        writing = subst (λ count. EndsWriting c.write_summary-ending.result (summary_text count c.finished-2.result.replies) written written-after failed failed-after) counted
+            (subst (λ replies. EndsWriting c.write_summary-ending.result (summary_text c.len.result replies) written written-after failed failed-after) replied c.write_summary-ending.ensures.writes);
+      }))),
+    )

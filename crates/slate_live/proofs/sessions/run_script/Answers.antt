@@ -1,4 +1,4 @@
-use Rattle.std.proofs.Common.{◌≡◌, ◌++◌, codes, inr, ap, refl, sym, subst, ◌∙◌}
+use Rattle.std.proofs.Common.{◌≡◌, ◌++◌, codes, inl, inr, ap, refl, sym, subst, ◌∙◌}
 use Rattle.std.specs.Fmt.{decimal}
 use Rattle.std.specs.Option.{option_map}
 use Rattle.slate_types.specs.Operator.{concat}
@@ -13,14 +13,14 @@ use Rattle.slate_model.specs.Known.{known}
 use Rattle.slate_live.proofs.Endings.{appends, ends-unrun, extracts}
 use Rattle.slate_live.proofs.sessions.run_script.Goals as goal
 
-pub returns-in_default-extractor_of-clause-ends : goal.returns-in_default-extractor_of-clause-ends
-returns-in_default-extractor_of-clause-ends g c = (
+pub returns-in_default-clause-ends : goal.returns-in_default-clause-ends
+returns-in_default-clause-ends g c = (
   NoMemory,
-  c.finished-in_default-extractor_of.ensures.status,
-  c.finished-in_default-extractor_of.ensures.line,
+  c.finished-in_default.ensures.status,
+  c.finished-in_default.ensures.line,
   ends-unrun c.args.options _ _ _
       (record { written = refl; sink_faults = refl; store = refl })
-      (c.finished-in_default-extractor_of.ensures.replies ∙ c.new-in_default-extractor_of.ensures.items),
+      (c.finished-in_default.ensures.replies ∙ c.new-in_default.ensures.items),
 )
 
 pub returns-in_default-run-clause-ends : goal.returns-in_default-run-clause-ends

@@ -3,11 +3,7 @@
 #![tactic(auto)]
 
 mod boxed;
-#[cfg(test)]
-mod dispatcher_tests;
 mod dispatchers;
-#[cfg(test)]
-mod executor_tests;
 mod executors;
 mod groups;
 mod handlers;

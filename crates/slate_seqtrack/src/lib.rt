@@ -2,8 +2,6 @@
 #![tactic(auto)]
 
 mod bits;
-#[cfg(test)]
-mod block_tests;
 mod bytes;
 mod decoding;
 mod encoding;
@@ -11,8 +9,6 @@ mod faults;
 mod laws;
 mod lookups;
 mod pairs;
-#[cfg(test)]
-mod tests;
 mod thinning;
 mod tracker;
 

@@ -4,7 +4,5 @@
 
 mod handlers;
 mod running;
-#[cfg(test)]
-mod tests;
 
 pub use running::Tasks;

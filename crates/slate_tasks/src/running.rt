@@ -72,12 +72,6 @@ impl Tasks {
         }
         running
     }
-
-    /// Whether a task runs under a name.
-    #[cfg(test)]
-    pub(crate) fn has_running(&self, name: TaskName) -> bool {
-        self.executor.join_task(name.as_str()).is_none()
-    }
 }
 
 /// Registers a task under a name, which no other task has.

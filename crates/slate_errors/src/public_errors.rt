@@ -175,3 +175,14 @@ impl From<SlateError> for Error {
         }
     }
 }
+
+/// Lack of memory as an error whose cause it is, so that `?` takes it there in one step.
+impl From<NoMemory> for Error {
+    ghost use Rattle.slate_errors.specs.PublicErrors.{caused_by};
+
+    ghost from_gives = { λ _ error. error ≡ caused_by SlateError.NoMemory };
+
+    fn from(_error: NoMemory) -> Error {
+        Error::from(SlateError::NoMemory)
+    }
+}

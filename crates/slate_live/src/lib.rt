@@ -13,6 +13,9 @@ mod states;
 
 pub use runs::run;
 pub use sessions::{Finished, Outcome, session};
+pub use slate_receivers::{
+    Clock, DurabilityWaiter, HandClock, StatusManager, StatusReceiver, SystemClock, WriteHandle,
+};
 pub use slate_script::{
     Action, Command, LineAnswer, MAX_GENERATED, MAX_SCRIPT, Options, Reply, RunOptions,
     ScriptFault, SessionWords, generate, print_replies, print_summary, read_line, read_script,

@@ -179,8 +179,9 @@ impl From<SlateError> for Error {
 /// Lack of memory as an error whose cause it is, so that `?` takes it there in one step.
 impl From<NoMemory> for Error {
     ghost use Rattle.slate_errors.specs.PublicErrors.{caused_by};
+    ghost use Rattle.slate_errors.specs.declared.errors.SlateError.TheVariants.{NoMemory as OutOfMemory};
 
-    ghost from_gives = { λ _ error. error ≡ caused_by SlateError.NoMemory };
+    ghost from_gives = { λ _ error. error ≡ caused_by OutOfMemory };
 
     fn from(_error: NoMemory) -> Error {
         Error::from(SlateError::NoMemory)

@@ -3,4 +3,4 @@ use Rattle.slate_cases.proofs.rows.print_broken.Goals as goal
 
 pub of_rows-requires-clause-in_order : goal.of_rows-requires-clause-in_order
 unfolding IsStrictlySortedBy
-of_rows-requires-clause-in_order g c = rw (c.of.ensures, c.new.ensures.items) tt
+of_rows-requires-clause-in_order c = rw (c.of-none.ensures, c.new.ensures.items) tt

@@ -1,6 +1,7 @@
 -- Batches still rise as one is added, and an index stays one as the first is dropped.
-use Rattle.std.proofs.Common.{◌≡◌, ltb, inl, inr, ◌⊎◌, refl, sym, ◌∙◌, ap, subst, ℕ, ◌+◌, ◌-◌, ◌<◌, ◌≤◌, suc, zero, true, false, List, [], ◌∷◌, ◌++◌, length, get_or, drop, filter, map, replicate, reverse, Option, Some, None, IfSome, arith, length-append}
-use Rattle.std.specs.List.{AllByRecursion, flat_map}
+use Rattle.std.proofs.Common.{◌≡◌, ltb, inl, inr, ◌⊎◌, refl, sym, ◌∙◌, ap, subst, ℕ, ◌+◌, ◌-◌, ◌<◌, ◌≤◌, suc, zero, Bool, true, false, cond, List, [], ◌∷◌, ◌++◌, length, get_or, drop, take_while, leb, add-one, add_comm, filter, map, replicate, reverse, Option, Some, None, IfSome, arith, length-append}
+use Rattle.std.specs.List.{AllByRecursion, flat_map, prefix_len}
+use Rattle.std.proofs.lemmas.List.Folds.{length-prefix_len}
 use Rattle.std.specs.Str.{bytes_eq}
 use Rattle.std.proofs.lemmas.Bool.{cases_lt, lt-ltb, le-ltb, leb-true, leb-false}
 use borrow.Author.Tests.{ltb-true}
@@ -11,8 +12,9 @@ use Rattle.slate_types.specs.Line.{batches_above}
 use Rattle.slate_reads.specs.declared.tables.Entry.{Entry}
 use Rattle.slate_reads.specs.Read.{Version, versions_in}
 use Rattle.slate_reads.specs.Run.{Run, IsAt, Stands}
-use Rattle.slate_reads.specs.Index.{AreRising, IsAboveLast, Leads, IsIndex, batch_places, Loses, Forgets, begins_through}
+use Rattle.slate_reads.specs.Index.{AreRising, IsAboveLast, Leads, IsTraced, IsIndex, batch_places, ops_of, Loses, Forgets, begins_through}
 use Rattle.slate_reads.proofs.Lists.{all-weaker, all-append, all-reverse}
+use Rattle.slate_reads.proofs.Tracing.{IsTraced-drop}
 
 -- ---- numbers that rise
 pub AreRising-push : (batches : List Batch) (b : Batch) → AreRising batches → IsAboveLast b.number batches → AreRising (batches ++ b ∷ [])
@@ -61,6 +63,22 @@ above-dropped number (b ∷ batches) first = rw (le-ltb number b.number (leb-tru
 pub begins-some : (number : ℕ) (batches : List Batch) → begins_through number batches ≡ true → 0 < length batches
 begins-some number [] first = absurd (let e = first in cc)
 begins-some number (b ∷ batches) first = omega arith
+
+-- the batches at or below a number stand first
+pub above-counted : (number : ℕ) (batches : List Batch) → AreRising batches → drop (length (take_while (λ b. leb b.number number) batches)) batches ≡ batches_above number batches
+above-counted number batches rising = ap (λ n. drop n batches) (length-prefix_len (λ (b : Batch). leb b.number number) batches) ∙ go batches rising where
+  go : (batches : List Batch) → AreRising batches → drop (prefix_len (λ b. leb b.number number) batches) batches ≡ batches_above number batches
+  go [] rising = refl
+  go (b ∷ batches) rising = at (leb b.number number) refl (go batches rising.1) where
+    at : (t : Bool) → leb b.number number ≡ t → drop (prefix_len (λ b. leb b.number number) batches) batches ≡ batches_above number batches →
+        drop (cond t (1 + prefix_len (λ b. leb b.number number) batches) 0) (b ∷ batches) ≡ batches_above number (b ∷ batches)
+    at true is later = rw add_comm (rw add-one later) ∙ sym (above-dropped number (b ∷ batches) is)
+    at false is later = sym (above-kept number (b ∷ batches) rising is)
+
+pub rising-drop : (count : ℕ) (batches : List Batch) → AreRising batches → AreRising (drop count batches)
+rising-drop zero batches rising = rising
+rising-drop (suc count) [] rising = tt
+rising-drop (suc count) (b ∷ batches) rising = rising-drop count batches rising.1
 
 -- ---- the first batch goes
 -- one more place below the end was forgotten
@@ -235,4 +253,7 @@ module _ (batches after : Run Batch) (entries left : Run Entry) (b : Batch) (res
         (subst (Leads batches entries key (latest key)) whole (index.led key))));
     placed = rw (left-items, start, items) (sym (drop-map (λ (e : Entry). e.batch) (length b.ops) entries.items) ∙ ap (drop (length b.ops)) all_places
         ∙ drop_at (replicate (length b.ops) batches.start) (batch_places (batches.start + 1) rest) (length b.ops) (length-replicate (length b.ops) batches.start));
+    traced = subst (λ bs. IsTraced after left (ops_of bs) new) (sym items)
+        (IsTraced-drop batches after entries left b.ops (ops_of rest) latest new left-start left-items (λ place e x le at there. later_batch e.batch x (late place e at le) there) forgets
+        (subst (λ bs. IsTraced batches entries (ops_of bs) latest) first index.traced));
   }

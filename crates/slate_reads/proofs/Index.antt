@@ -4,21 +4,22 @@ use Rattle.std.specs.List.{flat_map}
 use Rattle.std.specs.Option.{unwrap_or, option_map}
 use Rattle.std.specs.Str.{bytes_eq}
 use Rattle.std.proofs.lemmas.Slice.Eq.{bytes_eq-Decides}
-use Rattle.std.proofs.lemmas.List.{append-nil, append_assoc, reverse-append, get_or_append_left, get_or_push, get_or_default, map_push, replicate_more, take_all, length_push}
+use Rattle.std.proofs.lemmas.List.{append-nil, append_assoc, reverse-append, get_or_append_left, get_or_push, get_or_default, map_push, replicate_more, take_all, length_push, take_more}
 use Rattle.std.proofs.lemmas.List.Concat.{flat_map-append}
 use Rattle.slate_types.specs.declared.batches.Batch.{Batch}
 use Rattle.slate_types.specs.declared.batches.KeyOp.{KeyOp}
 use Rattle.slate_reads.specs.declared.tables.Entry.{Entry}
 use Rattle.slate_reads.specs.Read.{Version, versions_in}
 use Rattle.slate_reads.specs.Run.{Run, IsAt, Stands}
-use Rattle.slate_reads.specs.Index.{Leads, AreLed, IsIndex, batch_places}
+use Rattle.slate_reads.specs.Index.{Leads, AreLed, IsTraced, IsIndex, batch_places, ops_of}
 use Rattle.slate_reads.proofs.Tails.{versions_in-one_more}
+use Rattle.slate_reads.proofs.Tracing.{IsTraced-same, IsTraced-push}
 
 -- ---- what stands at a place
-IsAt-get_or : {A : Type 0} (list : List A) (index : ℕ) (d : A) → index < length list → IsAt list index (get_or list index d)
+pub IsAt-get_or : {A : Type 0} (list : List A) (index : ℕ) (d : A) → index < length list → IsAt list index (get_or list index d)
 IsAt-get_or list index d within = record { within = within; is = λ e. get_or_default list index e d within }
 
-Stands-longer : {A : Type 0} (run longer : Run A) (more : List A) (place : ℕ) (item : A) → longer.start ≡ run.start → longer.items ≡ run.items ++ more → Stands run place item → Stands longer place item
+pub Stands-longer : {A : Type 0} (run longer : Run A) (more : List A) (place : ℕ) (item : A) → longer.start ≡ run.start → longer.items ≡ run.items ++ more → Stands run place item → Stands longer place item
 Stands-longer run longer more place item start items stands = record {
   from = rw start stands.from;
   at = rw (start, items) (record {
@@ -27,7 +28,7 @@ Stands-longer run longer more place item start items stands = record {
   });
 }
 
-Stands-last : {A : Type 0} (run longer : Run A) (item : A) → longer.start ≡ run.start → longer.items ≡ run.items ++ item ∷ [] → Stands longer (run.start + length run.items) item
+pub Stands-last : {A : Type 0} (run longer : Run A) (item : A) → longer.start ≡ run.start → longer.items ≡ run.items ++ item ∷ [] → Stands longer (run.start + length run.items) item
 Stands-last run longer item start items =
     let index : run.start + length run.items - run.start ≡ length run.items = omega arith in
     record {
@@ -74,7 +75,7 @@ Leads-within batches entries key next (version ∷ older) led =
     let lt : led.0.place < entries.start + length entries.items = let f = at.from in let w = at.at.within in omega arith in
     subst (λ n. IfSome n (λ place. place < entries.start + length entries.items)) (sym led.0.next_is) lt
 
-AreLed-same : (batches : Run Batch) (entries : Run Entry) (latest : List ℕ → Option ℕ) (f g : List ℕ → List Version) → ((key : List ℕ) → f key ≡ g key) →
+pub AreLed-same : (batches : Run Batch) (entries : Run Entry) (latest : List ℕ → Option ℕ) (f g : List ℕ → List Version) → ((key : List ℕ) → f key ≡ g key) →
     AreLed batches entries latest f → AreLed batches entries latest g
 AreLed-same batches entries latest f g same led key = subst (λ vs. Leads batches entries key (latest key) (reverse vs)) (same key) (led key)
 
@@ -126,6 +127,7 @@ so_far batches b i key = flat_map (versions_in key) batches ++ versions_in key (
 pub record IsPart (batches new : Run Batch) (b : Batch) (entries : Run Entry) (latest : List ℕ → Option ℕ) (i : ℕ) : Type 0 where
   pub led : AreLed new entries latest (so_far batches.items b i)
   pub placed : map (λ e. e.batch) entries.items ≡ batch_places batches.start batches.items ++ replicate i (batches.start + length batches.items)
+  pub traced : IsTraced new entries (ops_of batches.items ++ take i b.ops) latest
 
 pub IsPart-start : (batches new : Run Batch) (b : Batch) (entries : Run Entry) (latest : List ℕ → Option ℕ) → new.start ≡ batches.start → new.items ≡ batches.items ++ b ∷ [] →
     IsIndex batches entries latest → IsPart batches new b entries latest 0
@@ -133,7 +135,14 @@ IsPart-start batches new b entries latest start items index = record {
   led = λ key. rw append-nil (Leads-keep batches new entries entries (λ place batch at. Stands-longer batches new (b ∷ []) place batch start items at) (λ place item at. at) refl key (latest key)
       (reverse (flat_map (versions_in key) batches.items)) (index.led key));
   placed = index.placed ∙ sym (append-nil _);
+  traced = IsTraced-same batches new entries entries (ops_of batches.items) (ops_of batches.items ++ []) latest latest (λ place batch at. Stands-longer batches new (b ∷ []) place batch start items at) refl refl (append-nil _)
+      (λ key. refl) index.traced;
 }
+
+-- the operations so far, and one more
+pub ops-more : (batches : List Batch) (b : Batch) (i : ℕ) (o : KeyOp) → i < length b.ops → o ≡ get_or b.ops i o → (ops_of batches ++ take i b.ops) ++ o ∷ [] ≡ ops_of batches ++ take (i + 1) b.ops
+ops-more batches b i o within at =
+    append_assoc (ops_of batches) (take i b.ops) (o ∷ []) ∙ ap (λ x. ops_of batches ++ x) (ap (λ x. take i b.ops ++ x ∷ []) at ∙ sym (take_more b.ops i o within))
 
 pub IsPart-more : (batches new : Run Batch) (b : Batch) (entries longer : Run Entry) (latest newer : List ℕ → Option ℕ) (i place : ℕ) (o : KeyOp) →
     new.start ≡ batches.start → new.items ≡ batches.items ++ b ∷ [] → batches.start + length batches.items ≡ place →
@@ -149,22 +158,33 @@ IsPart-more batches new b entries longer latest newer i place o start items plac
       ∙ append_assoc (batch_places batches.start batches.items) (replicate i (batches.start + length batches.items)) (place ∷ [])
       ∙ ap (λ p. batch_places batches.start batches.items ++ (replicate i (batches.start + length batches.items) ++ p ∷ [])) (sym place-is)
       ∙ ap (λ x. batch_places batches.start batches.items ++ x) (replicate_more i (batches.start + length batches.items)));
+  traced = subst (λ ops. IsTraced new longer ops newer) (ops-more batches.items b i o within at)
+      (IsTraced-push new entries longer (ops_of batches.items ++ take i b.ops) latest newer place i b o (subst (λ p. Stands new p b) place-is (Stands-last batches new b start items))
+      (rw at (IsAt-get_or b.ops i o within)) same longer-is newer-is part.traced);
 }
 
-batch_places-push : (start : ℕ) (batches : List Batch) (b : Batch) → batch_places start (batches ++ b ∷ []) ≡ batch_places start batches ++ replicate (length b.ops) (start + length batches)
+pub batch_places-push : (start : ℕ) (batches : List Batch) (b : Batch) → batch_places start (batches ++ b ∷ []) ≡ batch_places start batches ++ replicate (length b.ops) (start + length batches)
 batch_places-push start [] b = append-nil _ ∙ (let e : start ≡ start + 0 = omega arith in ap (replicate (length b.ops)) e)
 batch_places-push start (x ∷ batches) b =
     let e : start + 1 + length batches ≡ start + suc (length batches) = omega arith in
     ap (λ y. replicate (length x.ops) start ++ y) (batch_places-push (start + 1) batches b ∙ ap (λ p. batch_places (start + 1) batches ++ replicate (length b.ops) p) e)
     ∙ sym (append_assoc (replicate (length x.ops) start) (batch_places (start + 1) batches) _)
 
+-- the first operations of one more batch, once they are all of it
+pub so_far-whole : (batches new : Run Batch) (b : Batch) (i : ℕ) → new.items ≡ batches.items ++ b ∷ [] → i ≡ length b.ops → (key : List ℕ) → so_far batches.items b i key ≡ flat_map (versions_in key) new.items
+so_far-whole batches new b i items i-is key =
+    rw (i-is, take_all (length b.ops) b.ops (omega arith), items) (sym (flat_map-append (versions_in key) batches.items (b ∷ []) ∙ ap (λ x. flat_map (versions_in key) batches.items ++ x) (append-nil (versions_in key b))))
+
+pub ops-whole : (batches new : Run Batch) (b : Batch) (i : ℕ) → new.items ≡ batches.items ++ b ∷ [] → i ≡ length b.ops → ops_of batches.items ++ take i b.ops ≡ ops_of new.items
+ops-whole batches new b i items i-is =
+    rw (i-is, take_all (length b.ops) b.ops (omega arith), items) (sym (flat_map-append (λ (x : Batch). x.ops) batches.items (b ∷ []) ∙ ap (λ x. ops_of batches.items ++ x) (append-nil b.ops)))
+
 pub IsPart-end : (batches new : Run Batch) (b : Batch) (entries : Run Entry) (latest : List ℕ → Option ℕ) (i : ℕ) → new.start ≡ batches.start → new.items ≡ batches.items ++ b ∷ [] →
     i ≡ length b.ops → IsPart batches new b entries latest i → IsIndex new entries latest
 IsPart-end batches new b entries latest i start items i-is part = record {
-  led = AreLed-same new entries latest (so_far batches.items b i) (λ key. flat_map (versions_in key) new.items)
-      (λ key. rw (i-is, take_all (length b.ops) b.ops (omega arith), items) (sym (flat_map-append (versions_in key) batches.items (b ∷ []) ∙ ap (λ x. flat_map (versions_in key) batches.items ++ x) (append-nil (versions_in key b)))))
-      part.led;
+  led = AreLed-same new entries latest (so_far batches.items b i) (λ key. flat_map (versions_in key) new.items) (so_far-whole batches new b i items i-is) part.led;
   placed = part.placed ∙ rw (i-is, start, items) (sym (batch_places-push batches.start batches.items b));
+  traced = subst (λ ops. IsTraced new entries ops latest) (ops-whole batches new b i items i-is) part.traced;
 }
 
 -- ---- the walk from an entry to the one before it on its key

@@ -9,10 +9,11 @@ use Rattle.slate_types.specs.declared.batches.Batch.{Batch}
 use Rattle.slate_reads.specs.declared.tables.Entry.{Entry}
 use Rattle.slate_reads.specs.Read.{versions_in}
 use Rattle.slate_reads.specs.Run.{Run, Stands, IsSame, HasRoom}
-use Rattle.slate_reads.specs.Index.{AreRising, IsAboveLast, Leads, IsIndex, IsTable, AreOrdered, Forgets, place_of, batch_places}
+use Rattle.slate_reads.specs.Index.{AreRising, IsAboveLast, Leads, IsIndex, IsTable, AreOrdered, Forgets, place_of, batch_places, ops_of}
 use Rattle.slate_reads.specs.Size.{ops_size, size_of}
 use Rattle.slate_reads.proofs.Index.{Leads-keep}
 use Rattle.slate_reads.proofs.Dropping.{AreRising-push, IsIndex-drop}
+use Rattle.slate_reads.proofs.Tracing.{IsTraced-same}
 
 Stands-same_run : {A : Type 0} (run new : Run A) → IsSame run new → (place : ℕ) (item : A) → Stands run place item → Stands new place item
 Stands-same_run run new same place item stands = record {
@@ -28,6 +29,7 @@ IsIndex-same batches new entries others latest newer same_batches same_entries s
       (subst (λ next. Leads new others key next (reverse (flat_map (versions_in key) batches.items))) (sym (same key))
       (Leads-keep batches new entries others (Stands-same_run batches new same_batches) (Stands-same_run entries others same_entries) same_entries.start key (latest key) (reverse (flat_map (versions_in key) batches.items)) (index.led key)));
   placed = rw (same_entries.items, same_batches.start, same_batches.items) index.placed;
+  traced = IsTraced-same batches new entries others (ops_of batches.items) (ops_of new.items) latest newer (Stands-same_run batches new same_batches) same_entries.start same_entries.items (ap ops_of same_batches.items) same index.traced;
 } where
   Leads-at : List Batch → List ℕ → Type 0
   Leads-at bs key = Leads new others key (newer key) (reverse (flat_map (versions_in key) bs))

@@ -4,4 +4,6 @@ pub mod Index
 pub mod Keeping
 pub mod Lists
 pub mod Tails
+pub mod Tracing
+pub mod Undoing
 pub mod Walking

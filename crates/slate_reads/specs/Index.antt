@@ -1,5 +1,5 @@
 -- The indexes of a table, and how they lead from a key to its versions.
-use Rattle.std.specs.Prelude.{◌≡◌, ◌⊎◌, ℕ, ◌+◌, ◌^◌, ◌<◌, Bool, true, false, nat_le, List, [], ◌∷◌, ◌++◌, map, replicate, reverse, length, Option, Some, None, IfSome, IsSome}
+use Rattle.std.specs.Prelude.{◌≡◌, ◌⊎◌, ℕ, ◌+◌, ◌^◌, ◌<◌, ◌≤◌, Bool, true, false, nat_le, List, [], ◌∷◌, ◌++◌, map, replicate, reverse, length, Option, Some, None, IfSome, IsSome}
 use Rattle.std.specs.List.{AllByRecursion, flat_map}
 use Rattle.std.specs.Option.{unwrap_or}
 use Rattle.std.specs.Str.{bytes_eq}
@@ -62,10 +62,35 @@ place_of latest key = unwrap_or (get bytes_eq latest key) None
 abbrev pub AreOrdered : {S : Type 0} → HashMap (List ℕ) (Option ℕ) S → BTreeSet (List ℕ) → Type 0
 AreOrdered latest order = (key : List ℕ) → IsSome (get bytes_eq latest key) → contains key_cmp order key ≡ true
 
+-- the operations of batches
+abbrev pub ops_of : List Batch → List KeyOp
+ops_of batches = flat_map (λ batch. batch.ops) batches
+
+-- an entry of an operation: it stands in its batch, at its index
+pub record IsOfOp (batches : Run Batch) (entry : Entry) (key_op : KeyOp) : Type 0 where
+  pub batch : Batch
+  pub batch_at : Stands batches entry.batch batch
+  pub op_at : IsAt batch.ops entry.op key_op
+
+-- a place that may be absent: it is there, and at another one or after it
+abbrev pub IsFrom : ℕ → Option ℕ → Type 0
+IsFrom place None = ⊥
+IsFrom place (Some next) = place ≤ next
+
+-- Each entry is of the operation with its index. None of a key is after the last one of that key, and none of those before
+-- an entry of its key is after the one that it leads to.
+pub record IsTraced (batches : Run Batch) (entries : Run Entry) (ops : List KeyOp) (latest : List ℕ → Option ℕ) : Type 0 where
+  pub each : length entries.items ≡ length ops
+  pub of_op : (index : ℕ) (entry : Entry) (key_op : KeyOp) → IsAt entries.items index entry → IsAt ops index key_op → IsOfOp batches entry key_op
+  pub newest : (index : ℕ) (key_op : KeyOp) → IsAt ops index key_op → IsFrom (entries.start + index) (latest key_op.key)
+  pub nearest : (index later : ℕ) (key_op next : KeyOp) (entry : Entry) → index < later → IsAt ops index key_op → IsAt ops later next → IsAt entries.items later entry →
+      key_op.key ≡ next.key → IsFrom (entries.start + index) entry.previous
+
 -- Each key leads to its versions in the batches, and there is an entry for each operation, in order.
 pub record IsIndex (batches : Run Batch) (entries : Run Entry) (latest : List ℕ → Option ℕ) : Type 0 where
   pub led : AreLed batches entries latest (λ key. flat_map (versions_in key) batches.items)
   pub placed : map (λ e. e.batch) entries.items ≡ batch_places batches.start batches.items
+  pub traced : IsTraced batches entries (ops_of batches.items) latest
 
 -- what a table keeps
 pub record IsTable {S : Type 0} (batches : Run Batch) (entries : Run Entry) (latest : HashMap (List ℕ) (Option ℕ) S) (order : BTreeSet (List ℕ)) (size : ℕ) : Type 0 where

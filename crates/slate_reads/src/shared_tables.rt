@@ -1,6 +1,7 @@
 // Stored tables, whose copies share their batches and indexes.
-ghost use Rattle.std.specs.Prelude.{◌≡◌, IfOk, IfErr};
-ghost use Rattle.slate_reads.specs.Index.{AreRising};
+ghost use Rattle.std.specs.Prelude.{◌≡◌, ◌≤◌, ◌++◌, [], ◌∷◌, length, nat_le, take_while, IfOk, IfErr, OnOk};
+ghost use Rattle.slate_types.specs.Line.{batches_above};
+ghost use Rattle.slate_reads.specs.Index.{AreRising, IsAboveLast};
 
 use crate::IndexedTable;
 use slate_types::{Batch, NoMemory};
@@ -71,6 +72,53 @@ impl Table {
         }
     }
 
+    /// The table with the batches above a number. Where all of them are above it, it shares them and their indexes. Where
+    /// some are, it has indexes of its own, as `of_batches` makes them, of these alone.
+    pub fn above(&self, alloc: Global, number: u64) -> Result<Table, NoMemory>
+        ensures { IfOk result (λ table. table ≡ batches_above number self.now) }
+    {
+        let batches = self.batches();
+        let gone = count_through(batches, number);
+        if gone == 0 {
+            return Ok(self.clone()?);
+        }
+        Table::of_batches(alloc, &batches[gone..])
+    }
+
+    /// Whether there is another copy.
+    fn is_shared(&self) -> bool {
+        Arc::strong_count(&self.shared) > 1
+    }
+
+    /// Adds a batch, whose number is above that of the last one, as `IndexedTable::push` does, where there is no other copy.
+    /// Where there is one, the table gets indexes of its own first, as `of_batches` makes them, and the copy stays as it is.
+    /// Where memory runs out the batch comes back, and nothing is changed.
+    pub fn push(&mut self, alloc: Global, batch: Batch) -> Result<(), Batch>
+        requires { IsAboveLast batch.number self.old }
+        ensures ok { OnOk result (self.new ≡ self.old ++ batch ∷ []) }
+        ensures err { IfErr result (λ back. (back ≡ batch) × (self.new ≡ self.old)) }
+    {
+        if self.is_shared() {
+            let Ok(own) = Table::of_batches(alloc, self.batches()) else {
+                return Err(batch);
+            };
+            *self = own;
+        }
+        self.push_alone(batch)
+    }
+
+    /// Adds a batch, where there is no other copy.
+    fn push_alone(&mut self, batch: Batch) -> Result<(), Batch>
+        requires { IsAboveLast batch.number self.old }
+        ensures ok { OnOk result (self.new ≡ self.old ++ batch ∷ []) }
+        ensures err { IfErr result (λ back. (back ≡ batch) × (self.new ≡ self.old)) }
+    {
+        match Arc::get_mut(&mut self.shared) {
+            Some(table) => table.push(batch),
+            None => Err(batch),
+        }
+    }
+
     /// The batches, in the order of their numbers.
     pub fn batches(&self) -> &[Batch]
         ensures value { result.now ≡ self.now }
@@ -85,4 +133,15 @@ impl Table {
     {
         &self.shared
     }
+}
+
+/// How many batches at the front are at or below a number.
+fn count_through(batches: &[Batch], number: u64) -> usize
+    ensures within { result ≤ length batches.now }
+    ensures counted { result ≡ length (take_while (λ batch. nat_le batch.number number) batches.now) }
+{
+    batches
+        .iter()
+        .take_while(|batch| batch.number <= number)
+        .count()
 }

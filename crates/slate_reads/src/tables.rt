@@ -1,5 +1,5 @@
 // Tables in memory: adding batches, dropping the first ones, and keeping the indexes.
-ghost use Rattle.std.specs.Prelude.{◌↔◌, IsTrue, ◌≡◌, ◌+◌, ◌<◌, ◌≤◌, ◌^◌, ◌++◌, [], ◌∷◌, ℕ, All, IsSome, List, OnOk, IfErr, IfSome, Some, None, drop, if◌then◌else◌, length, map, min, true};
+ghost use Rattle.std.specs.Prelude.{◌↔◌, IsTrue, ◌≡◌, ◌+◌, ◌-◌, ◌<◌, ◌≤◌, ◌^◌, ◌++◌, [], ◌∷◌, ℕ, All, IsSome, List, OnOk, IfErr, IfSome, Some, None, drop, take, if◌then◌else◌, length, map, min, true};
 ghost use Rattle.std.specs.Str.{bytes_eq};
 ghost use Rattle.std.specs.HashMap.{get};
 ghost use Rattle.std.specs.BTreeSet.{contains};
@@ -144,6 +144,28 @@ impl IndexedTable {
         while self.begins_through(number) {
             self.drop_first();
         }
+    }
+
+    /// Takes the last batches back, so that at most `count` are left, and the table is as if the others had not been pushed.
+    /// It takes no memory, and time for each operation that it takes back, with a logarithm of the keys for each key that
+    /// has no other.
+    pub fn truncate(&mut self, count: usize)
+        ensures { self.new ≡ take count self.old }
+    {
+        while self.batches.as_slice().len() > count {
+            self.take_last();
+        }
+    }
+
+    /// Takes the last batch back.
+    fn take_last(&mut self)
+        ensures { self.new ≡ take (length self.old - 1) self.old }
+    {
+        let Some(batch) = self.batches.pop() else {
+            return;
+        };
+        self.size -= batch_size(&batch);
+        take_entries(&mut self.entries, &mut self.latest, &mut self.order, &batch);
     }
 
     /// Whether there is a first batch, and it is at or below a number.
@@ -330,8 +352,66 @@ fn forget_key(
     ensures ordered { AreOrdered latest.old order.old → AreOrdered latest.new order.new }
 {
     if last_place(latest, key) == Some(place) {
-        latest.remove(key);
-        order.remove(key);
+        remove_key(latest, order, key);
+    }
+}
+
+/// Takes back the entries of the last batch, the last one first.
+fn take_entries(
+    entries: &mut Window<Entry>,
+    latest: &mut HashMap<Bytes, Option<usize>>,
+    order: &mut BTreeSet<Bytes>,
+    batch: &Batch,
+)
+    ensures start { entries.new.start ≡ entries.old.start }
+    ensures fewer { length entries.new.items ≤ length entries.old.items }
+    ensures index { (batches new : Run AnyBatch) → new.start ≡ batches.start → new.items ≡ batches.items ++ batch.now ∷ [] →
+        IsIndex new entries.old (place_of latest.old) → IsIndex batches entries.new (place_of latest.new) }
+    ensures ordered { AreOrdered latest.old order.old → AreOrdered latest.new order.new }
+{
+    let mut left = batch.ops.as_slice();
+    while let Some((key_op, earlier)) = left.split_last() {
+        let Some(entry) = entries.pop() else {
+            return;
+        };
+        lead_back(latest, order, &key_op.key, entry.previous);
+        left = earlier;
+    }
+}
+
+/// Leads a key back to the entry before its last one. Where there is none, it forgets the key.
+fn lead_back(
+    latest: &mut HashMap<Bytes, Option<usize>>,
+    order: &mut BTreeSet<Bytes>,
+    key: &Bytes,
+    previous: Option<usize>,
+)
+    ensures back { IsSome (get bytes_eq latest.old key.now) → (other : List ℕ) → place_of latest.new other ≡ (if bytes_eq key.now other then previous else place_of latest.old other) }
+    ensures ordered { AreOrdered latest.old order.old → AreOrdered latest.new order.new }
+{
+    match previous {
+        None => remove_key(latest, order, key),
+        Some(_) => set_last(latest, key, previous),
+    }
+}
+
+/// Removes a key.
+fn remove_key(latest: &mut HashMap<Bytes, Option<usize>>, order: &mut BTreeSet<Bytes>, key: &Bytes)
+    ensures back { (other : List ℕ) → place_of latest.new other ≡ (if bytes_eq key.now other then None else place_of latest.old other) }
+    ensures ordered { AreOrdered latest.old order.old → AreOrdered latest.new order.new }
+{
+    latest.remove(key);
+    order.remove(key);
+}
+
+/// Sets the place of a key's last entry, where the key is in the map.
+fn set_last(latest: &mut HashMap<Bytes, Option<usize>>, key: &Bytes, place: Option<usize>)
+    ensures set { IsSome (get bytes_eq latest.old key.now) → (other : List ℕ) →
+        get bytes_eq latest.new other ≡ (if bytes_eq key.now other then Some place else get bytes_eq latest.old other) }
+    ensures stays { (other : List ℕ) → IsSome (get bytes_eq latest.new other) → IsSome (get bytes_eq latest.old other) }
+{
+    if let Some(last) = latest.get_mut(key) {
+        *last = place;
     }
 }
 

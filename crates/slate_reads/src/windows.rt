@@ -108,6 +108,17 @@ impl<T: Drop> Window<T> {
         self.items.push_reserved(item);
     }
 
+    /// Takes the last item, where there is one. Its room is free again.
+    pub(crate) fn pop(&mut self) -> Option<T>
+        ensures start { self.new.start ≡ self.old.start }
+        ensures cases { MatchOption result ((self.old.items ≡ []) × (self.new.items ≡ [])) (λ item. self.old.items ≡ self.new.items ++ item ∷ []) }
+    {
+        if self.gone == self.items.len() {
+            return None;
+        }
+        self.items.pop()
+    }
+
     /// Drops items from the front. It takes time for each of them, and moves those that stay where more than half
     /// of the vector was dropped.
     pub(crate) fn skip(&mut self, count: usize)

@@ -10,7 +10,7 @@ use Rattle.slate_types.specs.declared.batches.KeyOp.{KeyOp}
 use Rattle.slate_reads.specs.declared.reads.Version.{Version as Held}
 use Rattle.slate_reads.specs.declared.tables.Entry.{Entry}
 use Rattle.slate_reads.specs.Read.{Version, is_base, is_within, since_base, versions_in, history}
-use Rattle.slate_reads.specs.Tails.{seen, IsTail, IsEnd}
+use Rattle.slate_reads.specs.Tails.{seen, IsTail, IsEnd, IsBack}
 use Rattle.slate_reads.proofs.Tails.{since_base-base, since_base-merge}
 use Rattle.slate_reads.specs.Run.{Run, Stands}
 use Rattle.slate_reads.proofs.Lists.{all-append, all-reverse}
@@ -92,6 +92,34 @@ IsEnd-skip batches entries key place entry left f bound held batch batch-is is w
     let version : Version = record { op = f.key_op.op; number = f.batch.number; create_ts = f.batch.create_ts } in
     subst (λ vs. IsEnd key whole vs false held)
     (walked bound rest left f.older version false f.left_is (is ∙ ap (λ b. is_within bound b.number) same_batch) ∙ append-nil (rest ++ within bound (reverse f.older))) end
+
+-- ---- the walk over all of them
+IsBack-left : (key : List ℕ) (bound : Option ℕ) (whole rest left older : List Version) (v : Version) (seen_it : Bool) (held : List Held) → left ≡ v ∷ older → seen_it ≡ is_within bound v.number →
+    IsBack key whole (rest ++ within bound (reverse left)) held → IsBack key whole ((rest ++ within bound (reverse older)) ++ cond seen_it (v ∷ []) []) held
+IsBack-left key bound whole rest left older v seen_it held left-is is back = subst (λ vs. IsBack key whole vs held) (walked bound rest left older v seen_it left-is is) back
+
+pub IsBack-walk : (batches : Run Batch) (entries : Run Entry) (key : List ℕ) (place : ℕ) (entry : Entry) (left : List Version) (f : Found batches entries key place entry left)
+    (bound : Option ℕ) (held new : List Held) (h : Held) (ops : List KeyOp) → Stands batches entry.batch h.batch.now →
+    ops ≡ h.batch.now.ops → h.key_op.now ≡ get_or ops entry.op h.key_op.now → true ≡ is_within bound h.batch.now.number → new ≡ held ++ h ∷ [] →
+    (whole rest : List Version) → IsBack key whole (rest ++ within bound (reverse left)) held → IsBack key whole (rest ++ within bound (reverse f.older)) new
+IsBack-walk batches entries key place entry left f bound held new h ops batch-is ops-are op-is is new-is whole rest back =
+    let same_batch : h.batch.now ≡ f.batch = Stands-same batches entry.batch h.batch.now f.batch batch-is f.batch_at in
+    let same_op : h.key_op.now ≡ f.key_op = op-is ∙ ap (λ os. get_or os entry.op h.key_op.now) (ops-are ∙ ap (λ b. b.ops) same_batch) ∙ f.op_at.is h.key_op.now in
+    let left-is : left ≡ seen h ∷ f.older = rw (same_batch, same_op) f.left_is in
+    let before = IsBack-left key bound whole rest left f.older (seen h) true held left-is is back in
+    record {
+      joined = rw (new-is, map_push seen held h, reverse-append (map seen held) (seen h ∷ [])) (sym (append_assoc (rest ++ within bound (reverse f.older)) (seen h ∷ []) (reverse (map seen held))) ∙ before.joined);
+      same_key = rw new-is (all-append (λ (h : Held). h.key_op.now.key ≡ key) held (h ∷ []) back.same_key (ap (λ o. o.key) same_op ∙ f.key_is, tt));
+    }
+
+pub IsBack-skip : (batches : Run Batch) (entries : Run Entry) (key : List ℕ) (place : ℕ) (entry : Entry) (left : List Version) (f : Found batches entries key place entry left)
+    (bound : Option ℕ) (held : List Held) (batch : Batch) → Stands batches entry.batch batch → false ≡ is_within bound batch.number →
+    (whole rest : List Version) → IsBack key whole (rest ++ within bound (reverse left)) held → IsBack key whole (rest ++ within bound (reverse f.older)) held
+IsBack-skip batches entries key place entry left f bound held batch batch-is is whole rest back =
+    let same_batch : batch ≡ f.batch = Stands-same batches entry.batch batch f.batch batch-is f.batch_at in
+    let version : Version = record { op = f.key_op.op; number = f.batch.number; create_ts = f.batch.create_ts } in
+    subst (λ vs. IsBack key whole vs held) (append-nil (rest ++ within bound (reverse f.older)))
+    (IsBack-left key bound whole rest left f.older version false held f.left_is (is ∙ ap (λ b. is_within bound b.number) same_batch) back)
 
 -- where a put or a delete has ended the search, what goes before makes no difference
 pub IsEnd-ended : (key : List ℕ) (whole rest other : List Version) (held : List Held) → IsEnd key whole rest true held → IsEnd key whole other true held

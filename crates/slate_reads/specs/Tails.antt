@@ -18,3 +18,8 @@ pub record IsTail (key : List ℕ) (history : List Version) (held : List Held) :
 pub record IsEnd (key : List ℕ) (whole rest : List Version) (ended : Bool) (held : List Held) : Type 0 where
   pub tail : (if ended then [] else since_base rest) ++ reverse (map seen held) ≡ whole
   pub same_key : AllByRecursion (λ h. h.key_op.now.key ≡ key) held
+
+-- The versions held, newest first, end a history of a key. What goes before them is the rest.
+pub record IsBack (key : List ℕ) (whole rest : List Version) (held : List Held) : Type 0 where
+  pub joined : rest ++ reverse (map seen held) ≡ whole
+  pub same_key : AllByRecursion (λ h. h.key_op.now.key ≡ key) held

@@ -1,11 +1,11 @@
 // Reading a key in stored tables and those in memory by their indexes.
-ghost use Rattle.std.specs.Prelude.{◌≡◌, ◌++◌, ◌+◌, ◌≤◌, [], ℕ, Bool, false, List, Option, Some, IfOk, IfSome, MatchOption, if◌then◌else◌, length};
+ghost use Rattle.std.specs.Prelude.{◌≡◌, ◌++◌, ◌+◌, ◌≤◌, [], ℕ, Bool, false, List, Option, Some, IfOk, IfSome, OnOk, MatchOption, if◌then◌else◌, length};
 ghost use Rattle.std.specs.List.{flat_map};
 ghost use Rattle.std.specs.Option.{option_copied};
 ghost use Rattle.slate_types.specs.Operator.{Merge};
 ghost use Rattle.slate_types.specs.declared.batches.Batch.{Batch as AnyBatch};
 ghost use Rattle.slate_reads.specs.Run.{Stands};
-ghost use Rattle.slate_reads.specs.Tails.{IsTail, IsEnd};
+ghost use Rattle.slate_reads.specs.Tails.{IsTail, IsEnd, IsBack};
 ghost use Rattle.slate_reads.specs.Read.{Version as SeenVersion, IsOperator, Reads, read_at, history};
 
 use crate::reads::{Version, fold, is_base, is_within, tail_of};
@@ -179,6 +179,29 @@ fn take_table<'a>(
         next = entry.previous;
     }
     Ok(false)
+}
+
+/// Adds the versions of a key in a table up to a bound, newest first. It takes a look-up, and goes over the key's
+/// operations, with those above the bound.
+pub fn take_history<'a>(
+    newest: &mut Vec<Version<'a>>,
+    table: &'a IndexedTable,
+    bound: Option<u64>,
+    key: &Bytes,
+) -> Result<(), NoMemory>
+    ensures { OnOk result ((whole rest : List SeenVersion) → IsBack key.now whole (rest ++ history table.now bound key.now) newest.old.items →
+        IsBack key.now whole rest newest.new.items) }
+{
+    let mut next = last_place(&table.latest, key);
+    while let Some(entry) = entry_at(&table.entries, next) {
+        let batch = table.batches.at(entry.batch);
+        if is_within(bound, batch.number) {
+            let key_op = &batch.ops.as_slice()[entry.op];
+            newest.push(Version { batch, key_op })?;
+        }
+        next = entry.previous;
+    }
+    Ok(())
 }
 
 /// The entry at a place, unless it was dropped.

@@ -8,7 +8,7 @@ mod tables;
 mod walks;
 mod windows;
 
-pub use indexed_reads::{Indexed, read_indexed, read_key};
+pub use indexed_reads::{Indexed, read_indexed, read_key, take_history};
 pub use reads::{Version, fold, is_base, is_within, prepare_max_seq, read};
 pub use shared_tables::Table;
 pub use tables::IndexedTable;

@@ -1,3 +1,4 @@
+pub mod Ahead
 pub mod Leb128
 pub mod Fronts
 pub mod Passing
@@ -10,3 +11,4 @@ pub mod Recent
 pub mod Unique
 pub mod Walks
 pub mod Taking
+pub mod Limited

@@ -40,7 +40,7 @@ apart order a b less = go (bytes_eq b a) refl where
       absurd cc
 
 -- a key that isn't before another, and isn't it, comes after it
-after : (order : IterationOrder) (a b : List ℕ) → is_before order b a ≡ false → bytes_eq b a ≡ false → order_cmp order a b ≡ Less
+pub after : (order : IterationOrder) (a b : List ℕ) → is_before order b a ≡ false → bytes_eq b a ≡ false → order_cmp order a b ≡ Less
 after order a b not_before other = go (order_cmp order a b) refl where
   go : (o : Ordering) → order_cmp order a b ≡ o → o ≡ Less
   go Less is = refl

@@ -171,7 +171,7 @@ order-more order key held h start end front found rows new step sorted keyed add
     order-found order key found rows new (dedup bytes_eq (held_keys (drop end held))) keyed adds (rw (left_keys order key held h start end front step sorted) at so_far)
 
 -- the rows that were taken stay, where a fault comes
-kept-fault : (found : Result (Option KeyValue) ReadFault) (rows new : List KeyValue) (fault : ReadFault) → Adds found rows new (Some fault) → new ≡ rows
+pub kept-fault : (found : Result (Option KeyValue) ReadFault) (rows new : List KeyValue) (fault : ReadFault) → Adds found rows new (Some fault) → new ≡ rows
 kept-fault (Ok None) rows new fault adds = adds.0
 kept-fault (Ok (Some row)) rows new fault adds = absurd (let none = adds.1 in cc)
 kept-fault (Err MergeOperatorMissing) rows new fault adds = adds.0

@@ -1,3 +1,5 @@
+pub mod Ahead
+pub mod Front
 pub mod Gathered
 pub mod IndexKey
 pub mod Iteration

@@ -3,15 +3,18 @@
 #![tactic(auto)]
 
 mod entries;
+mod first_scans;
 mod index_keys;
 mod indexed_scans;
 mod iterators;
 mod recencies;
 mod scans;
 mod seeks;
+mod table_walks;
 mod varints;
 
 pub use entries::{RowEntry, ValueDeletable};
+pub use first_scans::scan_first;
 pub use index_keys::compute_index_key;
 pub use indexed_scans::{order_keys, scan_indexed, take_keys};
 pub use iterators::DbIterator;

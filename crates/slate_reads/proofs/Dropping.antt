@@ -94,13 +94,13 @@ Forgets-more end more place old middle new le lt (inr lost) so_far = subst (Forg
   gone (Some p) so_far = omega arith
 
 -- the versions in a batch have its number
-of_batch : (key : List ℕ) (b : Batch) → AllByRecursion (λ v. v.number ≡ b.number) (versions_in key b)
+pub of_batch : (key : List ℕ) (b : Batch) → AllByRecursion (λ v. v.number ≡ b.number) (versions_in key b)
 of_batch key b = go (filter (λ (o : KeyOp). bytes_eq o.key key) b.ops) where
   go : (ops : List KeyOp) → AllByRecursion (λ v. v.number ≡ b.number) (map {B = Version} (λ (o : KeyOp). record { op = o.op; number = b.number; create_ts = b.create_ts }) ops)
   go [] = tt
   go (o ∷ ops) = (refl, go ops)
 
-of_later : (key : List ℕ) (number : ℕ) (batches : List Batch) → AllByRecursion (λ b. number < b.number) batches → AllByRecursion (λ v. number < v.number) (flat_map (versions_in key) batches)
+pub of_later : (key : List ℕ) (number : ℕ) (batches : List Batch) → AllByRecursion (λ b. number < b.number) batches → AllByRecursion (λ v. number < v.number) (flat_map (versions_in key) batches)
 of_later key number [] above = tt
 of_later key number (b ∷ batches) above =
     all-append (λ (v : Version). number < v.number) (versions_in key b) (flat_map (versions_in key) batches)

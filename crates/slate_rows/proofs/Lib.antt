@@ -12,3 +12,4 @@ pub mod Unique
 pub mod Walks
 pub mod Taking
 pub mod Limited
+pub mod Listing

@@ -1,5 +1,5 @@
 -- Rows up to a limit are the front of the plain scan.
-use Rattle.std.proofs.Common.{◌≡◌, inr, refl, sym, ◌∙◌, ap, ℕ, ◌+◌, ◌<◌, ◌≤◌, Bool, true, false, cond, List, [], ◌∷◌, ◌++◌, Contains, zero, length, take, ltb, Option, Some, None, Result, Ok, Err, arith, length-append}
+use Rattle.std.proofs.Common.{◌≡◌, inr, refl, ◌∙◌, ap, ℕ, ◌+◌, ◌<◌, ◌≤◌, Bool, true, false, cond, List, [], ◌∷◌, ◌++◌, zero, length, ltb, Option, Some, None, Result, Ok, Err, arith, length-append}
 use Rattle.std.specs.List.{AllByRecursion}
 use Rattle.std.proofs.lemmas.Bool.{lt-ltb, le-ltb}
 use Rattle.std.proofs.lemmas.List.{append-nil, take_all, take_at, length_push}
@@ -18,7 +18,7 @@ use Rattle.slate_rows.specs.Iteration.{Iteration, begun}
 use Rattle.slate_rows.specs.Front.{IsScanFront, first_rows}
 use Rattle.slate_rows.specs.Scan.{Rows, rows_of}
 use Rattle.slate_rows.specs.Walked.{AreWalked}
-use Rattle.slate_rows.proofs.Ahead.{IsIn, to_in, from_in, all_from_in, all-is_in, AreAhead-some}
+use Rattle.slate_rows.proofs.Ahead.{to_in, from_in, all_from_in, all-is_in, AreAhead-some}
 use Rattle.slate_rows.proofs.Steps.{after_rows}
 use Rattle.slate_rows.proofs.Walks.{AreWalked-ordered, IsScan-from_walk}
 

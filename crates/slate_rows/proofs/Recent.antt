@@ -5,7 +5,6 @@ use Rattle.std.specs.Ordering.{is_lt}
 use Rattle.std.proofs.lemmas.Cmp.{on_total, then_total, back_total, nat_cmp_total}
 use Rattle.std.proofs.lemmas.List.{take_more, map-append, append_assoc, append-nil}
 use Rattle.std.proofs.lemmas.List.Sorted.{ranks_by}
-use Rattle.slate_types.specs.declared.batches.Batch.{Batch}
 use Rattle.slate_rows.specs.declared.entries.RowEntry.{RowEntry}
 use Rattle.slate_types.specs.declared.scan_options.IterationOrder.{IterationOrder}
 use Rattle.slate_rows.specs.Recency.{recency_cmp, AreNewestFirst, IsRecency}
@@ -22,7 +21,7 @@ IsRecency-push order [] source entries front all one = (front, [], rw all (sym (
 IsRecency-push order (s ∷ sources) source entries front (first, rest, joined, here, later) one =
     (first, rest ++ front, rw joined (append_assoc first rest front), here, IsRecency-push order sources source rest front later one)
 
-pub IsRecency-more : (order : IterationOrder) (f : List Batch → List RowEntry) (sources : List (List Batch)) (i : ℕ) (source : List Batch) (entries front new : List RowEntry) → i < length sources → source ≡ get_or sources i source →
+pub IsRecency-more : {A : Type 0} (order : IterationOrder) (f : A → List RowEntry) (sources : List A) (i : ℕ) (source : A) (entries front new : List RowEntry) → i < length sources → source ≡ get_or sources i source →
     new ≡ entries ++ front → AreNewestFirst order (f source) front → IsRecency order (map f (take i sources)) entries → IsRecency order (map f (take (i + 1) sources)) new
 IsRecency-more order f sources i source entries front new lt at new-is one all =
     rw (new-is, take_more sources i source lt, ← at, map-append) (IsRecency-push order (map f (take i sources)) (f source) entries front all one)

@@ -13,7 +13,7 @@ use Rattle.slate_rows.specs.declared.entries.ValueDeletable.{ValueDeletable}
 use Rattle.slate_rows.specs.declared.entries.ValueDeletable.TheVariants.{Value, Merge, Tombstone}
 use Rattle.slate_types.specs.declared.scan_options.IterationOrder.{IterationOrder}
 use Rattle.slate_types.specs.Order.{order_cmp}
-use Rattle.slate_reads.specs.Read.{is_within}
+use Rattle.slate_reads.specs.Read.{Version, is_within, history}
 
 -- what an operation leaves at its key
 abbrev pub value_of : Op → ValueDeletable
@@ -32,6 +32,11 @@ abbrev pub entry_of : Batch → KeyOp → RowEntry
 entry_of batch o =
     record { key = o.key; value = value_of o.op; seq = batch.number; create_ts = batch.create_ts; expire_ts = expiry_of o.op }
 
+-- a version of a key, as an entry
+abbrev pub version_entry : List ℕ → Version → RowEntry
+version_entry key version =
+    record { key = key; value = value_of version.op; seq = version.number; create_ts = version.create_ts; expire_ts = expiry_of version.op }
+
 -- the entries of a batch whose keys have a prefix
 abbrev pub batch_entries : List ℕ → Batch → List RowEntry
 batch_entries prefix batch = map (entry_of batch) (filter (λ o. starts_with nat_eq o.key prefix) batch.ops)
@@ -39,6 +44,11 @@ batch_entries prefix batch = map (entry_of batch) (filter (λ o. starts_with nat
 -- those of a source, in its batches up to a bound, oldest first
 abbrev pub source_entries : Option ℕ → List ℕ → List Batch → List RowEntry
 source_entries bound prefix batches = flat_map (batch_entries prefix) (filter (λ batch. is_within bound batch.number) batches)
+
+-- the entries of keys with a prefix, key by key, of each key the newest first
+abbrev pub listed : Option ℕ → List ℕ → List Batch → List (List ℕ) → List RowEntry
+listed bound prefix batches keys =
+    flat_map (λ key. map (version_entry key) (reverse (history batches bound key))) (filter (λ key. starts_with nat_eq key prefix) keys)
 
 -- keys in the order, and of one key the greatest number first
 abbrev pub recency_cmp : IterationOrder → RowEntry → RowEntry → Ordering

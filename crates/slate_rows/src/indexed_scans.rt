@@ -64,7 +64,7 @@ pub fn take_keys<'a, T: Indexed>(
 }
 
 /// Adds the keys of a range in a table, in order.
-fn take_table_keys<'a>(
+pub(crate) fn take_table_keys<'a>(
     keys: &mut Vec<&'a Bytes>,
     table: &'a IndexedTable,
     range: &ByteRange,

@@ -18,7 +18,7 @@ pub use first_scans::scan_first;
 pub use index_keys::compute_index_key;
 pub use indexed_scans::{order_keys, scan_indexed, take_keys};
 pub use iterators::DbIterator;
-pub use recencies::{DbRecencyIterator, recency};
+pub use recencies::{DbRecencyIterator, recency, recency_indexed};
 pub use scans::{add_found, scan};
 pub use seeks::SeekFault;
 pub use slate_reads::{

@@ -1,11 +1,15 @@
 // Operations on the keys with a prefix, newest source first.
-ghost use Rattle.std.specs.Prelude.{◌≡◌, [], ◌∷◌, ◌++◌, map, IfOk, OnOk, MatchOption};
+ghost use Rattle.std.specs.Prelude.{◌≡◌, [], ◌∷◌, ◌++◌, map, reverse, IfOk, OnOk, MatchOption};
 ghost use Rattle.std.specs.List.Sorted.{IsPermutation, IsSorted, IsStable};
-ghost use Rattle.slate_rows.specs.Recency.{AreNewestFirst, IsRecency, entry_of, batch_entries, source_entries, recency_cmp};
+ghost use Rattle.slate_reads.specs.Read.{history};
+ghost use Rattle.slate_rows.specs.Walked.{key_list};
+ghost use Rattle.slate_rows.specs.Recency.{listed, version_entry, AreNewestFirst, IsRecency, entry_of, batch_entries, source_entries, recency_cmp};
 
+use crate::indexed_scans::{order_keys, take_table_keys};
 use crate::{IterationOrder, RowEntry, ValueDeletable};
-use slate_reads::is_within;
-use slate_types::{Batch, KeyOp, NoMemory, Op, Seq};
+use bytes::Bytes;
+use slate_reads::{Indexed, IndexedTable, Version, is_within, take_history};
+use slate_types::{Batch, ByteRange, KeyOp, NoMemory, Op, Seq};
 use std::alloc::Global;
 use std::cmp::Ordering;
 use std::collections::VecDeque;
@@ -129,4 +133,84 @@ fn compare(order: IterationOrder, left: &RowEntry, right: &RowEntry) -> Ordering
     order
         .compare(left.key.as_slice(), right.key.as_slice())
         .then(right.seq.cmp(&left.seq))
+}
+
+/// The operations that `recency` lists, of sources that are tables, newest first, by their indexes. Of each table it walks over
+/// the keys with the prefix, and of each of these over its operations, from the newest on. It takes time logarithmic in the
+/// keys of the table, and then for each key a look-up by hash, and for each of its operations constant time. It takes memory
+/// for each key and each operation that it lists, and copies no bytes.
+pub fn recency_indexed<T: Indexed>(
+    alloc: Global,
+    sources: &[T],
+    bound: Option<u64>,
+    prefix: &[u8],
+    order: IterationOrder,
+) -> Result<DbRecencyIterator, NoMemory>
+    ensures { IfOk result (IsRecency order (map (λ source. source_entries bound prefix.now (T.batches source)) sources.now)) }
+{
+    let mut entries = VecDeque::new(alloc);
+    for source in sources {
+        let mut found = list_table(alloc, source.as_indexed(), bound, prefix, order)?;
+        entries.append(&mut found)?;
+    }
+    Ok(DbRecencyIterator { entries })
+}
+
+/// The entries of a table.
+fn list_table(
+    alloc: Global,
+    table: &IndexedTable,
+    bound: Option<u64>,
+    prefix: &[u8],
+    order: IterationOrder,
+) -> Result<VecDeque<RowEntry>, NoMemory>
+    ensures { IfOk result (λ entries. AreNewestFirst order (source_entries bound prefix.now table.now) entries.items) }
+{
+    if table.batches().is_empty() {
+        return Ok(VecDeque::new(alloc));
+    }
+    let range = ByteRange::prefix(alloc, prefix)?;
+    let mut keys = Vec::new(alloc);
+    take_table_keys(&mut keys, table, &range)?;
+    order_keys(&mut keys, order)?;
+    let entries = list_keys(alloc, table, bound, prefix, keys.as_slice())?;
+    Ok(VecDeque::from_vec(entries))
+}
+
+/// The entries of keys, of those with a prefix.
+fn list_keys(
+    alloc: Global,
+    table: &IndexedTable,
+    bound: Option<u64>,
+    prefix: &[u8],
+    keys: &[&Bytes],
+) -> Result<Vec<RowEntry>, NoMemory>
+    ensures { IfOk result (λ entries. entries.items ≡ listed bound prefix.now table.now (key_list keys.now)) }
+{
+    let mut entries = Vec::new(alloc);
+    let mut versions = Vec::new(alloc);
+    for key in keys {
+        if key.as_slice().starts_with(prefix) {
+            add_history(&mut entries, &mut versions, table, bound, key)?;
+        }
+    }
+    Ok(entries)
+}
+
+/// Adds the entries of a key, newest first. The room of `versions` is used for its versions.
+fn add_history<'a>(
+    entries: &mut Vec<RowEntry>,
+    versions: &mut Vec<Version<'a>>,
+    table: &'a IndexedTable,
+    bound: Option<u64>,
+    key: &Bytes,
+) -> Result<(), NoMemory>
+    ensures { OnOk result (entries.new.items ≡ entries.old.items ++ map (version_entry key.now) (reverse (history table.now bound key.now))) }
+{
+    versions.clear();
+    take_history(versions, table, bound, key)?;
+    for version in versions.as_slice() {
+        entries.push(entry_of(version.batch, version.key_op)?)?;
+    }
+    Ok(())
 }

@@ -175,7 +175,7 @@ is_below-append p s (Included b) = ap is_le (key_cmp-append p s b)
 is_below-append p s (Excluded b) = ap is_lt (key_cmp-append p s b)
 
 -- ---- the range
-contains-append : (p s : List ℕ) (range : ByteRange) → contains (with_prefix p range) (p ++ s) ≡ contains range s
+pub contains-append : (p s : List ℕ) (range : ByteRange) → contains (with_prefix p range) (p ++ s) ≡ contains range s
 contains-append p s range = rw (is_above-append p s range.low, is_below-append p s range.high)
 
 contains-off : (p k : List ℕ) (range : ByteRange) → AllByRecursion (λ byte. byte < 256) k → suffix_of p k ≡ None → contains (with_prefix p range) k ≡ false

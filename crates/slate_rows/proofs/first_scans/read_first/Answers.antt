@@ -1,4 +1,4 @@
-use Rattle.std.proofs.Common.{◌≡◌, sym, ◌∙◌, ap, subst, ◌+◌, ◌++◌, ◌∷◌, [], true, length, arith}
+use Rattle.std.proofs.Common.{◌≡◌, ◌∙◌, ap, ◌++◌, ◌∷◌, [], true, length, arith}
 use Rattle.std.specs.List.{flat_map}
 use Rattle.slate_types.specs.Range.{contains}
 use Rattle.slate_reads.specs.Read.{read_at}

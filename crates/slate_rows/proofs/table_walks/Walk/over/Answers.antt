@@ -1,4 +1,4 @@
-use Rattle.std.proofs.Common.{◌≡◌, sym, subst, true, List, ℕ, Contains}
+use Rattle.std.proofs.Common.{◌≡◌, sym, subst, true, Contains}
 use Rattle.std.specs.List.{AllByRecursion}
 use Rattle.slate_types.specs.Order.{AreInOrder}
 use Rattle.slate_types.specs.Range.{contains}

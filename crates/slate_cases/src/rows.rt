@@ -1,16 +1,18 @@
 // The subject `rows`: batches in tables, which are read by the plain reads and by the indexes of the tables.
+ghost use Rattle.std.specs.Prelude.{◌≡◌, IfOk};
+
 use crate::batches::ops_of;
 use crate::operators::{Refusing, operator_of};
 use crate::printing::{
     add_number, bytes_of, is_none, number_of, print_blank, print_bytes, print_debug, print_fault,
-    print_number, print_row, print_rows, print_text, split_name,
+    print_number, print_row, print_rows, print_text, size_of, split_name,
 };
 use crate::ranges::{bound_of, order_of, range_of};
 use crate::subjects::CallFailure;
 use slate_rows::{
     Batch, ByteRange, DbIterator, DbRecencyIterator, IndexedTable, IterationOrder, KeyValue,
-    ReadFault, RowEntry, SeekFault, Seq, Table, ValueDeletable, read, read_indexed, recency, scan,
-    scan_indexed,
+    ReadFault, RowEntry, SeekFault, Seq, Table, ValueDeletable, read, read_indexed, recency,
+    recency_indexed, scan, scan_first, scan_indexed,
 };
 use std::alloc::Global;
 
@@ -20,8 +22,11 @@ enum Call {
     Push,
     Store,
     Drop,
+    Truncate,
     Sizes,
     Copy,
+    Part,
+    Above,
     Empty,
     Operator,
     Broken,
@@ -36,8 +41,11 @@ const CALLS: &[(&[u8], Call)] = &[
     (b"push", Call::Push),
     (b"store", Call::Store),
     (b"drop", Call::Drop),
+    (b"truncate", Call::Truncate),
     (b"sizes", Call::Sizes),
     (b"copy", Call::Copy),
+    (b"part", Call::Part),
+    (b"above", Call::Above),
     (b"empty", Call::Empty),
     (b"operator", Call::Operator),
     (b"broken", Call::Broken),
@@ -81,6 +89,11 @@ impl Rows {
                 self.push(alloc, number_of(number)?, ops, answer)
             }
             (Call::Drop, [number]) => self.drop_through(number_of(number)?),
+            (Call::Truncate, [count]) => self.truncate(size_of(count)?),
+            (Call::Part, [number, ops @ ..]) => {
+                self.print_part(alloc, number_of(number)?, ops, answer)
+            }
+            (Call::Above, [number]) => self.print_above(alloc, number_of(number)?, answer),
             (Call::Operator, [name]) if is_none(name) => {
                 self.operator = None;
                 Ok(())
@@ -95,12 +108,9 @@ impl Rows {
             (Call::Shares, [key]) => {
                 self.print_sharing(alloc, bytes_of(alloc, key)?.as_slice(), answer)
             }
-            (Call::Recent, [prefix, order, bound]) => {
-                let (order, bound) = (order_of(order)?, bound_of(bound)?);
-                let prefix = bytes_of(alloc, prefix)?;
-                self.print_recent(alloc, prefix.as_slice(), order, bound, answer)
+            (Call::Get, _) | (Call::Scan, _) | (Call::Recent, _) => {
+                self.ask(alloc, call, words, answer)
             }
-            (Call::Get, _) | (Call::Scan, _) => self.ask(alloc, call, words, answer),
             (_, []) => self.call_tables(alloc, call, answer),
             _ => Err(CallFailure::Unread),
         }
@@ -123,8 +133,7 @@ impl Rows {
         }
     }
 
-    /// Adds a batch to the last table in memory, or tells that its number isn't above the last one. It was created at ten
-    /// times its number.
+    /// Adds a batch to the last table in memory, or tells that its number isn't above the last one.
     fn push(
         &mut self,
         alloc: Global,
@@ -138,11 +147,7 @@ impl Rows {
         if !table.is_above_last(number) {
             return print_text(answer, "too low");
         }
-        let batch = Batch {
-            number,
-            create_ts: (number % 1000) as i64 * 10,
-            ops: ops_of(alloc, ops)?,
-        };
+        let batch = batch_of(alloc, number, ops)?;
         self.all.push(batch.clone()?)?;
         match table.push(batch) {
             Ok(()) => Ok(()),
@@ -171,6 +176,17 @@ impl Rows {
         Ok(())
     }
 
+    /// Takes the batches of the last table in memory back, down to so many.
+    fn truncate(&mut self, count: usize) -> Result<(), CallFailure> {
+        let Some(table) = self.memory.last_mut() else {
+            return Err(CallFailure::Unread);
+        };
+        let gone = table.batches().len().saturating_sub(count);
+        table.truncate(count);
+        self.all.truncate(self.all.len().saturating_sub(gone));
+        Ok(())
+    }
+
     /// Prints how many batches each table in memory has, and of how many bytes.
     fn print_sizes(&self, answer: &mut Vec<u8>) -> Result<(), CallFailure> {
         for table in &self.memory {
@@ -184,6 +200,37 @@ impl Rows {
         let table = self.stored.last().ok_or(CallFailure::Unread)?;
         let copy = table.clone()?;
         print_size(answer, copy.indexed())
+    }
+
+    /// Adds a batch to a copy of the last stored table, and prints the same of the copy and then of the table.
+    fn print_part(
+        &self,
+        alloc: Global,
+        number: u64,
+        ops: &[&[u8]],
+        answer: &mut Vec<u8>,
+    ) -> Result<(), CallFailure> {
+        let table = self.stored.last().ok_or(CallFailure::Unread)?;
+        let mut copy = table.clone()?;
+        if !copy.indexed().is_above_last(number) {
+            return print_text(answer, "too low");
+        }
+        if let Err(_batch) = copy.push(alloc, batch_of(alloc, number, ops)?) {
+            return Err(CallFailure::Memory);
+        }
+        print_size(answer, copy.indexed())?;
+        print_size(answer, table.indexed())
+    }
+
+    /// Prints the same of the batches of the last stored table above a number.
+    fn print_above(
+        &self,
+        alloc: Global,
+        number: u64,
+        answer: &mut Vec<u8>,
+    ) -> Result<(), CallFailure> {
+        let table = self.stored.last().ok_or(CallFailure::Unread)?;
+        print_size(answer, table.above(alloc, number)?.indexed())
     }
 
     /// Prints whether the value of the row that a plain read finds has more than one owner.
@@ -206,14 +253,29 @@ impl Rows {
         prefix: &[u8],
         order: IterationOrder,
         bound: Option<u64>,
+        indexed: bool,
         answer: &mut Vec<u8>,
     ) -> Result<(), CallFailure> {
+        if indexed {
+            let tables = self.newest_first(alloc)?;
+            let mut found = recency_indexed(alloc, tables.as_slice(), bound, prefix, order)?;
+            return print_entries(answer, &mut found);
+        }
         let mut sources = Vec::new(alloc);
         for table in self.memory.iter().rev() {
             sources.push(Batch::copies(alloc, table.batches())?)?;
         }
         let mut found = recency(alloc, &Seq::of(sources), bound, prefix, order)?;
         print_entries(answer, &mut found)
+    }
+
+    /// Stored tables of the batches of the tables in memory, the last one first.
+    fn newest_first(&self, alloc: Global) -> Result<Vec<Table>, CallFailure> {
+        let mut tables = Vec::new(alloc);
+        for table in self.memory.iter().rev() {
+            tables.push(Table::of_batches(alloc, table.batches())?)?;
+        }
+        Ok(tables)
     }
 
     /// Answers what is asked by the plain reads, and where the indexes answer otherwise, what they answer.
@@ -249,6 +311,17 @@ impl Rows {
                 let key = bytes_of(alloc, key)?;
                 let found = self.get(alloc, key.as_slice(), bound, indexed);
                 print_found(alloc, answer, found)
+            }
+            (Call::Recent, [prefix, order, bound]) => {
+                let (order, bound) = (order_of(order)?, bound_of(bound)?);
+                let prefix = bytes_of(alloc, prefix)?;
+                self.print_recent(alloc, prefix.as_slice(), order, bound, indexed, answer)
+            }
+            (Call::Scan, [low, high, order, bound, then, limit]) if is_first(then) => {
+                let (order, bound) = (order_of(order)?, bound_of(bound)?);
+                let range = range_of(alloc, low, high)?;
+                let limit = number_of(limit)?;
+                self.print_first(alloc, &range, order, bound, limit, indexed, answer)
             }
             (Call::Scan, [low, high, order, bound, then @ ..]) => {
                 let (order, bound) = (order_of(order)?, bound_of(bound)?);
@@ -290,6 +363,44 @@ impl Rows {
         }
         Ok(scan(alloc, self.all.as_slice(), bound, range, order, operator)?)
     }
+
+    /// Prints the first rows of a range, up to so many or up to a fault: by the indexes those that a limited scan has, else
+    /// as many of those that a scan has.
+    fn print_first(
+        &self,
+        alloc: Global,
+        range: &ByteRange,
+        order: IterationOrder,
+        bound: Option<u64>,
+        limit: u64,
+        indexed: bool,
+        answer: &mut Vec<u8>,
+    ) -> Result<(), CallFailure> {
+        if !indexed {
+            let mut rows = self.scan(alloc, range, order, bound, false)?;
+            return print_next(alloc, &mut rows, limit.min(100), answer);
+        }
+        let (stored, memory) = (self.stored.as_slice(), self.memory.as_slice());
+        let operator = self.operator.as_ref();
+        let mut rows = scan_first(alloc, stored, memory, bound, range, order, limit, operator)?;
+        print_left(alloc, &mut rows, answer)
+    }
+}
+
+/// Whether a word asks for the first rows.
+fn is_first(word: &[u8]) -> bool {
+    word == b"first".as_slice()
+}
+
+/// The batch with a number and these operations. It was created at ten times its number.
+fn batch_of(alloc: Global, number: u64, ops: &[&[u8]]) -> Result<Batch, CallFailure>
+    ensures { IfOk result (λ batch. batch.number ≡ number) }
+{
+    Ok(Batch {
+        number,
+        create_ts: (number % 1000) as i64 * 10,
+        ops: ops_of(alloc, ops)?,
+    })
 }
 
 /// Prints how many batches a table has, and of how many bytes.
@@ -387,7 +498,17 @@ fn print_left(
     rows: &mut DbIterator,
     answer: &mut Vec<u8>,
 ) -> Result<(), CallFailure> {
-    for _ in 0..100 {
+    print_next(alloc, rows, 100, answer)
+}
+
+/// Prints the next rows, up to so many or up to a fault.
+fn print_next(
+    alloc: Global,
+    rows: &mut DbIterator,
+    count: u64,
+    answer: &mut Vec<u8>,
+) -> Result<(), CallFailure> {
+    for _ in 0..count {
         let next = rows.next();
         if matches!(next, Ok(None)) {
             break;

@@ -1,4 +1,4 @@
-// Stored tables, whose copies share their batches and indexes.
+// Tables whose copies share their batches and indexes.
 ghost use Rattle.std.specs.Prelude.{◌≡◌, ◌≤◌, ◌++◌, [], ◌∷◌, length, nat_le, take_while, IfOk, IfErr, OnOk};
 ghost use Rattle.slate_types.specs.Line.{batches_above};
 ghost use Rattle.slate_reads.specs.Index.{AreRising, IsAboveLast};
@@ -9,8 +9,8 @@ use std::alloc::{AllocError, Global};
 use std::marker::Model;
 use std::sync::Arc;
 
-/// A stored table: batches with rising numbers, which are never changed. Copies share the batches and their indexes. A
-/// contract sees the list of batches.
+/// A stored table, or one that is yet to be: batches with rising numbers. Copies share the batches and their indexes, and
+/// no call on one copy changes another. A contract sees the list of batches.
 #[derive(Debug)]
 pub struct Table {
     shared: Arc<IndexedTable, Global>,

@@ -14,8 +14,9 @@ use std::collections::btree_set::Range;
 use std::ops::Bound;
 
 impl IndexedTable {
-    /// The keys of a range that have an operation, in order; keys of a batch that came back for want of memory may be
-    /// among them. It takes time logarithmic in the keys, and constant for each step of the walk. It takes no memory.
+    /// The keys of a range that have an operation, in order; keys of a batch that came back for want of memory, or was
+    /// taken back, may be among them. It takes time logarithmic in the keys, and constant for each step of the walk. It
+    /// takes no memory.
     pub fn keys(&self, range: &ByteRange) -> Range<'_, Bytes>
         ensures in_order { IsStrictlySortedBy key_cmp result }
         ensures within { AllByRecursion (λ key. contains range.now key ≡ true) result }

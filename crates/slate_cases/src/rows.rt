@@ -1,6 +1,4 @@
 // The subject `rows`: batches in tables, which are read by the plain reads and by the indexes of the tables.
-ghost use Rattle.std.specs.Prelude.{◌≡◌, IfOk};
-
 use crate::batches::ops_of;
 use crate::operators::{Refusing, operator_of};
 use crate::printing::{
@@ -141,13 +139,13 @@ impl Rows {
         ops: &[&[u8]],
         answer: &mut Vec<u8>,
     ) -> Result<(), CallFailure> {
+        let batch = batch_of(alloc, number, ops)?;
         let Some(table) = self.memory.last_mut() else {
             return Err(CallFailure::Unread);
         };
-        if !table.is_above_last(number) {
+        if !table.is_above_last(batch.number) {
             return print_text(answer, "too low");
         }
-        let batch = batch_of(alloc, number, ops)?;
         self.all.push(batch.clone()?)?;
         match table.push(batch) {
             Ok(()) => Ok(()),
@@ -210,12 +208,13 @@ impl Rows {
         ops: &[&[u8]],
         answer: &mut Vec<u8>,
     ) -> Result<(), CallFailure> {
+        let batch = batch_of(alloc, number, ops)?;
         let table = self.stored.last().ok_or(CallFailure::Unread)?;
         let mut copy = table.clone()?;
-        if !copy.indexed().is_above_last(number) {
+        if !copy.indexed().is_above_last(batch.number) {
             return print_text(answer, "too low");
         }
-        if let Err(_batch) = copy.push(alloc, batch_of(alloc, number, ops)?) {
+        if let Err(_batch) = copy.push(alloc, batch) {
             return Err(CallFailure::Memory);
         }
         print_size(answer, copy.indexed())?;
@@ -393,9 +392,7 @@ fn is_first(word: &[u8]) -> bool {
 }
 
 /// The batch with a number and these operations. It was created at ten times its number.
-fn batch_of(alloc: Global, number: u64, ops: &[&[u8]]) -> Result<Batch, CallFailure>
-    ensures { IfOk result (λ batch. batch.number ≡ number) }
-{
+fn batch_of(alloc: Global, number: u64, ops: &[&[u8]]) -> Result<Batch, CallFailure> {
     Ok(Batch {
         number,
         create_ts: (number % 1000) as i64 * 10,

@@ -1,0 +1,4 @@
+pub mod Named
+pub mod Faults
+pub mod Reads
+pub mod Steps

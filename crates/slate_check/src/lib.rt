@@ -6,7 +6,11 @@ mod checks;
 mod faults;
 mod ids;
 mod named;
+mod printing;
 mod reads;
+mod shown;
 
 pub use checks::check_soundness;
 pub use faults::{CheckpointFault, ManifestFault, Soundness, SoundnessFault};
+pub use printing::print_soundness;
+pub use shown::{show_checkpoints, show_logs, show_manifests, show_tables};

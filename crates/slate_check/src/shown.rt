@@ -17,7 +17,8 @@ use slate_text::{write_byte_word, write_number, write_signed, write_text};
 use slate_types::{Batch, Name, NoMemory};
 use std::alloc::Global;
 
-/// Writes the manifests with these ids, a line each. One that isn't stored is left out.
+/// Writes the manifests with these ids, a line each, in this order. One that isn't stored is left out. It calls the store
+/// once for each id, up to the first call that fails: then it answers `Failed`, or `NoMemory`, and a part may be written.
 pub fn show_manifests<S: Store>(
     alloc: Global,
     store: &mut S,
@@ -40,7 +41,8 @@ pub fn show_manifests<S: Store>(
     Ok(())
 }
 
-/// Writes the log files with these ids, a line each. One that isn't stored is left out.
+/// Writes the log files with these ids, a line each, in this order. One that isn't stored is left out. It calls the store
+/// once for each id, up to the first call that fails: then it answers `Failed`, or `NoMemory`, and a part may be written.
 pub fn show_logs<S: Store>(
     alloc: Global,
     store: &mut S,
@@ -63,7 +65,8 @@ pub fn show_logs<S: Store>(
     Ok(())
 }
 
-/// Writes the tables with these ids, a line each. One that isn't stored is left out.
+/// Writes the tables with these ids, a line each, in this order. One that isn't stored is left out. It calls the store
+/// once for each id, up to the first call that fails: then it answers `Failed`, or `NoMemory`, and a part may be written.
 pub fn show_tables<S: Store>(
     alloc: Global,
     store: &mut S,
@@ -86,7 +89,7 @@ pub fn show_tables<S: Store>(
     Ok(())
 }
 
-/// Writes checkpoints, a line each.
+/// Writes checkpoints, a line each, in this order. Where memory runs out, a part may be written.
 pub fn show_checkpoints(out: &mut Vec<u8>, checkpoints: &[Checkpoint]) -> Result<(), NoMemory>
     ensures { OnOk result (out.new.items ≡ out.old.items ++ flat_map checkpoint_text checkpoints.now) }
 {

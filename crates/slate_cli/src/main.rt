@@ -2,8 +2,10 @@
 //! its replies.
 #![tactic(auto)]
 
+mod looks;
 mod streams;
 
+use looks::{check_directory, show_directory};
 use slate_directory::open_directory;
 use slate_live::{Outcome, session};
 use slate_script::read_words;
@@ -19,6 +21,8 @@ store in memory or over a directory, and prints a reply per command.
 usage: slate [--store DIR] [--merge concat] [--segments N] [--limit N] [--bare]
              < SCRIPT
        slate [--store DIR] gen SEED COUNT
+       slate check --store DIR
+       slate show --store DIR
        slate --help | --version
 
 With --store DIR the database is kept in the directory DIR, which is made where
@@ -38,6 +42,12 @@ With gen no script is read: COUNT puts, at most 20,000, under 101 keys by SEED
 are run, with flushes, polls, compactions and sweeps between, and a summary of
 the replies is printed in four lines.
 
+With check no script is read either, and no file is changed: whether the database
+in DIR is sound is printed, as sound at K, where K is the number of the last
+stored batch, or as the first thing that is wrong, with the status 1. With show
+the manifests, the checkpoints of the latest one, the log files and the tables
+are printed, a line each.
+
 A line of the script is a moment in milliseconds and a command, as in
   0 open
   1 put 0 a x
@@ -45,15 +55,16 @@ A line of the script is a moment in milliseconds and a command, as in
   3 get 0 a
 Lines that are empty or begin with # hold no command.
 
-exit status: 0 each command was answered, by its result or its error; 2 a line
-was refused; 3 read fault; 4 write fault; 5 no memory; 6 script too long; 64
-words refused; 74 the directory can't be used
+exit status: 0 each command was answered, by its result or its error, or the
+database is sound or shown; 1 it isn't sound, or a file is damaged; 2 a line was
+refused; 3 read fault; 4 write fault; 5 no memory; 6 script too long; 64 words
+refused; 74 the directory can't be used
 ";
 
 const VERSION: &str = "slate 0.1.0\n";
 
 /// The exit status where the directory can't be used.
-const NO_DIRECTORY: u8 = 74;
+pub(crate) const NO_DIRECTORY: u8 = 74;
 
 fn main(rt: HostRuntime) -> ExitCode {
     let status = match read_arguments(&rt) {
@@ -74,6 +85,12 @@ fn answer(rt: &HostRuntime, words: &[String]) -> u8 {
     match words {
         [word] if word.as_str() == "--help" => print(rt, HELP),
         [word] if word.as_str() == "--version" => print(rt, VERSION),
+        [word, option, path] if word.as_str() == "check" && option.as_str() == "--store" => {
+            check_directory(rt, path.as_str())
+        }
+        [word, option, path] if word.as_str() == "show" && option.as_str() == "--store" => {
+            show_directory(rt, path.as_str())
+        }
         [word, path, others @ ..] if word.as_str() == "--store" => {
             run_over_directory(rt, path.as_str(), others)
         }
@@ -116,7 +133,7 @@ fn print(rt: &HostRuntime, text: &str) -> u8 {
 
 /// Says on standard error how the program ended, unless all is done. Nothing more can be done where that fails. It
 /// answers the exit status.
-fn report(rt: &HostRuntime, outcome: Outcome) -> u8 {
+pub(crate) fn report(rt: &HostRuntime, outcome: Outcome) -> u8 {
     if outcome != Outcome::Done {
         let _ = eprintln!(rt; "slate: {outcome}");
     }

@@ -1,0 +1,213 @@
+// The commands that look at a directory and change nothing.
+use crate::{NO_DIRECTORY, report};
+use bytes::Bytes;
+use slate_blobs::Blobs;
+use slate_check::{
+    Soundness, check_soundness, print_soundness, show_checkpoints, show_logs, show_manifests,
+    show_tables,
+};
+use slate_directory::{DirectoryBlobs, FileId, open_directory};
+use slate_live::Outcome;
+use slate_objects::{DecodeError, DecodeFault, decode_log, decode_manifest, decode_table};
+use slate_store::{Store, StoreError, TableId};
+use slate_types::Seq;
+use std::alloc::Global;
+use std::{fs, io};
+
+/// The exit status where a directory was looked at, and isn't sound or has a damaged file.
+const NOT_SOUND: u8 = 1;
+
+/// What came of looking at the files of a directory.
+enum Damage {
+    /// A file isn't an object. It was named.
+    Found,
+    /// Each file is an object.
+    None,
+}
+
+/// Prints whether the objects in the files of a directory are sound, or names the first file that isn't an object. No
+/// file and no folder is made or changed. It answers the exit status.
+pub(crate) fn check_directory(rt: &HostRuntime, path: &str) -> u8 {
+    if let Err(error) = find_folders(rt, path) {
+        return refuse(rt, path, &error);
+    }
+    let mut store = match open_directory(*rt, rt.alloc(), path) {
+        Ok(store) => store,
+        Err(error) => return refuse(rt, path, &error),
+    };
+    match check_soundness(rt.alloc(), &mut store) {
+        Ok(soundness) => print_judged(rt, &soundness),
+        Err(StoreError::NoMemory) => report(rt, Outcome::NoMemory),
+        Err(_) => name_damage(rt, path),
+    }
+}
+
+/// Prints the manifests, the checkpoints of the latest one, the log files and the tables in the files of a directory, or
+/// names the first file that isn't an object. No file and no folder is made or changed. It answers the exit status.
+pub(crate) fn show_directory(rt: &HostRuntime, path: &str) -> u8 {
+    if let Err(error) = find_folders(rt, path) {
+        return refuse(rt, path, &error);
+    }
+    let mut store = match open_directory(*rt, rt.alloc(), path) {
+        Ok(store) => store,
+        Err(error) => return refuse(rt, path, &error),
+    };
+    let mut text = Vec::new(rt.alloc());
+    match show_store(rt.alloc(), &mut store, &mut text) {
+        Ok(()) => print_bytes(rt, text.as_slice(), 0),
+        Err(StoreError::NoMemory) => report(rt, Outcome::NoMemory),
+        Err(_) => name_damage(rt, path),
+    }
+}
+
+/// Writes the objects of a store, a line each.
+fn show_store<S: Store>(alloc: Global, store: &mut S, out: &mut Vec<u8>) -> Result<(), StoreError> {
+    let listing = store.list(alloc)?;
+    show_manifests(alloc, store, listing.manifests.as_slice(), out)?;
+    if let Some(latest) = store.latest_manifest(alloc)? {
+        show_checkpoints(out, latest.manifest.checkpoints.as_slice())?;
+    }
+    show_logs(alloc, store, listing.logs.as_slice(), out)?;
+    show_tables(alloc, store, listing.tables.as_slice(), out)
+}
+
+/// Prints whether a store is sound.
+fn print_judged(rt: &HostRuntime, soundness: &Soundness) -> u8 {
+    let mut text = Vec::new(rt.alloc());
+    if print_soundness(&mut text, soundness).is_err() {
+        return report(rt, Outcome::NoMemory);
+    }
+    let status = match soundness {
+        Soundness::Sound(_) => 0,
+        Soundness::Unsound(_) => NOT_SOUND,
+    };
+    print_bytes(rt, text.as_slice(), status)
+}
+
+/// Prints bytes. It answers this status, or that of a write fault.
+fn print_bytes(rt: &HostRuntime, bytes: &[u8], status: u8) -> u8 {
+    let mut out = io::writer(rt);
+    if io::Write::write_all(&mut out, bytes).is_ok() {
+        status
+    } else {
+        report(rt, Outcome::WriteFault)
+    }
+}
+
+/// Whether the three folders of a database are there.
+fn find_folders(rt: &HostRuntime, path: &str) -> io::Result<()> {
+    for name in ["manifest", "wal", "compacted"] {
+        let folder = format!(in rt.alloc(); "{path}/{name}")?;
+        if !fs::metadata(rt, folder.as_str())?.is_dir() {
+            return Err(io::Error::from(io::ErrorKind::NotADirectory));
+        }
+    }
+    Ok(())
+}
+
+/// Says on standard error that a directory can't be used. It answers the exit status.
+fn refuse(rt: &HostRuntime, path: &str, error: &io::Error) -> u8 {
+    if error.kind() == io::ErrorKind::OutOfMemory {
+        return report(rt, Outcome::NoMemory);
+    }
+    let _ = eprintln!(rt; "slate: the directory {path:?} can't be used: {error}");
+    NO_DIRECTORY
+}
+
+/// Names the first file of a directory that isn't an object, where a store over it failed. It answers the exit status.
+fn name_damage(rt: &HostRuntime, path: &str) -> u8 {
+    match find_damage(rt, path) {
+        Ok(Damage::Found) => NOT_SOUND,
+        Ok(Damage::None) => refuse(rt, path, &io::Error::from(io::ErrorKind::Other)),
+        Err(error) => refuse(rt, path, &error),
+    }
+}
+
+/// Looks at each file of a directory, and names the first that isn't an object.
+fn find_damage(rt: &HostRuntime, path: &str) -> io::Result<Damage> {
+    let alloc = rt.alloc();
+    let mut manifests: DirectoryBlobs<HostRuntime, u64> = DirectoryBlobs::open(
+        *rt,
+        alloc,
+        path,
+        "manifest",
+        ".manifest",
+    )?;
+    for id in ids_of(alloc, &mut manifests)?.as_slice() {
+        let bytes = bytes_of(alloc, &mut manifests, *id)?;
+        if let Some(fault) = fault_of(decode_manifest(alloc, bytes))? {
+            return name_file(rt, "manifest", *id, ".manifest", fault);
+        }
+    }
+    let mut logs: DirectoryBlobs<HostRuntime, u64> = DirectoryBlobs::open(
+        *rt, alloc, path, "wal", ".sst",
+    )?;
+    for id in ids_of(alloc, &mut logs)?.as_slice() {
+        let bytes = bytes_of(alloc, &mut logs, *id)?;
+        if let Some(fault) = fault_of(decode_log(alloc, bytes))? {
+            return name_file(rt, "wal", *id, ".sst", fault);
+        }
+    }
+    let mut tables: DirectoryBlobs<HostRuntime, TableId> = DirectoryBlobs::open(
+        *rt,
+        alloc,
+        path,
+        "compacted",
+        ".sst",
+    )?;
+    for id in ids_of(alloc, &mut tables)?.as_slice() {
+        let bytes = bytes_of(alloc, &mut tables, *id)?;
+        if let Some(fault) = fault_of(decode_table(alloc, bytes))? {
+            return name_file(rt, "compacted", *id, ".sst", fault);
+        }
+    }
+    Ok(Damage::None)
+}
+
+/// The ids of a folder's blobs.
+fn ids_of<K: Copy + Ord + Drop, B: Blobs<K>>(alloc: Global, blobs: &mut B) -> io::Result<Seq<K>> {
+    blobs.list(alloc).map_err(error_of)
+}
+
+/// The bytes of a blob.
+fn bytes_of<K: Copy + Ord + Drop, B: Blobs<K>>(
+    alloc: Global,
+    blobs: &mut B,
+    id: K,
+) -> io::Result<Bytes> {
+    blobs.get(alloc, id).map_err(error_of)
+}
+
+/// The system's error that stands for a refusal by a folder.
+fn error_of(error: StoreError) -> io::Error {
+    match error {
+        StoreError::NoMemory => io::Error::from(io::ErrorKind::OutOfMemory),
+        StoreError::NotFound => io::Error::from(io::ErrorKind::NotFound),
+        StoreError::Exists | StoreError::Failed => io::Error::from(io::ErrorKind::Other),
+    }
+}
+
+/// Why bytes aren't an object, where they aren't.
+fn fault_of<T: Drop>(decoded: Result<T, DecodeError>) -> io::Result<Option<DecodeFault>> {
+    match decoded {
+        Ok(_object) => Ok(None),
+        Err(DecodeError::Fault(fault)) => Ok(Some(fault)),
+        Err(DecodeError::NoMemory) => Err(io::Error::from(io::ErrorKind::OutOfMemory)),
+    }
+}
+
+/// Prints which file isn't an object, and why.
+fn name_file<K: FileId + Drop>(
+    rt: &HostRuntime,
+    folder: &str,
+    id: K,
+    extension: &str,
+    fault: DecodeFault,
+) -> io::Result<Damage> {
+    let stem = id
+        .to_stem(rt.alloc())
+        .map_err(|_| io::Error::from(io::ErrorKind::OutOfMemory))?;
+    let stem = stem.as_str();
+    println!(rt; "damaged: {folder}/{stem}{extension}: {fault}")?;
+    Ok(Damage::Found)
+}

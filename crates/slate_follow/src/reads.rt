@@ -6,7 +6,7 @@ ghost use Rattle.slate_reads.specs.Read.{IsOperator, read_at};
 ghost use Rattle.slate_model.specs.Follower.{number};
 ghost use Rattle.slate_model.specs.Known.{known};
 ghost use Rattle.slate_model.specs.Object.{Follower};
-ghost use Rattle.slate_model.specs.Read.{Reads};
+ghost use Rattle.slate_model.specs.Read.{Reads, ReadsByAny};
 ghost use Rattle.slate_model.specs.Stores.{kept_rows};
 
 use crate::FollowerState;
@@ -39,6 +39,7 @@ impl FollowerState {
             Reads self.now.result self.now.view.manifest.tables (kept_rows (S.objects store.old) (Follower self.now))
             (λ rows answer. answer ≡ read_at merge rows (Some (number self.now)) key.now)
             (known S.objects S.faults store.old) result (known S.objects S.faults store.new) }
+        ensures by_any { ReadsByAny self.now.result self.now.view.manifest.tables (known S.objects S.faults store.old) result (known S.objects S.faults store.new) }
         ensures count { S.faults store.old ≤ S.faults store.new }
         ensures calls { S.calls store.new ≤ S.calls store.old + length self.now.view.manifest.tables }
         ensures closed { (self.now.result ≡ None → ⊥) → store.new ≡ store.old }

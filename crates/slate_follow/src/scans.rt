@@ -5,7 +5,7 @@ ghost use Rattle.slate_types.specs.Operator.{Merge};
 ghost use Rattle.slate_reads.specs.Read.{IsOperator};
 ghost use Rattle.slate_model.specs.Known.{known};
 ghost use Rattle.slate_model.specs.Object.{Follower};
-ghost use Rattle.slate_model.specs.Read.{Gives, Reads};
+ghost use Rattle.slate_model.specs.Read.{Gives, Reads, ReadsByAny};
 ghost use Rattle.slate_model.specs.Stores.{kept_rows};
 ghost use Rattle.slate_follow.specs.Scanned.{BeginsScanOf};
 
@@ -43,6 +43,7 @@ impl FollowerState {
             Reads self.now.result self.now.view.manifest.tables (kept_rows (S.objects store.old) (Follower self.now))
             (Gives (BeginsScanOf self.now merge range.now order))
             (known S.objects S.faults store.old) result (known S.objects S.faults store.new) }
+        ensures by_any { ReadsByAny self.now.result self.now.view.manifest.tables (known S.objects S.faults store.old) result (known S.objects S.faults store.new) }
         ensures count { S.faults store.old ≤ S.faults store.new }
         ensures calls { S.calls store.new ≤ S.calls store.old + length self.now.view.manifest.tables }
         ensures closed { (self.now.result ≡ None → ⊥) → store.new ≡ store.old }

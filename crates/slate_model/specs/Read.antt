@@ -43,3 +43,7 @@ pub record Reads {L A : Type 0} (result : CloseResult) (tables : List TableId) (
     (before : Known L) (answer : Result A SlateError) (after : Known L) : Type 0 where
   pub closed : IfSome result (λ r. (answer ≡ Err (closed_error r)) × (after ≡ before))
   pub read : result ≡ None → ReadsTables tables has_rows is_plain before answer after
+
+-- what a read says whatever its operator answers: all but what it finds
+abbrev pub ReadsByAny : {L A : Type 0} → CloseResult → List TableId → Known L → Result A SlateError → Known L → Type 0
+ReadsByAny result tables before answer after = Reads result tables (λ rows. Unit {0}) (λ rows found. Unit {0}) before answer after

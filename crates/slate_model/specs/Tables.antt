@@ -1,13 +1,10 @@
 -- The tables of a manifest: when they are stored, and what they hold.
-use Rattle.std.specs.Prelude.{◌≡◌, ◌≢◌, All, List, [], ◌∷◌, Option, Some, None}
+use Rattle.std.specs.Prelude.{◌≡◌, List, [], ◌∷◌, Option, Some, None}
 use Rattle.slate_types.specs.declared.batches.Batch.{Batch}
 use Rattle.slate_store.specs.declared.objects.TableId.{TableId}
 use Rattle.slate_store.specs.Content.{table_batches}
-use Rattle.slate_store.specs.Objects.{Objects, ObjectsOf, table_at}
-
--- each of these tables is stored
-abbrev pub AreStored : {L : Type 0} → ObjectsOf L → List TableId → Type 0
-AreStored objects ids = All (λ id. table_at id objects ≢ None) ids
+pub use Rattle.slate_store.specs.Content.{AreStored}
+use Rattle.slate_store.specs.Objects.{Objects}
 
 -- These are the batches of these tables, joined in order, all of which are stored. No table has none; over a store that
 -- isn't modelled others may have any.

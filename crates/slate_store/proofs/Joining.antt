@@ -1,8 +1,8 @@
 -- Joining tables: batches that rise, and the two puts.
-use Rattle.std.proofs.Common.{◌≡◌, inl, inr, ℕ, zero, suc, ◌+◌, ◌<◌, List, [], ◌∷◌, ◌++◌, take, drop, drop-cons, get_or, length, Option, Some, None, unwrap_or, Result, Ok, Err, refl, sym, ap, subst, ◌∙◌, arith, append_assoc}
+use Rattle.std.proofs.Common.{◌≡◌, ◌≢◌, inl, inr, ℕ, zero, suc, ◌+◌, ◌<◌, ◌≤◌, List, [], ◌∷◌, ◌++◌, take, drop, drop-cons, get_or, length, Option, Some, None, unwrap_or, Result, Ok, Err, refl, sym, ap, subst, ◌∙◌, arith, append_assoc}
 use Rattle.std.proofs.lemmas.List.{append-nil, take-append-drop, take_more}
 use Rattle.std.proofs.lemmas.Grind.{flat_map-append}
-use Rattle.std.proofs.lemmas.List.Elements.{Contains-get_or}
+use Rattle.std.proofs.lemmas.List.Elements.{All-append, All-cons, All-nil, Contains-get_or}
 use Rattle.std.specs.List.{AllByRecursion, Contains}
 use Rattle.std.specs.Option.{IfSome}
 use Rattle.slate_types.specs.declared.batches.Batch.{Batch}
@@ -15,10 +15,12 @@ use Rattle.slate_reads.proofs.Dropping.{rising-last}
 use Rattle.slate_store.specs.declared.refusals.StoreRefusal.{StoreRefusal}
 use Rattle.slate_store.specs.declared.refusals.StoreRefusal.TheVariants.{InvalidDBState, NoMemory}
 use Rattle.slate_store.specs.Calls.{Finds, Puts}
-use Rattle.slate_store.specs.Content.{table_batches}
+use Rattle.slate_store.specs.Compaction.{HasTablesToJoin}
+use Rattle.slate_store.specs.Content.{AreStored, table_batches}
 use Rattle.slate_store.specs.declared.objects.TableId.{TableId}
-use Rattle.slate_store.specs.Objects.{Change, Objects, changed, is_present, table_at}
-use Rattle.slate_store.specs.Refusals.{refusal_of}
+use Rattle.slate_store.specs.declared.objects.VersionedManifest.{VersionedManifest}
+use Rattle.slate_store.specs.Objects.{Change, Objects, changed, is_present, latest_manifest, table_at}
+use Rattle.slate_store.specs.Refusals.{FindsLatest, refusal_of}
 use Rattle.slate_store.specs.Steps.{Adds, Joins, PutsBoth}
 
 -- where a batch isn't above the last of those before it, they don't rise
@@ -89,6 +91,13 @@ batches-more o ids i id d table less is found =
     ∙ (flat_map-append (λ x. unwrap_or (table_at x o) []) (take i ids) (id ∷ [])
     ∙ ap (λ ys. table_batches o (take i ids) ++ ys) (append-nil (unwrap_or (table_at id o) []) ∙ ap (λ x. unwrap_or x []) found))
 
+-- and that table is stored, as those before it are
+pub stored-more : (o : Objects) (ids : List TableId) (i : ℕ) (id d : TableId) (table : List Batch) → i < length ids → id ≡ get_or ids i d → table_at id o ≡ Some table → AreStored o (take i ids) → AreStored o (take (i + 1) ids)
+stored-more o ids i id d table less is found so_far =
+    let one : take (i + 1) ids ≡ take i ids ++ (id ∷ []) = take_more ids i d less ∙ ap (λ x. take i ids ++ (x ∷ [])) (sym is) in
+    let there : table_at id o ≢ None = λ none. absurd (cc) in
+    subst (AreStored o) (sym one) (All-append (λ x. table_at x o ≢ None) (take i ids) (id ∷ []) so_far (All-cons (λ x. table_at x o ≢ None) id [] there (All-nil (λ x. table_at x o ≢ None))))
+
 -- and those of the tables after them
 batches-parts : (o : Objects) (ids : List TableId) (i : ℕ) → table_batches o ids ≡ table_batches o (take i ids) ++ table_batches o (drop i ids)
 batches-parts o ids i = ap (table_batches o) (sym (take-append-drop i ids)) ∙ flat_map-append (λ x. unwrap_or (table_at x o) []) (take i ids) (drop i ids)
@@ -113,3 +122,12 @@ unadded ids i id d joined table joined' e o less is so_far found added = absurd 
 pub both-known : {P Q R : Objects → Type 0} (a b : Option Objects) → b ≡ a → IfSome a P → IfSome b Q → ((o : Objects) → P o → Q o → R o) → IfSome a R
 both-known None b same p q f = tt
 both-known {P} {Q} {R} (Some x) b same p q f = f x p (subst (λ c. IfSome c Q) same q)
+
+-- the tables of the latest manifest, all of which were read
+pub all-read : (a b : Option Objects) (latest : VersionedManifest) → WhereModelled (λ o o'. (o' ≡ o) × FindsLatest o (Ok latest)) a b → IfSome b (λ o. AreStored o latest.manifest.tables) → IfSome a HasTablesToJoin
+all-read None b latest found read = tt
+all-read (Some o) b latest found read =
+    let next = found.some o refl in
+    let there : IfSome (Some next.0) (λ x. AreStored x latest.manifest.tables) = subst (λ x. IfSome x (λ y. AreStored y latest.manifest.tables)) next.1 read in
+    let are : AreStored o latest.manifest.tables = subst (λ x. AreStored x latest.manifest.tables) next.2.0 there in
+    subst (λ l. IfSome l (λ v. 2 ≤ length v.manifest.tables → AreStored o v.manifest.tables)) (sym next.2.1) (λ many. are)

@@ -1,5 +1,5 @@
 -- Joining the tables of the latest manifest into one.
-use Rattle.std.specs.Prelude.{◌≡◌, ℕ, ◌+◌, ◌<◌, ◌≤◌, ◌⊎◌, true, nat_lt, if◌then◌else◌, Contains, List, [], ◌∷◌, length, Option, Some, None, Result, Ok, Err}
+use Rattle.std.specs.Prelude.{◌≡◌, ℕ, ◌+◌, ◌<◌, ◌≤◌, ◌⊎◌, true, nat_lt, if◌then◌else◌, Contains, List, [], ◌∷◌, length, Option, Some, None, IfSome, Result, Ok, Err}
 use Rattle.std.specs.List.{flat_map}
 use Rattle.std.specs.Option.{option_map_or, option_to_list}
 use Rattle.slate_types.specs.declared.store_errors.StoreFault.TheVariants.{NotFound, Unavailable}
@@ -9,7 +9,7 @@ use Rattle.slate_store.specs.declared.objects.VersionedManifest.{VersionedManife
 use Rattle.slate_store.specs.declared.refusals.StoreRefusal.{StoreRefusal}
 use Rattle.slate_store.specs.declared.refusals.StoreRefusal.TheVariants.{LatestTransactionalObjectVersionMissing, Fenced, InvalidDBState, ObjectStoreError, TransactionalObjectVersionExists, NoMemory}
 use Rattle.slate_store.specs.Changes.{after_part}
-use Rattle.slate_store.specs.Content.{table_batches}
+use Rattle.slate_store.specs.Content.{AreStored, table_batches}
 use Rattle.slate_store.specs.Objects.{ChangeOf, Objects, ObjectsOf, PutManifest, PutTable, is_present, latest_manifest, table_at}
 use Rattle.slate_store.specs.Refusals.{PartMade}
 
@@ -39,6 +39,11 @@ module _ {L : Type 0} (joined : List L → L) (id : TableId) where
 -- this is the latest manifest, and a writer of this epoch may go on from it
 abbrev pub MayCompact : {L : Type 0} → TableId → ObjectsOf L → VersionedManifest → Type 0
 MayCompact id objects latest = (latest_manifest objects ≡ Some latest) × (latest.manifest.writer_epoch ≤ id.epoch)
+
+-- The tables that a compaction joins are stored: those of the latest manifest, where it has two or more.
+abbrev pub HasTablesToJoin : {L : Type 0} → ObjectsOf L → Type 0
+HasTablesToJoin objects =
+    IfSome (latest_manifest objects) (λ latest. 2 ≤ length latest.manifest.tables → AreStored objects latest.manifest.tables)
 
 -- The most calls of the store that a compaction makes: it reads the latest manifest and each of its tables, and puts a
 -- table and a manifest.

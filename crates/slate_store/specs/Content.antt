@@ -13,6 +13,10 @@ use Rattle.slate_store.specs.Checkpoints.{checkpoint_id}
 use Rattle.slate_store.specs.Logs.{batches_between}
 use Rattle.slate_store.specs.Objects.{Objects, ObjectsOf, entry_at, latest_manifest, log_at, table_at, table_cmp}
 
+-- each of these tables is stored
+abbrev pub AreStored : {L : Type 0} → ObjectsOf L → List TableId → Type 0
+AreStored objects ids = All (λ id. table_at id objects ≢ None) ids
+
 -- the batches of tables, joined in this order
 abbrev pub table_batches : Objects → List TableId → List Batch
 table_batches objects ids = flat_map (λ id. unwrap_or (table_at id objects) []) ids

@@ -52,7 +52,9 @@ ComesOf Answered made made' result = made' ≡ one_more made
 ComesOf Landed made made' result = (made' ≡ one_more made) × (result ≡ Err Failed)
 ComesOf Lost made made' result = (made' ≡ made) × (result ≡ Err Failed)
 
--- a call is counted and meets its fate; the two numbers are the calls of the store inside
+-- A call is counted and meets its fate; the two numbers are the calls of the store inside, which a lost call leaves as it
+-- was.
 pub record IsFated {S A : Type 0} (old new : Faulty S) (made made' : ℕ) (result : Result A StoreError) : Type 0 where
   pub counted : new ≡ record (called old) { inner = new.inner }
+  pub lost : fate old ≡ Lost → new.inner ≡ old.inner
   pub fate : ComesOf (fate old) made made' result

@@ -1,7 +1,8 @@
 // Joining the tables of a database into one.
 ghost use Rattle.std.specs.Prelude.{◌≡◌, ◌+◌, ◌<◌, ◌≤◌, ℕ, IfErr, IfOk, IfSome, IsSome, length};
 ghost use Rattle.slate_store.specs.Calls.{WhereModelled};
-ghost use Rattle.slate_store.specs.Compaction.{Compacts, compact_calls, with_table};
+ghost use Rattle.slate_store.specs.Compaction.{Compacts, HasTablesToJoin, compact_calls, with_table};
+ghost use Rattle.slate_store.specs.Content.{AreStored};
 ghost use Rattle.slate_store.specs.Objects.{PutManifest, PutTable};
 ghost use Rattle.slate_store.specs.Refusals.{CountsFaults, KeepsContent};
 ghost use Rattle.slate_store.specs.Steps.{Adds, IsOfPuts, Joins, PlansJoin, PutsBoth, WasOpened};
@@ -33,6 +34,7 @@ pub fn compact_tables<S: Store>(
     next_index: &mut u64,
 ) -> Result<VersionedManifest, StoreRefusal>
     ensures compacts { WhereModelled (λ o o'. (made : ℕ) × Compacts epoch next_index.old next_index.new o result made o') (S.objects store.old) (S.objects store.new) }
+    ensures read { IfOk result (λ _. IfSome (S.objects store.old) HasTablesToJoin) }
     ensures index { (next_index.old ≤ next_index.new) × (next_index.new ≤ next_index.old + 1) }
     ensures sound { WhereModelled (λ o o'. WasOpened epoch o → KeepsContent o o') (S.objects store.old) (S.objects store.new) }
     ensures faults { CountsFaults (S.faults store.old) (S.faults store.new) result }
@@ -49,6 +51,7 @@ fn compact<S: Store>(
     next_index: &mut u64,
 ) -> Result<VersionedManifest, StoreRefusal>
     ensures compacts { WhereModelled (λ o o'. (made : ℕ) × Compacts epoch next_index.old next_index.new o result made o') (S.objects store.old) (S.objects store.new) }
+    ensures read { IfOk result (λ _. IfSome (S.objects store.old) HasTablesToJoin) }
     ensures index { (next_index.old ≤ next_index.new) × (next_index.new ≤ next_index.old + 1) }
     ensures faults { CountsFaults (S.faults store.old) (S.faults store.new) result }
     ensures calls { IfSome (S.objects store.old) (λ o. S.calls store.new ≤ S.calls store.old + compact_calls o) }
@@ -75,6 +78,7 @@ fn join<S: Store>(
 ) -> Result<(VersionedManifest, Option<Table>), StoreRefusal>
     ensures kept { S.objects store.new ≡ S.objects store.old }
     ensures plans { IfSome (S.objects store.old) (λ o. PlansJoin id o result) }
+    ensures read { IfOk result (λ _. IfSome (S.objects store.old) HasTablesToJoin) }
     ensures index { IfOk result (λ plan. IsSome plan.1 → id.index < u64.MAX) }
     ensures faults { CountsFaults (S.faults store.old) (S.faults store.new) result }
     ensures calls { IfSome (S.objects store.old) (λ o. S.calls store.new ≤ S.calls store.old + compact_calls o) }
@@ -102,6 +106,7 @@ fn join_tables<S: Store>(
 ) -> Result<Table, StoreRefusal>
     ensures kept { S.objects store.new ≡ S.objects store.old }
     ensures joins { IfSome (S.objects store.old) (λ o. Joins ids.now o result) }
+    ensures read { IfOk result (λ _. IfSome (S.objects store.old) (λ o. AreStored o ids.now)) }
     ensures faults { CountsFaults (S.faults store.old) (S.faults store.new) result }
     ensures calls { S.calls store.new ≤ S.calls store.old + length ids.now }
 {

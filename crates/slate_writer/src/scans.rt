@@ -5,7 +5,7 @@ ghost use Rattle.slate_types.specs.Operator.{Merge};
 ghost use Rattle.slate_reads.specs.Read.{IsOperator};
 ghost use Rattle.slate_model.specs.Known.{known};
 ghost use Rattle.slate_model.specs.Object.{Handle};
-ghost use Rattle.slate_model.specs.Read.{Gives, Reads};
+ghost use Rattle.slate_model.specs.Read.{Gives, Reads, ReadsByAny};
 ghost use Rattle.slate_model.specs.Stores.{kept_rows};
 ghost use Rattle.slate_writer.specs.Scanned.{BeginsScanOf};
 
@@ -46,6 +46,7 @@ impl WriterState {
             Reads self.now.result self.now.view.manifest.tables (kept_rows (S.objects store.old) (Handle self.now))
             (Gives (BeginsScanOf self.now merge snapshot options.now range.now))
             (known S.objects S.faults store.old) result (known S.objects S.faults store.new) }
+        ensures by_any { ReadsByAny self.now.result self.now.view.manifest.tables (known S.objects S.faults store.old) result (known S.objects S.faults store.new) }
         ensures count { S.faults store.old ≤ S.faults store.new }
         ensures calls { S.calls store.new ≤ S.calls store.old + length self.now.view.manifest.tables }
         ensures closed { (self.now.result ≡ None → ⊥) → store.new ≡ store.old }

@@ -6,7 +6,7 @@ ghost use Rattle.slate_reads.specs.Read.{IsOperator, read_at};
 ghost use Rattle.slate_rows.specs.Scan.{BeginsScan};
 ghost use Rattle.slate_model.specs.Known.{known};
 ghost use Rattle.slate_model.specs.Object.{Handle};
-ghost use Rattle.slate_model.specs.Read.{Gives, Reads};
+ghost use Rattle.slate_model.specs.Read.{Gives, Reads, ReadsByAny};
 ghost use Rattle.slate_model.specs.Stores.{kept_rows};
 ghost use Rattle.slate_model.specs.Transaction.{having_got, having_scanned, seen_by, start_bound};
 
@@ -42,6 +42,7 @@ impl Transaction {
             Reads writer.now.result writer.now.view.manifest.tables (kept_rows (S.objects store.old) (Handle writer.now))
             (λ rows answer. answer ≡ read_at merge (seen_by self.old (start_bound self.old writer.now options.now.durability_filter options.now.dirty) rows) None key.now)
             (known S.objects S.faults store.old) result (known S.objects S.faults store.new) }
+        ensures by_any { ReadsByAny writer.now.result writer.now.view.manifest.tables (known S.objects S.faults store.old) result (known S.objects S.faults store.new) }
         ensures got { OnOk result (self.new ≡ having_got self.old.level key.now self.old) }
         ensures refused { OnErr result (self.new ≡ self.old) }
         ensures count { S.faults store.old ≤ S.faults store.new }
@@ -79,6 +80,7 @@ impl Transaction {
             Reads writer.now.result writer.now.view.manifest.tables (kept_rows (S.objects store.old) (Handle writer.now))
             (λ rows answer. answer ≡ read_at merge (seen_by self.now (start_bound self.now writer.now options.now.durability_filter options.now.dirty) rows) None key.now)
             (known S.objects S.faults store.old) result (known S.objects S.faults store.new) }
+        ensures by_any { ReadsByAny writer.now.result writer.now.view.manifest.tables (known S.objects S.faults store.old) result (known S.objects S.faults store.new) }
         ensures count { S.faults store.old ≤ S.faults store.new }
         ensures calls { S.calls store.new ≤ S.calls store.old + length writer.now.view.manifest.tables }
         ensures closed { (writer.now.result ≡ None → ⊥) → store.new ≡ store.old }
@@ -126,6 +128,7 @@ impl Transaction {
             Reads writer.now.result writer.now.view.manifest.tables (kept_rows (S.objects store.old) (Handle writer.now))
             (Gives (λ rows it. BeginsScan merge (seen_by self.old (start_bound self.old writer.now options.now.durability_filter options.now.dirty) rows) None range.now options.now.order it))
             (known S.objects S.faults store.old) result (known S.objects S.faults store.new) }
+        ensures by_any { ReadsByAny writer.now.result writer.now.view.manifest.tables (known S.objects S.faults store.old) result (known S.objects S.faults store.new) }
         ensures scanned { OnOk result (self.new ≡ having_scanned self.old.level range.now self.old) }
         ensures refused { OnErr result (self.new ≡ self.old) }
         ensures count { S.faults store.old ≤ S.faults store.new }
@@ -164,6 +167,7 @@ impl Transaction {
             Reads writer.now.result writer.now.view.manifest.tables (kept_rows (S.objects store.old) (Handle writer.now))
             (Gives (λ rows it. BeginsScan merge (seen_by self.now (start_bound self.now writer.now options.now.durability_filter options.now.dirty) rows) None range.now options.now.order it))
             (known S.objects S.faults store.old) result (known S.objects S.faults store.new) }
+        ensures by_any { ReadsByAny writer.now.result writer.now.view.manifest.tables (known S.objects S.faults store.old) result (known S.objects S.faults store.new) }
         ensures count { S.faults store.old ≤ S.faults store.new }
         ensures calls { S.calls store.new ≤ S.calls store.old + length writer.now.view.manifest.tables }
         ensures closed { (writer.now.result ≡ None → ⊥) → store.new ≡ store.old }

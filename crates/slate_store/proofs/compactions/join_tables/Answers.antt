@@ -1,6 +1,6 @@
 use Rattle.std.proofs.Common.{rules, arith, refl, Err, ap, subst, sym, ◌∙◌, ◌++◌}
 use Rattle.slate_store.specs.Steps.{Adds}
-use Rattle.slate_store.proofs.Joining.{batches-more, both-known, unadded, unread}
+use Rattle.slate_store.proofs.Joining.{batches-more, both-known, stored-more, unadded, unread}
 use Rattle.slate_store.proofs.compactions.join_tables.Goals as goal
 
 pub returns-in_err-table-clause-joins : goal.returns-in_err-table-clause-joins
@@ -24,6 +24,8 @@ loop-id-preserved g c =
       kept = c.read_table.ensures.kept ∙ i.kept;
       faults = let n = c.read_table.ensures.counts.fault_count in omega (arith, n, i.faults);
       calls = let n = c.read_table.ensures.counts.call_count in omega (arith, n, i.calls);
+      stored = both-known _ _ i.kept i.stored c.in_ok-table.ensures.found
+          (λ o so_far found. stored-more o c.args.ids.now c.loop-id.id-index _ _ c.in_ok-table.table (omega arith) refl found so_far);
       joined = both-known _ _ i.kept i.joined c.in_ok-table.ensures.found
           (λ o so_far found. let added = rw c.batches.ensures.value at c.in_ok-add_copies.ensures in added ∙ (ap (λ xs. xs ++ c.in_ok-table.table) so_far ∙ sym (batches-more o c.args.ids.now c.loop-id.id-index _ _ c.in_ok-table.table (omega arith) refl found)));
     }

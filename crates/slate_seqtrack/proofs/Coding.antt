@@ -1,6 +1,7 @@
 -- The forms of a difference of differences, as they are written.
-use Rattle.std.proofs.Common.{◌≡◌, refl, Option, None, Some, MatchOption, sym, ◌∙◌, ap, ℕ, ◌+◌, ◌^◌, ◌<◌, ◌≤◌, suc, true, false, nat_eq, ℤ, pos, negsuc, List, [], ◌∷◌, ◌++◌, ◌&&◌, map, length, get_or, drop, drop-cons, add-one, ◌-ℤ◌, Bool, Result, Ok, Err, MatchResult, w32, arith}
+use Rattle.std.proofs.Common.{◌≡◌, refl, Option, None, Some, MatchOption, sym, ◌∙◌, ap, ℕ, ◌+◌, ◌^◌, ◌<◌, ◌≤◌, suc, true, false, nat_eq, ℤ, pos, negsuc, List, [], ◌∷◌, ◌++◌, ◌&&◌, map, length, get_or, drop, drop-cons, add-one, ◌-ℤ◌, Bool, Result, Ok, Err, MatchResult, IfOk, w32, arith}
 use lib.Signed.{mag}
+use Rattle.std.specs.List.{AllByRecursion}
 use Rattle.std.specs.Option.{is_some}
 use mir.Val.{of_z}
 use Rattle.std.specs.Int.RustNames.{unsigned_abs}
@@ -8,7 +9,7 @@ use Rattle.std.proofs.lemmas.Bool.{lt-ltb, le-ltb}
 use Rattle.std.proofs.lemmas.List.{append_assoc, append-nil, drop_all, drop-map}
 use Rattle.std.proofs.lemmas.Int.{ints}
 use Rattle.slate_seqtrack.specs.Bits.{low_bits, IsPadded}
-use Rattle.slate_seqtrack.specs.Block.{in_0, in_7, in_9, in_12, in_32, IsFirstCode, IsSigned, IsUnsigned, AreLater, AreValues, fits_i32, later_fit, is_encodable}
+use Rattle.slate_seqtrack.specs.Block.{in_0, in_7, in_9, in_12, in_32, IsFirstCode, IsSigned, IsUnsigned, AreLater, AreValues, fits_i32, fits_i64, later_fit, is_encodable}
 use Rattle.slate_seqtrack.specs.Writing.{IsWriteFault, IsWrittenBlock}
 use Rattle.slate_seqtrack.specs.declared.faults.TrackerFault.{TrackerFault}
 use Rattle.slate_seqtrack.proofs.Binary.{length-low_bits}
@@ -107,6 +108,16 @@ ArePushed-end first later start now before previous index pushed end =
     let none : drop index later ≡ [] = drop_all index later end in
     let whole = pushed.completes [] (rw none refl) in
     (whole.0, whole.1, sym (append-nil now) ∙ whole.2, sym pushed.fits ∙ rw none refl)
+
+-- each value is a number of 64 bits
+pub all-fit : (values : List ℤ) → ((k : ℕ) → k < length values → fits_i64 (get_or values k (pos 0)) ≡ true) → AllByRecursion (λ value. fits_i64 value ≡ true) values
+all-fit [] fit = tt
+all-fit (v ∷ values) fit = (fit 0 (omega arith), all-fit values (λ k lt. fit (suc k) (omega arith)))
+
+pub first-fits : {T : Type 0} {values later : List ℤ} {first : ℤ} (r : Result T TrackerFault) → values ≡ first ∷ later → fits_i64 first ≡ true →
+    IfOk r (λ done. AllByRecursion (λ value. fits_i64 value ≡ true) later) → IfOk r (λ done. AllByRecursion (λ value. fits_i64 value ≡ true) values)
+first-fits (Ok done) is fit others = rw is (fit, others)
+first-fits (Err fault) is fit others = tt
 
 -- a difference of differences that leaves 32 bits
 pub ArePushed-fault : (first : ℤ) (later : List ℤ) (start now : List Bool) (before previous value : ℤ) (index : ℕ) → ArePushed first later start now before previous index →

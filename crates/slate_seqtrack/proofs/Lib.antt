@@ -8,4 +8,5 @@ pub mod Packing
 pub mod Pairing
 pub mod Rising
 pub mod Searching
+pub mod Spelled
 pub mod Twos

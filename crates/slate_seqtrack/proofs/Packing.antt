@@ -1,5 +1,5 @@
 -- What a tracker keeps where its last pair stays alone.
-use Rattle.std.proofs.Common.{◌≡◌, refl, ap, ◌∙◌, ℕ, suc, ◌+◌, ◌<◌, ◌≤◌, ◌&&◌, Bool, true, false, ℤ, ◌≤ℤ◌, List, [], ◌∷◌, ◌++◌, map, length, get_or, Option, None, Some, All, if◌then◌else◌, arith}
+use Rattle.std.proofs.Common.{◌≡◌, refl, ap, ◌∙◌, ℕ, suc, ◌≤◌, Bool, true, false, ℤ, ◌≤ℤ◌, List, [], ◌∷◌, ◌++◌, map, length, Option, None, Some, All, if◌then◌else◌, arith}
 use Rattle.std.specs.Int.{w64, cast_signed}
 use Rattle.slate_seqtrack.specs.Block.{is_encodable}
 use Rattle.slate_seqtrack.specs.Bytes.{has_bytes, packed}
@@ -78,3 +78,16 @@ times-encodable (p ∷ q ∷ pairs) = times-encodable (q ∷ pairs)
 
 pub packed-has_bytes : (tracker packed : Tracker) → packed ≡ record tracker { pairs = last_alone tracker.pairs } → has_bytes packed ≡ true
 packed-has_bytes tracker packed is = rw (is, alone-encodable (cast_signed w64) (λ (p : TrackedSeq). p.seq) tracker.pairs, times-encodable tracker.pairs) refl
+
+-- a tracker is packed once
+has_bytes-packed : (tracker : Tracker) → has_bytes (packed tracker) ≡ true
+has_bytes-packed tracker = go (has_bytes tracker) refl where
+  go : (b : Bool) → has_bytes tracker ≡ b → has_bytes (packed tracker) ≡ true
+  go true is = ap (λ b. has_bytes (if b then tracker else record tracker { pairs = last_alone tracker.pairs })) is ∙ is
+  go false is = ap (λ b. has_bytes (if b then tracker else record tracker { pairs = last_alone tracker.pairs })) is ∙ packed-has_bytes tracker (record tracker { pairs = last_alone tracker.pairs }) refl
+
+pub packed-has : (tracker : Tracker) → has_bytes tracker ≡ true → packed tracker ≡ tracker
+packed-has tracker is = ap (λ b. if b then tracker else record tracker { pairs = last_alone tracker.pairs }) is
+
+pub packed-twice : (tracker : Tracker) → packed (packed tracker) ≡ packed tracker
+packed-twice tracker = packed-has (packed tracker) (has_bytes-packed tracker)

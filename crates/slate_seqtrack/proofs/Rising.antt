@@ -179,6 +179,16 @@ IsSorted-rises {X} {R} o (x ∷ y ∷ xs) up zero d h lt = not_lt-turned (R y x)
 IsSorted-rises {X} {R} o (x ∷ y ∷ xs) up (suc k) d h lt =
     rw suc-add (IsSorted-rises o (y ∷ xs) (both-right (is_le (R x y)) _ up) k d (omega arith) (omega arith))
 
+le-turned : (r s : Ordering) → r ≡ ordering_reverse s → is_lt r ≡ false → is_le s ≡ true
+le-turned r Less e h = refl
+le-turned r Equal e h = refl
+le-turned r Greater e h = let no : is_lt r ≡ true = ap is_lt e in cc
+
+-- and a sorted list never falls
+pub rises-IsSorted : {X : Type 0} {R : X → X → Ordering} (o : IsTotalOrder R) (xs : List X) → IsSorted R xs → rises R xs ≡ true
+rises-IsSorted {X} {R} o xs up =
+    rises-yes R xs (λ k d lt. le-turned (R (get_or xs (k + 1) d) (get_or xs k d)) (R (get_or xs k d) (get_or xs (k + 1) d)) (o.antisymm (get_or xs (k + 1) d) (get_or xs k d)) (up k d (omega arith) lt))
+
 -- ---- a list as it is read
 slice_get-at : (xs : List ℤ) (i : ℕ) (d : ℤ) → i < length xs → slice_get xs i ≡ Some (get_or xs i d)
 slice_get-at [] i d lt = absurd (omega arith)

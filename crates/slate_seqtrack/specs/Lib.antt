@@ -4,6 +4,7 @@ pub mod Bytes
 pub mod Kept
 pub mod Lookup
 pub mod Reading
+pub mod Spelling
 pub mod Thinning
 pub mod Tracker
 pub mod Writing

@@ -1,7 +1,9 @@
 // The lists of a tracker as bytes, and back.
-ghost use Rattle.std.specs.Prelude.{◌≡◌, ◌<◌, ◌^◌, ◌&&◌, Bool, true, false, map, length, Ok, IfOk, MatchResult};
+ghost use Rattle.std.specs.Prelude.{◌≡◌, ◌<◌, ◌^◌, ◌&&◌, ℕ, Bool, true, false, map, length, slice_index, Ok, IfOk, MatchResult};
 ghost use Rattle.std.specs.Ordering.{nat_cmp, int_cmp};
-ghost use Rattle.slate_seqtrack.specs.Block.{is_encodable};
+ghost use Rattle.std.specs.List.{AllByRecursion};
+ghost use Rattle.slate_seqtrack.specs.Block.{fits_i64, is_encodable};
+ghost use Rattle.slate_seqtrack.specs.Spelling.{lists_bytes};
 ghost use Rattle.slate_seqtrack.specs.Writing.{IsWrittenBlock, IsWriteFault};
 ghost use Rattle.slate_seqtrack.specs.Reading.{IsReadFault};
 ghost use Rattle.slate_seqtrack.specs.Bytes.{as_signed, as_unsigned, AreTrackerBytes, rises, counted_block, in_order, blocks_at, lists_behind, lists_at};
@@ -21,8 +23,12 @@ pub(crate) fn write_lists(
 ) -> Result<Vec<u8>, TrackerFault>
     requires few_numbers { length numbers.now < 2 ^ 32 }
     requires few_times { length times.now < 2 ^ 32 }
-    ensures { let encodable = is_encodable (as_signed numbers.now) && is_encodable times.now in
+    ensures written { let encodable = is_encodable (as_signed numbers.now) && is_encodable times.now in
         MatchResult result (λ bytes. AreTrackerBytes IsWrittenBlock numbers.now times.now bytes.items × (encodable ≡ true)) (IsWriteFault encodable) }
+    ensures spelled { IfOk result (λ bytes. bytes.items ≡ lists_bytes numbers.now times.now) }
+    // What the types say.
+    ensures numbers { AllByRecursion (λ n. n < 2 ^ 64) numbers.now }
+    ensures times { IfOk result (λ bytes. AllByRecursion (λ t. fits_i64 t ≡ true) times.now) }
 {
     let signed = as_signed(alloc, numbers)?;
     let first = encode_gorilla_i64(alloc, &signed)?;
@@ -32,8 +38,14 @@ pub(crate) fn write_lists(
     bytes.extend_from_slice(&(numbers.len() as u32).to_le_bytes())?;
     bytes.extend_from_slice(&first)?;
     bytes.extend_from_slice(&second)?;
+    note_bytes(&bytes);
     Ok(bytes)
 }
+
+/// Does nothing: its contract says what the type of a byte says.
+fn note_bytes(bytes: &[u8])
+    ensures { (i : ℕ) → slice_index bytes.now i < 256 }
+{}
 
 /// Numbers as signed ones of the same bits.
 fn as_signed(alloc: Global, numbers: &[u64]) -> Result<Vec<i64>, NoMemory>

@@ -1,8 +1,9 @@
 // Writing a block of numbers.
-ghost use Rattle.std.specs.Prelude.{◌≡◌, ◌<◌, ◌≤◌, ◌^◌, ◌++◌, Bool, List, ℤ, pos, ◌-ℤ◌, true, false, map, length, OnOk, OnErr, MatchOption, MatchResult};
+ghost use Rattle.std.specs.Prelude.{◌≡◌, ◌<◌, ◌≤◌, ◌^◌, ◌++◌, Bool, List, ℤ, pos, ◌-ℤ◌, true, false, map, length, IfOk, OnOk, OnErr, MatchOption, MatchResult};
+ghost use Rattle.std.specs.List.{AllByRecursion};
 ghost use Rattle.std.specs.Int.{w32, w64, cast_signed, cast_unsigned};
 ghost use Rattle.slate_seqtrack.specs.Bits.{low_bits};
-ghost use Rattle.slate_seqtrack.specs.Block.{IsFirstCode, AreLater, AreValues, fits_i32, later_fit, is_encodable};
+ghost use Rattle.slate_seqtrack.specs.Block.{IsFirstCode, AreLater, AreValues, fits_i32, fits_i64, later_fit, is_encodable};
 ghost use Rattle.slate_seqtrack.specs.Writing.{IsWrittenBlock, IsWriteFault};
 
 use crate::{BitWriter, TrackerFault};
@@ -14,8 +15,9 @@ use std::alloc::Global;
 /// linear time. SlateDB's `encode_gorilla_i64`.
 pub fn encode_gorilla_i64(alloc: Global, values: &[i64]) -> Result<Vec<u8>, TrackerFault>
     requires { length values.now < 2 ^ 32 }
-    ensures { MatchResult result (λ bytes. IsWrittenBlock values.now bytes.items × (is_encodable values.now ≡ true))
+    ensures written { MatchResult result (λ bytes. IsWrittenBlock values.now bytes.items × (is_encodable values.now ≡ true))
         (IsWriteFault (is_encodable values.now)) }
+    ensures fit { IfOk result (λ bytes. AllByRecursion (λ value. fits_i64 value ≡ true) values.now) }
 {
     let mut writer = BitWriter::new(alloc);
     writer.push32(values.len() as u32, 32)?;
@@ -25,8 +27,9 @@ pub fn encode_gorilla_i64(alloc: Global, values: &[i64]) -> Result<Vec<u8>, Trac
 
 /// Writes the first value, and then the others.
 fn push_values(writer: &mut BitWriter, values: &[i64]) -> Result<(), TrackerFault>
-    ensures { MatchResult result (λ _. (bits : List Bool) × AreValues IsFirstCode values.now bits
+    ensures written { MatchResult result (λ _. (bits : List Bool) × AreValues IsFirstCode values.now bits
         × (writer.new ≡ writer.old ++ bits) × (is_encodable values.now ≡ true)) (IsWriteFault (is_encodable values.now)) }
+    ensures fit { IfOk result (λ done. AllByRecursion (λ value. fits_i64 value ≡ true) values.now) }
 {
     let Some((first, later)) = values.split_first() else {
         return Ok(());
@@ -37,8 +40,9 @@ fn push_values(writer: &mut BitWriter, values: &[i64]) -> Result<(), TrackerFaul
 
 /// Writes the values after the first one.
 fn push_later(writer: &mut BitWriter, first: i64, later: &[i64]) -> Result<(), TrackerFault>
-    ensures { MatchResult result (λ _. (bits : List Bool) × AreLater IsFirstCode first (pos 0) later.now bits
+    ensures written { MatchResult result (λ _. (bits : List Bool) × AreLater IsFirstCode first (pos 0) later.now bits
         × (writer.new ≡ writer.old ++ bits) × (later_fit first (pos 0) later.now ≡ true)) (IsWriteFault (later_fit first (pos 0) later.now)) }
+    ensures fit { IfOk result (λ done. AllByRecursion (λ value. fits_i64 value ≡ true) later.now) }
 {
     let mut before = first;
     let mut previous = first;

@@ -4,7 +4,8 @@ ghost use Rattle.std.specs.Ordering.{nat_cmp, int_cmp};
 ghost use Rattle.std.specs.Vec.{vec_len, vec_capacity};
 ghost use Rattle.slate_seqtrack.specs.declared.faults.TrackerFault.TheVariants.{NoMemory as Memory};
 ghost use Rattle.slate_seqtrack.specs.Block.{is_encodable};
-ghost use Rattle.slate_seqtrack.specs.Bytes.{as_signed, AreTrackerBytes, BeginsWithTracker, has_bytes, packed, tracker_at};
+ghost use Rattle.slate_seqtrack.specs.Bytes.{as_signed, AreTrackerBytes, BeginsWithTracker, has_bytes, packed, tracker_at, tracker_of};
+ghost use Rattle.slate_seqtrack.specs.Spelling.{tracker_bytes};
 ghost use Rattle.slate_seqtrack.specs.Thinning.{last_alone};
 ghost use Rattle.slate_seqtrack.specs.Lookup.{IsPartner};
 ghost use Rattle.slate_seqtrack.specs.Reading.{IsReadFault};
@@ -220,8 +221,12 @@ impl SequenceTracker {
     /// The bytes of the two lists. NotEncodable exactly where in one of them the difference between two neighbouring
     /// differences leaves 32 signed bits. It takes linear time. SlateDB's `to_bytes`.
     pub fn to_bytes(&self, alloc: Global) -> Result<Vec<u8>, TrackerFault>
-        ensures { let encodable = is_encodable (as_signed (numbers_of self.now)) && is_encodable (times_of self.now) in
+        ensures written { let encodable = is_encodable (as_signed (numbers_of self.now)) && is_encodable (times_of self.now) in
             MatchResult result (λ bytes. AreTrackerBytes IsWrittenBlock (numbers_of self.now) (times_of self.now) bytes.items × (encodable ≡ true)) (IsWriteFault encodable) }
+        // There is one spelling.
+        ensures spelled { IfOk result (λ bytes. bytes.items ≡ tracker_bytes self.now) }
+        // What is written is read again, as the lists of a tracker for 8192 pairs, at most one in 60 seconds.
+        ensures again { IfOk result (λ bytes. tracker_at bytes.items ≡ Ok (tracker_of (numbers_of self.now) (times_of self.now))) }
     {
         write_lists(alloc, &self.sequence_numbers, &self.timestamps)
     }

@@ -29,6 +29,7 @@ blank_manifest = record {
   checkpoints = [];
   segments = [];
   extractor_name = None;
+  sequence_tracker = None;
 }
 
 -- The object that each blob is. One that isn't decoded stands for an object with nothing in it, which no call reads:

@@ -26,9 +26,14 @@ const CALLS: &[(&[u8], Call)] = &[
 ];
 
 /// A batch that is written.
-#[derive(Drop)]
 pub struct Batches {
     batch: WriteBatch,
+}
+
+impl Drop for Batches {
+    fn drop(self) {
+        let Batches { batch: _ } = self;
+    }
 }
 
 impl Batches {

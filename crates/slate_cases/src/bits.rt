@@ -36,24 +36,40 @@ pub fn call_bits(alloc: Global, words: &[&[u8]], answer: &mut Vec<u8>) -> Result
     let (call, words) = split_name(CALLS, words)?;
     match (call, words) {
         (Call::Write, steps) => write(alloc, steps, answer),
-        (Call::Read, [bytes, steps @ ..]) => {
-            let bytes = bytes_of(alloc, bytes)?;
-            let mut reader = BitReader::new(bytes.as_slice());
-            read(alloc, &mut reader, steps, answer)
-        }
-        (Call::Sign, [value, bits]) => {
-            let (value, bits) = (short_of(value)?, width_of(bits, 32)?);
-            if bits == 0 {
-                return Err(CallFailure::Unread);
-            }
-            print_debug(alloc, answer, &sign_extend(value, bits))
-        }
+        (Call::Read, [bytes, steps @ ..]) => read_bytes(alloc, bytes, steps, answer),
+        (Call::Sign, [value, bits]) => print_sign(alloc, value, bits, answer),
         (Call::Decode, [bytes]) => decode(alloc, bytes_of(alloc, bytes)?.as_slice(), answer),
         (Call::Encode, values) | (Call::Again, values) => {
             encode(alloc, matches!(call, Call::Again), values, answer)
         }
         _ => Err(CallFailure::Unread),
     }
+}
+
+/// Reads bits of bytes.
+fn read_bytes(
+    alloc: Global,
+    bytes: &[u8],
+    steps: &[&[u8]],
+    answer: &mut Vec<u8>,
+) -> Result<(), CallFailure> {
+    let bytes = bytes_of(alloc, bytes)?;
+    let mut reader = BitReader::new(bytes.as_slice());
+    read(alloc, &mut reader, steps, answer)
+}
+
+/// Prints the number whose last bits these are, with their sign.
+fn print_sign(
+    alloc: Global,
+    value: &[u8],
+    bits: &[u8],
+    answer: &mut Vec<u8>,
+) -> Result<(), CallFailure> {
+    let (value, bits) = (short_of(value)?, width_of(bits, 32)?);
+    if bits == 0 {
+        return Err(CallFailure::Unread);
+    }
+    print_debug(alloc, answer, &sign_extend(value, bits))
 }
 
 /// Writes numbers as a block, and prints it, or what is read of it again.

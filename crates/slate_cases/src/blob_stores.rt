@@ -13,12 +13,22 @@ use std::mem;
 use std::rc::Rc;
 
 /// A folder in memory, which may be out of reach. It counts its gets where it was given a counter.
-#[derive(Drop)]
 pub struct Folder<K: Copy + Ord + Drop> {
     blobs: MemoryBlobs<K>,
     gets: Option<Rc<Cell<u64>>>,
     reached: bool,
     count: CallCount,
+}
+
+impl<K: Copy + Ord + Drop> Drop for Folder<K> {
+    fn drop(self) {
+        let Folder {
+            blobs: _,
+            gets: _,
+            reached: _,
+            count: _,
+        } = self;
+    }
 }
 
 impl<K: Copy + Ord + Drop> Folder<K> {
@@ -99,12 +109,22 @@ const CALLS: &[(&[u8], Call)] = &[
 ];
 
 /// The blobs that are put before a store is made of them, and that store.
-#[derive(Drop)]
 pub struct BlobStores {
     logs: MemoryBlobs<u64>,
     tables: MemoryBlobs<TableId>,
     gets: Option<Rc<Cell<u64>>>,
     store: Option<BlobStore<Folder<u64>, Folder<TableId>>>,
+}
+
+impl Drop for BlobStores {
+    fn drop(self) {
+        let BlobStores {
+            logs: _,
+            tables: _,
+            gets: _,
+            store: _,
+        } = self;
+    }
 }
 
 impl BlobStores {

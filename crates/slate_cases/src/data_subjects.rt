@@ -53,7 +53,6 @@ const KINDS: &[(&[u8], Kind)] = &[
 ];
 
 /// What a file calls that stands over no store.
-#[derive(Drop)]
 pub enum DataSubject {
     Batch(Batches),
     Bits,
@@ -69,6 +68,27 @@ pub enum DataSubject {
     Tasks(TaskCalls),
     Text,
     Tracker(Trackers),
+}
+
+impl Drop for DataSubject {
+    fn drop(self) {
+        match self {
+            DataSubject::Batch(_) => {}
+            DataSubject::Bits => {}
+            DataSubject::Dispatcher(_) => {}
+            DataSubject::Errors => {}
+            DataSubject::Executor(_) => {}
+            DataSubject::Keys => {}
+            DataSubject::Lines => {}
+            DataSubject::Objects(_) => {}
+            DataSubject::Replies => {}
+            DataSubject::Rows(_) => {}
+            DataSubject::Status(_) => {}
+            DataSubject::Tasks(_) => {}
+            DataSubject::Text => {}
+            DataSubject::Tracker(_) => {}
+        }
+    }
 }
 
 impl DataSubject {

@@ -1,7 +1,7 @@
 // The subject `database`: a store that fails as told, and what is opened over it, by script lines and by calls.
 use crate::object_calls::{call_checkpoints, call_objects};
 use crate::operators::{Cuts, Refusing, extractor_of, operator_of};
-use crate::printing::{number_of, print_number, print_text, split_name};
+use crate::printing::{add_number, number_of, print_number, print_text, print_time, split_name};
 use crate::store_calls::{call_store, print_store_error};
 use crate::subjects::CallFailure;
 use crate::told_stores::ToldStore;
@@ -10,7 +10,7 @@ use slate_live::{LineAnswer, LiveState, Options, print_replies, read_line};
 use slate_reads::IndexedTable;
 use slate_replay::{Replayed, replay};
 use slate_types::StoreError;
-use slate_writer::{Transaction, WriterState};
+use slate_writer::{BoardWatch, Transaction, WriterState};
 use std::alloc::{AllocError, Global};
 use uuid::Uuid;
 
@@ -34,6 +34,7 @@ enum Call {
     Restart,
     Operator,
     Extractor,
+    Watch,
 }
 
 const CALLS: &[(&[u8], Call)] = &[
@@ -48,20 +49,38 @@ const CALLS: &[(&[u8], Call)] = &[
     (b"restart", Call::Restart),
     (b"operator", Call::Operator),
     (b"extractor", Call::Extractor),
+    (b"watch", Call::Watch),
 ];
 
 /// A store, the objects of a session over it, and one handle and one reader beside these.
-#[derive(Drop)]
 pub struct Database {
     pub store: ToldStore,
     pub operator: Option<Refusing>,
     pub extractor: Option<Cuts>,
     live: LiveState,
     pub handle: Option<WriterState>,
+    /// A view of a handle, which may be another one by now.
+    pub watch: Option<BoardWatch>,
     /// The transactions of the handle in the order in which they began, but for those that ended.
     pub transactions: Vec<Option<Transaction>>,
     pub reader: Option<FollowerState>,
     checkpoints: Vec<Uuid>,
+}
+
+impl Drop for Database {
+    fn drop(self) {
+        let Database {
+            store: _,
+            operator: _,
+            extractor: _,
+            live: _,
+            handle: _,
+            watch: _,
+            transactions: _,
+            reader: _,
+            checkpoints: _,
+        } = self;
+    }
 }
 
 impl Database {
@@ -73,6 +92,7 @@ impl Database {
             extractor: None,
             live: LiveState::new(alloc, &OPTIONS),
             handle: None,
+            watch: None,
             transactions: Vec::new(alloc),
             reader: None,
             checkpoints: Vec::new(alloc),
@@ -113,6 +133,7 @@ impl Database {
                 self.extractor = extractor_of(alloc, others)?;
                 Ok(())
             }
+            Call::Watch => print_watch(self.watch.as_mut(), answer),
         }
     }
 
@@ -162,6 +183,17 @@ fn join_lines(answer: &mut Vec<u8>, text: &[u8]) -> Result<(), CallFailure> {
         answer.extend_from_slice(line)?;
     }
     Ok(())
+}
+
+/// Appends the tick, the durable number and the close code that a view loads.
+fn print_watch(watch: Option<&mut BoardWatch>, answer: &mut Vec<u8>) -> Result<(), CallFailure> {
+    let Some(watch) = watch else {
+        return Err(CallFailure::Unread);
+    };
+    let view = watch.load();
+    print_time(answer, view.tick)?;
+    add_number(answer, view.durable)?;
+    add_number(answer, view.close)
 }
 
 /// Replays the log files twice into one table, and appends how each replay ends, and how many batches the table has.

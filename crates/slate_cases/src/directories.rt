@@ -32,11 +32,20 @@ const CALLS: &[(&[u8], Call)] = &[
 ];
 
 /// The stores that are open over the system's files.
-#[derive(Drop)]
 pub struct Directory<F: Files + Copy> {
     files: F,
     store: Option<DirectoryStore<F>>,
     other: Option<DirectoryStore<F>>,
+}
+
+impl<F: Files + Copy> Drop for Directory<F> {
+    fn drop(self) {
+        let Directory {
+            files: _,
+            store: _,
+            other: _,
+        } = self;
+    }
 }
 
 impl<F: Files + Copy> Directory<F> {

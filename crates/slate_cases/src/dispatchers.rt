@@ -32,13 +32,23 @@ const CALLS: &[(&[u8], Call)] = &[
 
 /// A handler of numbers, which fails with each number but 0 that it handles, so that the answer of a turn shows it. The
 /// message of ticker `i` is `10 + i`, and that of notifier `i` is `20 + i`.
-#[derive(Drop)]
 struct Teller {
     tickers: [TickerDef; 2],
     ready: [bool; 2],
     reported: Option<Result<(), CloseFault>>,
     /// The first two messages that were offered to it at the end.
     offered: Rc<Cell<[u64; 2]>>,
+}
+
+impl Drop for Teller {
+    fn drop(self) {
+        let Teller {
+            tickers: _,
+            ready: _,
+            reported: _,
+            offered: _,
+        } = self;
+    }
 }
 
 impl MessageHandler for Teller {
@@ -93,11 +103,20 @@ impl MessageHandler for Teller {
 }
 
 /// A dispatcher, the numbers that its handler was offered at the end, and the cell that its refusals read.
-#[derive(Drop)]
 pub struct Dispatchers {
     dispatcher: Option<Dispatcher<Teller>>,
     offered: Option<Rc<Cell<[u64; 2]>>>,
     cell: CloseCell,
+}
+
+impl Drop for Dispatchers {
+    fn drop(self) {
+        let Dispatchers {
+            dispatcher: _,
+            offered: _,
+            cell: _,
+        } = self;
+    }
 }
 
 impl Dispatchers {

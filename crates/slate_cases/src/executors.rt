@@ -51,7 +51,6 @@ const TASKS: &[(&[u8], Option<CloseFault>)] = &[
 type Outcome = Result<(), CloseFault>;
 
 /// A task that fails at its first turn with the fault that it has, or handles a message at each turn.
-#[derive(Drop)]
 struct Scripted {
     fault: Option<CloseFault>,
     is_cancelled: bool,
@@ -59,6 +58,18 @@ struct Scripted {
     finished: Option<Outcome>,
     /// Where it tells the result with which it was finished.
     told: Option<Rc<Cell<Option<Outcome>>>>,
+}
+
+impl Drop for Scripted {
+    fn drop(self) {
+        let Scripted {
+            fault: _,
+            is_cancelled: _,
+            answered: _,
+            finished: _,
+            told: _,
+        } = self;
+    }
 }
 
 impl Task for Scripted {
@@ -104,11 +115,20 @@ fn task_of(fault: Option<CloseFault>) -> Scripted {
 }
 
 /// An executor, its close cell, and the result with which the first task of the last group was finished.
-#[derive(Drop)]
 pub struct Executors {
     executor: Executor<Scripted>,
     cell: CloseCell,
     told: Option<Rc<Cell<Option<Outcome>>>>,
+}
+
+impl Drop for Executors {
+    fn drop(self) {
+        let Executors {
+            executor: _,
+            cell: _,
+            told: _,
+        } = self;
+    }
 }
 
 impl Executors {

@@ -26,6 +26,7 @@ enum Call {
     Recent,
     Ts,
     Seq,
+    Watch,
 }
 
 const CALLS: &[(&[u8], Call)] = &[
@@ -37,6 +38,7 @@ const CALLS: &[(&[u8], Call)] = &[
     (b"recent", Call::Recent),
     (b"ts", Call::Ts),
     (b"seq", Call::Seq),
+    (b"watch", Call::Watch),
 ];
 
 const FLUSHES: &[(&[u8], FlushType)] = &[
@@ -80,6 +82,10 @@ impl Database {
             (Call::Recent, [prefix, level]) => recent(alloc, handle, store, prefix, level, answer),
             (Call::Ts, [number, direction]) => find_ts(handle, number, direction, answer),
             (Call::Seq, [second, direction]) => find_seq(handle, second, direction, answer),
+            (Call::Watch, []) => {
+                self.watch = Some(handle.watch()?);
+                Ok(())
+            }
             _ => Err(CallFailure::Unread),
         }
     }

@@ -5,7 +5,6 @@ use crate::printing::{
 };
 use crate::ranges::{bound_of, range_of};
 use crate::subjects::CallFailure;
-use bytes::Bytes;
 use slate_rows::{
     ByteRange, CloseOptions, DurabilityLevel, FixedPrefix, MergeOptions, PrefixExtractor,
     PutOptions, ReadOptions, ScanOptions, WriteOptions, compute_index_key, decode_varint,
@@ -40,34 +39,61 @@ const CALLS: &[(&[u8], Call)] = &[
 pub fn call_keys(alloc: Global, words: &[&[u8]], answer: &mut Vec<u8>) -> Result<(), CallFailure> {
     let (call, words) = split_name(CALLS, words)?;
     match (call, words) {
-        (Call::Prefix, [prefix, keys @ ..]) => {
-            let prefix = bytes_of(alloc, prefix)?;
-            let range = ByteRange::prefix(alloc, prefix.as_slice())?;
-            print_within(alloc, &range, keys, answer)
-        }
+        (Call::Prefix, [prefix, keys @ ..]) => print_prefixed(alloc, prefix, keys, answer),
         (Call::Subrange, [prefix, low, high, keys @ ..]) => {
-            let suffixes = range_of(alloc, low, high)?;
-            let prefix = bytes_of(alloc, prefix)?;
-            let range = ByteRange::prefix_and_subrange(alloc, prefix.as_slice(), &suffixes)?;
-            print_within(alloc, &range, keys, answer)
+            print_subrange(alloc, prefix, (low, high), keys, answer)
         }
-        (Call::Index, [this]) => print_first_key(alloc, &bytes_of(alloc, this)?, answer),
-        (Call::Index, [before, this]) => {
-            let before = bytes_of(alloc, before)?;
-            print_index_key(alloc, &before, &bytes_of(alloc, this)?, answer)
-        }
+        (Call::Index, [this]) => print_first_key(alloc, this, answer),
+        (Call::Index, [before, this]) => print_index_key(alloc, before, this, answer),
         (Call::Fixed, [length, key]) => print_fixed(alloc, number_of(length)?, key, answer),
         (Call::Default, [name]) => print_default(alloc, name_in(OPTIONS, name)?, answer),
         (Call::Bound, [user, durable, committed, level, dirty]) => {
-            let (durable, committed) = (number_of(durable)?, number_of(committed)?);
-            let (level, dirty) = (name_in(LEVELS, level)?, name_in(DIRTY, dirty)?);
-            let bound = prepare_max_seq(bound_of(user)?, durable, committed, level, dirty);
-            print_debug(alloc, answer, &bound)
+            print_bound(alloc, user, (durable, committed), (level, dirty), answer)
         }
         (Call::Varint, [number]) => print_varint(alloc, short_of(number)?, answer),
-        (Call::Read, [text]) => print_number_in(alloc, bytes_of(alloc, text)?.as_slice(), answer),
+        (Call::Read, [text]) => print_number_in(alloc, text, answer),
         _ => Err(CallFailure::Unread),
     }
+}
+
+/// Prints those of these keys that begin with a prefix.
+fn print_prefixed(
+    alloc: Global,
+    prefix: &[u8],
+    keys: &[&[u8]],
+    answer: &mut Vec<u8>,
+) -> Result<(), CallFailure> {
+    let prefix = bytes_of(alloc, prefix)?;
+    let range = ByteRange::prefix(alloc, prefix.as_slice())?;
+    print_within(alloc, &range, keys, answer)
+}
+
+/// Prints those of these keys that begin with a prefix and go on between two bounds.
+fn print_subrange(
+    alloc: Global,
+    prefix: &[u8],
+    (low, high): (&[u8], &[u8]),
+    keys: &[&[u8]],
+    answer: &mut Vec<u8>,
+) -> Result<(), CallFailure> {
+    let suffixes = range_of(alloc, low, high)?;
+    let prefix = bytes_of(alloc, prefix)?;
+    let range = ByteRange::prefix_and_subrange(alloc, prefix.as_slice(), &suffixes)?;
+    print_within(alloc, &range, keys, answer)
+}
+
+/// Prints up to which number a read reads.
+fn print_bound(
+    alloc: Global,
+    user: &[u8],
+    (durable, committed): (&[u8], &[u8]),
+    (level, dirty): (&[u8], &[u8]),
+    answer: &mut Vec<u8>,
+) -> Result<(), CallFailure> {
+    let (durable, committed) = (number_of(durable)?, number_of(committed)?);
+    let (level, dirty) = (name_in(LEVELS, level)?, name_in(DIRTY, dirty)?);
+    let bound = prepare_max_seq(bound_of(user)?, durable, committed, level, dirty);
+    print_debug(alloc, answer, &bound)
 }
 
 /// Prints those of these keys that are in a range.
@@ -87,25 +113,27 @@ fn print_within(
 }
 
 /// Prints the index key of a block that begins with this key, where no key is before it.
-fn print_first_key(alloc: Global, this: &Bytes, answer: &mut Vec<u8>) -> Result<(), CallFailure> {
+fn print_first_key(alloc: Global, this: &[u8], answer: &mut Vec<u8>) -> Result<(), CallFailure> {
+    let this = bytes_of(alloc, this)?;
     if this.is_empty() {
         return Err(CallFailure::Unread);
     }
-    let key = compute_index_key(alloc, None, this)?;
+    let key = compute_index_key(alloc, None, &this)?;
     print_bytes(answer, key.as_slice())
 }
 
 /// Prints the index key of a block that begins with this key, after another one, and whether it has more than one owner.
 fn print_index_key(
     alloc: Global,
-    before: &Bytes,
-    this: &Bytes,
+    before: &[u8],
+    this: &[u8],
     answer: &mut Vec<u8>,
 ) -> Result<(), CallFailure> {
+    let (before, this) = (bytes_of(alloc, before)?, bytes_of(alloc, this)?);
     if before.is_empty() || this.is_empty() || before > this {
         return Err(CallFailure::Unread);
     }
-    let key = compute_index_key(alloc, Some(before), this)?;
+    let key = compute_index_key(alloc, Some(&before), &this)?;
     print_bytes(answer, key.as_slice())?;
     print_text(
         answer,
@@ -189,7 +217,8 @@ fn print_varint(alloc: Global, number: u32, answer: &mut Vec<u8>) -> Result<(), 
 
 /// Prints the number that begins a text, or why there is none, and what is left.
 fn print_number_in(alloc: Global, text: &[u8], answer: &mut Vec<u8>) -> Result<(), CallFailure> {
-    let mut rest = text;
+    let bytes = bytes_of(alloc, text)?;
+    let mut rest = bytes.as_slice();
     print_debug(alloc, answer, &decode_varint(&mut rest))?;
     print_text(answer, " before ")?;
     print_bytes(answer, rest)

@@ -45,6 +45,7 @@ pub fn manifest_of(
         checkpoints: Seq::of(Vec::new(alloc)),
         segments,
         extractor_name: None,
+        sequence_tracker: None,
     };
     Ok(VersionedManifest { id, manifest })
 }

@@ -342,6 +342,7 @@ pub fn first_manifest(alloc: Global) -> Manifest {
         checkpoints: Seq::of(Vec::new(alloc)),
         segments: Seq::of(Vec::new(alloc)),
         extractor_name: None,
+        sequence_tracker: None,
     }
 }
 

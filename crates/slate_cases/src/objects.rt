@@ -56,11 +56,20 @@ const KINDS: &[(&[u8], Kind)] = &[
 ];
 
 /// Batches, a manifest, and bytes that are read.
-#[derive(Drop)]
 pub struct Objects {
     batches: Vec<Batch>,
     manifest: Option<Manifest>,
     bytes: Vec<u8>,
+}
+
+impl Drop for Objects {
+    fn drop(self) {
+        let Objects {
+            batches: _,
+            manifest: _,
+            bytes: _,
+        } = self;
+    }
 }
 
 impl Objects {
@@ -196,14 +205,22 @@ impl Objects {
     }
 }
 
-/// The manifest that words spell in four parts, with `;` between each two: its numbers and the name of its extractor, its
-/// segments, its tables, and its checkpoints.
+/// The manifest that words spell in parts, with `;` between each two: its numbers and the name of its extractor, its
+/// segments, its tables, its checkpoints, and the bytes of its tracker, where it has one.
 fn manifest_of(alloc: Global, words: &[&[u8]]) -> Result<Manifest, CallFailure> {
     let mut parts = words.split(|word| *word == b";".as_slice());
     let numbers = parts.next().unwrap_or_default();
     let segments = Seq::of(prefixes_of(alloc, parts.next().unwrap_or_default())?);
     let tables = tables_of(alloc, parts.next().unwrap_or_default())?;
     let checkpoints = checkpoints_of(alloc, parts.next().unwrap_or_default())?;
+    let sequence_tracker = match parts.next() {
+        Some([bytes]) => {
+            let bytes = bytes_of(alloc, bytes)?;
+            Some(Seq::of(Vec::from_slice(alloc, bytes.as_slice())?))
+        }
+        Some(_) => return Err(CallFailure::Unread),
+        None => None,
+    };
     let [epoch, last, tick, replay, next, name] = numbers else {
         return Err(CallFailure::Unread);
     };
@@ -218,6 +235,7 @@ fn manifest_of(alloc: Global, words: &[&[u8]]) -> Result<Manifest, CallFailure> 
         checkpoints,
         segments,
         extractor_name: Some(Name::of(string_of(alloc, name)?)),
+        sequence_tracker,
     })
 }
 

@@ -6,9 +6,14 @@ use slate_types::{ConcatOperator, FixedPrefix, MergeFault, MergeOperator, Name, 
 use std::alloc::Global;
 
 /// Appends operands, and refuses those of one key, where it has one.
-#[derive(Drop)]
 pub struct Refusing {
     pub refused: Option<Bytes>,
+}
+
+impl Drop for Refusing {
+    fn drop(self) {
+        let Refusing { refused: _ } = self;
+    }
 }
 
 impl MergeOperator for Refusing {
@@ -29,7 +34,6 @@ impl MergeOperator for Refusing {
 }
 
 /// Cuts off prefixes.
-#[derive(Drop)]
 pub enum Cuts {
     /// Prefixes of one length.
     Fixed(FixedPrefix),
@@ -37,13 +41,31 @@ pub enum Cuts {
     Letters(Letters),
 }
 
+impl Drop for Cuts {
+    fn drop(self) {
+        match self {
+            Cuts::Fixed(_) => {}
+            Cuts::Letters(_) => {}
+        }
+    }
+}
+
 /// Cuts off what stands before the first digit, at most so many bytes of it. It has none of a key that begins with a dash,
 /// unless it takes dashes.
-#[derive(Drop)]
 pub struct Letters {
     pub name: Name,
     pub most: usize,
     pub dashes: bool,
+}
+
+impl Drop for Letters {
+    fn drop(self) {
+        let Letters {
+            name: _,
+            most: _,
+            dashes: _,
+        } = self;
+    }
 }
 
 impl PrefixExtractor for Cuts {

@@ -38,6 +38,7 @@ enum Put {
     Table,
     Last,
     Segment,
+    Tracker,
 }
 
 const PUTS: &[(&[u8], Put)] = &[
@@ -46,6 +47,7 @@ const PUTS: &[(&[u8], Put)] = &[
     (b"table", Put::Table),
     (b"last", Put::Last),
     (b"segment", Put::Segment),
+    (b"tracker", Put::Tracker),
 ];
 
 impl Database {
@@ -127,6 +129,11 @@ impl Database {
                 let segments = Seq::of(vec![in alloc; prefix]?);
                 put_changed(alloc, store, Change::Segments(segments), answer)
             }
+            (Put::Tracker, [bytes]) => {
+                let bytes = bytes_of(alloc, bytes)?;
+                let bytes = Seq::of(Vec::from_slice(alloc, bytes.as_slice())?);
+                put_changed(alloc, store, Change::Tracker(bytes), answer)
+            }
             _ => Err(CallFailure::Unread),
         }
     }
@@ -163,6 +170,8 @@ enum Change {
     Last(u64),
     /// Other segments.
     Segments(Seq<Bytes>),
+    /// The bytes of another tracker.
+    Tracker(Seq<u8>),
     /// The table of the log files up to this one, in place of all others.
     Tabled(u64),
 }
@@ -179,6 +188,7 @@ fn changed(alloc: Global, latest: &mut Manifest, change: Change) -> Result<(), C
     match change {
         Change::Last(number) => latest.last_l0_seq = number,
         Change::Segments(segments) => latest.segments = segments,
+        Change::Tracker(bytes) => latest.sequence_tracker = Some(bytes),
         Change::Tabled(last) => {
             latest.tables = Seq::of(vec![in alloc; table_up_to(last)]?);
             latest.last_l0_seq = last;

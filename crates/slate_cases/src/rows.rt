@@ -55,12 +55,22 @@ const CALLS: &[(&[u8], Call)] = &[
 
 /// Batches in stored tables and in tables in memory above them, all batches once more as one list, and the operator of
 /// reads.
-#[derive(Drop)]
 pub struct Rows {
     all: Vec<Batch>,
     stored: Vec<Table>,
     memory: Vec<IndexedTable>,
     operator: Option<Refusing>,
+}
+
+impl Drop for Rows {
+    fn drop(self) {
+        let Rows {
+            all: _,
+            stored: _,
+            memory: _,
+            operator: _,
+        } = self;
+    }
 }
 
 impl Rows {

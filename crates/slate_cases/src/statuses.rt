@@ -44,9 +44,14 @@ const CALLS: &[(&[u8], Call)] = &[
 ];
 
 /// The record of a status.
-#[derive(Drop)]
 pub struct Statuses {
     record: Option<StatusRecord>,
+}
+
+impl Drop for Statuses {
+    fn drop(self) {
+        let Statuses { record: _ } = self;
+    }
 }
 
 impl Statuses {

@@ -37,11 +37,20 @@ const CALLS: &[(&[u8], Call)] = &[
 ];
 
 /// A source, a sink, and the store of the sessions that read the one and write to the other.
-#[derive(Drop)]
 pub struct Streams {
     source: SliceSource,
     sink: VecSink,
     store: MemoryStore,
+}
+
+impl Drop for Streams {
+    fn drop(self) {
+        let Streams {
+            source: _,
+            sink: _,
+            store: _,
+        } = self;
+    }
 }
 
 impl Streams {
@@ -108,9 +117,14 @@ impl Streams {
 }
 
 /// Bytes that nothing holds, which come as many at a time as there is room for.
-#[derive(Drop)]
 struct Unheld {
     left: usize,
+}
+
+impl Drop for Unheld {
+    fn drop(self) {
+        let Unheld { left: _ } = self;
+    }
 }
 
 impl Source for Unheld {

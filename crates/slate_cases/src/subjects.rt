@@ -52,13 +52,24 @@ const KINDS: &[(&[u8], Kind)] = &[
 ];
 
 /// What a file calls.
-#[derive(Drop)]
 pub enum Subject<F: Files + Copy> {
     Blobs(BlobStores),
     Data(DataSubject),
     Database(Database),
     Directory(Directory<F>),
     Streams(Streams),
+}
+
+impl<F: Files + Copy> Drop for Subject<F> {
+    fn drop(self) {
+        match self {
+            Subject::Blobs(_) => {}
+            Subject::Data(_) => {}
+            Subject::Database(_) => {}
+            Subject::Directory(_) => {}
+            Subject::Streams(_) => {}
+        }
+    }
 }
 
 impl<F: Files + Copy> Subject<F> {

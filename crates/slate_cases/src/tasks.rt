@@ -23,9 +23,14 @@ const NAMES: &[(&[u8], TaskName)] = &[
 ];
 
 /// Tasks that run, where they were started.
-#[derive(Drop)]
 pub struct TaskCalls {
     tasks: Option<Tasks>,
+}
+
+impl Drop for TaskCalls {
+    fn drop(self) {
+        let TaskCalls { tasks: _ } = self;
+    }
 }
 
 impl TaskCalls {

@@ -9,7 +9,6 @@ use std::alloc::Global;
 use std::mem;
 
 /// A store in memory, and what it was told to do. It counts its calls.
-#[derive(Drop)]
 pub struct ToldStore {
     inner: FaultyStore<MemoryStore>,
     /// The log file that isn't found when it is read.
@@ -19,6 +18,18 @@ pub struct ToldStore {
     /// How many times another puts a manifest under the id before a put of one.
     rivals: u64,
     calls: u64,
+}
+
+impl Drop for ToldStore {
+    fn drop(self) {
+        let ToldStore {
+            inner: _,
+            lost: _,
+            raised_at: _,
+            rivals: _,
+            calls: _,
+        } = self;
+    }
 }
 
 impl ToldStore {

@@ -51,11 +51,20 @@ const FINDS: &[(&[u8], FindOption)] = &[
 ];
 
 /// A tracker, another one, and bytes that are read as one.
-#[derive(Drop)]
 pub struct Trackers {
     tracker: Option<SequenceTracker>,
     other: Option<SequenceTracker>,
     bytes: Vec<u8>,
+}
+
+impl Drop for Trackers {
+    fn drop(self) {
+        let Trackers {
+            tracker: _,
+            other: _,
+            bytes: _,
+        } = self;
+    }
 }
 
 impl Trackers {

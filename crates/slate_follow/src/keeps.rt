@@ -54,6 +54,7 @@ impl FollowerState {
         ensures faults { CountsFaults (S.faults store.old) (S.faults store.new) result }
         ensures keeps { (x : Option Extractor) → IsExtractor E.may_name E.may_extract (option_copied extractor.entry) x → (made : ℕ) × KeepsLease (by_objects (S.objects store.old)) x made lease.now moment self.old
             (known S.objects S.faults store.old) result self.new (known S.objects S.faults store.new) }
+        ensures left { IfErr result (λ error. self.new ≡ record self.old { lease = self.new.lease; result = poll_result error }) }
         ensures calls { IfSome (S.objects store.old) (λ o. S.calls store.new ≤ S.calls store.old + 9 * (replayed_logs o + 3)) }
     {
         match self.keep_lease(alloc, store, lease, extractor, moment) {

@@ -1,12 +1,13 @@
 // Opening a reader that follows a database, and polling it.
-ghost use Rattle.std.specs.Prelude.{◌≡◌, ◌≢◌, ◌+◌, ◌*◌, ◌≤◌, ◌⊎◌, ℕ, true, false, Option, None, IfOk, IfSome, OnErr};
+ghost use Rattle.std.specs.Prelude.{◌≡◌, ◌≢◌, ◌+◌, ◌*◌, ◌≤◌, ◌⊎◌, ℕ, true, false, Option, None, Err, IfErr, IfOk, IfSome, OnErr};
 ghost use Rattle.std.specs.Option.{option_copied};
+ghost use Rattle.slate_errors.specs.Errors.{closed_error};
 ghost use Rattle.slate_store.specs.declared.reader_modes.DbReaderMode.TheVariants.{ManagedCheckpoint};
 ghost use Rattle.slate_model.specs.Follow.{Polls, Rebuilds, built, unseen};
 ghost use Rattle.slate_model.specs.Followed.{followed_logs};
 ghost use Rattle.slate_model.specs.Follower.{HasSegments, is_managed, is_pinned};
-ghost use Rattle.slate_model.specs.Known.{known};
-ghost use Rattle.slate_model.specs.Managed.{OpensManaged, PollsManaged, TakesLease};
+ghost use Rattle.slate_model.specs.Known.{FaultsRise, known};
+ghost use Rattle.slate_model.specs.Managed.{OpensManaged, PollsManaged, TakesLease, poll_result};
 ghost use Rattle.slate_model.specs.Segments.{Extractor, IsExtractor};
 ghost use Rattle.slate_model.specs.Open.{replayed_logs};
 ghost use Rattle.slate_model.specs.Stores.{by_objects, kept_seen};
@@ -72,7 +73,7 @@ impl FollowerState {
             (made : ℕ) × OpensManaged (by_objects (S.objects store.old)) x made options.now.checkpoint_lifetime_ms options.now.manifest_poll_interval_ms
             options.now.skip_wal_replay moment (known S.objects S.faults store.old) result (known S.objects S.faults store.new) }
         ensures managed_calls { is_managed mode ≡ true → IfSome (S.objects store.old) (λ o. S.calls store.new ≤ S.calls store.old + (followed_logs mode options.now.skip_wal_replay o + 17)) }
-        ensures faults { S.faults store.old ≤ S.faults store.new }
+        ensures faults { FaultsRise (S.faults store.old) (S.faults store.new) result }
     {
         if mode == DbReaderMode::ManagedCheckpoint {
             return FollowerState::open_managed(alloc, store, options, extractor, moment);
@@ -99,7 +100,7 @@ impl FollowerState {
             (made : ℕ) × OpensManaged (by_objects (S.objects store.old)) x made options.now.checkpoint_lifetime_ms options.now.manifest_poll_interval_ms
             options.now.skip_wal_replay moment (known S.objects S.faults store.old) result (known S.objects S.faults store.new) }
         ensures calls { IfSome (S.objects store.old) (λ o. S.calls store.new ≤ S.calls store.old + (followed_logs ManagedCheckpoint options.now.skip_wal_replay o + 17)) }
-        ensures faults { S.faults store.old ≤ S.faults store.new }
+        ensures faults { FaultsRise (S.faults store.old) (S.faults store.new) result }
     {
         if let Some(refusal) = lease_refusal(options) {
             return Err(refusal);
@@ -119,7 +120,7 @@ impl FollowerState {
             (made : ℕ) × TakesLease (by_objects (S.objects store.old)) x made options.now.checkpoint_lifetime_ms
             options.now.skip_wal_replay moment (known S.objects S.faults store.old) result (known S.objects S.faults store.new) }
         ensures calls { IfSome (S.objects store.old) (λ o. S.calls store.new ≤ S.calls store.old + (followed_logs ManagedCheckpoint options.now.skip_wal_replay o + 17)) }
-        ensures faults { S.faults store.old ≤ S.faults store.new }
+        ensures faults { FaultsRise (S.faults store.old) (S.faults store.new) result }
     {
         let following = Following {
             mode: DbReaderMode::ManagedCheckpoint,
@@ -190,6 +191,10 @@ impl FollowerState {
             (made : ℕ) × PollsManaged (by_objects (S.objects store.old)) x made moment self.old (known S.objects S.faults store.old) result self.new (known S.objects S.faults store.new) }
         ensures managed_calls { is_managed self.old.mode ≡ true → IfSome (S.objects store.old) (λ o. S.calls store.new ≤ S.calls store.old + 9 * (replayed_logs o + 3)) }
         ensures count { S.faults store.old ≤ S.faults store.new }
+        ensures faults { self.old.result ≡ None → FaultsRise (S.faults store.old) (S.faults store.new) result }
+        ensures closed { IfSome self.old.result (λ r. result ≡ Err (closed_error r)) }
+        ensures left { is_managed self.old.mode ≡ false → IfErr result (λ _. self.new ≡ self.old) }
+        ensures left_managed { is_managed self.old.mode ≡ true → self.old.result ≡ None → IfErr result (λ error. self.new ≡ record self.old { lease = self.new.lease; result = poll_result error }) }
         ensures untouched { self.old.result ≢ None → (self.new ≡ self.old) × (store.new ≡ store.old) }
         ensures stays { is_pinned self.old.mode ≡ true → (self.new ≡ self.old) × (store.new ≡ store.old) }
     {
@@ -218,7 +223,7 @@ impl FollowerState {
         requires open_ { self.old.result ≡ None }
         requires unleased { self.old.lease ≡ None }
         requires free { is_pinned self.old.mode ≡ false }
-        ensures count { S.faults store.old ≤ S.faults store.new }
+        ensures faults { FaultsRise (S.faults store.old) (S.faults store.new) result }
         ensures rebuilds { (x : Option Extractor) → IsExtractor E.may_name E.may_extract (option_copied extractor.entry) x →
             Rebuilds (by_objects (S.objects store.old)) x self.old.mode self.old.skips false (kept_seen self.old)
             (known S.objects S.faults store.old) (polled (built self.new result)) (known S.objects S.faults store.new) }

@@ -113,6 +113,25 @@ call_of (actions.Ts n number find) = FindTime number find
 call_of (actions.Seq n seconds find) = FindNumber seconds find
 call_of action = Nothing
 
+-- whether a command goes by the merge operator: it reads rows, or wants an operator
+abbrev pub goes_by_operator : Action → Bool
+goes_by_operator (actions.Merge n key value expire) = true
+goes_by_operator (actions.Get n key remote) = true
+goes_by_operator (actions.Scan n range order remote) = true
+goes_by_operator (actions.Seek n range take key order remote) = true
+goes_by_operator action = false
+
+-- whether it goes by the prefix extractor: it opens a handle or a reader, writes, or polls
+abbrev pub goes_by_extractor : Action → Bool
+goes_by_extractor (actions.Open wal) = true
+goes_by_extractor (actions.Follow mode managed skip) = true
+goes_by_extractor (actions.Put n key value expire) = true
+goes_by_extractor (actions.Merge n key value expire) = true
+goes_by_extractor (actions.Delete n key) = true
+goes_by_extractor (actions.Batch n batch) = true
+goes_by_extractor (actions.Poll n) = true
+goes_by_extractor action = false
+
 -- what a snapshot of a handle asks the handle: to read up to the snapshot's number
 abbrev pub at_snapshot : ℕ → Call → Call
 at_snapshot number (Get key remote snapshot) = Get key remote (Some number)

@@ -26,6 +26,11 @@ DoAll settings s (command ∷ commands) (reply ∷ replies) last =
     (made : ℕ) × (next : State (List Batch)) × Does (by_objects s.store.objects) settings made s command reply next × DoAll settings next commands replies last
 DoAll settings s commands replies last = ⊥
 
+-- They are done so on this store, which is as this one then, from a state without an object on.
+abbrev pub DidAll : Settings → List Command → List Reply → Known (List Batch) → Known (List Batch) → Type 0
+DidAll settings commands replies store store' =
+    (last : State (List Batch)) × DoAll settings (record { objects = []; writes = []; store = store }) commands replies last × (last.store ≡ store')
+
 -- The commands lead from the world of these objects, by one step each with its reply and each to a valid world, to one
 -- that the store holds afterwards. What was stored before is stored afterwards, a write that is reported durable is confirmed for good, what a
 -- snapshot gives stays, a reader that is polled in time keeps its checkpoint, and the first close of a handle or a reader lists

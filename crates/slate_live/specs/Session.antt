@@ -24,7 +24,7 @@ use Rattle.slate_script.specs.declared.options.SessionWords.TheVariants.{Script,
 use Rattle.slate_script.specs.Generator.{generated, summary_text}
 use Rattle.slate_script.specs.Options.{nothing_given, run_options}
 use Rattle.slate_script.specs.declared.replies.Reply.{Reply}
-use Rattle.slate_live.specs.Run.{IsRun}
+use Rattle.slate_live.specs.Run.{DidAll, IsRun}
 use Rattle.slate_live.specs.Settings.{Settings}
 use Rattle.slate_live.specs.declared.sessions.Outcome.{Outcome}
 use Rattle.slate_live.specs.declared.sessions.Outcome.TheVariants.{Done, LineRefused, ReadFault, WriteFault, NoMemory, TooLong, WordsRefused}
@@ -156,6 +156,7 @@ pub record RunsScript (words : Option SessionWords) (replies : List Reply) (endi
   pub read : WasRead bytes s.left s'.left
   pub commands : List Command
   pub script : script_of bytes ≡ Ok commands
+  pub done : DidAll (settings_of options) commands replies s.store s'.store
   pub run : IsRun (settings_of options) commands replies s.store s'.store
   pub writing : EndsWriting ending (replies_text replies) s.written s'.written s.sink_faults s'.sink_faults
 
@@ -166,6 +167,7 @@ pub record RunsGenerator (words : Option SessionWords) (replies : List Reply) (e
   pub count : ℕ
   pub accepted : words ≡ Some (Generator seed count)
   pub source : KeepsSource s s'
+  pub done : DidAll generator_settings (generated seed count) replies s.store s'.store
   pub run : IsRun generator_settings (generated seed count) replies s.store s'.store
   pub writing : EndsWriting ending (summary_text (length (generated seed count)) replies) s.written s'.written s.sink_faults s'.sink_faults
 

@@ -59,8 +59,8 @@ AtObject (Some (AFollower follower)) of_handle of_snapshot of_follower = of_foll
 abbrev pub AtHandle : World → ℕ → (Handle → Type 0) → Type 0
 AtHandle w n of_handle = AtObject (slice_get w.objects n) of_handle (λ snapshot. ⊥) (λ follower. ⊥)
 
--- an opening: an existing manifest is initialised and fits the extractor, the ids and the epoch that it uses are left, and each
--- key that it replays has a segment
+-- an opening: an existing manifest is initialised, has a tracker that fits it, and fits the extractor, the ids and the epoch
+-- that it uses are left, and each key that it replays has a segment
 abbrev pub CanOpen : Option Extractor → World → Type 0
 CanOpen extractor w =
     (open_refusal extractor w.catalogue ≡ None)

@@ -1,5 +1,5 @@
 // What commands do to a reader that follows a database.
-ghost use Rattle.std.specs.Prelude.{◌≡◌, ◌≤◌, ◌+◌, ℕ, None, Some, length, List, Option, IfSome};
+ghost use Rattle.std.specs.Prelude.{◌≡◌, ◌≤◌, ◌+◌, ℕ, None, Some, length, List, Option, IfSome, true};
 ghost use Rattle.std.specs.Option.{option_copied};
 ghost use Rattle.slate_types.specs.Operator.{Merge};
 ghost use Rattle.slate_reads.specs.Read.{IsOperator};
@@ -11,7 +11,7 @@ ghost use Rattle.slate_model.specs.Stores.{by_objects};
 ghost use Rattle.slate_live.specs.declared.states.Write.{Write};
 ghost use Rattle.slate_model.specs.Segments.{Extractor, IsExtractor};
 ghost use Rattle.slate_live.specs.Settings.{Settings};
-ghost use Rattle.slate_live.specs.Calls.{call_of, end_calls, most_asked, poll_calls};
+ghost use Rattle.slate_live.specs.Calls.{call_of, end_calls, goes_by_extractor, goes_by_operator, most_asked, poll_calls};
 ghost use Rattle.slate_live.specs.Followers.{ClosesFollower, FollowerActs, GetsFromFollower, PollsFollower, TakesFromFollower};
 ghost use Rattle.slate_live.specs.Replies.{AnswersStatus, follower_closed_reply};
 ghost use Rattle.slate_live.specs.Scans.{scanned, sought};
@@ -37,7 +37,7 @@ pub(crate) fn act<S: Store, M: MergeOperator, E: PrefixExtractor>(
 ) -> Reply
     ensures faults { S.faults store.old ≤ S.faults store.new }
     ensures calls { IfSome (S.objects store.old) (λ o. S.calls store.new ≤ S.calls store.old + most_asked o (Some (AFollower follower.old)) (call_of command.now.action)) }
-    ensures does { (settings : Settings) (writes : List Write) → IsOperator M.may_answer (option_copied operator.entry) settings.merge → IsExtractor E.may_name E.may_extract (option_copied extractor.entry) settings.extractor →
+    ensures does { (settings : Settings) (writes : List Write) → (goes_by_operator command.now.action ≡ true → IsOperator M.may_answer (option_copied operator.entry) settings.merge) → (goes_by_extractor command.now.action ≡ true → IsExtractor E.may_name E.may_extract (option_copied extractor.entry) settings.extractor) →
         (made : ℕ) × FollowerActs (by_objects (S.objects store.old)) settings command.now.moment (call_of command.now.action) made
         follower.old (known S.objects S.faults store.old) writes result follower.new (known S.objects S.faults store.new) writes }
 {

@@ -1,5 +1,5 @@
 // What commands do to a handle that writes.
-ghost use Rattle.std.specs.Prelude.{◌≡◌, ◌≤◌, ℕ, List, ◌+◌, [], ◌∷◌, ◌++◌, false, length, None, Some, Option, IfErr, IfOk, IfSome, IsTrue, ◌↔◌};
+ghost use Rattle.std.specs.Prelude.{◌≡◌, ◌≤◌, ℕ, List, ◌+◌, [], ◌∷◌, ◌++◌, false, length, None, Some, Option, IfErr, IfOk, IfSome, IsTrue, ◌↔◌, true};
 ghost use Rattle.std.specs.Option.{option_copied};
 ghost use Rattle.slate_types.specs.Operator.{Merge};
 ghost use Rattle.slate_reads.specs.Read.{IsOperator};
@@ -12,7 +12,7 @@ ghost use Rattle.slate_model.specs.Segments.{Extractor, IsExtractor};
 ghost use Rattle.slate_model.specs.Status.{handle_status};
 ghost use Rattle.slate_model.specs.Write.{Writes};
 ghost use Rattle.slate_live.specs.Settings.{Settings};
-ghost use Rattle.slate_live.specs.Calls.{at_snapshot, call_of, flush_of_close, most_asked, ops_of};
+ghost use Rattle.slate_live.specs.Calls.{at_snapshot, call_of, flush_of_close, goes_by_extractor, goes_by_operator, most_asked, ops_of};
 ghost use Rattle.slate_live.specs.declared.states.Write.{Write as AWrite};
 ghost use Rattle.slate_live.specs.Handles.{ClosesHandle, CompactsHandle, FlushesHandle, GetsFrom, HandleActs, IsPlainScan, RefreshesHandle};
 ghost use Rattle.slate_live.specs.Handles.{TakesFrom, WritesTo, durable_reply, flush_type_by, level_of, noted};
@@ -48,7 +48,7 @@ pub(crate) fn act<S: Store, M: MergeOperator, E: PrefixExtractor>(
     ensures faults { S.faults store.old ≤ S.faults store.new }
     ensures calls { IfSome (S.objects store.old) (λ o.
         S.calls store.new ≤ S.calls store.old + most_asked o (Some (AHandle writer.old)) (call_of command.now.action)) }
-    ensures does { (settings : Settings) → IsOperator M.may_answer (option_copied operator.entry) settings.merge → IsExtractor E.may_name E.may_extract (option_copied extractor.entry) settings.extractor →
+    ensures does { (settings : Settings) → (goes_by_operator command.now.action ≡ true → IsOperator M.may_answer (option_copied operator.entry) settings.merge) → (goes_by_extractor command.now.action ≡ true → IsExtractor E.may_name E.may_extract (option_copied extractor.entry) settings.extractor) →
         (made : ℕ) × HandleActs (by_objects (S.objects store.old)) settings number command.now.moment command.now.second (call_of command.now.action) made
         writer.old (known S.objects S.faults store.old) writes.old.items result writer.new (known S.objects S.faults store.new) writes.new.items }
 {
@@ -108,7 +108,7 @@ pub(crate) fn act_at<S: Store, M: MergeOperator>(
     ensures faults { S.faults store.old ≤ S.faults store.new }
     ensures calls { IfSome (S.objects store.old) (λ o.
         S.calls store.new ≤ S.calls store.old + most_asked o (Some (AHandle writer.now)) (call_of command.now.action)) }
-    ensures does { (settings : Settings) (handle : ℕ) (writes : List AWrite) → IsOperator M.may_answer (option_copied operator.entry) settings.merge →
+    ensures does { (settings : Settings) (handle : ℕ) (writes : List AWrite) → (goes_by_operator command.now.action ≡ true → IsOperator M.may_answer (option_copied operator.entry) settings.merge) →
         HandleActs (by_objects (S.objects store.old)) settings handle command.now.moment command.now.second (at_snapshot snapshot (call_of command.now.action)) 0
         writer.now (known S.objects S.faults store.old) writes result writer.now (known S.objects S.faults store.new) writes }
 {

@@ -4,10 +4,9 @@ ghost use Rattle.std.specs.Option.{option_copied};
 ghost use Rattle.slate_reads.specs.Read.{IsOperator};
 ghost use Rattle.slate_model.specs.Known.{known};
 ghost use Rattle.slate_types.specs.declared.batches.Batch.{Batch};
-ghost use Rattle.slate_live.specs.Run.{DoAll, IsRun};
+ghost use Rattle.slate_live.specs.Run.{DidAll, IsRun};
 ghost use Rattle.slate_model.specs.Segments.{IsExtractor};
 ghost use Rattle.slate_live.specs.Settings.{Settings};
-ghost use Rattle.slate_live.specs.State.{State};
 
 use crate::LiveState;
 use slate_script::{Command, Options, Reply};
@@ -35,8 +34,7 @@ pub fn run<S: Store, M: MergeOperator, E: PrefixExtractor>(
     ensures nothing { OnErr result (store.new ≡ store.old) }
     // Over any store each command is done as `apply` says, with its reply, from a state without an object on.
     ensures does { IfOk result (λ replies. (settings : Settings) → IsOperator M.may_answer (option_copied operator.entry) settings.merge → IsExtractor E.may_name E.may_extract (option_copied extractor.entry) settings.extractor → settings.options ≡ options.now →
-        (last : State (List Batch)) × DoAll settings
-        (record { objects = []; writes = []; store = known S.objects S.faults store.old }) commands.now replies.items last × (last.store ≡ known S.objects S.faults store.new)) }
+        DidAll settings commands.now replies.items (known S.objects S.faults store.old) (known S.objects S.faults store.new)) }
     ensures leads { IfOk result (λ replies. (settings : Settings) → IsOperator M.may_answer (option_copied operator.entry) settings.merge → IsExtractor E.may_name E.may_extract (option_copied extractor.entry) settings.extractor → settings.options ≡ options.now →
         IsRun settings commands.now replies.items (known S.objects S.faults store.old) (known S.objects S.faults store.new)) }
 {

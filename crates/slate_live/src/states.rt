@@ -6,7 +6,7 @@ ghost use Rattle.slate_reads.specs.Read.{IsOperator};
 ghost use Rattle.slate_model.specs.Known.{Known, known};
 ghost use Rattle.slate_model.specs.Open.{replayed_logs};
 ghost use Rattle.slate_model.specs.Stores.{by_objects};
-ghost use Rattle.slate_live.specs.Calls.{call_of, follow_calls, most_asked, most_calls, read_by};
+ghost use Rattle.slate_live.specs.Calls.{call_of, follow_calls, goes_by_extractor, goes_by_operator, most_asked, most_calls, read_by};
 ghost use Rattle.slate_live.specs.Commands.{ActsOn, Does, interval_of, lifetime_of, OpensFollowerIn, OpensHandleIn, OpensSnapshot, ReadsSnapshot, write_reply};
 ghost use Rattle.slate_live.specs.Sampling.{Pushes};
 ghost use Rattle.slate_live.specs.Replies.{followed_reply};
@@ -95,10 +95,10 @@ impl LiveState {
         ensures options { self.new.options ≡ self.old.options }
         ensures faults { S.faults store.old ≤ S.faults store.new }
         ensures calls { IfSome (S.objects store.old) (λ o. S.calls store.new ≤ S.calls store.old + most_calls o self.old.objects command.now) }
-        ensures does { (settings : Settings) → IsOperator M.may_answer (option_copied operator.entry) settings.merge → IsExtractor E.may_name E.may_extract (option_copied extractor.entry) settings.extractor → settings.options ≡ self.old.options →
+        ensures does { (settings : Settings) → (goes_by_operator command.now.action ≡ true → IsOperator M.may_answer (option_copied operator.entry) settings.merge) → (goes_by_extractor command.now.action ≡ true → IsExtractor E.may_name E.may_extract (option_copied extractor.entry) settings.extractor) → settings.options ≡ self.old.options →
             (made : ℕ) × Does (by_objects (S.objects store.old)) settings made
             (running self.old (known S.objects S.faults store.old)) command.now result (running self.new (known S.objects S.faults store.new)) }
-        ensures link { (settings : Settings) → IsOperator M.may_answer (option_copied operator.entry) settings.merge → IsExtractor E.may_name E.may_extract (option_copied extractor.entry) settings.extractor → settings.options ≡ self.old.options →
+        ensures link { (settings : Settings) → (goes_by_operator command.now.action ≡ true → IsOperator M.may_answer (option_copied operator.entry) settings.merge) → (goes_by_extractor command.now.action ≡ true → IsExtractor E.may_name E.may_extract (option_copied extractor.entry) settings.extractor) → settings.options ≡ self.old.options →
             Links settings.extractor (λ w reply w'. Link settings w command.now reply w')
             self.old (known S.objects S.faults store.old) result self.new (known S.objects S.faults store.new) }
     {
@@ -258,7 +258,7 @@ impl LiveState {
         ensures faults { S.faults store.old ≤ S.faults store.new }
         ensures calls { IfSome (S.objects store.old) (λ o.
             S.calls store.new ≤ S.calls store.old + most_asked o (read_by self.old.objects (slice_get self.old.objects number)) (call_of command.now.action)) }
-        ensures does { (settings : Settings) → IsOperator M.may_answer (option_copied operator.entry) settings.merge → IsExtractor E.may_name E.may_extract (option_copied extractor.entry) settings.extractor →
+        ensures does { (settings : Settings) → (goes_by_operator command.now.action ≡ true → IsOperator M.may_answer (option_copied operator.entry) settings.merge) → (goes_by_extractor command.now.action ≡ true → IsExtractor E.may_name E.may_extract (option_copied extractor.entry) settings.extractor) →
             (made : ℕ) × ActsOn (by_objects (S.objects store.old)) settings number command.now (call_of command.now.action) made (slice_get self.old.objects number)
             (running self.old (known S.objects S.faults store.old)) result (running self.new (known S.objects S.faults store.new)) }
     {
@@ -293,7 +293,7 @@ impl LiveState {
         ensures faults { S.faults store.old ≤ S.faults store.new }
         ensures calls { IfSome (S.objects store.old) (λ o.
             S.calls store.new ≤ S.calls store.old + most_asked o (slice_get self.now.objects snapshot.handle) (call_of command.now.action)) }
-        ensures does { (settings : Settings) → IsOperator M.may_answer (option_copied operator.entry) settings.merge →
+        ensures does { (settings : Settings) → (goes_by_operator command.now.action ≡ true → IsOperator M.may_answer (option_copied operator.entry) settings.merge) →
             ReadsSnapshot (by_objects (S.objects store.old)) settings snapshot command.now (call_of command.now.action) 0 (slice_get self.now.objects snapshot.handle)
             (running self.now (known S.objects S.faults store.old)) result (running self.now (known S.objects S.faults store.new)) }
     {

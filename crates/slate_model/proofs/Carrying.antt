@@ -1,5 +1,5 @@
 -- What the changes of each operation carry on of the latest manifest.
-use Rattle.std.proofs.Common.{◌≡◌, ◌+◌, ◌++◌, ◌∷◌, ◌<◌, ◌≤◌, ◌∙◌, ◌||◌, ◌==◌, [], Bool, List, Err, None, Ok, Option, Some, ap, arith, cond, false, length, map, not, refl, subst, sym, true, ℕ, ℤ}
+use Rattle.std.proofs.Common.{◌≡◌, ◌++◌, ◌∷◌, ◌≤◌, ◌==◌, [], Bool, List, Err, None, Ok, Option, Some, ap, arith, cond, false, length, map, not, refl, subst, sym, true, ℕ, ℤ}
 use Rattle.std.proofs.lemmas.Bool.{eq-eqb, or_parts}
 use Rattle.std.specs.List.{AllByRecursion, filter, list_any}
 use Rattle.std.specs.Prelude.{nat_lt}

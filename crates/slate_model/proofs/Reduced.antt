@@ -1,5 +1,5 @@
 -- What an operation does to the objects of a store it does to what a world knows of them.
-use Rattle.std.proofs.Common.{◌≡◌, ℕ, Bool, true, false, List, [], Option, Some, None, Result, Ok, Err, refl, sym, subst, ap, ◌∙◌, ◌≤◌, ◌+◌, inl, inr, length, map, take, cond, ltb, flat_map, option_map, arith}
+use Rattle.std.proofs.Common.{◌≡◌, ℕ, Bool, true, false, List, [], Option, Some, None, Result, Ok, Err, refl, sym, subst, ap, ◌∙◌, ◌≤◌, ◌<◌, ◌+◌, inl, inr, length, map, take, cond, ltb, flat_map, option_map, arith}
 use Rattle.std.specs.Option.{IfSome}
 use Rattle.std.specs.Result.{IfOk, IfErr}
 use Rattle.slate_types.specs.declared.batches.Batch.{Batch}
@@ -9,7 +9,7 @@ use Rattle.slate_types.specs.declared.store_errors.StoreFault.TheVariants.{Unava
 use Rattle.slate_store.specs.Calls.{WhereModelled}
 use Rattle.slate_store.specs.declared.objects.VersionedManifest.{VersionedManifest}
 use Rattle.slate_store.specs.Content.{IsSound, content}
-use Rattle.slate_store.specs.Objects.{Objects, ObjectsOf, latest_manifest, last_log}
+use Rattle.slate_store.specs.Objects.{ChangeOf, Objects, ObjectsOf, latest_manifest, last_log}
 use Rattle.slate_errors.specs.declared.endings.Ended.{Ended}
 use Rattle.slate_errors.specs.declared.endings.TaskName.{TaskName}
 use Rattle.slate_errors.specs.declared.errors.SlateError.{SlateError}
@@ -33,7 +33,7 @@ use Rattle.slate_model.specs.Segments.{Extractor, extractor_name, segments_of}
 use Rattle.slate_model.specs.Known.{Known, Untouched}
 use Rattle.slate_model.proofs.Reopened.{no-fault}
 use Rattle.slate_model.proofs.Catalogued.{reduced, catalogue-after, flush_changes-known, last_log-catalogue, tables_part-known, tables_put-known, compact_changes-known, manifest_cause-known, table-known, opens-known, opened_manifest-known}
-use Rattle.slate_model.specs.Flush.{CanFlush, DurableAfter, FlushAnswer, FlushCause, Flushes, FlushesOnly, IsFlushed, StoresBatches, Stores, flush_changes, flush_changes_by, flush_result, flush_view, grows, has_ids, next_flushed, tables_put}
+use Rattle.slate_model.specs.Flush.{CanFlush, DurableAfter, FlushAnswer, FlushCause, Flushes, FlushesOnly, IsFlushed, StoresBatches, Stores, TracksFlush, flush_changes, flush_changes_by, flush_result, flush_view, grows, has_ids, next_flushed, tables_put}
 use Rattle.slate_model.specs.Open.{AreSegmented, IsFresh, OpenFault, OpensHandle, opened_handle, opened_manifest, Opens, replayed}
 use Rattle.slate_store.specs.declared.objects.TableId.{TableId}
 use Rattle.slate_types.specs.declared.read_faults.ReadFault.{ReadFault}
@@ -47,7 +47,8 @@ use Rattle.slate_model.proofs.Keeping.{accepted-kept, changes-kept, cond-twice, 
 use Rattle.slate_model.specs.Changes.{PartMade, after_part}
 use Rattle.slate_types.specs.declared.options.FlushType.TheVariants.{Wal, MemTable}
 use Rattle.std.proofs.lemmas.List.{length-map}
-use Rattle.std.specs.Prelude.{nat_le}
+use Rattle.std.specs.Prelude.{nat_le, IfOk}
+use Rattle.slate_seqtrack.specs.Bytes.{packed}
 use Rattle.slate_store.specs.Compaction.{compact_changes}
 use Rattle.std.proofs.lemmas.Bool.{ltb-true}
 
@@ -95,6 +96,17 @@ if_ok (Err e) f h = tt
 abbrev pub whole : Handle → Handle → Handle
 whole h k = record k { line = h.line; segments = h.segments }
 
+-- the tracker of a handle after a flush goes by how many tables were put
+tracks-known : {L M : Type 0} (cs : List (ChangeOf L)) (ds : List (ChangeOf M)) (h k : Handle) → tables_put cs ≡ tables_put ds → TracksFlush cs (kept_handle h) k → TracksFlush ds h (whole h k)
+tracks-known cs ds h k all s = record {
+  is = s.is ∙ ap (λ n. cond (ltb 0 n) (packed h.tracker) h.tracker) all;
+  again = λ some. s.again (omega (arith, all, some));
+}
+
+tracked-known : {A L M : Type 0} (cs : List (ChangeOf L)) (ds : List (ChangeOf M)) (h k : Handle) → tables_put cs ≡ tables_put ds → (r : Result A SlateError) → IfOk r (λ _. TracksFlush cs (kept_handle h) k) → IfOk r (λ _. TracksFlush ds h (whole h k))
+tracked-known cs ds h k all (Ok _) s = tracks-known cs ds h k all s
+tracked-known cs ds h k all (Err e) s = tt
+
 -- What is said of the handle that the code keeps is said of the whole one, and is known of the objects.
 module _ (x : Option Objects) (stored : Line) (c : Catalogue) (h : Handle) (o : Objects) (tabled : h.view.manifest.last_l0_seq ≤ h.durable)
     (ahead : (latest : VersionedManifest) → latest_manifest o ≡ Some latest → h.view.manifest.last_l0_seq ≤ latest.manifest.last_l0_seq) where
@@ -141,6 +153,7 @@ module _ (x : Option Objects) (stored : Line) (c : Catalogue) (h : Handle) (o : 
           current = s.current;
           counted = (subst (λ n. h.counter + n ≤ k.counter) part s.counted.0, subst (λ n. k.counter ≤ h.counter + n) all s.counted.1);
           after = ap catalogue_of s.after ∙ (catalogue-after made cs o ∙ ap (λ ds. after_part made ds (catalogue_of o)) same);
+          tracked = tracked-known cs (flush_changes span t h (catalogue_of o)) h k all r s.tracked;
         }
 
   flush_view-rises : (t : FlushType) (latest : VersionedManifest) (last : ℕ) → latest_manifest o ≡ Some latest → h.view.manifest.last_l0_seq ≤ (flush_view t (kept_handle h) latest last).manifest.last_l0_seq
@@ -182,6 +195,7 @@ flushed-whole made r closed tasks h k s = record {
   same = ap (λ (a : Handle). record a { line = h.line; segments = h.segments }) s.same;
   durable = durable-whole made h r k.durable s.durable;
   counter = s.counter;
+  tracker = s.tracker;
 }
 
 kept-known : (o o' : Objects) (f f' : ℕ) → (holding o' f').objects ≡ (holding o f).objects → (catalogued o' f').objects ≡ (catalogued o f).objects

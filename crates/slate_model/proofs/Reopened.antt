@@ -4,7 +4,7 @@ use Rattle.slate_errors.specs.declared.errors.SlateError.{SlateError}
 use Rattle.slate_errors.specs.declared.endings.TaskName.{TaskName}
 use Rattle.slate_model.specs.Changes.{after_part}
 use Rattle.slate_model.specs.Handle.{Handle, kept_handle, latest_tick}
-use Rattle.slate_model.specs.Tracked.{no_times}
+use Rattle.slate_model.specs.Tracked.{opened_tracker, tracked_all}
 use Rattle.slate_model.specs.Open.{OpenFault, first_manifest, found_log, mark_of, next_id, next_manifest, number_of, open_changes, opened_handle, opened_manifest, replayed}
 use Rattle.slate_model.specs.Segments.{Extractor, extractor_name, segments_of}
 use Rattle.slate_store.proofs.Committed.{committed}
@@ -293,7 +293,7 @@ recovered x keeps_log limit tasks v bs =
       epoch = v.manifest.writer_epoch;
       counter = 0;
       tick = latest_tick v.manifest.last_tick bs;
-      tracker = no_times;
+      tracker = tracked_all (opened_tracker v.manifest) bs;
       writes = None;
       view = v;
       result = None;

@@ -1,5 +1,5 @@
 -- What a flush stores, and what it answers.
-use Rattle.std.specs.Prelude.{◌≡◌, ℕ, ◌+◌, ◌<◌, ◌≤◌, ◌⊎◌, ◌&&◌, nat_lt, nat_le, if◌then◌else◌, Bool, true, false, List, [], ◌∷◌, ◌++◌, length, take, Option, Some, None, Result, Ok, Err, IfSome}
+use Rattle.std.specs.Prelude.{◌≡◌, ℕ, ◌+◌, ◌<◌, ◌≤◌, ◌⊎◌, ◌&&◌, nat_lt, nat_le, if◌then◌else◌, Bool, true, false, List, [], ◌∷◌, ◌++◌, length, take, Option, Some, None, Result, Ok, Err, IfOk, IfSome}
 use Rattle.slate_types.specs.declared.batches.Batch.{Batch}
 use Rattle.slate_types.specs.Line.{Line, extended}
 use Rattle.slate_types.specs.declared.options.FlushType.{FlushType}
@@ -9,6 +9,9 @@ use Rattle.slate_store.specs.declared.objects.VersionedManifest.{VersionedManife
 use Rattle.slate_types.specs.declared.store_errors.StoreFault.TheVariants.{Unavailable}
 use Rattle.slate_store.specs.Objects.{ObjectsOf, ChangeOf, PutLog, PutManifest, PutTable, latest_manifest, last_log}
 use Rattle.slate_store.specs.Calls.{WhereModelled}
+use Rattle.slate_seqtrack.specs.Bytes.{packed, tracker_at, tracker_of}
+use Rattle.slate_seqtrack.specs.Spelling.{tracker_bytes}
+use Rattle.slate_seqtrack.specs.Tracker.{Tracker, numbers_of, times_of}
 use Rattle.slate_status.specs.Segments.{union_of}
 use Rattle.slate_errors.specs.declared.closing.CloseFault.TheVariants as faults
 use Rattle.slate_errors.specs.declared.errors.SlateError.{SlateError}
@@ -28,7 +31,8 @@ log_after [] last = last
 log_after (batch ∷ batches) last = last + 1
 
 -- the manifest of a flush to a table, where this log file is the last: it names the table of all batches that aren't in
--- tables, a replay begins after that log file, and its segments are those that it had and those of the batches, each once
+-- tables, a replay begins after that log file, its segments are those that it had and those of the batches, each once, and
+-- it has the bytes of the handle's tracker
 abbrev pub flushed_manifest : Handle → Manifest → ℕ → Manifest
 flushed_manifest handle manifest last =
     record manifest {
@@ -38,6 +42,7 @@ flushed_manifest handle manifest last =
       replay_after_wal_id = last;
       next_wal_id = last + 1;
       segments = union_of manifest.segments (untabled_segments handle);
+      sequence_tracker = Some (tracker_bytes (packed handle.tracker));
     }
 
 -- the manifest after the latest one that names the handle's next table
@@ -79,6 +84,20 @@ abbrev pub tables_put : {L : Type 0} → List (ChangeOf L) → ℕ
 tables_put [] = 0
 tables_put (PutTable id table ∷ changes) = tables_put changes + 1
 tables_put (change ∷ changes) = tables_put changes
+
+-- the tracker after all of these changes of a flush: packed, where a table was put
+abbrev pub flushed_tracker : {L : Type 0} → List (ChangeOf L) → Handle → Tracker
+flushed_tracker changes handle = if nat_lt 0 (tables_put changes) then packed handle.tracker else handle.tracker
+
+-- the bytes of a tracker are read again as its lists
+abbrev pub IsReadAgain : Tracker → Type 0
+IsReadAgain tracker = tracker_at (tracker_bytes tracker) ≡ Ok (tracker_of (numbers_of tracker) (times_of tracker))
+
+-- The tracker after a flush that made all of these changes. Where a table was put, its bytes, which the manifest has, are read
+-- again as its lists.
+pub record TracksFlush {L : Type 0} (changes : List (ChangeOf L)) (old new : Handle) : Type 0 where
+  pub is : new.tracker ≡ flushed_tracker changes old
+  pub again : 0 < tables_put changes → IsReadAgain new.tracker
 
 -- The batches of a handle are stored by the first so many changes of a flush: by the put of the log file, or, without a
 -- log, by that of the manifest, after its table.
@@ -179,11 +198,12 @@ DurableAfter stored handle (Err errors.NoMemory) durable = durable ≡ (if store
 DurableAfter stored handle (Err error) durable = (durable ≡ handle.durable) ⊎ ((stored ≡ true) × (durable ≡ accepted handle))
 
 -- A handle after a flush of which so many changes were made, which leaves this result and these tasks: its durable number, its
--- view and the count of its tables have moved, and nothing else.
+-- view and the count of its tables have moved, its tracker may be packed, and nothing else.
 pub record IsFlushed (keep : Handle → Handle) (made : ℕ) (result : Result (Unit {0}) SlateError) (closed : CloseResult) (tasks : List TaskName) (old new : Handle) : Type 0 where
-  pub same : new ≡ keep (record old { durable = new.durable; counter = new.counter; view = new.view; result = closed; tasks = tasks })
+  pub same : new ≡ keep (record old { durable = new.durable; counter = new.counter; tracker = new.tracker; view = new.view; result = closed; tasks = tasks })
   pub durable : DurableAfter (nat_le (grows old) made) old result new.durable
   pub counter : (old.counter ≤ new.counter) × (new.counter ≤ old.counter + 1)
+  pub tracker : (new.tracker ≡ old.tracker) ⊎ (new.tracker ≡ packed old.tracker)
 
 -- A flush of a handle: its answer has its cause, so many of its changes were made, and the count of its tables was
 -- raised before one was put.
@@ -196,6 +216,7 @@ pub record StoresBatches {L : Type 0} (k : Knowledge L) (flush_type : FlushType)
   pub counted : (old.counter + tables_put (take made (flush_changes k.summary flush_type old objects)) ≤ new.counter)
       × (new.counter ≤ old.counter + tables_put (flush_changes k.summary flush_type old objects))
   pub after : objects' ≡ after_part made (flush_changes k.summary flush_type old objects) objects
+  pub tracked : IfOk result (λ done. TracksFlush (flush_changes k.summary flush_type old objects) old new)
 
 -- the batches of a handle go to the store, and it is as this one then
 pub record Stores {L : Type 0} (k : Knowledge L) (made : ℕ) (flush_type : FlushType) (old : Handle)

@@ -16,7 +16,7 @@ use Rattle.slate_model.specs.Changes.{PartMade, after_part}
 use Rattle.slate_model.specs.Handle.{Handle, accepted, latest_tick}
 use Rattle.slate_model.specs.Knowledge.{Knowledge}
 use Rattle.slate_model.specs.Segments.{Extractor, extractor_name, extractor_refusal, ops_of, segments_of, unsegmented_refusal}
-use Rattle.slate_model.specs.Tracked.{no_times}
+use Rattle.slate_model.specs.Tracked.{opened_tracker, stored_tracker, tracked_all}
 use Rattle.slate_model.specs.Known.{CountsFaults, Known}
 use Rattle.slate_model.specs.Write.{last_number}
 
@@ -38,6 +38,7 @@ first_manifest name =
       checkpoints = [];
       segments = [];
       extractor_name = name;
+      sequence_tracker = None;
     }
 
 -- after which log file those that an opening replays begin
@@ -82,10 +83,12 @@ abbrev pub open_changes : {L : Type 0} → Option (List ℕ) → (List Batch →
 open_changes name summary objects =
     PutManifest (opened_manifest name objects).id (opened_manifest name objects).manifest ∷ PutLog (found_log objects + 1) (summary []) ∷ []
 
--- whether a database can be opened by its latest manifest: it is initialised, and its id and its epoch aren't the last
+-- whether a database can be opened by its latest manifest: it is initialised, its tracker can be read and fits it, and its
+-- id and its epoch aren't the last
 abbrev pub can_reopen : VersionedManifest → Bool
 can_reopen latest =
-    latest.manifest.initialized && nat_lt latest.id last_number && nat_lt latest.manifest.writer_epoch last_number
+    latest.manifest.initialized && is_some (stored_tracker latest.manifest) && nat_lt latest.id last_number
+    && nat_lt latest.manifest.writer_epoch last_number
 
 -- whether a store can be opened, where this log file is the last: it isn't the last one that there can be
 abbrev pub can_open_by : Option VersionedManifest → ℕ → Bool
@@ -113,7 +116,8 @@ abbrev pub replayed : VersionedManifest → Line → List Batch
 replayed view stored = batches_above view.manifest.last_l0_seq stored.batches
 
 -- The handle that an opening gives under the manifest that it committed, where this line is stored: it sees the line, all of
--- it is durable, and these tasks run for it.
+-- it is durable, its tracker is that of the manifest, in which the batches that are replayed are tracked, and these tasks run
+-- for it.
 abbrev pub opened_handle : Option Extractor → (keeps_log : Bool) (limit : ℕ) (tasks : List TaskName) → VersionedManifest → Line → Handle
 opened_handle extractor keeps_log limit tasks view stored =
     record {
@@ -125,7 +129,7 @@ opened_handle extractor keeps_log limit tasks view stored =
       epoch = view.manifest.writer_epoch;
       counter = 0;
       tick = latest_tick view.manifest.last_tick (replayed view stored);
-      tracker = no_times;
+      tracker = tracked_all (opened_tracker view.manifest) (replayed view stored);
       writes = None;
       view = view;
       result = None;

@@ -15,7 +15,7 @@ use Rattle.slate_errors.specs.declared.errors.SlateError.TheVariants.{Transactio
 use Rattle.slate_model.specs.declared.answers.Written.{Written}
 use Rattle.slate_model.specs.Handle.{CloseResult, Handle, accepted}
 use Rattle.slate_model.specs.Segments.{Extractor}
-use Rattle.slate_model.specs.Write.{WritesBut, write_refusal}
+use Rattle.slate_model.specs.Write.{WritesBut, WritesByAny, write_refusal}
 
 -- a transaction
 pub record Transaction : Type 0 where
@@ -82,3 +82,16 @@ Commits extractor t old moment second (Ok (Some written)) new =
     (old.result ≡ None) × (t.own.ops ≢ []) × (is_in_conflict t (writes_of old) ≡ false)
     × WritesBut t.unmarked extractor old t.own.ops moment second (Ok written) new
 Commits extractor t old moment second (Err error) new = CommitRefusal extractor t old moment second error × (new ≡ old)
+
+-- What a commit says whatever the extractor answers: all but what a write says by its extractor.
+abbrev pub CommitsByAny : Transaction → Handle → ℤ → Option ℤ → Result (Option Written) SlateError → Handle → Type 0
+CommitsByAny t old moment second (Ok None) new = (old.result ≡ None) × (t.own.ops ≡ []) × (new ≡ old)
+CommitsByAny t old moment second (Ok (Some written)) new =
+    (old.result ≡ None) × (t.own.ops ≢ []) × (is_in_conflict t (writes_of old) ≡ false)
+    × WritesByAny t.unmarked old t.own.ops moment second (Ok written) new
+CommitsByAny t old moment second (Err TransactionConflict) new =
+    (old.result ≡ None) × (t.own.ops ≢ []) × (is_in_conflict t (writes_of old) ≡ true) × (new ≡ old)
+CommitsByAny t old moment second (Err error) new =
+    IfSome old.result (λ r. error ≡ closed_error r)
+    × (old.result ≡ None → (t.own.ops ≢ []) × (is_in_conflict t (writes_of old) ≡ false) × WritesByAny t.unmarked old t.own.ops moment second (Err error) new)
+    × (new ≡ old)

@@ -1,5 +1,5 @@
 -- What a write adds to a handle, and what refuses it.
-use Rattle.std.specs.Prelude.{◌≡◌, ℕ, ℤ, ◌+◌, ◌⊎◌, ◌==◌, Bool, if◌then◌else◌, nat_lt, int_lt, List, [], ◌∷◌, ◌++◌, length, Option, Some, None, option_map, unwrap_or, Result, IfOk, IfErr}
+use Rattle.std.specs.Prelude.{◌≡◌, ℕ, ℤ, ◌+◌, ◌⊎◌, ◌==◌, Bool, if◌then◌else◌, nat_lt, int_lt, List, [], ◌∷◌, ◌++◌, length, Option, Some, None, option_map, unwrap_or, Result, Err, IfOk, IfErr, IfSome}
 use Rattle.std.specs.List.{list_any}
 use Rattle.std.specs.Option.{option_eq, option_or}
 use Rattle.std.specs.Ordering.{int_eq}
@@ -10,7 +10,7 @@ use Rattle.slate_types.specs.declared.batches.Op.{Op}
 use Rattle.slate_types.specs.declared.batches.Op.TheVariants.{Put, Delete, Merge}
 use Rattle.slate_types.specs.Line.{extended}
 use Rattle.slate_errors.specs.declared.errors.SlateError.{SlateError}
-use Rattle.slate_errors.specs.declared.errors.SlateError.TheVariants.{EmptyBatch, EmptyKey, IncompatibleMergeTtls, InvalidDBState, InvalidClockTick, NoMemory}
+use Rattle.slate_errors.specs.declared.errors.SlateError.TheVariants.{EmptyBatch, EmptyKey, EmptySegmentPrefix, IncompatibleMergeTtls, InvalidDBState, InvalidClockTick, InvalidSegmentPrefix, NoMemory}
 use Rattle.slate_model.specs.declared.answers.Written.{Written}
 use Rattle.slate_transactions.specs.Writes.{after_writes}
 use Rattle.slate_model.specs.Tracked.{tracked}
@@ -110,6 +110,19 @@ pub record WritesBut (unmarked : List (List ℕ)) (extractor : Option Extractor)
   pub accepted : IfOk result (λ w. (write_refusal extractor old ops moment second ≡ None) × (accepted_moment old.tick moment second ≡ Some w.create_ts)
       × (w.number ≡ accepted old + 1) × (new ≡ written_but unmarked extractor old ops w.create_ts))
   pub refused : IfErr result (λ error. ((error ≡ NoMemory) ⊎ (write_refusal extractor old ops moment second ≡ Some error)) × (new ≡ old))
+
+-- the refusals of an operation by its segment
+abbrev pub IsOfSegments : SlateError → Type 0
+IsOfSegments (EmptySegmentPrefix key) = Unit {0}
+IsOfSegments (InvalidSegmentPrefix prefix known) = Unit {0}
+IsOfSegments error = ⊥
+
+-- What a write says whatever its extractor answers: all but the prefixes that it takes, and which of them refuse it.
+pub record WritesByAny (unmarked : List (List ℕ)) (old : Handle) (ops : List KeyOp) (moment : ℤ) (second : Option ℤ) (result : Result Written SlateError) (new : Handle) : Type 0 where
+  pub closed : IfSome old.result (λ r. result ≡ Err (closed_error r))
+  pub accepted : IfOk result (λ w. (write_refusal None old ops moment second ≡ None) × (accepted_moment old.tick moment second ≡ Some w.create_ts)
+      × (w.number ≡ accepted old + 1) × (new ≡ record (written_but unmarked None old ops w.create_ts) { segments = new.segments }))
+  pub refused : IfErr result (λ error. ((error ≡ NoMemory) ⊎ (IsOfSegments error ⊎ (write_refusal None old ops moment second ≡ Some error))) × (new ≡ old))
 
 -- a write that tracks all its writes
 abbrev pub Writes : Option Extractor → Handle → List KeyOp → ℤ → Option ℤ → Result Written SlateError → Handle → Type 0

@@ -1,17 +1,19 @@
 -- Both laws of each kind of value.
-use Rattle.std.proofs.Common.{◌≡◌, ℕ, zero, suc, ◌≤◌, Bool, true, false, cond, ltb, List, [], ◌∷◌, ◌++◌, length, take, drop, Ok, Err, refl, sym, ap, subst, arith}
+use Rattle.std.proofs.Common.{◌≡◌, ℕ, zero, suc, ◌≤◌, Bool, true, false, cond, ltb, List, [], ◌∷◌, ◌++◌, length, take, drop, Option, None, Result, Ok, Err, refl, sym, ap, ◌∙◌, subst, arith}
 use Rattle.std.specs.Str.{is_utf8}
 use Rattle.std.proofs.lemmas.Bool.{ltb-false, le-ltb}
 use Rattle.std.proofs.lemmas.List.{take_at, drop_at, take-append-drop, length-append, length-take}
 use Rattle.std.proofs.lemmas.Str.{IsUtf8-from_is_utf8, is_utf8-from_IsUtf8}
 use Rattle.slate_types.specs.declared.batches.Op.{Op}
 use Rattle.slate_types.specs.declared.batches.Op.TheVariants as ops
+use Rattle.slate_store.specs.declared.objects.Manifest.{Manifest}
+use Rattle.slate_objects.specs.declared.faults.DecodeFault.{DecodeFault}
 use Rattle.slate_objects.specs.declared.faults.DecodeFault.TheVariants.{NotText, TooShort}
-use Rattle.slate_objects.specs.Reading.{◌>>=◌, IsBytes, bytes_at, tag_at}
+use Rattle.slate_objects.specs.Reading.{◌>>=◌, IsBytes, both_at, bytes_at, list_at, made_at, option_at, tag_at}
 use Rattle.slate_objects.specs.Spelling.{bytes_of}
 use Rattle.slate_objects.specs.Batches.{BatchFits, KeyOpFits, OpFits, ValueFits, batch_at, batch_of, key_op_at, key_op_of, op_at, op_of, value_at, value_of}
-use Rattle.slate_objects.specs.Manifests.{CheckpointFits, FlagFits, ManifestFits, NameFits, TableIdFits, UuidFits, checkpoint_at, checkpoint_made, checkpoint_of, checkpoint_parts, flag_at, flag_of, manifest_at, manifest_made, manifest_of, manifest_parts, name_at, name_in, table_id_at, table_id_of, table_id_parts, uuid_at, uuid_of}
-use Rattle.slate_objects.proofs.Laws.{IsBytes-drop, IsBytes-rest, IsFormat, Takes, bind_ok, both_format, bytes_format, guard_ok, list_format, made_format, number_format, ok_is, option_format, time_format}
+use Rattle.slate_objects.specs.Manifests.{CheckpointFits, FlagFits, FieldParts, FieldsFit, ManifestFits, NameFits, TableIdFits, UuidFits, field_parts, fields_at, fields_of, checkpoint_at, checkpoint_made, checkpoint_of, checkpoint_parts, flag_at, flag_of, manifest_at, manifest_of, manifest_parts, tracked, untracked, untracked_at, untracked_of, name_at, name_in, table_id_at, table_id_of, table_id_parts, uuid_at, uuid_of}
+use Rattle.slate_objects.proofs.Laws.{IsBytes-drop, byte_format, done, IsBytes-rest, IsFormat, Takes, bind_ok, both_format, bytes_format, guard_ok, list_format, made_format, number_format, ok_is, option_format, time_format}
 
 -- ---- batches
 
@@ -113,10 +115,57 @@ checkpoint_format : IsFormat checkpoint_at checkpoint_of CheckpointFits
 unfolding checkpoint_at
 checkpoint_format = made_format checkpoint_made checkpoint_parts (λ x. refl) (λ c. refl) (both_format uuid_format (both_format number_format (both_format time_format (option_format time_format))))
 
-pub manifest_format : IsFormat manifest_at manifest_of ManifestFits
-unfolding manifest_at
-manifest_format =
-    made_format manifest_made manifest_parts (λ x. refl) (λ m. refl)
-    (both_format number_format (both_format flag_format (both_format (list_format table_id_format) (both_format number_format
+fields_format : IsFormat fields_at fields_of FieldsFit
+fields_format =
+    both_format number_format (both_format flag_format (both_format (list_format table_id_format) (both_format number_format
     (both_format time_format (both_format number_format (both_format number_format (both_format (list_format checkpoint_format)
-    (both_format (list_format bytes_format) (option_format name_format))))))))))
+    (both_format (list_format bytes_format) (option_format name_format)))))))))
+
+-- today's manifests are read as their fields, and then the tracker
+abbrev with_fields : FieldParts → Option (List ℕ) × List ℕ → Result ((FieldParts × Option (List ℕ)) × List ℕ) DecodeFault
+with_fields fields t = Ok ((fields, t.0), t.1)
+
+abbrev with_tracker : Manifest → Option (List ℕ) × List ℕ → Result (Manifest × List ℕ) DecodeFault
+with_tracker manifest t = Ok (record manifest { sequence_tracker = t.0 }, t.1)
+
+abbrev made_tracked : (FieldParts × Option (List ℕ)) × List ℕ → Result (Manifest × List ℕ) DecodeFault
+made_tracked x = Ok (tracked x.0, x.1)
+
+abbrev made_untracked : FieldParts × List ℕ → Result (Manifest × List ℕ) DecodeFault
+made_untracked x = Ok (untracked x.0, x.1)
+
+manifest_at_is : (bytes : List ℕ) → manifest_at bytes ≡ made_at tracked (both_at fields_at (option_at (list_at tag_at))) bytes
+unfolding manifest_at untracked_at
+manifest_at_is bytes = go (fields_at bytes) where
+  behind : (fields : FieldParts) (t : Result (Option (List ℕ) × List ℕ) DecodeFault) → (t >>= with_tracker (untracked fields)) ≡ ((t >>= with_fields fields) >>= made_tracked)
+  behind fields (Ok t) = refl
+  behind fields (Err fault) = refl
+
+  go : (r : Result (FieldParts × List ℕ) DecodeFault) →
+      ((r >>= made_untracked) >>= λ m. option_at (list_at tag_at) m.1 >>= with_tracker m.0) ≡ ((r >>= λ x. option_at (list_at tag_at) x.1 >>= with_fields x.0) >>= made_tracked)
+  go (Ok x) = behind x.0 (option_at (list_at tag_at) x.1)
+  go (Err fault) = refl
+
+pub manifest_format : IsFormat manifest_at manifest_of ManifestFits
+manifest_format =
+    let whole : IsFormat (made_at tracked (both_at fields_at (option_at (list_at tag_at)))) manifest_of ManifestFits = made_format tracked manifest_parts (λ x. refl) (λ m. refl) (both_format fields_format (option_format (list_format byte_format))) in
+    record {
+      takes = λ bytes x rest fits e. whole.takes bytes x rest fits (sym (manifest_at_is bytes) ∙ e);
+      again = λ x rest fits. manifest_at_is (manifest_of x ++ rest) ∙ whole.again x rest fits;
+    }
+
+-- a manifest that the earlier version has no tracker for
+abbrev pub UntrackedFits : Manifest → Type 0
+UntrackedFits m = FieldsFit (field_parts m) × (m.sequence_tracker ≡ None)
+
+pub untracked_format : IsFormat untracked_at untracked_of UntrackedFits
+unfolding untracked_at
+untracked_format = record {
+  takes = λ bytes m rest fits e.
+      let a = bind_ok (fields_at bytes) (λ x. Ok (untracked x.0, x.1)) (m, rest) e in
+      let t = fields_format.takes bytes a.0.0 a.0.1 fits a.1 in
+      let made : Manifest × List ℕ = (untracked a.0.0, a.0.1) in
+      subst (λ (z : Manifest × List ℕ). Takes bytes (untracked_of z.0) z.1 × UntrackedFits z.0) (ok_is made (m, rest) a.2) (t.0, (t.1, refl));
+  again = λ m rest fits.
+      rw (fields_format.again (field_parts m) rest fits.0) (ap (λ (z : Option (List ℕ)). done (record m { sequence_tracker = z }, rest)) (sym fits.1));
+}

@@ -12,7 +12,7 @@ use Rattle.std.proofs.lemmas.Nat.{be_bytes_4, from_be_bytes-to_be_bytes_4}
 use Rattle.slate_objects.specs.declared.faults.DecodeFault.{DecodeFault}
 use Rattle.slate_objects.specs.declared.faults.DecodeFault.TheVariants.{NotANumber, TooShort}
 use Rattle.slate_objects.specs.Reading.{◌>>=◌, IsBytes, both_at, bytes_at, joined, list_at, made_at, many_at, number_at, number_in, option_at, tag_at, time_at, word_at}
-use Rattle.slate_objects.specs.Spelling.{BothFit, BytesFit, ListFits, NumberFits, OptionFits, TimeFits, both_of, bytes_of, digits, list_of, number, option_of, time, word}
+use Rattle.slate_objects.specs.Spelling.{BothFit, ByteFits, BytesFit, ListFits, NumberFits, OptionFits, TimeFits, both_of, byte_of, bytes_of, digits, list_of, number, option_of, time, word}
 
 pub IsBytes-drop : (n : ℕ) (bytes : List ℕ) → IsBytes bytes → IsBytes (drop n bytes)
 IsBytes-drop n bytes h i = rw get_or-drop (h (n + i))
@@ -37,7 +37,7 @@ pub guard_ok : {A : Type 0} (b : Bool) (d : DecodeFault) (x y : A) → cond b (E
 guard_ok true d x y e = absurd cc
 guard_ok false d x y e = (refl, cc)
 
-abbrev done : {A : Type 0} → A → Result A DecodeFault
+abbrev pub done : {A : Type 0} → A → Result A DecodeFault
 done x = Ok x
 
 pub ok_is : {A : Type 0} (x y : A) → done x ≡ done y → x ≡ y
@@ -107,6 +107,9 @@ tag_takes (b ∷ bytes) tag rest fits e =
 tag_again : (tag : ℕ) (rest : List ℕ) → tag_at (tag ∷ rest) ≡ Ok (tag, rest)
 unfolding tag_at
 tag_again tag rest = refl
+
+pub byte_format : IsFormat tag_at byte_of ByteFits
+byte_format = record { takes = tag_takes; again = λ byte rest fits. tag_again byte rest }
 
 joined_by : (byte high n : ℕ) (none small : Bool) → eqb high 0 ≡ none → ltb high (2 ^ 57) ≡ small → cond none (Err NotANumber) (cond small (Ok (byte - 128 + 128 * high)) (Err NotANumber)) ≡ Ok n
     → (0 < high) × (high < 2 ^ 57) × (byte - 128 + 128 * high ≡ n)

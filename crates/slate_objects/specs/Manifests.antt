@@ -1,5 +1,5 @@
 -- Manifests as bytes: how they are read, their one spelling, and which have one.
-use Rattle.std.specs.Prelude.{ℕ, ℤ, zero, suc, ◌≡◌, ◌<◌, ◌^◌, Bool, true, false, List, [], ◌∷◌, length, take, drop, Option, Result, Ok, Err, nat_lt, if◌then◌else◌}
+use Rattle.std.specs.Prelude.{ℕ, ℤ, zero, suc, ◌≡◌, ◌<◌, ◌^◌, Bool, true, false, List, [], ◌∷◌, length, take, drop, Option, None, Result, Ok, Err, nat_lt, if◌then◌else◌}
 use Rattle.std.specs.Str.{IsUtf8, is_utf8}
 use Rattle.slate_store.specs.declared.objects.Checkpoint.{Checkpoint}
 use Rattle.slate_store.specs.declared.objects.Manifest.{Manifest}
@@ -7,7 +7,7 @@ use Rattle.slate_store.specs.declared.objects.TableId.{TableId}
 use Rattle.slate_objects.specs.declared.faults.DecodeFault.{DecodeFault}
 use Rattle.slate_objects.specs.declared.faults.DecodeFault.TheVariants.{TooShort, NotText, UnknownTag}
 use Rattle.slate_objects.specs.Reading.{◌>>=◌, both_at, bytes_at, list_at, made_at, number_at, option_at, tag_at, time_at}
-use Rattle.slate_objects.specs.Spelling.{BothFit, BytesFit, ListFits, NumberFits, OptionFits, TimeFits, both_of, bytes_of, list_of, number, option_of, time}
+use Rattle.slate_objects.specs.Spelling.{BothFit, ByteFits, BytesFit, ListFits, NumberFits, OptionFits, TimeFits, both_of, byte_of, bytes_of, list_of, number, option_of, time}
 
 -- a flag: 0 or 1
 abbrev pub flag_by : ℕ → List ℕ → Result (Bool × List ℕ) DecodeFault
@@ -82,13 +82,13 @@ checkpoint_of c = both_of uuid_of (both_of number (both_of time (option_of time)
 abbrev pub CheckpointFits : Checkpoint → Type 0
 CheckpointFits c = BothFit UuidFits (BothFit NumberFits (BothFit TimeFits (OptionFits TimeFits))) (checkpoint_parts c)
 
--- a manifest: its fields, in their order
-abbrev pub ManifestParts : Type 0
-ManifestParts =
+-- a manifest: its fields, in their order, but for its tracker
+abbrev pub FieldParts : Type 0
+FieldParts =
     ℕ × (Bool × (List TableId × (ℕ × (ℤ × (ℕ × (ℕ × (List Checkpoint × (List (List ℕ) × Option (List ℕ)))))))))
 
-abbrev pub manifest_parts : Manifest → ManifestParts
-manifest_parts m = (
+abbrev pub field_parts : Manifest → FieldParts
+field_parts m = (
   m.writer_epoch,
   (
     m.initialized,
@@ -111,38 +111,63 @@ manifest_parts m = (
   ),
 )
 
-abbrev pub manifest_made : ManifestParts → Manifest
-manifest_made p =
-    let q = p.1.1.1.1.1 in
+abbrev pub fields_at : List ℕ → Result (FieldParts × List ℕ) DecodeFault
+fields_at =
+    both_at number_at (both_at flag_at (both_at (list_at table_id_at) (both_at number_at (both_at time_at
+    (both_at number_at (both_at number_at (both_at (list_at checkpoint_at) (both_at (list_at bytes_at)
+    (option_at name_at)))))))))
+
+abbrev pub fields_of : FieldParts → List ℕ
+fields_of =
+    both_of number (both_of flag_of (both_of (list_of table_id_of) (both_of number (both_of time (both_of number
+    (both_of number (both_of (list_of checkpoint_of) (both_of (list_of bytes_of) (option_of bytes_of)))))))))
+
+abbrev pub FieldsFit : FieldParts → Type 0
+FieldsFit =
+    BothFit NumberFits (BothFit FlagFits (BothFit (ListFits TableIdFits) (BothFit NumberFits (BothFit TimeFits
+    (BothFit NumberFits (BothFit NumberFits (BothFit (ListFits CheckpointFits) (BothFit (ListFits BytesFit)
+    (OptionFits NameFits)))))))))
+
+-- the manifest with these fields and this tracker
+abbrev pub tracked : FieldParts × Option (List ℕ) → Manifest
+tracked p =
+    let q = p.0.1.1.1.1.1 in
     record {
-      writer_epoch = p.0;
-      initialized = p.1.0;
-      tables = p.1.1.0;
-      last_l0_seq = p.1.1.1.0;
-      last_tick = p.1.1.1.1.0;
+      writer_epoch = p.0.0;
+      initialized = p.0.1.0;
+      tables = p.0.1.1.0;
+      last_l0_seq = p.0.1.1.1.0;
+      last_tick = p.0.1.1.1.1.0;
       replay_after_wal_id = q.0;
       next_wal_id = q.1.0;
       checkpoints = q.1.1.0;
       segments = q.1.1.1.0;
       extractor_name = q.1.1.1.1;
+      sequence_tracker = p.1;
     }
 
+-- a manifest of the earlier version, which has no tracker
+abbrev pub untracked : FieldParts → Manifest
+untracked p = tracked (p, None)
+
+unfoldable pub untracked_at : List ℕ → Result (Manifest × List ℕ) DecodeFault
+untracked_at = made_at untracked fields_at
+
+abbrev pub untracked_of : Manifest → List ℕ
+untracked_of m = fields_of (field_parts m)
+
+-- and one of today's: the fields, and the bytes of the tracker, where it has one
+abbrev pub manifest_parts : Manifest → FieldParts × Option (List ℕ)
+manifest_parts m = (field_parts m, m.sequence_tracker)
+
 unfoldable pub manifest_at : List ℕ → Result (Manifest × List ℕ) DecodeFault
-manifest_at =
-    made_at manifest_made
-    (both_at number_at (both_at flag_at (both_at (list_at table_id_at) (both_at number_at (both_at time_at
-    (both_at number_at (both_at number_at (both_at (list_at checkpoint_at) (both_at (list_at bytes_at)
-    (option_at name_at))))))))))
+manifest_at bytes = do
+  manifest ← untracked_at bytes
+  tracker ← option_at (list_at tag_at) manifest.1
+  Ok (record manifest.0 { sequence_tracker = tracker.0 }, tracker.1)
 
 abbrev pub manifest_of : Manifest → List ℕ
-manifest_of m =
-    both_of number (both_of flag_of (both_of (list_of table_id_of) (both_of number (both_of time (both_of number
-    (both_of number (both_of (list_of checkpoint_of) (both_of (list_of bytes_of) (option_of bytes_of)))))))))
-    (manifest_parts m)
+manifest_of m = both_of fields_of (option_of (list_of byte_of)) (manifest_parts m)
 
 abbrev pub ManifestFits : Manifest → Type 0
-ManifestFits m =
-    BothFit NumberFits (BothFit FlagFits (BothFit (ListFits TableIdFits) (BothFit NumberFits (BothFit TimeFits
-    (BothFit NumberFits (BothFit NumberFits (BothFit (ListFits CheckpointFits) (BothFit (ListFits BytesFit)
-    (OptionFits NameFits)))))))))
-    (manifest_parts m)
+ManifestFits m = BothFit FieldsFit (OptionFits (ListFits ByteFits)) (manifest_parts m)

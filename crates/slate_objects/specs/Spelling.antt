@@ -15,6 +15,9 @@ number = digits 10
 abbrev pub time : ℤ → List ℕ
 time t = number (cast_unsigned w64 t)
 
+abbrev pub byte_of : ℕ → List ℕ
+byte_of byte = byte ∷ []
+
 -- a length, and the bytes
 abbrev pub bytes_of : List ℕ → List ℕ
 bytes_of bytes = number (length bytes) ++ bytes
@@ -33,6 +36,9 @@ NumberFits n = n < 2 ^ 64
 
 abbrev pub TimeFits : ℤ → Type 0
 TimeFits = FitsSigned w64
+
+abbrev pub ByteFits : ℕ → Type 0
+ByteFits byte = byte < 256
 
 abbrev pub BytesFit : List ℕ → Type 0
 BytesFit bytes = length bytes < 2 ^ 64

@@ -2,7 +2,7 @@
 ghost use Rattle.std.specs.Prelude.{◌≡◌, ◌≤◌, ◌<◌, ◌^◌, ◌++◌, List, ℕ, suc, length, OnOk, Result};
 ghost use Rattle.slate_objects.specs.declared.faults.DecodeFault.{DecodeFault};
 ghost use Rattle.slate_objects.specs.Reading.{Gives, Reads, bytes_at, joined, list_at, many_at, number_at, number_in, option_at, tag_at, time_at};
-ghost use Rattle.slate_objects.specs.Spelling.{digits, BytesFit, ListFits, NumberFits, OptionFits, TimeFits, bytes_of, list_of, number, option_of, time};
+ghost use Rattle.slate_objects.specs.Spelling.{digits, ByteFits, BytesFit, ListFits, NumberFits, OptionFits, TimeFits, byte_of, bytes_of, list_of, number, option_of, time};
 
 use crate::faults::{DecodeError, DecodeFault};
 use bytes::{Buf, Bytes};
@@ -85,6 +85,22 @@ fn write_digits(number: u64, out: &mut Vec<u8>) -> Result<(), NoMemory>
     }
     out.push((number % 128) as u8 + 128)?;
     write_digits(number / 128, out)
+}
+
+impl Format for u8 {
+    ghost read_at = { tag_at };
+
+    ghost spelled = { byte_of };
+
+    ghost Fits = { ByteFits };
+
+    fn read(alloc: Global, bytes: &mut Bytes) -> Result<u8, DecodeError> {
+        read_tag(bytes)
+    }
+
+    fn write(&self, out: &mut Vec<u8>) -> Result<(), NoMemory> {
+        Ok(out.push(*self)?)
+    }
 }
 
 impl Format for u64 {

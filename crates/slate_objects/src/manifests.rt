@@ -1,8 +1,8 @@
 // Manifests as bytes.
-ghost use Rattle.std.specs.Prelude.{◌≡◌, List, ℕ, Result};
-ghost use Rattle.slate_objects.specs.Manifests.{CheckpointFits, FlagFits, ManifestFits, NameFits, TableIdFits, UuidFits};
+ghost use Rattle.std.specs.Prelude.{◌≡◌, ◌++◌, List, ℕ, OnOk, Result};
+ghost use Rattle.slate_objects.specs.Manifests.{CheckpointFits, FieldsFit, FlagFits, ManifestFits, NameFits, TableIdFits, UuidFits, field_parts, untracked_at, untracked_of};
 ghost use Rattle.slate_objects.specs.Manifests.{checkpoint_at, checkpoint_of, flag_at, flag_of, manifest_at, manifest_of, name_at, name_in, table_id_at, table_id_of, uuid_at, uuid_of};
-ghost use Rattle.slate_objects.specs.Reading.{Gives};
+ghost use Rattle.slate_objects.specs.Reading.{Gives, Reads};
 ghost use Rattle.slate_objects.specs.Spelling.{bytes_of};
 
 use crate::faults::{DecodeError, DecodeFault};
@@ -139,6 +139,52 @@ impl Format for Checkpoint {
     }
 }
 
+/// Takes the fields of a manifest but for its tracker from the front.
+#[tactic(auto, unfolding(crate::specs::Manifests::untracked_at))]
+pub(crate) fn read_untracked(alloc: Global, bytes: &mut Bytes) -> Result<Manifest, DecodeError>
+    ensures { Reads result bytes.new (untracked_at bytes.old) }
+{
+    let writer_epoch = u64::read(alloc, bytes)?;
+    let initialized = bool::read(alloc, bytes)?;
+    let tables = Seq::<TableId>::read(alloc, bytes)?;
+    let last_l0_seq = u64::read(alloc, bytes)?;
+    let last_tick = i64::read(alloc, bytes)?;
+    let replay_after_wal_id = u64::read(alloc, bytes)?;
+    let next_wal_id = u64::read(alloc, bytes)?;
+    let checkpoints = Seq::<Checkpoint>::read(alloc, bytes)?;
+    let segments = Seq::<Bytes>::read(alloc, bytes)?;
+    let extractor_name = Option::<Name>::read(alloc, bytes)?;
+    Ok(Manifest {
+        writer_epoch,
+        initialized,
+        tables,
+        last_l0_seq,
+        last_tick,
+        replay_after_wal_id,
+        next_wal_id,
+        checkpoints,
+        segments,
+        extractor_name,
+        sequence_tracker: None,
+    })
+}
+
+/// Appends the bytes of the fields of a manifest but for its tracker.
+fn write_untracked(manifest: &Manifest, out: &mut Vec<u8>) -> Result<(), NoMemory>
+    ensures { OnOk result ((out.new.items ≡ out.old.items ++ untracked_of manifest.now) × FieldsFit (field_parts manifest.now)) }
+{
+    manifest.writer_epoch.write(out)?;
+    manifest.initialized.write(out)?;
+    manifest.tables.write(out)?;
+    manifest.last_l0_seq.write(out)?;
+    manifest.last_tick.write(out)?;
+    manifest.replay_after_wal_id.write(out)?;
+    manifest.next_wal_id.write(out)?;
+    manifest.checkpoints.write(out)?;
+    manifest.segments.write(out)?;
+    manifest.extractor_name.write(out)
+}
+
 impl Format for Manifest {
     ghost read_at = { manifest_at };
 
@@ -148,40 +194,16 @@ impl Format for Manifest {
 
     #[tactic(auto, unfolding(crate::specs::Manifests::manifest_at))]
     fn read(alloc: Global, bytes: &mut Bytes) -> Result<Manifest, DecodeError> {
-        let writer_epoch = u64::read(alloc, bytes)?;
-        let initialized = bool::read(alloc, bytes)?;
-        let tables = Seq::<TableId>::read(alloc, bytes)?;
-        let last_l0_seq = u64::read(alloc, bytes)?;
-        let last_tick = i64::read(alloc, bytes)?;
-        let replay_after_wal_id = u64::read(alloc, bytes)?;
-        let next_wal_id = u64::read(alloc, bytes)?;
-        let checkpoints = Seq::<Checkpoint>::read(alloc, bytes)?;
-        let segments = Seq::<Bytes>::read(alloc, bytes)?;
-        let extractor_name = Option::<Name>::read(alloc, bytes)?;
+        let manifest = read_untracked(alloc, bytes)?;
+        let sequence_tracker = Option::<Seq<u8>>::read(alloc, bytes)?;
         Ok(Manifest {
-            writer_epoch,
-            initialized,
-            tables,
-            last_l0_seq,
-            last_tick,
-            replay_after_wal_id,
-            next_wal_id,
-            checkpoints,
-            segments,
-            extractor_name,
+            sequence_tracker,
+            ..manifest
         })
     }
 
     fn write(&self, out: &mut Vec<u8>) -> Result<(), NoMemory> {
-        self.writer_epoch.write(out)?;
-        self.initialized.write(out)?;
-        self.tables.write(out)?;
-        self.last_l0_seq.write(out)?;
-        self.last_tick.write(out)?;
-        self.replay_after_wal_id.write(out)?;
-        self.next_wal_id.write(out)?;
-        self.checkpoints.write(out)?;
-        self.segments.write(out)?;
-        self.extractor_name.write(out)
+        write_untracked(self, out)?;
+        self.sequence_tracker.write(out)
     }
 }

@@ -2,7 +2,7 @@
 ghost use Rattle.std.specs.Prelude.{◌≡◌, IfOk, length, ◌<◌, ◌^◌, ◌++◌, OnOk};
 ghost use Rattle.slate_objects.specs.Checksum.{crc32};
 ghost use Rattle.slate_objects.specs.Reading.{Gives, IsBytes, Reads, word_at};
-ghost use Rattle.slate_objects.specs.Sealing.{checked, head_at, kind_at, object_in, sealed, version_at};
+ghost use Rattle.slate_objects.specs.Sealing.{body_in, checked, head_at, kind_at, object_in, sealed, version_at, whole};
 ghost use Rattle.slate_objects.specs.Spelling.{word};
 
 use crate::checksums::crc32;
@@ -11,9 +11,6 @@ use crate::formats::{Format, read_u64};
 use bytes::{Buf, Bytes};
 use slate_types::NoMemory;
 use std::alloc::Global;
-
-/// The version of the format that is written and read.
-const VERSION: u32 = 1;
 
 /// How many bytes the head of an object has at most.
 const HEAD: usize = 22;
@@ -51,11 +48,11 @@ fn read_kind(kind: u32, bytes: &mut Bytes) -> Result<u32, DecodeError>
 
 /// Takes the version of an object from the front.
 #[tactic(auto, unfolding(crate::specs::Sealing::version_at))]
-fn read_version(bytes: &mut Bytes) -> Result<u32, DecodeError>
-    ensures { Reads result bytes.new (version_at bytes.old) }
+fn read_version(version: u32, bytes: &mut Bytes) -> Result<u32, DecodeError>
+    ensures { Reads result bytes.new (version_at version bytes.old) }
 {
     let found = read_u32(bytes)?;
-    if found == VERSION {
+    if found == version {
         Ok(found)
     } else {
         Err(DecodeError::Fault(DecodeFault::AnotherVersion { found }))
@@ -63,13 +60,13 @@ fn read_version(bytes: &mut Bytes) -> Result<u32, DecodeError>
 }
 
 impl Head {
-    /// Takes the head of an object of this kind from the front.
+    /// Takes the head of an object of this kind and version from the front.
     #[tactic(auto, unfolding(crate::specs::Sealing::head_at))]
-    fn read(kind: u32, bytes: &mut Bytes) -> Result<Head, DecodeError>
-        ensures { Reads result bytes.new (head_at kind bytes.old) }
+    fn read(kind: u32, version: u32, bytes: &mut Bytes) -> Result<Head, DecodeError>
+        ensures { Reads result bytes.new (head_at kind version bytes.old) }
     {
         read_kind(kind, bytes)?;
-        read_version(bytes)?;
+        read_version(version, bytes)?;
         let length = read_u64(bytes)?;
         let sum = read_u32(bytes)?;
         Ok(Head { length, sum })
@@ -100,26 +97,45 @@ fn note_bytes(bytes: &[u8])
     ensures { IsBytes bytes.now }
 {}
 
-/// The object of this kind that the bytes are.
-#[tactic(auto, unfolding(crate::specs::Sealing::object_in))]
-pub(crate) fn open<T: Format + Drop>(
-    alloc: Global,
-    kind: u32,
-    bytes: Bytes,
-) -> Result<T, DecodeError>
-    ensures read { Gives result (object_in T.read_at kind bytes) }
+/// The body of an object of this kind and version.
+#[tactic(auto, unfolding(crate::specs::Sealing::body_in))]
+pub(crate) fn open_body(kind: u32, version: u32, bytes: Bytes) -> Result<Bytes, DecodeError>
+    ensures read { Gives result (body_in kind version bytes) }
     ensures are_bytes { IsBytes bytes }
 {
     note_bytes(bytes.as_slice());
     let mut rest = bytes;
-    let head = Head::read(kind, &mut rest)?;
+    let head = Head::read(kind, version, &mut rest)?;
     head.check(rest.as_slice())?;
-    let value = T::read(alloc, &mut rest)?;
+    Ok(rest)
+}
+
+/// What was read, where these bytes are left after it, which is to be none.
+#[tactic(auto, unfolding(crate::specs::Sealing::whole))]
+pub(crate) fn whole<T: Drop>(value: T, rest: &Bytes) -> Result<T, DecodeError>
+    ensures { Gives result (whole (value, rest.now)) }
+{
     if rest.is_empty() {
         Ok(value)
     } else {
         Err(DecodeError::Fault(DecodeFault::Trailing))
     }
+}
+
+/// The object of this kind and version that the bytes are.
+#[tactic(auto, unfolding(crate::specs::Sealing::object_in))]
+pub(crate) fn open<T: Format + Drop>(
+    alloc: Global,
+    kind: u32,
+    version: u32,
+    bytes: Bytes,
+) -> Result<T, DecodeError>
+    ensures read { Gives result (object_in T.read_at kind version bytes) }
+    ensures are_bytes { IsBytes bytes }
+{
+    let mut rest = open_body(kind, version, bytes)?;
+    let value = T::read(alloc, &mut rest)?;
+    whole(value, &rest)
 }
 
 /// Appends a number in four bytes.
@@ -131,15 +147,15 @@ fn write_u32(number: u32, out: &mut Vec<u8>) -> Result<(), NoMemory>
 }
 
 /// The bytes of an object with this body.
-pub(crate) fn seal(alloc: Global, kind: u32, body: &[u8]) -> Result<Vec<u8>, NoMemory>
-    ensures sealed { IfOk result (λ bytes. bytes.items ≡ sealed kind body.now) }
+pub(crate) fn seal(alloc: Global, kind: u32, version: u32, body: &[u8]) -> Result<Vec<u8>, NoMemory>
+    ensures sealed { IfOk result (λ bytes. bytes.items ≡ sealed kind version body.now) }
     ensures sum { IfOk result (λ bytes. crc32 body.now < 2 ^ 32) }
     ensures fits { length body.now < 2 ^ 64 }
 {
     let sum = crc32(body);
     let mut out = Vec::with_capacity(alloc, HEAD.saturating_add(body.len()))?;
     write_u32(kind, &mut out)?;
-    write_u32(VERSION, &mut out)?;
+    write_u32(version, &mut out)?;
     (body.len() as u64).write(&mut out)?;
     write_u32(sum, &mut out)?;
     out.extend_from_slice(body)?;

@@ -186,6 +186,7 @@ fn manifest(
         checkpoints: Seq::of(Vec::new(alloc)),
         segments: Seq::of(prefixes(alloc, segments)?),
         extractor_name: None,
+        sequence_tracker: None,
     };
     Ok(VersionedManifest { id, manifest })
 }

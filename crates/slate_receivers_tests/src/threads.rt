@@ -13,7 +13,7 @@ use std::thread;
 use std::thread::join;
 
 /// Waits until another thread has counted so many.
-fn await_count<R: Wait>(rt: &R, count: &AtomicU64, wanted: u64) {
+pub(crate) fn await_count<R: Wait>(rt: &R, count: &AtomicU64, wanted: u64) {
     for _ in rt.forever() {
         if count.load(Ordering::SeqCst) >= wanted {
             return;

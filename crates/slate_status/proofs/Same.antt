@@ -55,7 +55,8 @@ manifest_test a b =
     nat_eq a.writer_epoch b.writer_epoch && (beq a.initialized b.initialized && (pointwise table_test a.tables b.tables && (nat_eq a.last_l0_seq b.last_l0_seq
     && (int_eq a.last_tick b.last_tick && (nat_eq a.replay_after_wal_id b.replay_after_wal_id && (nat_eq a.next_wal_id b.next_wal_id
     && (pointwise checkpoint_test a.checkpoints b.checkpoints && (pointwise (pointwise nat_eq) a.segments b.segments
-    && option_eq (pointwise nat_eq) a.extractor_name b.extractor_name))))))))
+    && (option_eq (pointwise nat_eq) a.extractor_name b.extractor_name
+    && option_eq (pointwise nat_eq) a.sequence_tracker b.sequence_tracker)))))))))
 
 manifests : (a b : Manifest) → Decides (manifest_test a b) (a ≡ b)
 manifests a b =
@@ -70,7 +71,8 @@ manifests a b =
       next_wal_id = h.1.1.1.1.1.1.0 i;
       checkpoints = h.1.1.1.1.1.1.1.0 i;
       segments = h.1.1.1.1.1.1.1.1.0 i;
-      extractor_name = h.1.1.1.1.1.1.1.1.1 i;
+      extractor_name = h.1.1.1.1.1.1.1.1.1.0 i;
+      sequence_tracker = h.1.1.1.1.1.1.1.1.1.1 i;
     })
     (λ e. (
       ap (λ (t : Manifest). t.writer_epoch) e,
@@ -86,7 +88,10 @@ manifests a b =
                 ap (λ (t : Manifest). t.replay_after_wal_id) e,
                 (
                   ap (λ (t : Manifest). t.next_wal_id) e,
-                  (ap (λ (t : Manifest). t.checkpoints) e, (ap (λ (t : Manifest). t.segments) e, ap (λ (t : Manifest). t.extractor_name) e)),
+                  (
+                    ap (λ (t : Manifest). t.checkpoints) e,
+                    (ap (λ (t : Manifest). t.segments) e, (ap (λ (t : Manifest). t.extractor_name) e, ap (λ (t : Manifest). t.sequence_tracker) e)),
+                  ),
                 ),
               ),
             ),
@@ -103,7 +108,8 @@ manifests a b =
     (Decides-and _ _ (unsigned_Decides a.next_wal_id b.next_wal_id)
     (Decides-and _ _ (lists checkpoint_test checkpoints a.checkpoints b.checkpoints)
     (Decides-and _ _ (lists (pointwise nat_eq) texts a.segments b.segments)
-    (options (pointwise nat_eq) texts a.extractor_name b.extractor_name))))))))))
+    (Decides-and _ _ (options (pointwise nat_eq) texts a.extractor_name b.extractor_name)
+    (options (pointwise nat_eq) texts a.sequence_tracker b.sequence_tracker)))))))))))
 
 abbrev versioned_test : VersionedManifest → VersionedManifest → Bool
 versioned_test a b = nat_eq a.id b.id && manifest_test a.manifest b.manifest

@@ -1,14 +1,13 @@
 -- What changes carry on of the latest manifest, and of a manifest under an id.
-use Rattle.std.proofs.Common.{◌≡◌, ◌≢◌, ◌⊎◌, ◌+◌, ◌++◌, ◌∷◌, ◌<◌, ◌≤◌, ◌∙◌, [], Bool, List, None, Option, Some, ap, arith, false, inl, inr, map, not, option_map, refl, suc, sym, subst, true, zero, ℕ}
+use Rattle.std.proofs.Common.{◌≡◌, ◌⊎◌, ◌+◌, ◌++◌, ◌∷◌, ◌<◌, ◌≤◌, ◌∙◌, [], Bool, List, None, Some, ap, arith, false, inl, inr, map, not, option_map, refl, suc, sym, subst, true, zero, ℕ}
 use Rattle.std.proofs.lemmas.Cmp.{nat_cmp_total}
 use Rattle.std.proofs.lemmas.List.{map-append}
 use Rattle.std.proofs.lemmas.Map.Entries.{lookup-filter-keys}
 use Rattle.std.specs.BTreeMap.{insert_entry, is_at}
-use Rattle.std.specs.List.{filter}
 use Rattle.std.specs.Ordering.{nat_cmp}
 use Rattle.slate_store.specs.Changes.{after_part}
 use Rattle.slate_store.specs.Content.{AreRising}
-use Rattle.slate_store.specs.Objects.{ChangeOf, ObjectsOf, PutLog, PutManifest, PutTable, RemoveLog, RemoveManifest, RemoveTable, changed, entry_at, greatest, last, latest_manifest, versioned, without}
+use Rattle.slate_store.specs.Objects.{ChangeOf, ObjectsOf, PutLog, PutManifest, PutTable, RemoveLog, RemoveManifest, RemoveTable, changed, entry_at, last, latest_manifest, versioned}
 use Rattle.slate_store.specs.declared.objects.Manifest.{Manifest}
 use Rattle.slate_store.specs.declared.objects.VersionedManifest.{VersionedManifest}
 use Rattle.slate_store.proofs.Entries.{apart, insert-last, last-push, lookup-insert_other, lookup-without, rising-filter, same_number, tied}

@@ -19,7 +19,7 @@ use Rattle.slate_store.specs.Compaction.{HasTablesToJoin}
 use Rattle.slate_store.specs.Content.{AreStored, table_batches}
 use Rattle.slate_store.specs.declared.objects.TableId.{TableId}
 use Rattle.slate_store.specs.declared.objects.VersionedManifest.{VersionedManifest}
-use Rattle.slate_store.specs.Objects.{Change, Objects, changed, is_present, latest_manifest, table_at}
+use Rattle.slate_store.specs.Objects.{Change, Objects, changed, is_present, table_at}
 use Rattle.slate_store.specs.Refusals.{FindsLatest, refusal_of}
 use Rattle.slate_store.specs.Steps.{Adds, Joins, PutsBoth}
 

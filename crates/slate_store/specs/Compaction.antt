@@ -45,10 +45,10 @@ abbrev pub HasTablesToJoin : {L : Type 0} → ObjectsOf L → Type 0
 HasTablesToJoin objects =
     IfSome (latest_manifest objects) (λ latest. 2 ≤ length latest.manifest.tables → AreStored objects latest.manifest.tables)
 
--- The most calls of the store that a compaction makes: it reads the latest manifest and each of its tables, and puts a
--- table and a manifest.
+-- The most calls of the store that a compaction makes: it reads the latest manifest, and where that has two tables or more
+-- each of them, and puts a table and a manifest.
 abbrev pub compact_calls : {L : Type 0} → ObjectsOf L → ℕ
-compact_calls objects = option_map_or (λ latest. 3 + length latest.manifest.tables) (latest_manifest objects) 1
+compact_calls objects = option_map_or (λ latest. if nat_lt (length latest.manifest.tables) 2 then 1 else (3 + length latest.manifest.tables)) (latest_manifest objects) 1
 
 -- Why a compaction into the table with this id refuses, over a store that is modelled. InvalidDBState: there are tables
 -- to join, and the manifest's id or the table's index is the greatest, or their batches don't come one after another.

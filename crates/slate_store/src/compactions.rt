@@ -25,8 +25,9 @@ use std::alloc::Global;
 /// After a refusal nothing was put, but after the last one, a fault or want of memory, when the table may be stored, or
 /// it and the manifest.
 ///
-/// It calls the store at most three times and once for each table, and once where no manifest is stored. It takes time linear in the operations of the tables, with a
-/// logarithm of the keys for each key, and copies no keys and no values.
+/// It calls the store at most three times and once for each table, and once where there is nothing to join or no manifest
+/// is stored. It takes time linear in the operations of the tables, with a logarithm of the keys for each key, and copies
+/// no keys and no values.
 pub fn compact_tables<S: Store>(
     alloc: Global,
     store: &mut S,
@@ -82,7 +83,7 @@ fn join<S: Store>(
     ensures index { IfOk result (λ plan. IsSome plan.1 → id.index < u64.MAX) }
     ensures faults { CountsFaults (S.faults store.old) (S.faults store.new) result }
     ensures calls { IfSome (S.objects store.old) (λ o. S.calls store.new ≤ S.calls store.old + compact_calls o) }
-    ensures puts { IfOk result (λ plan. IfSome (S.objects store.old) (λ o. S.calls store.new + 2 ≤ S.calls store.old + compact_calls o)) }
+    ensures puts { IfOk result (λ plan. IsSome plan.1 → IfSome (S.objects store.old) (λ o. S.calls store.new + 2 ≤ S.calls store.old + compact_calls o)) }
 {
     let latest = latest_of(alloc, store)?;
     if latest.manifest.writer_epoch > id.epoch {

@@ -1,5 +1,6 @@
 // Manifests, with the table ids and checkpoints in them.
 ghost use Rattle.std.specs.Prelude.{◌≡◌, IfOk};
+ghost use Rattle.std.specs.Option.{option_copied};
 
 use bytes::Bytes;
 use slate_types::{Name, NoMemory, Seq};
@@ -44,6 +45,9 @@ pub struct Manifest {
     pub segments: Seq<Bytes>,
     /// The name of the segment extractor, where there is one.
     pub extractor_name: Option<Name>,
+    /// When the batches in the tables were written: the bytes of the tracker of the handle that put the last table.
+    /// None stands for a tracker without a pair; a manifest that was put before one had a tracker has it, too.
+    pub sequence_tracker: Option<Seq<u8>>,
 }
 
 impl Manifest {
@@ -63,7 +67,19 @@ impl Manifest {
             checkpoints: self.checkpoints.clone()?,
             segments: self.segments.clone()?,
             extractor_name: self.extractor_name.clone()?,
+            sequence_tracker: copy_of(self.sequence_tracker.as_ref())?,
         })
+    }
+}
+
+/// A copy of a list of bytes, where there is one.
+#[tactic(auto, using(crate::proofs::Copies::same_items))]
+fn copy_of(bytes: Option<&Seq<u8>>) -> Result<Option<Seq<u8>>, NoMemory>
+    ensures { IfOk result (λ copy. copy ≡ option_copied bytes.entry) }
+{
+    match bytes {
+        Some(bytes) => Ok(Some(bytes.clone()?)),
+        None => Ok(None),
     }
 }
 

@@ -1,5 +1,5 @@
 -- What a commit is refused for: nothing conflicts without a write, and no write is refused for a conflict.
-use Rattle.std.proofs.Common.{◌≡◌, ◌≢◌, refl, sym, ◌∙◌, ap, subst, ℕ, ℤ, Bool, true, false, cond, ◌&&◌, ◌||◌, ◌⊎◌, inl, inr, List, [], ◌∷◌, ◌++◌, Option, Some, None, Ok, Err, arith}
+use Rattle.std.proofs.Common.{◌≡◌, ◌≢◌, refl, sym, ◌∙◌, ap, subst, ℕ, ℤ, Bool, true, false, cond, ◌&&◌, ◌||◌, ◌⊎◌, inl, inr, List, [], ◌∷◌, ◌++◌, Option, Some, None, Result, Ok, Err, arith}
 use Rattle.std.specs.Option.{IfSome, option_eq, option_map, option_or}
 use Rattle.std.specs.Ordering.{int_eq}
 use Rattle.std.specs.Prelude.{nat_lt, not}
@@ -13,11 +13,12 @@ use Rattle.slate_errors.specs.declared.closing.CloseFault.{CloseFault}
 use Rattle.slate_errors.specs.declared.closing.CloseFault.TheVariants.{Custom, Fenced, InvalidDBState, LatestTransactionalObjectVersionMissing, ObjectStoreError, TransactionalObjectTimeout, TransactionalObjectVersionExists}
 use Rattle.slate_errors.specs.declared.errors.SlateError.{SlateError}
 use Rattle.slate_errors.specs.declared.errors.SlateError.TheVariants.{Backpressure, EmptyKey, IncompatibleMergeTtls, InvalidDBState as BadState, InvalidSegmentPrefix, NoMemory, TransactionConflict}
+use Rattle.slate_model.specs.declared.answers.Written.{Written}
 use Rattle.slate_model.specs.Handle.{CloseResult, Handle, accepted, known_segments}
 use Rattle.slate_model.specs.Segments.{Extractor, conflict, empty_refusal, nesting_refusal, ops_refusal, prefixes_of, segment_refusal}
-use Rattle.slate_model.specs.Transaction.{CommitRefusal, Transaction, is_in_conflict, start_of, writes_of}
+use Rattle.slate_model.specs.Transaction.{CommitRefusal, CommitsByAny, Transaction, is_in_conflict, start_of, writes_of}
 use Rattle.slate_model.specs.Unflushed.{limit_refusal, unflushed}
-use Rattle.slate_model.specs.Write.{accepted_moment, batch_refusal, clock_refusal, closed_refusal, expiry_refusal, first_expiry, has_empty_key, last_number, merge_expiry, merge_refusal, number_refusal, write_refusal}
+use Rattle.slate_model.specs.Write.{IsOfSegments, WritesByAny, accepted_moment, batch_refusal, clock_refusal, closed_refusal, expiry_refusal, first_expiry, has_empty_key, last_number, merge_expiry, merge_refusal, number_refusal, write_refusal}
 
 -- ---- without a write
 neither : (a b : Bool) → b ≡ false → (a && b) ≡ false
@@ -138,3 +139,27 @@ commit-refused x t old moment second TransactionConflict alive some none cause =
   go (inr is) = false≢true (sym (never-conflict x old t.own.ops moment second) ∙ ap names_conflict is)
 commit-refused x t old moment second error alive some none cause =
     (subst (λ (r : CloseResult). IfSome r (λ r. error ≡ closed_error r)) (sym alive) tt, λ _. (some, none, cause))
+
+-- what is known where nothing closed the handle
+while-open : (old : Handle) (E : CloseResult → Type 0) → old.result ≡ None → E None → E old.result
+while-open old E alive e = subst E (sym alive) e
+
+-- a write that is refused, whatever the extractor answers
+refused-by-any : (unmarked : List (List ℕ)) (old new : Handle) (ops : List KeyOp) (moment : ℤ) (second : Option ℤ) (error : SlateError) → old.result ≡ None →
+    (error ≡ NoMemory) ⊎ (IsOfSegments error ⊎ (write_refusal None old ops moment second ≡ Some error)) → new ≡ old → WritesByAny unmarked old ops moment second (Err error) new
+refused-by-any unmarked old new ops moment second error alive cause same = record {
+  closed = while-open old (λ r. IfSome r (λ r. ◌≡◌ {A = Result Written SlateError} (Err error) (Err (closed_error r)))) alive tt;
+  accepted = tt;
+  refused = (cause, same);
+}
+
+-- The same of a commit without a conflict.
+pub commit-refused-by-any : (t : Transaction) (old new : Handle) (moment : ℤ) (second : Option ℤ) (error : SlateError) → old.result ≡ None → t.own.ops ≢ [] → is_in_conflict t (writes_of old) ≡ false →
+    (error ≡ NoMemory) ⊎ (IsOfSegments error ⊎ (write_refusal None old t.own.ops moment second ≡ Some error)) → new ≡ old → CommitsByAny t old moment second (Err error) new
+commit-refused-by-any t old new moment second TransactionConflict alive some none cause same = absurd (go cause) where
+  go : (TransactionConflict ≡ NoMemory) ⊎ (IsOfSegments TransactionConflict ⊎ (write_refusal None old t.own.ops moment second ≡ Some TransactionConflict)) → ⊥
+  go (inl is) = false≢true (ap is_conflict (sym is))
+  go (inr (inl of)) = of
+  go (inr (inr is)) = false≢true (sym (never-conflict None old t.own.ops moment second) ∙ ap names_conflict is)
+commit-refused-by-any t old new moment second error alive some none cause same =
+    (while-open old (λ r. IfSome r (λ r. error ≡ closed_error r)) alive tt, λ _. (some, none, refused-by-any t.unmarked old new t.own.ops moment second error alive cause same), same)

@@ -33,8 +33,8 @@ module _ (t : Option Objects) (flush_type : FlushType) (h : Handle) (before afte
       (record {
         closed = subst (λ x. IfSome x (λ q. (r ≡ Err (closed_error q)) × (record mid { result = flush_result r } ≡ h) × Untouched made before after)) (sym live) tt;
         disabled = λ open_is none. absurd (let both = sym log ∙ none in cc);
-        flushed = λ can. record { same = ap (λ (x : Handle). record x { result = flush_result r }) s.flushed.same; durable = s.flushed.durable; counter = s.flushed.counter };
-        stored = λ can. stores-by s.stored (record mid { result = flush_result r }) refl refl;
+        flushed = λ can. record { same = ap (λ (x : Handle). record x { result = flush_result r }) s.flushed.same; durable = s.flushed.durable; counter = s.flushed.counter; tracker = s.flushed.tracker };
+        stored = λ can. stores-by s.stored (record mid { result = flush_result r }) refl refl refl;
       })
 
   pub flush_closed : (q : Result (Unit {0}) CloseFault) (r : Result (Unit {0}) SlateError) → h.result ≡ Some q → r ≡ Err (closed_error q) → after ≡ before → Flushes (by_objects t) 0 flush_type h before r h after
@@ -74,10 +74,10 @@ module _ (t : Option Objects) (flush_type : FlushType) (h : Handle) (before afte
         flushed = λ x is can. (
           refl,
           subst (λ q. IsFlushed kept_handle made q (Some (Ok tt)) [] h end_is) (sym (closing r))
-              (record { same = ap closed s.flushed.same; durable = s.flushed.durable; counter = s.flushed.counter }),
+              (record { same = ap closed s.flushed.same; durable = s.flushed.durable; counter = s.flushed.counter; tracker = s.flushed.tracker }),
         );
         stored = λ x is can. subst (λ y. Stores (by_objects t) made y h before (closing_flush (fault_of r)) end_is after) (some_type x is)
-            (subst (λ q. Stores (by_objects t) made flush_type h before q end_is after) (sym (closing r)) (stores-by s.stored end_is refl refl));
+            (subst (λ q. Stores (by_objects t) made flush_type h before q end_is after) (sym (closing r)) (stores-by s.stored end_is refl refl refl));
       })
 
   fault_is : (r : Result (Unit {0}) SlateError) → result_err r ≡ fault_of r

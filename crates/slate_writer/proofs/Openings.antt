@@ -1,5 +1,5 @@
 -- The calls of an opening, one after another, make an opening of the model.
-use Rattle.std.proofs.Common.{cond, ◌<◌, is_some, ◌⊎◌, ◌≡◌, ℕ, ℤ, ◌+◌, ◌-◌, ◌≤◌, Bool, List, [], length, Option, Some, None, Result, Ok, Err, true, false, refl, sym, subst, ap, inl, inr, ◌∙◌, arith}
+use Rattle.std.proofs.Common.{cond, ltb, ◌<◌, is_some, ◌⊎◌, ◌≡◌, ℕ, ℤ, ◌+◌, ◌-◌, ◌≤◌, Bool, List, [], length, Option, Some, None, Result, Ok, Err, true, false, refl, sym, subst, ap, inl, inr, ◌∙◌, arith}
 use Rattle.std.specs.Option.{IfSome}
 use Rattle.slate_types.specs.declared.batches.Batch.{Batch}
 use Rattle.slate_types.specs.Line.{Line}
@@ -33,9 +33,11 @@ use Rattle.slate_model.proofs.Reopened.{mark-kept, number-kept, opened-logs, ope
 use Rattle.slate_model.specs.Handle.{Handle, kept_handle, latest_tick}
 use Rattle.slate_model.specs.Known.{CountsFaults, IsContent, Known}
 use Rattle.slate_model.specs.Stores.{by_objects}
-use Rattle.slate_model.specs.Tracked.{no_times}
+use Rattle.std.specs.Prelude.{unwrap_or}
+use Rattle.slate_store.specs.declared.objects.Manifest.{Manifest}
+use Rattle.slate_model.specs.Tracked.{no_times, opened_tracker, stored_tracker, tracked_all}
 use Rattle.slate_writer.proofs.Modelled.{made_once, modelled_from, modelled_kept}
-use Rattle.slate_writer.specs.Opening.{CallsOpening, FindsLog, FindsNext, IsOfFinding, IsOfManifest, PutsOpening, Recovers, opening_puts}
+use Rattle.slate_writer.specs.Opening.{Fits, CallsOpening, FindsLog, FindsNext, IsOfFinding, IsOfManifest, PutsOpening, Recovers, opening_puts}
 use Rattle.slate_segments.specs.Refusals.{IsOfSegment}
 
 -- a put of the fence that was refused, after that of the manifest
@@ -225,9 +227,12 @@ has_logs {t = Some o} named view last batches found kept puts recovers =
     opened_by_replay named o view last found p.0 p.2 batches (some_at _ recovers p.0 p.1)
 
 -- the fields of the handle of an opening
-pub recovered_at : (x : Option Extractor) (keeps_log : Bool) (limit : ℕ) (tasks : List TaskName) (view : VersionedManifest) (batches bs : List Batch) (segments : List (List ℕ)) (tick : ℤ) (tracker : Tracker) (running : List TaskName) → bs ≡ batches → segments ≡ segments_of x batches → tick ≡ latest_tick view.manifest.last_tick batches → tracker ≡ no_times → running ≡ tasks →
+pub recovered_at : (x : Option Extractor) (keeps_log : Bool) (limit : ℕ) (tasks : List TaskName) (view : VersionedManifest) (batches bs : List Batch) (segments : List (List ℕ)) (tick : ℤ) (tracker : Tracker) (running : List TaskName) → bs ≡ batches → segments ≡ segments_of x batches → tick ≡ latest_tick view.manifest.last_tick batches → tracker ≡ tracked_all (opened_tracker view.manifest) batches → running ≡ tasks →
     record (recovered x keeps_log limit tasks view batches) { segments = segments; durable = view.manifest.last_l0_seq + length bs; tick = tick; tracker = tracker; tasks = running } ≡ recovered x keeps_log limit tasks view batches
 recovered_at x keeps_log limit tasks view batches bs segments tick tracker running same segmented is untracked run = rw (same, segmented, is, untracked, run) refl
+
+pub opened-tracker : (m : Manifest) (t : Tracker) → stored_tracker m ≡ Some t → opened_tracker m ≡ t
+opened-tracker m t is = ap (λ o. unwrap_or o no_times) is
 
 -- the manifest that was found is the one that the opening commits
 pub found_view : {t : Option Objects} (name : Option (List ℕ)) (view : VersionedManifest) (last : ℕ) → IfSome t (λ o. FindsNext name o (view, last)) → (o : Objects) → t ≡ Some o → view ≡ opened_manifest name o
@@ -248,6 +253,32 @@ none_modelled x e kept kind cause = modelled_kept kept (λ o is. opens_none x o 
 -- an opening that has no memory for its tracker or its name
 pub untracked_modelled : {A : Type 0} (x : Option Extractor) (t : Option Objects) → WhereModelled (λ o o'. OpensModelled {A = A} x o (Err errors.NoMemory) o') t t
 untracked_modelled x t = modelled_kept refl (λ o is. opens_none x o errors.NoMemory tt tt)
+
+-- an opening that the latest manifest stands against, or the last log file
+refusal-fits : (x : Option Extractor) (o : Objects) (e : SlateError) → open_refusal x o ≡ Some e → IsOfManifest e → OpenCause x (λ _. ⊥) o e
+refusal-fits x o errors.InvalidDBState is kind = is
+refusal-fits x o (errors.SegmentExtractorMismatch persisted configured) is kind = is
+refusal-fits x o (errors.SegmentPrefixNotRecognized prefix name) is kind = is
+refusal-fits x o e is kind = absurd kind
+
+pub refused-fits : (t : Option Objects) (x : Option Extractor) (latest : Option VersionedManifest) (e : SlateError) → IfSome t (λ o. latest ≡ latest_manifest o) → manifest_refusal x latest ≡ Some e → IsOfManifest e → IfSome t (λ o. OpenCause x (λ _. ⊥) o e)
+refused-fits None x latest e found is kind = tt
+refused-fits (Some o) x latest e found is kind =
+    refusal-fits x o e (ap (λ m. option_or (manifest_refusal x m) (log_refusal (found_log o))) (sym found) ∙ ap (λ r. option_or r (log_refusal (found_log o))) is) kind
+
+log-fits : (x : Option Extractor) (o : Objects) (e : SlateError) → manifest_refusal x (latest_manifest o) ≡ None → FindsLog (mark_of (latest_manifest o)) o (Err e) → OpenCause x (λ _. ⊥) o e
+log-fits x o errors.InvalidDBState is last =
+    let none : ltb (found_log o) last_number ≡ false = le-ltb (found_log o) last_number last in
+    ap (λ r. option_or r (log_refusal (found_log o))) is ∙ ap (λ b. cond b None (Some errors.InvalidDBState)) none
+log-fits x o (errors.ObjectStoreError Unavailable) is last = tt
+log-fits x o errors.NoMemory is last = tt
+log-fits x o e is last = absurd last
+
+pub unlogged-fits : (t t' : Option Objects) (x : Option Extractor) (latest : Option VersionedManifest) (e : SlateError) → IfSome t (λ o. latest ≡ latest_manifest o) → manifest_refusal x latest ≡ None → t' ≡ t → IfSome t' (λ o. FindsLog (mark_of latest) o (Err e)) → IfSome t (λ o. OpenCause x (λ _. ⊥) o e)
+unlogged-fits None t' x latest e found is kept last = tt
+unlogged-fits (Some o) t' x latest e found is kept last =
+    let here : FindsLog (mark_of latest) o (Err e) = subst (λ y. IfSome y (λ o. FindsLog (mark_of latest) o (Err e))) kept last in
+    log-fits x o e (ap (manifest_refusal x) (sym found) ∙ is) (subst (λ m. FindsLog (mark_of m) o (Err e)) found here)
 
 -- an error that isn't of a key without a segment says nothing of the keys
 pub segmented_finding : (x : Option Extractor) (batches : List Batch) (e : SlateError) → IsOfFinding e → AreSegmented {A = Handle} x batches (Err e)

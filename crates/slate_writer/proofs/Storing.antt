@@ -1,6 +1,10 @@
 -- What a flush leaves of a store and a handle, from its steps.
-use Rattle.std.proofs.Common.{◌≡◌, ℕ, ◌+◌, ◌<◌, ◌≤◌, ◌⊎◌, List, [], ◌∷◌, ◌++◌, length, cond, Bool, true, false, Option, Some, None, Result, Ok, Err, refl, sym, subst, ap, ◌∙◌, inl, inr, arith}
-use Rattle.std.specs.Prelude.{nat_le, IfErr}
+use Rattle.std.proofs.Common.{◌≡◌, ℕ, ◌+◌, ◌<◌, ◌≤◌, ◌⊎◌, List, [], ◌∷◌, ◌++◌, length, cond, ltb, Bool, true, false, Option, Some, None, Result, Ok, Err, refl, sym, subst, ap, ◌∙◌, inl, inr, arith}
+use Rattle.std.specs.Prelude.{nat_le, IfErr, IfOk}
+use Rattle.slate_seqtrack.specs.Bytes.{packed}
+use Rattle.slate_seqtrack.specs.Spelling.{tracker_bytes}
+use Rattle.slate_seqtrack.specs.Tracker.{Tracker}
+use Rattle.slate_seqtrack.proofs.Packing.{packed-twice}
 use Rattle.std.specs.Option.{IfSome}
 use Rattle.std.specs.Bool.{MatchBool}
 use Rattle.std.proofs.lemmas.Bool.{lt-ltb, le-ltb}
@@ -13,12 +17,12 @@ use Rattle.slate_types.specs.declared.store_errors.StoreFault.TheVariants.{Unava
 use Rattle.slate_types.proofs.Modelled.{modelled_as}
 use Rattle.slate_store.specs.declared.objects.VersionedManifest.{VersionedManifest}
 use Rattle.slate_store.specs.Calls.{IsOfList, WhereModelled}
-use Rattle.slate_store.specs.Objects.{Objects, Change, last_log}
+use Rattle.slate_store.specs.Objects.{ChangeOf, Objects, Change, PutManifest, PutTable, last_log}
 use Rattle.slate_errors.specs.Errors.{error_of_store}
 use Rattle.slate_errors.specs.declared.errors.SlateError.{SlateError}
 use Rattle.slate_errors.specs.declared.errors.SlateError.TheVariants as errors
 use Rattle.slate_model.specs.Changes.{leaves_prefix}
-use Rattle.slate_model.specs.Flush.{DurableAfter, FindsCurrent, FlushCause, FlushesOnly, IsCurrent, ManifestCause, Stores, StoresBatches, flush_changes, flush_changes_by, flush_changes_under, flush_view, grows, has_ids, has_log_id, has_untabled, log_after, log_changes, next_flushed, table_changes}
+use Rattle.slate_model.specs.Flush.{DurableAfter, FindsCurrent, FlushCause, FlushesOnly, IsCurrent, ManifestCause, Stores, StoresBatches, TracksFlush, IsReadAgain, flush_changes, flush_changes_by, flush_changes_under, flush_view, grows, has_ids, has_log_id, has_untabled, log_after, log_changes, next_flushed, table_changes, tables_put}
 use Rattle.slate_model.specs.Handle.{Handle, accepted, kept_handle, next_table, to_log, untabled}
 use Rattle.slate_model.specs.Known.{CountsFaults, Known}
 use Rattle.slate_model.specs.Stores.{Stands, by_objects}
@@ -95,10 +99,18 @@ module _ (t : Option Objects) (flush_type : FlushType) (h : Handle) (o : Objects
   flush-cause cs errors.NoMemory c = tt
   flush-cause cs e c = absurd c
 
-  pub stores-ok : (new : Handle) (made : ℕ) (o' : Objects) → new.view ≡ flush_view flush_type h latest last → MakesPart (has_ids flush_type h latest last) under (Ok tt) h.counter new.counter made o o' → StoresBatches (by_objects t) flush_type h o (Ok tt) new made o'
-  stores-ok new made o' view m =
+  pub stores-ok : (new : Handle) (made : ℕ) (o' : Objects) → new.view ≡ flush_view flush_type h latest last → TracksFlush under h new → MakesPart (has_ids flush_type h latest last) under (Ok tt) h.counter new.counter made o o' → StoresBatches (by_objects t) flush_type h o (Ok tt) new made o'
+  stores-ok new made o' view tracks m =
       let s = subst (λ (cs : List Change). MakesPart (has_ids flush_type h latest last) cs (Ok tt) h.counter new.counter made o o') (sym changes-are) m in
-      record { answer = (latest, current, view); part = s.part; only = tt; current = λ some. (latest, current); counted = s.counted; after = s.after }
+      record {
+        answer = (latest, current, view);
+        part = s.part;
+        only = tt;
+        current = λ some. (latest, current);
+        counted = s.counted;
+        after = s.after;
+        tracked = subst (λ (cs : List Change). TracksFlush cs h new) (sym changes-are) tracks;
+      }
 
   pub stores-err : (e : SlateError) (new : Handle) (made : ℕ) (o' : Objects) → new.view ≡ latest → MakesPart (has_ids flush_type h latest last) under (Err e) h.counter new.counter made o o' → StoresBatches (by_objects t) flush_type h o (Err e) new made o'
   stores-err e new made o' view m =
@@ -110,6 +122,7 @@ module _ (t : Option Objects) (flush_type : FlushType) (h : Handle) (o : Objects
         current = λ some. (latest, current);
         counted = s.counted;
         after = s.after;
+        tracked = tt;
       }
 
 -- a flush that doesn't find the latest manifest, or its epoch current
@@ -127,6 +140,7 @@ stores-unfound t flush_type h o e cause =
       current = λ some. absurd (omega (arith, some));
       counted = (omega arith, omega arith);
       after = refl;
+      tracked = tt;
     }
 
 least : (k : Bool) → 1 ≤ cond k 1 2
@@ -144,7 +158,7 @@ module _ (t : Option Objects) (flush_type : FlushType) (h : Handle) (before afte
       subst (Step (Err e)) (sym same) (
         0,
         record {
-          flushed = record { same = refl; durable = kept_durable e 0 h (λ no. omega arith); counter = (omega arith, omega arith) };
+          flushed = record { same = refl; durable = kept_durable e 0 h (λ no. omega arith); counter = (omega arith, omega arith); tracker = inl refl };
           stored = record {
             faults = faults;
             objects = modelled_kept kept (λ o is. stores-unfound t flush_type h o e (subst (λ x. IfSome x (λ o. FindsCurrent h.epoch o (Err e))) is found));
@@ -164,27 +178,28 @@ module _ (t : Option Objects) (flush_type : FlushType) (h : Handle) (before afte
     Makes r counter' made o o' =
         MakesPart (has_ids flush_type h latest (last_log mark o)) (flush_changes_under (λ xs. xs) flush_type h latest (last_log mark o)) r h.counter counter' made o o'
 
-    step_ok : (new : Handle) (made : ℕ) → new ≡ record h { durable = new.durable; counter = new.counter; view = new.view; result = h.result } →
-        (h.counter ≤ new.counter) × (new.counter ≤ h.counter + 1) → new.durable ≡ accepted h → ((o : Objects) → before.objects ≡ Some o → new.view ≡ flush_view flush_type h latest (last_log mark o)) →
+    step_ok : (new : Handle) (made : ℕ) → new ≡ record h { durable = new.durable; counter = new.counter; tracker = new.tracker; view = new.view; result = h.result } →
+        (h.counter ≤ new.counter) × (new.counter ≤ h.counter + 1) → (new.tracker ≡ h.tracker) ⊎ (new.tracker ≡ packed h.tracker) → new.durable ≡ accepted h → ((o : Objects) → before.objects ≡ Some o → new.view ≡ flush_view flush_type h latest (last_log mark o)) →
+        ((o : Objects) → TracksFlush (flush_changes_under (λ xs. xs) flush_type h latest (last_log mark o)) h new) →
         CountsFaults {A = Unit {0}} before.faults after.faults (Ok tt) → WhereModelled (Makes (Ok tt) new.counter made) mid after.objects → Step (Ok tt) new
-    step_ok new made same counter number view faults makes = (
+    step_ok new made same counter tracker number view tracks faults makes = (
       made,
       record {
-        flushed = record { same = same; durable = number; counter = counter };
+        flushed = record { same = same; durable = number; counter = counter; tracker = tracker };
         stored = record {
           faults = faults;
-          objects = modelled_from kept makes (λ o o' is m. stores-ok t flush_type h o latest (current-at o is) new made o' (view o is) m);
+          objects = modelled_from kept makes (λ o o' is m. stores-ok t flush_type h o latest (current-at o is) new made o' (view o is) (tracks o) m);
         };
       },
     )
 
-    step_err : (new : Handle) (e : SlateError) (made : ℕ) → new ≡ record h { durable = new.durable; counter = new.counter; view = new.view; result = h.result } →
-        (h.counter ≤ new.counter) × (new.counter ≤ h.counter + 1) → DurableAfter (nat_le (grows h) made) h (Err e) new.durable → new.view ≡ latest →
+    step_err : (new : Handle) (e : SlateError) (made : ℕ) → new ≡ record h { durable = new.durable; counter = new.counter; tracker = new.tracker; view = new.view; result = h.result } →
+        (h.counter ≤ new.counter) × (new.counter ≤ h.counter + 1) → (new.tracker ≡ h.tracker) ⊎ (new.tracker ≡ packed h.tracker) → DurableAfter (nat_le (grows h) made) h (Err e) new.durable → new.view ≡ latest →
         CountsFaults {A = Unit {0}} before.faults after.faults (Err e) → WhereModelled (Makes (Err e) new.counter made) mid after.objects → Step (Err e) new
-    step_err new e made same counter number view faults makes = (
+    step_err new e made same counter tracker number view faults makes = (
       made,
       record {
-        flushed = record { same = same; durable = number; counter = counter };
+        flushed = record { same = same; durable = number; counter = counter; tracker = tracker };
         stored = record {
           faults = faults;
           objects = modelled_from kept makes (λ o o' is m. stores-err t flush_type h o latest (current-at o is) e new made o' view m);
@@ -196,6 +211,11 @@ module _ (t : Option Objects) (flush_type : FlushType) (h : Handle) (before afte
 log-length : (bs : List Batch) (last : ℕ) → length (log_changes (λ xs. xs) bs last) ≤ 1
 log-length [] last = omega arith
 log-length (b ∷ bs) last = omega arith
+
+-- and puts no table
+log-tracks : (bs : List Batch) (last : ℕ) (h new : Handle) → new.tracker ≡ h.tracker → TracksFlush (log_changes (λ xs. xs) bs last) h new
+log-tracks [] last h new same = record { is = same; again = λ some. absurd (omega (arith, some)) }
+log-tracks (b ∷ bs) last h new same = record { is = same; again = λ some. absurd (omega (arith, some)) }
 
 -- want of memory leaves it unmade
 log-only : (e : SlateError) (all made : ℕ) → all ≤ 1 → FlushesOnly (Err e) all made → e ≡ errors.NoMemory → made ≡ 0
@@ -213,7 +233,8 @@ module _ (t : Option Objects) (h : Handle) (before after : Known (List Batch)) (
   log_ok new same faults makes =
       let all = made_with {Q = λ made. Unit {0}} {P = MakesLog (Ok tt)} mid after.objects 0 tt (modelled_as (λ o o'. (made : ℕ) × Unit {0} × MakesLog (Ok tt) made o o') makes (λ o o' m. (m.0, tt, m.1))) in
       subst (Step t Wal h before after (Ok tt)) (sym same)
-      (step_ok t Wal h before after latest kept found (record h { durable = accepted h; view = latest }) all.0 refl (omega arith, omega arith) refl (λ o is. refl) faults all.2)
+      (step_ok t Wal h before after latest kept found (record h { durable = accepted h; view = latest }) all.0 refl (omega arith, omega arith) (inl refl) refl (λ o is. refl)
+      (λ o. log-tracks (to_log h) (last_log latest.manifest.replay_after_wal_id o) h (record h { durable = accepted h; view = latest }) refl) faults all.2)
 
   pub log_err : (new : Handle) (e : SlateError) → new ≡ record h { view = latest } → CountsFaults {A = Unit {0}} before.faults after.faults (Err e) → WhereModelled (λ o o'. (made : ℕ) × MakesLog (Err e) made o o') mid after.objects → Step t Wal h before after (Err e) new
   log_err new e same faults makes =
@@ -222,7 +243,7 @@ module _ (t : Option Objects) (h : Handle) (before after : Known (List Batch)) (
       (modelled_as (λ o o'. (made : ℕ) × DurableAfter (nat_le (grows h) made) h (Err e) h.durable × MakesLog (Err e) made o o') makes
       (λ o o' m. (m.0, kept_durable e m.0 h (λ no. let zero_is = log-only e _ m.0 (log-length (to_log h) (last_log latest.manifest.replay_after_wal_id o)) m.1.only no in omega arith), m.1))) in
       subst (Step t Wal h before after (Err e)) (sym same)
-      (step_err t Wal h before after latest kept found (record h { view = latest }) e all.0 refl (omega arith, omega arith) all.1 refl faults all.2)
+      (step_err t Wal h before after latest kept found (record h { view = latest }) e all.0 refl (omega arith, omega arith) (inl refl) all.1 refl faults all.2)
 
   -- A flush to a table.
   abbrev MakesAll : Result (Unit {0}) SlateError → ℕ → ℕ → Objects → Objects → Type 0
@@ -238,12 +259,18 @@ module _ (t : Option Objects) (h : Handle) (before after : Known (List Batch)) (
       subst (λ (cs : List Change). MakesPart (has_ids MemTable h latest last) cs (Ok tt) h.counter h.counter 0 o o) (sym none)
       (record { cause = tt; part = refl; only = tt; counted = (omega arith, omega arith); after = refl })
 
+  untracked : (o : Objects) → has_untabled h latest.manifest ≡ false → TracksFlush (flush_changes_under (λ xs. xs) MemTable h latest (last_log latest.manifest.replay_after_wal_id o)) h (record h { durable = accepted h; view = latest })
+  untracked o unfilled =
+      let last = last_log latest.manifest.replay_after_wal_id o in
+      let none : flush_changes_under (λ xs. xs) MemTable h latest last ≡ [] = ap (λ x. cond x (all_changes h latest last) []) unfilled in
+      subst (λ (cs : List Change). TracksFlush cs h (record h { durable = accepted h; view = latest })) (sym none) (record { is = refl; again = λ more. absurd (omega (arith, more)) })
+
   pub table_none : (new : Handle) → accepted h ≤ latest.manifest.last_l0_seq → new ≡ record h { durable = accepted h; view = latest } → CountsFaults {A = Unit {0}} before.faults after.faults (Ok tt) → after.objects ≡ mid → Step t MemTable h before after (Ok tt) new
   table_none new low same faults left =
       let no : has_untabled h latest.manifest ≡ false = le-ltb latest.manifest.last_l0_seq (accepted h) low in
       subst (Step t MemTable h before after (Ok tt)) (sym same)
-      (step_ok t MemTable h before after latest kept found (record h { durable = accepted h; view = latest }) 0 refl (omega arith, omega arith) refl
-      (λ o is. sym (ap (λ x. cond x (next_flushed h latest (last_log latest.manifest.replay_after_wal_id o)) latest) no)) faults
+      (step_ok t MemTable h before after latest kept found (record h { durable = accepted h; view = latest }) 0 refl (omega arith, omega arith) (inl refl) refl
+      (λ o is. sym (ap (λ x. cond x (next_flushed h latest (last_log latest.manifest.replay_after_wal_id o)) latest) no)) (λ o. untracked o no) faults
       (modelled_kept left (λ o is. nothing o no)))
 
   module _ (high : latest.manifest.last_l0_seq < accepted h) where
@@ -258,42 +285,63 @@ module _ (t : Option Objects) (h : Handle) (before after : Known (List Batch)) (
         subst (λ b. MakesPart b (flush_changes_under (λ xs. xs) MemTable h latest last) r h.counter counter' made o o') (sym ids)
         (subst (λ (cs : List Change). MakesPart (has_all_ids h latest last) cs r h.counter counter' made o o') (sym changes) m)
 
-    pub table_ok : (put new : Handle) (next : VersionedManifest) (made : ℕ) → put ≡ record h { durable = put.durable; counter = put.counter } → new ≡ record put { durable = accepted h; view = next } → (h.counter ≤ put.counter) × (put.counter ≤ h.counter + 1) →
+    -- one table is put
+    tables-all : (bs : List Batch) (number : ℕ) → tables_put (log_changes (λ xs. xs) bs number ++ table_changes (λ xs. xs) h latest number) ≡ 1
+    tables-all [] number = refl
+    tables-all (b ∷ bs) number = refl
+
+    table-tracks : (o : Objects) (new : Handle) → new.tracker ≡ packed h.tracker → IsReadAgain (packed h.tracker) → TracksFlush (flush_changes_under (λ xs. xs) MemTable h latest (last_log latest.manifest.replay_after_wal_id o)) h new
+    table-tracks o new same again =
+        let last = last_log latest.manifest.replay_after_wal_id o in
+        let changes : flush_changes_under (λ xs. xs) MemTable h latest last ≡ all_changes h latest last = ap (λ x. cond x (all_changes h latest last) []) some in
+        let one : tables_put (flush_changes_under (λ xs. xs) MemTable h latest last) ≡ 1 = ap tables_put changes ∙ tables-all (to_log h) last in
+        record {
+          is = same ∙ sym (ap (λ n. cond (ltb 0 n) (packed h.tracker) h.tracker) one);
+          again = λ more. subst IsReadAgain (sym same) again;
+        }
+
+    pub table_ok : (put new : Handle) (next : VersionedManifest) (made : ℕ) → put ≡ record h { durable = put.durable; counter = put.counter; tracker = put.tracker } → put.tracker ≡ packed h.tracker → new ≡ record put { durable = accepted h; view = next } → (h.counter ≤ put.counter) × (put.counter ≤ h.counter + 1) → IsReadAgain (packed h.tracker) →
         IfSome mid (λ o. next ≡ next_flushed h latest (last_log latest.manifest.replay_after_wal_id o)) → CountsFaults {A = Unit {0}} before.faults after.faults (Ok tt) → WhereModelled (MakesAll (Ok tt) put.counter made) mid after.objects → Step t MemTable h before after (Ok tt) new
-    table_ok put new next made moved same counter commits faults makes =
+    table_ok put new next made moved packed_is same counter again commits faults makes =
         subst (Step t MemTable h before after (Ok tt)) (sym same)
-        (step_ok t MemTable h before after latest kept found (record put { durable = accepted h; view = next }) made (ap (λ (x : Handle). record x { durable = accepted h; view = next }) moved) counter refl
+        (step_ok t MemTable h before after latest kept found (record put { durable = accepted h; view = next }) made (ap (λ (x : Handle). record x { durable = accepted h; view = next }) moved) counter (inr packed_is) refl
         (λ o is.
         let next_is = subst (λ x. IfSome x (λ o. next ≡ next_flushed h latest (last_log latest.manifest.replay_after_wal_id o))) (kept ∙ is) commits in
         next_is ∙ sym (ap (λ x. cond x (next_flushed h latest (last_log latest.manifest.replay_after_wal_id o)) latest) some))
+        (λ o. table-tracks o (record put { durable = accepted h; view = next }) packed_is again)
         faults (modelled_as (Makes t MemTable h before after latest kept found (Ok tt) put.counter made) makes (as-all (Ok tt) put.counter made)))
 
-    pub table_err : (put new : Handle) (e : SlateError) (made : ℕ) → put ≡ record h { durable = put.durable; counter = put.counter } → new ≡ record put { view = latest } → (h.counter ≤ put.counter) × (put.counter ≤ h.counter + 1) →
+    pub table_err : (put new : Handle) (e : SlateError) (made : ℕ) → put ≡ record h { durable = put.durable; counter = put.counter; tracker = put.tracker } → put.tracker ≡ packed h.tracker → new ≡ record put { view = latest } → (h.counter ≤ put.counter) × (put.counter ≤ h.counter + 1) →
         DurableAfter (nat_le (grows h) made) h (Err e) put.durable → CountsFaults {A = Unit {0}} before.faults after.faults (Err e) → WhereModelled (MakesAll (Err e) put.counter made) mid after.objects → Step t MemTable h before after (Err e) new
-    table_err put new e made moved same counter number faults makes =
+    table_err put new e made moved packed_is same counter number faults makes =
         subst (Step t MemTable h before after (Err e)) (sym same)
-        (step_err t MemTable h before after latest kept found (record put { view = latest }) e made (ap (λ (x : Handle). record x { view = latest }) moved) counter number refl
+        (step_err t MemTable h before after latest kept found (record put { view = latest }) e made (ap (λ (x : Handle). record x { view = latest }) moved) counter (inr packed_is) number refl
         faults (modelled_as (Makes t MemTable h before after latest kept found (Err e) put.counter made) makes (as-all (Err e) put.counter made)))
 
--- What a flush stores depends on no more of the handle after it than its view and its count.
+tracks-by : {L A : Type 0} (cs : List (ChangeOf L)) (h new new' : Handle) (r : Result A SlateError) → IfOk r (λ _. TracksFlush cs h new) → IfOk r (λ _. TracksFlush cs h (record new' { view = new.view; counter = new.counter; tracker = new.tracker }))
+tracks-by cs h new new' (Ok _) s = record { is = s.is; again = s.again }
+tracks-by cs h new new' (Err e) s = tt
+
+-- What a flush stores depends on no more of the handle after it than its view, its count and its tracker.
 module _ {t : Option Objects} {flush_type : FlushType} {made : ℕ} {h : Handle} {before after : Known (List Batch)} {r : Result (Unit {0}) SlateError} {new : Handle} (s : Stores (by_objects t) made flush_type h before r new after) where
-  pub stores-by : (new' : Handle) → new'.view ≡ new.view → new'.counter ≡ new.counter → Stores (by_objects t) made flush_type h before r new' after
-  stores-by new' view counter =
+  pub stores-by : (new' : Handle) → new'.view ≡ new.view → new'.counter ≡ new.counter → new'.tracker ≡ new.tracker → Stores (by_objects t) made flush_type h before r new' after
+  stores-by new' view counter tracker =
       subst (λ v. Stores (by_objects t) made flush_type h before r (record new' { view = v }) after) (sym view)
       (subst (λ c. Stores (by_objects t) made flush_type h before r (record new' { view = new.view; counter = c }) after) (sym counter)
+      (subst (λ x. Stores (by_objects t) made flush_type h before r (record new' { view = new.view; counter = new.counter; tracker = x }) after) (sym tracker)
       (record {
         faults = s.faults;
-        objects = modelled_as (λ o o'. StoresBatches (by_objects t) flush_type h o r (record new' { view = new.view; counter = new.counter }) made o') s.objects
-            (λ o o' b. record { answer = b.answer; part = b.part; only = b.only; current = b.current; counted = b.counted; after = b.after });
-      }))
+        objects = modelled_as (λ o o'. StoresBatches (by_objects t) flush_type h o r (record new' { view = new.view; counter = new.counter; tracker = new.tracker }) made o') s.objects
+            (λ o o' b. record { answer = b.answer; part = b.part; only = b.only; current = b.current; counted = b.counted; after = b.after; tracked = tracks-by (flush_changes (λ xs. xs) flush_type h o) h new new' r b.tracked });
+      })))
 
 -- a handle that drops what is in tables
 pub forgets : {t : Option Objects} {flush_type : FlushType} {made : ℕ} {h new mid : Handle} {before after : Known (List Batch)} {r : Result (Unit {0}) SlateError} → new ≡ kept_handle mid → StoresBy (λ handle. handle) (by_objects t) flush_type h before r mid after made → StoresBy kept_handle (by_objects t) flush_type h before r new after made
 forgets {t} {flush_type} {made} {h} {new} {mid} {before} {after} {r} same s =
     subst (λ x. StoresBy kept_handle (by_objects t) flush_type h before r x after made) (sym same)
     (record {
-      flushed = record { same = ap kept_handle s.flushed.same; durable = s.flushed.durable; counter = s.flushed.counter };
-      stored = stores-by s.stored (kept_handle mid) refl refl;
+      flushed = record { same = ap kept_handle s.flushed.same; durable = s.flushed.durable; counter = s.flushed.counter; tracker = s.flushed.tracker };
+      stored = stores-by s.stored (kept_handle mid) refl refl refl;
     })
 
 -- The steps of a flush to a table, before its puts and after them.
@@ -334,3 +382,54 @@ module _ (h : Handle) (latest : VersionedManifest) where
   pub commits-by : (a : Option Objects) (next : VersionedManifest) (last : ℕ) → IfSome a (λ o. last ≡ last_in o) → next ≡ next_flushed h latest last → IfSome a (λ o. next ≡ next_flushed h latest (last_in o))
   commits-by None next number found is = tt
   commits-by (Some o) next number found is = is ∙ ap (next_flushed h latest) found
+
+-- ---- a handle whose tracker is packed before the flush
+module _ (h : Handle) (latest : VersionedManifest) where
+  abbrev packs : Handle
+  packs = record h { tracker = packed h.tracker }
+
+  -- the manifest of a flush with these bytes
+  abbrev spelled_next : ℕ → List ℕ → VersionedManifest
+  spelled_next last bytes = record (next_flushed h latest last) { manifest = record (next_flushed h latest last).manifest { sequence_tracker = Some bytes } }
+
+  next-packed : (last : ℕ) → next_flushed packs latest last ≡ next_flushed h latest last
+  next-packed last = ap (λ (t : Tracker). spelled_next last (tracker_bytes t)) (packed-twice h.tracker)
+
+  changes-packed : (last : ℕ) → all_changes packs latest last ≡ all_changes h latest last
+  changes-packed last =
+      ap (λ (v : VersionedManifest). log_changes (λ xs. xs) (to_log h) last ++ PutTable (next_table h) (untabled latest.manifest h) ∷ PutManifest v.id v.manifest ∷ []) (next-packed last)
+
+  -- the same of a handle that was packed
+  module _ (q : Handle) (q_is : q ≡ packs) where
+    abbrev last_of : Objects → ℕ
+    last_of o = last_log latest.manifest.replay_after_wal_id o
+
+    pub packed-moved : (put : Handle) → put ≡ record q { durable = put.durable; counter = put.counter } → (put ≡ record h { durable = put.durable; counter = put.counter; tracker = put.tracker }) × (put.tracker ≡ packed h.tracker)
+    packed-moved put moved =
+        let here : put ≡ record packs { durable = put.durable; counter = put.counter } = moved ∙ ap (λ (x : Handle). record x { durable = put.durable; counter = put.counter }) q_is in
+        let tracker : put.tracker ≡ packed h.tracker = ap (λ (x : Handle). x.tracker) here in
+        (here ∙ ap (λ (t : Tracker). record h { durable = put.durable; counter = put.counter; tracker = t }) (sym tracker), tracker)
+
+    pub packed-counter : (counter : ℕ) → (q.counter ≤ counter) × (counter ≤ q.counter + 1) → (h.counter ≤ counter) × (counter ≤ h.counter + 1)
+    packed-counter counter near = subst (λ (x : Handle). (x.counter ≤ counter) × (counter ≤ x.counter + 1)) q_is near
+
+    pub packed-again : IsReadAgain q.tracker → IsReadAgain (packed h.tracker)
+    packed-again again = subst (λ (x : Handle). IsReadAgain x.tracker) q_is again
+
+    pub packed-durable : (made : ℕ) (e : SlateError) (durable : ℕ) → DurableAfter (nat_le (grows q) made) q (Err e) durable → DurableAfter (nat_le (grows h) made) h (Err e) durable
+    packed-durable made errors.NoMemory durable d = subst (λ (x : Handle). DurableAfter (nat_le (grows x) made) x (Err errors.NoMemory) durable) q_is d
+    packed-durable made e durable d = subst (λ (x : Handle). DurableAfter (nat_le (grows x) made) x (Err e) durable) q_is d
+
+    commits-at : (a : Option Objects) (next : VersionedManifest) → IfSome a (λ o. next ≡ next_flushed packs latest (last_of o)) → IfSome a (λ o. next ≡ next_flushed h latest (last_of o))
+    commits-at None next is = tt
+    commits-at (Some o) next is = is ∙ next-packed (last_of o)
+
+    pub packed-commits : (a : Option Objects) (next : VersionedManifest) → IfSome a (λ o. next ≡ next_flushed q latest (last_of o)) → IfSome a (λ o. next ≡ next_flushed h latest (last_of o))
+    packed-commits a next is = commits-at a next (subst (λ (x : Handle). IfSome a (λ o. next ≡ next_flushed x latest (last_of o))) q_is is)
+
+    pub packed-makes : (a b : Option Objects) (r : Result (Unit {0}) SlateError) (counter' made : ℕ) → WhereModelled (λ o o'. MakesPart (has_all_ids q latest (last_of o)) (all_changes q latest (last_of o)) r q.counter counter' made o o') a b →
+        WhereModelled (λ o o'. MakesPart (has_all_ids h latest (last_of o)) (all_changes h latest (last_of o)) r h.counter counter' made o o') a b
+    packed-makes a b r counter' made makes =
+        modelled_as (λ o o'. MakesPart (has_all_ids h latest (last_of o)) (all_changes h latest (last_of o)) r h.counter counter' made o o')
+        (subst (λ (x : Handle). WhereModelled (λ o o'. MakesPart (has_all_ids x latest (last_of o)) (all_changes x latest (last_of o)) r x.counter counter' made o o') a b) q_is makes)
+        (λ o o' m. subst (λ (cs : List Change). MakesPart (has_all_ids h latest (last_of o)) cs r h.counter counter' made o o') (changes-packed (last_of o)) m)

@@ -1,13 +1,17 @@
 -- What a tracker takes and keeps of numbers that don't fall.
-use Rattle.std.proofs.Common.{◌≡◌, ℕ, ◌+◌, ◌≤◌, length-append, ltb, cond, Bool, true, false, List, [], ◌∷◌, ◌++◌, Option, Some, None, Result, Ok, Err, MatchResult, subst, length, arith}
-use Rattle.std.specs.Option.{IfSome}
-use Rattle.std.proofs.lemmas.Bool.{le-ltb}
+use Rattle.std.proofs.Common.{◌≡◌, ℕ, suc, ◌+◌, ◌-◌, ◌≤◌, ◌&&◌, ◌∙◌, ap, refl, sym, map, slice_get, leb, length-append, ltb, cond, Bool, true, false, List, [], ◌∷◌, ◌++◌, Option, Some, None, Result, Ok, Err, MatchResult, subst, length, arith}
+use Rattle.std.specs.Option.{IfSome, option_map_or}
+use Rattle.std.proofs.lemmas.Bool.{le-leb, le-ltb, leb-true}
+use Rattle.std.proofs.lemmas.List.{length-map}
+use Rattle.slate_types.specs.Line.{AreNumberedFrom}
 use Rattle.slate_types.specs.declared.batches.Batch.{Batch}
 use Rattle.slate_seqtrack.specs.declared.faults.TrackerFault.{TrackerFault}
 use Rattle.slate_seqtrack.specs.declared.faults.TrackerFault.TheVariants.{FallingNumber}
 use Rattle.slate_seqtrack.specs.declared.pairs.TrackedSeq.{TrackedSeq}
-use Rattle.slate_seqtrack.specs.Thinning.{evens, thinned}
-use Rattle.slate_seqtrack.specs.Tracker.{Tracker, inserted, is_early, last_number, recording, recording_above}
+use Rattle.slate_seqtrack.specs.Bytes.{has_bytes, packed, tracker_at}
+use Rattle.slate_seqtrack.specs.Thinning.{evens, last_alone, thinned}
+use Rattle.slate_model.specs.Tracked.{fits_tables, fitting, no_times, or_as_before, seconds_of, tracked, tracked_all, tracker_in}
+use Rattle.slate_seqtrack.specs.Tracker.{Tracker, inserted, is_early, last_number, numbers_of, recording, recording_above}
 
 -- a list whose last number isn't above this one
 abbrev pub EndsBy : ℕ → List TrackedSeq → Type 0
@@ -71,3 +75,77 @@ pub ends-pushed : (floor : ℕ) (bs : List Batch) (b : Batch) (t t' : Tracker) (
 ends-pushed floor bs b t t' p ends next taken =
     let end : floor + length (bs ++ b ∷ []) ≡ floor + length bs + 1 = simp length-append (omega arith) in
     ends-inserted _ t t' p (ends-later _ _ t.pairs (omega (arith, end)) ends) (omega (arith, end, next)) taken
+
+-- ---- the tracker of a manifest
+-- the last number of a tracker is the last of its numbers
+last-at : (pairs : List TrackedSeq) → slice_get (map (λ (p : TrackedSeq). p.seq) pairs) (length (map (λ (p : TrackedSeq). p.seq) pairs) - 1) ≡ last_number pairs
+last-at [] = refl
+last-at (p ∷ []) = refl
+last-at (p ∷ q ∷ pairs) =
+    let at : length (map (λ (p : TrackedSeq). p.seq) (p ∷ q ∷ pairs)) - 1 ≡ suc (length (map (λ (p : TrackedSeq). p.seq) (q ∷ pairs)) - 1) = omega arith in
+    rw at (last-at (q ∷ pairs))
+
+pub fits-is : (number last : ℕ) (t : Tracker) (numbers : List ℕ) → numbers ≡ numbers_of t → slice_get numbers (length numbers - 1) ≡ Some last → (leb (length numbers) 8192 && leb last number) ≡ fits_tables number t
+fits-is number last t numbers is at =
+    let same : last_number t.pairs ≡ Some last = sym (last-at t.pairs) ∙ sym (ap (λ (ns : List ℕ). slice_get ns (length ns - 1)) is) ∙ at in
+    let size : length numbers ≡ length t.pairs = ap length is ∙ length-map t.pairs (λ (p : TrackedSeq). p.seq) in
+    rw (same, size) refl
+
+pub fits-few : (number last : ℕ) (t : Tracker) (numbers : List ℕ) → numbers ≡ numbers_of t → slice_get numbers (length numbers - 1) ≡ Some last → length numbers ≤ 8192 → leb last number ≡ fits_tables number t
+fits-few number last t numbers is at few = ap (λ b. b && leb last number) (sym (le-leb (length numbers) 8192 few)) ∙ fits-is number last t numbers is at
+
+pub fits-none : (number : ℕ) (t : Tracker) (numbers : List ℕ) → numbers ≡ numbers_of t → slice_get numbers (length numbers - 1) ≡ None → true ≡ fits_tables number t
+fits-none number t numbers is at =
+    let same : last_number t.pairs ≡ None = sym (last-at t.pairs) ∙ sym (ap (λ (ns : List ℕ). slice_get ns (length ns - 1)) is) ∙ at in
+    let none : t.pairs ≡ [] = no-pairs t.pairs same in
+    rw none refl
+  where
+    no-pairs : (pairs : List TrackedSeq) → last_number pairs ≡ None → pairs ≡ []
+    no-pairs [] h = refl
+    no-pairs (p ∷ []) h = absurd (cc)
+    no-pairs (p ∷ q ∷ pairs) h = let less = no-pairs (q ∷ pairs) h in absurd (cc)
+
+-- one that fits ends by the number
+pub ends-fitting : (number : ℕ) (r : Result Tracker TrackerFault) (t : Tracker) → fitting number r ≡ Some t → EndsBy number t.pairs
+ends-fitting number (Ok u) t is = by (leb (length u.pairs) 8192) (last_number u.pairs) refl is where
+  taken : (last : Option ℕ) → last_number u.pairs ≡ last → (u ≡ t) → IfSome last (λ l. l ≤ number) → EndsBy number t.pairs
+  taken last at same h = subst (λ (x : Tracker). EndsBy number x.pairs) same (subst (λ o. IfSome o (λ l. l ≤ number)) (sym at) h)
+
+  by : (few : Bool) (last : Option ℕ) → last_number u.pairs ≡ last → cond (few && option_map_or (λ l. leb l number) last true) (Some u) None ≡ Some t → EndsBy number t.pairs
+  by false last at e = absurd (cc)
+  by true None at e = taken None at (cc) tt
+  by true (Some l) at e = below (leb l number) refl e where
+    below : (b : Bool) → leb l number ≡ b → cond b (Some u) None ≡ Some t → EndsBy number t.pairs
+    below true le e = taken (Some l) at (cc) (leb-true l number le)
+    below false le e = absurd (cc)
+ends-fitting number (Err fault) t is = absurd (cc)
+
+pub ends-stored : (number : ℕ) (bytes : Option (List ℕ)) (t : Tracker) → tracker_in number bytes ≡ Some t → EndsBy number t.pairs
+ends-stored number None t is = let same : no_times ≡ t = cc in subst (λ (x : Tracker). EndsBy number x.pairs) same tt
+ends-stored number (Some bytes) t is = ends-fitting number (tracker_at bytes) t is
+
+-- and so it does after batches that are numbered on from there
+ends-kept : (n : ℕ) (t : Tracker) (p : TrackedSeq) (r : Result Tracker TrackerFault) → inserted t p ≡ r → EndsBy n t.pairs → p.seq ≤ n → EndsBy n (or_as_before t r).pairs
+ends-kept n t p (Ok u) is ends le = ends-inserted n t u p ends le is
+ends-kept n t p (Err fault) is ends le = ends
+
+pub ends-all : (floor : ℕ) (t : Tracker) (bs : List Batch) → AreNumberedFrom floor bs → EndsBy floor t.pairs → EndsBy (floor + length bs) (tracked_all t bs).pairs
+ends-all floor t [] numbered ends = ends-later floor (floor + 0) t.pairs (omega arith) ends
+ends-all floor t (b ∷ bs) numbered ends =
+    let p : TrackedSeq = record { seq = b.number; ts = seconds_of b.create_ts } in
+    let number : b.number ≡ floor + 1 = numbered.0 in
+    let next = ends-all (floor + 1) (tracked t b.number b.create_ts) bs numbered.1 (ends-kept (floor + 1) t p (inserted t p) refl (ends-later floor (floor + 1) t.pairs (omega arith) ends) (omega (arith, number))) in
+    let end : floor + 1 + length bs ≡ floor + length (b ∷ bs) = omega arith in
+    subst (λ n. EndsBy n (tracked_all (tracked t b.number b.create_ts) bs).pairs) end next
+
+-- and packed it ends as before
+last-alone : (pairs : List TrackedSeq) → last_number (last_alone pairs) ≡ last_number pairs
+last-alone [] = refl
+last-alone (p ∷ []) = refl
+last-alone (p ∷ q ∷ pairs) = last-alone (q ∷ pairs)
+
+pub ends-packed : (n : ℕ) (t : Tracker) → EndsBy n t.pairs → EndsBy n (packed t).pairs
+ends-packed n t ends = by (has_bytes t) where
+  by : (b : Bool) → EndsBy n (cond b t (record t { pairs = last_alone t.pairs })).pairs
+  by true = ends
+  by false = subst (λ o. IfSome o (λ l. l ≤ n)) (sym (last-alone t.pairs)) ends

@@ -6,6 +6,8 @@ use Rattle.slate_model.specs.Handle.{Handle}
 use Rattle.slate_model.specs.Unflushed.{most_bytes}
 use Rattle.slate_reads.specs.Size.{size_of}
 use Rattle.slate_status.specs.Segments.{AreRising}
+use Rattle.std.specs.Arc.{arc_value}
+use Rattle.slate_writer.specs.Board.{lead_at, words_of}
 use Rattle.slate_writer.specs.declared.states.WriterState.TheInside.{Inside}
 
 -- the handle that the fields represent
@@ -28,7 +30,8 @@ handle_of a =
     }
 
 -- the batches in memory are numbered from the floor on, none past the last of them is stored or tracked, their prefixes
--- rise, and so do those of the view where the handle says so, and those above a number have so many bytes
+-- rise, and so do those of the view where the handle says so, its seat is the lead of its board and has seen its words, and
+-- those above a number have so many bytes
 pub record IsKept (a : Inside) : Type 0 where
   pub numbered : AreNumberedFrom a.floor a.memory
   pub fits : a.floor + length a.memory < 2 ^ 64
@@ -36,4 +39,5 @@ pub record IsKept (a : Inside) : Type 0 where
   pub tracked : IfSome (last_number a.tracker.pairs) (λ last. last ≤ a.floor + length a.memory)
   pub rising : AreRising a.segments.items
   pub stored : a.stored_rise ≡ true → AreRising a.status.manifest.manifest.segments
+  pub seated : a.lead ≡ lead_at (arc_value a.board) (words_of (handle_of a))
   pub counted : a.unlogged ≡ min (size_of (batches_above a.counted a.memory)) most_bytes

@@ -1,5 +1,6 @@
 pub mod Puts
 pub mod Opening
+pub mod Board
 pub mod Joined
 pub mod Kept
 pub mod Refusal

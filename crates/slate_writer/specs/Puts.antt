@@ -1,5 +1,5 @@
 -- What the puts of a flush leave of a store, by what they answer.
-use Rattle.std.specs.Prelude.{◌≡◌, ℕ, ◌≤◌, ◌+◌, ◌&&◌, if◌then◌else◌, List, [], ◌∷◌, ◌++◌, length, take, nat_le, nat_lt, Bool, false, Result, Ok, Err, IfErr}
+use Rattle.std.specs.Prelude.{◌≡◌, ℕ, ◌<◌, ◌≤◌, ◌+◌, ◌⊎◌, ◌&&◌, if◌then◌else◌, List, [], ◌∷◌, ◌++◌, length, take, nat_le, nat_lt, Bool, false, Result, Ok, Err, IfErr, IfSome}
 use Rattle.slate_types.specs.declared.batches.Batch.{Batch}
 use Rattle.slate_types.specs.declared.options.FlushType.{FlushType}
 use Rattle.slate_types.specs.declared.options.FlushType.TheVariants.{Wal, MemTable}
@@ -8,7 +8,7 @@ use Rattle.slate_types.specs.declared.store_errors.StoreFault.TheVariants.{Unava
 use Rattle.slate_store.specs.declared.objects.TableId.{TableId}
 use Rattle.slate_store.specs.declared.objects.VersionedManifest.{VersionedManifest}
 use Rattle.slate_store.specs.Calls.{Puts}
-use Rattle.slate_store.specs.Objects.{Change, Objects, PutLog, PutManifest, PutTable, changed}
+use Rattle.slate_store.specs.Objects.{Change, Objects, PutLog, PutManifest, PutTable, changed, latest_manifest}
 use Rattle.slate_errors.specs.Errors.{error_of_store}
 use Rattle.slate_errors.specs.declared.errors.SlateError.{SlateError}
 use Rattle.slate_errors.specs.declared.errors.SlateError.TheVariants as errors
@@ -25,6 +25,29 @@ use Rattle.slate_model.specs.Write.{last_number}
 abbrev pub flush_calls : FlushType → ℕ
 flush_calls Wal = 3
 flush_calls MemTable = 5
+
+-- how often it calls it to find the last log file and to put these batches as the next one, where there are any
+abbrev pub log_calls : List Batch → ℕ
+log_calls [] = 0
+log_calls (batch ∷ batches) = 2
+
+-- and to put them alone
+abbrev pub put_calls : List Batch → ℕ
+put_calls [] = 0
+put_calls (batch ∷ batches) = 1
+
+-- How often a flush of a handle calls a store at most, by what it has to put. Where it answers Ok it makes all of these
+-- calls, unless the first one decides.
+abbrev pub calls_of : FlushType → Handle → ℕ
+calls_of Wal handle = 1 + log_calls (to_log handle)
+calls_of MemTable handle = 4 + put_calls (to_log handle)
+
+-- The look at the latest manifest decides a flush: there is none, its epoch is above the handle's, or its tables have all
+-- batches that are to go to one.
+abbrev pub IsDecided : FlushType → Handle → Objects → Type 0
+IsDecided flush_type handle objects =
+    IfSome (latest_manifest objects)
+    (λ latest. (handle.epoch < latest.manifest.writer_epoch) ⊎ ((flush_type ≡ MemTable) × (accepted handle ≤ latest.manifest.last_l0_seq)))
 
 -- the put of these batches as a log file, where there are any
 abbrev pub log_put : ℕ → List Batch → List Change

@@ -56,7 +56,7 @@ impl WriterState {
         ensures answer { result ≡ ended self.old.tasks fault }
         ensures closed { self.new ≡ closed self.old }
     {
-        self.status.report_closed(Ok(()));
+        self.record_close(Ok(()));
         self.end_tasks(Ok(()), fault)
     }
 

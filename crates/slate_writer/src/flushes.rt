@@ -6,7 +6,7 @@ ghost use Rattle.slate_model.specs.Flush.{CanFlush, FindsCurrent, Flushes, has_l
 ghost use Rattle.slate_model.specs.Handle.{kept_handle};
 ghost use Rattle.slate_model.specs.Known.{CountsFaults, known};
 ghost use Rattle.slate_model.specs.Stores.{by_objects};
-ghost use Rattle.slate_writer.specs.Puts.{MakesPart, StoresBy, flush_calls};
+ghost use Rattle.slate_writer.specs.Puts.{IsDecided, MakesPart, StoresBy, calls_of, flush_calls, log_calls};
 
 use crate::WriterState;
 use slate_errors::{CloseFault, SlateError};
@@ -18,13 +18,16 @@ impl WriterState {
     /// Stores the accepted batches. After Ok all of them are durable.
     ///
     /// With `Wal` it puts those that aren't stored yet as one log file; where there are none, it puts nothing. With
-    /// `MemTable` it does the same, where the handle keeps a log, then puts a table of all batches that aren't in tables
-    /// yet, and commits a manifest that names it, from which on a replay begins after the log files that were there, and whose
-    /// segments are those of the latest manifest and the prefixes of the batches, each once, in their order; where there are
-    /// none for a table, it puts nothing. Then it drops the batches from memory that are in the tables of the
-    /// manifest that it goes by, and their prefixes, where all are.
+    /// `MemTable` it does the same, where the handle keeps a log, then puts a table of all batches that aren't in
+    /// tables yet, and commits a manifest that names it, from which on a replay begins after the log files that were
+    /// there, and whose segments are those of the latest manifest and the prefixes of the batches, each once, in their
+    /// order; where there are none for a table, it puts nothing. That manifest has the times of the batches, too, for
+    /// the handles that are opened later; where these have no bytes, the last one alone is left, also for this handle.
+    /// Then it drops the batches from memory that are in the tables of the manifest that it goes by, and their
+    /// prefixes, where all are.
     ///
-    /// It calls the store three times at most with `Wal`, and five times with `MemTable`. It takes time linear in the
+    /// It calls the store three times at most with `Wal`, and five times with `MemTable`; once where it is fenced, or its first
+    /// look finds all batches in tables, and never again after a call that failed. It takes time linear in the
     /// batches that it puts in the log, in the operations of those that it puts in a table, with a logarithm of their keys
     /// for each key, and in the manifest that it reads and compares with the present one; a flush to a table also takes
     /// n log n comparisons, for n prefixes in the manifest and in memory. It copies no keys and no values.
@@ -45,6 +48,8 @@ impl WriterState {
         ensures does { (made : ℕ) × Flushes (by_objects (S.objects store.old)) made flush_type self.old (known S.objects S.faults store.old) result self.new (known S.objects S.faults store.new) }
         ensures count { S.faults store.old ≤ S.faults store.new }
         ensures calls { S.calls store.new ≤ S.calls store.old + flush_calls flush_type }
+        ensures counted { S.calls store.new ≤ S.calls store.old + calls_of flush_type self.old }
+        ensures first { IfSome (S.objects store.old) (λ o. IsDecided flush_type self.old o → S.calls store.new ≤ S.calls store.old + 1) }
         ensures untouched { (CanFlush flush_type self.old → ⊥) → store.new ≡ store.old }
     {
         if let Some(result) = self.closed() {
@@ -68,7 +73,7 @@ impl WriterState {
         ensures { self.new ≡ record self.old { result = recorded error.now } }
     {
         if let Some(outcome) = recorded(error) {
-            self.status.report_closed(outcome);
+            self.record_close(outcome);
         }
     }
 
@@ -93,6 +98,8 @@ impl WriterState {
         ensures stored { (made : ℕ) × StoresBy kept_handle (by_objects (S.objects store.old)) flush_type self.old
             (known S.objects S.faults store.old) result self.new (known S.objects S.faults store.new) made }
         ensures calls { S.calls store.new ≤ S.calls store.old + flush_calls flush_type }
+        ensures counted { S.calls store.new ≤ S.calls store.old + calls_of flush_type self.old }
+        ensures first { IfSome (S.objects store.old) (λ o. IsDecided flush_type self.old o → S.calls store.new ≤ S.calls store.old + 1) }
     {
         let result = self.store_as(alloc, store, flush_type);
         self.forget_tabled();
@@ -109,6 +116,8 @@ impl WriterState {
         ensures stored { (made : ℕ) × StoresBy (λ handle. handle) (by_objects (S.objects store.old)) flush_type self.old
             (known S.objects S.faults store.old) result self.new (known S.objects S.faults store.new) made }
         ensures calls { S.calls store.new ≤ S.calls store.old + flush_calls flush_type }
+        ensures counted { S.calls store.new ≤ S.calls store.old + calls_of flush_type self.old }
+        ensures first { IfSome (S.objects store.old) (λ o. IsDecided flush_type self.old o → S.calls store.new ≤ S.calls store.old + 1) }
     {
         match flush_type {
             FlushType::Wal => self.store_in_log(alloc, store),
@@ -121,6 +130,8 @@ impl WriterState {
         ensures stored { (made : ℕ) × StoresBy (λ handle. handle) (by_objects (S.objects store.old)) FlushType.Wal self.old
             (known S.objects S.faults store.old) result self.new (known S.objects S.faults store.new) made }
         ensures calls { S.calls store.new ≤ S.calls store.old + 3 }
+        ensures counted { S.calls store.new ≤ S.calls store.old + calls_of FlushType.Wal self.old }
+        ensures first { IfSome (S.objects store.old) (λ o. IsDecided FlushType.Wal self.old o → S.calls store.new ≤ S.calls store.old + 1) }
     {
         let latest = current_manifest(alloc, store, self.epoch)?;
         let mark = latest.manifest.replay_after_wal_id;
@@ -165,7 +176,7 @@ fn append_log<S: Store>(
     batches: &[Batch],
 ) -> Result<(), SlateError>
     ensures faults { CountsFaults (S.faults store.old) (S.faults store.new) result }
-    ensures calls { S.calls store.new ≤ S.calls store.old + 2 }
+    ensures calls { S.calls store.new ≤ S.calls store.old + log_calls batches.now }
     ensures appended { (counter : ℕ) → WhereModelled (λ o o'. (made : ℕ) × MakesPart (has_log_id batches.now (last_log mark o))
         (log_changes (λ batches. batches) batches.now (last_log mark o)) result counter counter made o o')
         (S.objects store.old) (S.objects store.new) }

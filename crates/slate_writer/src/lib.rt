@@ -1,6 +1,7 @@
 //! The handle that writes: its batches, its flushes to the log and to tables, and its reads.
 #![tactic(auto)]
 
+mod board;
 mod closes;
 mod flushes;
 mod merges;
@@ -20,7 +21,9 @@ mod transactions;
 mod unflushed;
 mod writes;
 
+pub use board::BoardWatch;
 pub use opens::WriterOptions;
+pub use slate_board::BoardView;
 pub use slate_model::Written;
 pub use slate_transactions::IsolationLevel;
 pub use states::WriterState;

@@ -1,11 +1,12 @@
 // Opening a database: its manifest, the fence, and the replay of its log files.
-ghost use Rattle.std.specs.Prelude.{◌≡◌, ℕ, ◌+◌, ◌-◌, ◌<◌, ◌≤◌, ◌^◌, true, Option, None, Some, Ok, Err, length, IfErr, IfOk, IfSome};
+ghost use Rattle.std.specs.Prelude.{◌≡◌, ℕ, ◌+◌, ◌-◌, ◌<◌, ◌≤◌, ◌^◌, true, Option, None, Some, Ok, Err, length, IfErr, IfOk, IfSome, IsSome};
 ghost use Rattle.std.specs.Option.{option_copied};
 ghost use Rattle.slate_types.specs.Line.{AreNumberedFrom};
 ghost use Rattle.slate_store.specs.Calls.{IsCall, IsOfList, WhereModelled};
 ghost use Rattle.slate_store.specs.declared.objects.VersionedManifest.{VersionedManifest};
 ghost use Rattle.slate_store.specs.Objects.{latest_manifest};
 ghost use Rattle.slate_model.specs.Handle.{latest_tick};
+ghost use Rattle.slate_model.specs.Tracked.{latest_tracker, stored_tracker};
 ghost use Rattle.slate_model.specs.Known.{CountsFaults, known};
 ghost use Rattle.slate_model.specs.Open.{OpensHandle, can_open_by, can_reopen, first_manifest, manifest_refusal, mark_of, next_manifest};
 ghost use Rattle.slate_model.specs.Segments.{Extractor, IsExtractor, extractor_name};
@@ -16,8 +17,10 @@ ghost use Rattle.slate_writer.specs.Tasks.{tasks_of};
 ghost use Rattle.slate_writer.specs.Opening.{CallsOpening, FindsLog, FindsNext, Fits, HasLogs, IsOfFinding, IsOfManifest, PutsOpening, Recovers, recovery_calls};
 
 use crate::WriterState;
+use crate::board::{new_board, raise};
 use crate::segments::rise;
 use crate::tasks::start_tasks;
+use crate::times::{track_all, tracker_of};
 use slate_errors::SlateError;
 use slate_reads::IndexedTable;
 use slate_replay::Replayed;
@@ -69,13 +72,14 @@ impl WriterState {
     /// keeps their batches that aren't in the manifest's tables in memory. The handle sees all batches that are stored,
     /// and all of them are durable. It reads no table. It calls the store four times, and once for each log file that
     /// it replays; once more where the replay ended early. It takes time linear in the operations of the log files, and
-    /// for each key a logarithm of the keys. It first makes room for 8194 numbers and times, 16 bytes a pair; none of
-    /// the batches that it finds is tracked. With an extractor it also takes a call of it for each segment of the
+    /// for each key a logarithm of the keys. It makes room for 8194 numbers and times, 16 bytes a pair: its tracker
+    /// is that of the latest manifest, and the batches that are replayed are tracked in it, in their order. With an extractor it also takes a call of it for each segment of the
     /// manifest and each operation that it replays, and a logarithm of the prefixes for each operation. SlateDB's
     /// `Db::open`.
     ///
-    /// It answers `InvalidDBState` where the latest manifest isn't initialised, and where the next manifest, epoch or
-    /// log file would pass the greatest number; nothing is put then. Nor is where the name of the extractor isn't the one in
+    /// It answers `InvalidDBState` where the latest manifest isn't initialised, where its tracker can't be read, has more
+    /// than 8192 pairs or one of a batch that isn't in its tables, and where the next manifest, epoch or log file would pass
+    /// the greatest number; nothing is put then. Nor is where the name of the extractor isn't the one in
     /// the latest manifest, or one of them is absent (`SegmentExtractorMismatch`, which has both), nor, then, where the
     /// extractor doesn't answer a stored prefix of itself (`SegmentPrefixNotRecognized`, which names the first). After the
     /// replay `EmptySegmentPrefix` names the first key that was replayed and has no prefix, or an empty one; the manifest and
@@ -100,22 +104,27 @@ impl WriterState {
         ensures calls { IfSome (S.objects store.old) (λ o. CallsOpening o (S.calls store.old) (S.calls store.new) result) }
         ensures faults { S.faults store.old ≤ S.faults store.new }
     {
-        let tracker = SequenceTracker::new(alloc)?;
+        let (board, mut lead) = new_board(alloc)?;
         let name = name_of(alloc, extractor)?;
         let tasks = start_tasks(alloc, options)?;
-        let (view, last) = find_next(alloc, store, extractor, name)?;
+        let (view, last, mut tracker) = find_next(alloc, store, extractor, name)?;
         put_opening(alloc, store, &view, last + 1)?;
         let memory = recover(alloc, store, &view, last)?;
         let segments = replayed_segments(alloc, extractor, memory.batches())?;
+        track_all(&mut tracker, memory.batches());
         let floor = view.manifest.last_l0_seq;
         let durable = floor + memory.batches().len() as u64;
+        let tick = latest_tick(view.manifest.last_tick, memory.batches());
+        raise(&board, &mut lead, tick, durable);
         Ok(WriterState {
             keeps_log: options.wal_enabled,
             limit: options.max_unflushed_bytes,
             floor,
             epoch: view.manifest.writer_epoch,
             counter: 0,
-            tick: latest_tick(view.manifest.last_tick, memory.batches()),
+            board,
+            lead,
+            tick,
             tracker,
             tracked: None,
             counted: durable,
@@ -144,11 +153,13 @@ fn first_manifest(alloc: Global, name: Option<Name>) -> Manifest
         checkpoints: Seq::of(Vec::new(alloc)),
         segments: Seq::of(Vec::new(alloc)),
         extractor_name: name,
+        sequence_tracker: None,
     }
 }
 
-/// Whether a database can be opened by its latest manifest.
+/// Whether a database can be opened by its latest manifest, whose tracker can be read and fits it.
 fn can_reopen(latest: &VersionedManifest) -> bool
+    requires { IsSome (stored_tracker latest.now.manifest) }
     ensures { result ≡ can_reopen latest.now }
 {
     let manifest = &latest.manifest;
@@ -182,12 +193,14 @@ fn next_manifest(
     }
 }
 
-/// Why a database isn't opened by its latest manifest with an extractor, or with none.
+/// Why a database isn't opened by its latest manifest, whose tracker can be read and fits it, with an extractor, or with
+/// none.
 fn manifest_refusal<E: PrefixExtractor>(
     alloc: Global,
     extractor: Option<&E>,
     latest: Option<&VersionedManifest>,
 ) -> Result<Option<SlateError>, NoMemory>
+    requires { IsSome (latest_tracker (option_copied latest)) }
     ensures refusal { (x : Option Extractor) → IsExtractor E.may_name E.may_extract (option_copied extractor.entry) x →
         IfOk result (λ refusal. refusal ≡ manifest_refusal x (option_copied latest.entry)) }
     ensures kind { IfOk result (λ refusal. IfSome refusal IsOfManifest) }
@@ -227,29 +240,32 @@ fn find_log<S: Store>(
     Ok(last)
 }
 
-/// The manifest that an opening commits, and the id of the last log file. There is one more id after it.
+/// The manifest that an opening commits, the id of the last log file, after which there is one more, and the tracker of the
+/// manifest.
 fn find_next<S: Store, E: PrefixExtractor>(
     alloc: Global,
     store: &mut S,
     extractor: Option<&E>,
     name: Option<Name>,
-) -> Result<(VersionedManifest, u64), SlateError>
+) -> Result<(VersionedManifest, u64, SequenceTracker), SlateError>
     ensures faults { CountsFaults (S.faults store.old) (S.faults store.new) result }
     ensures calls { S.calls store.new ≤ S.calls store.old + 2 }
     ensures counted { IfOk result (λ found. S.calls store.new ≡ calls_after 2 (S.calls store.old)) }
     ensures kept { S.objects store.new ≡ S.objects store.old }
-    ensures where_modelled { IfSome (S.objects store.old) (λ o. IfOk result (FindsNext name o)) }
+    ensures where_modelled { IfSome (S.objects store.old) (λ o. IfOk result (λ found. FindsNext name o (found.0, found.1))) }
+    ensures tracked { IfOk result (λ found. stored_tracker found.0.manifest ≡ Some found.2) }
     ensures fits { (x : Option Extractor) → IsExtractor E.may_name E.may_extract (option_copied extractor.entry) x → name ≡ extractor_name x →
         IfSome (S.objects store.old) (λ o. Fits x o result) }
     ensures kind { IfErr result IsOfFinding }
     ensures below { IfOk result (λ found. found.1 < last_number) }
 {
     let latest = store.latest_manifest(alloc)?;
+    let tracker = tracker_of(alloc, latest.as_ref())?;
     if let Some(error) = manifest_refusal(alloc, extractor, latest.as_ref())? {
         return Err(error);
     }
     let last = find_log(alloc, store, latest.as_ref())?;
-    Ok((next_manifest(alloc, name, latest, last), last))
+    Ok((next_manifest(alloc, name, latest, last), last, tracker))
 }
 
 /// Puts the manifest of an opening, and then the fence.

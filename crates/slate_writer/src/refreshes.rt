@@ -1,11 +1,11 @@
 // Refreshing a handle's view, and compacting the tables of its database.
-ghost use Rattle.std.specs.Prelude.{◌≡◌, ◌+◌, ◌≤◌, ℕ, None, IfSome};
+ghost use Rattle.std.specs.Prelude.{◌≡◌, ◌+◌, ◌≤◌, ℕ, None, IfOk, IfSome};
 ghost use Rattle.slate_model.specs.Handle.{kept_handle};
 ghost use Rattle.slate_model.specs.Known.{CountsFaults, FaultsRise, known};
 ghost use Rattle.slate_model.specs.Refresh.{Compacts, RefreshAnswer, Refreshes, fenced_result};
 ghost use Rattle.slate_model.specs.Stores.{by_objects};
 ghost use Rattle.slate_store.specs.Calls.{WhereModelled};
-ghost use Rattle.slate_store.specs.Compaction.{compact_calls};
+ghost use Rattle.slate_store.specs.Compaction.{HasTablesToJoin, compact_calls};
 ghost use Rattle.slate_writer.specs.Joined.{Joins};
 
 use crate::WriterState;
@@ -46,7 +46,7 @@ impl WriterState {
     /// the batches from memory that are in its tables. The tables that were joined stay stored, and all rows are read as
     /// before.
     ///
-    /// It calls the store three times and once for each table. It takes time linear in the operations of the tables, with a
+    /// It calls the store three times and once for each table, and once where there are fewer than two. It takes time linear in the operations of the tables, with a
     /// logarithm of the keys for each key, and copies no keys and no values.
     ///
     /// On a closed handle it answers `Closed` or the error that closed it, and touches no store. `Fenced`, where another
@@ -59,6 +59,7 @@ impl WriterState {
     pub fn compact<S: Store>(&mut self, alloc: Global, store: &mut S) -> Result<(), SlateError>
         ensures does { (made : ℕ) × Compacts (by_objects (S.objects store.old)) made self.old (known S.objects S.faults store.old) result self.new (known S.objects S.faults store.new) }
         ensures count { S.faults store.old ≤ S.faults store.new }
+        ensures read { IfOk result (λ _. IfSome (S.objects store.old) HasTablesToJoin) }
         ensures calls { IfSome (S.objects store.old) (λ o. S.calls store.new ≤ S.calls store.old + compact_calls o) }
         ensures untouched { (self.old.result ≡ None → ⊥) → store.new ≡ store.old }
     {
@@ -88,6 +89,7 @@ impl WriterState {
     fn join_tables<S: Store>(&mut self, alloc: Global, store: &mut S) -> Result<(), SlateError>
         ensures moved { self.new ≡ record self.old { counter = self.new.counter; view = self.new.view } }
         ensures faults { FaultsRise (S.faults store.old) (S.faults store.new) result }
+        ensures read { IfOk result (λ _. IfSome (S.objects store.old) HasTablesToJoin) }
         ensures calls { IfSome (S.objects store.old) (λ o. S.calls store.new ≤ S.calls store.old + compact_calls o) }
         ensures joins { WhereModelled (λ o o'. (made : ℕ) × Joins self.old result self.new made o o') (S.objects store.old) (S.objects store.new) }
         ensures counter { (self.old.counter ≤ self.new.counter) × (self.new.counter ≤ self.old.counter + 1) }
@@ -112,7 +114,7 @@ impl WriterState {
     {
         self.forget_tabled();
         if let Err(SlateError::Fenced) = answer {
-            self.status.report_closed(Err(CloseFault::Fenced));
+            self.record_close(Err(CloseFault::Fenced));
         }
     }
 }

@@ -1,8 +1,9 @@
 // The segments of a handle's batches: the prefixes that its extractor cuts off their keys, and what refuses a key by them.
-ghost use Rattle.std.specs.Prelude.{◌≡◌, ◌++◌, ◌⊎◌, ◌∷◌, List, ℕ, Option, Some, None, OnOk, [], true, if◌then◌else◌, IfErr, IfOk};
+ghost use Rattle.std.specs.Prelude.{◌≡◌, ◌++◌, ◌⊎◌, ◌∷◌, List, ℕ, Option, Some, None, OnOk, [], true, if◌then◌else◌, IfErr, IfOk, IfSome};
 ghost use Rattle.std.specs.Option.{option_copied};
 ghost use Rattle.slate_status.specs.Segments.{AreRising};
 ghost use Rattle.slate_model.specs.Segments.{Extractor, IsExtractor, IsLawful, key_refusal, nest, nesting_refusal, prefixes_of, segment_refusal};
+ghost use Rattle.slate_model.specs.Write.{IsOfSegments};
 ghost use Rattle.slate_segments.specs.Prefixes.{HaveSame, is_one_of};
 ghost use Rattle.slate_writer.specs.Segments.{IsConflict, IsNext, IsPlace, IsSame, prefixes_by};
 
@@ -191,8 +192,9 @@ fn nesting_refusal(
     requires stored { rising ≡ true → AreRising stored.now }
     requires segments { AreRising segments.now }
     requires taken { AreRising taken.now }
-    ensures { (all : List (List ℕ)) → HaveSame all (stored.now ++ (segments.now ++ taken.now)) →
+    ensures refusal { (all : List (List ℕ)) → HaveSame all (stored.now ++ (segments.now ++ taken.now)) →
         IfOk result (λ refusal. refusal ≡ nesting_refusal all (Some prefix.now)) }
+    ensures kind { IfOk result (λ refusal. IfSome refusal IsOfSegments) }
 {
     match conflict(stored, rising, segments, taken, prefix) {
         None => Ok(None),
@@ -221,6 +223,7 @@ fn take_prefix<E: PrefixExtractor>(
     ensures rising { AreRising taken.new.items }
     ensures err { (x : Extractor) (all : List (List ℕ)) → IsLawful E.may_name E.may_extract extractor.now x → HaveSame all (stored.now ++ (segments.now ++ taken.old.items)) →
         IfErr result (λ error. (error ≡ SlateError.NoMemory) ⊎ (key_refusal all key.now (x.prefix_of key.now) ≡ Some error)) }
+    ensures kind { IfErr result (λ error. (error ≡ SlateError.NoMemory) ⊎ IsOfSegments error) }
 {
     let prefix = segment_of(extractor, key)?;
     if let Some(error) = nesting_refusal(
@@ -252,6 +255,7 @@ pub(crate) fn take_prefixes<E: PrefixExtractor>(
         (segment_refusal x (stored.now ++ segments.now) ops.now ≡ None) × HaveSame taken.items (prefixes_by x ops.now)) }
     ensures err { (x : Option Extractor) → IsExtractor E.may_name E.may_extract (option_copied extractor.entry) x → IfErr result (λ error.
         (error ≡ SlateError.NoMemory) ⊎ (segment_refusal x (stored.now ++ segments.now) ops.now ≡ Some error)) }
+    ensures kind { IfErr result (λ error. (error ≡ SlateError.NoMemory) ⊎ IsOfSegments error) }
 {
     let mut taken = Vec::new(alloc);
     let Some(extractor) = extractor else {

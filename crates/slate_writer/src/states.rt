@@ -8,6 +8,7 @@ ghost use Rattle.slate_model.specs.Status.{handle_status};
 
 use crate::segments::{clear_unless, rise};
 use bytes::Bytes;
+use slate_board::{Board, BoardSeat};
 use slate_errors::CloseFault;
 use slate_reads::IndexedTable;
 use slate_seqtrack::SequenceTracker;
@@ -18,15 +19,17 @@ use slate_transactions::TrackedWrites;
 use slate_types::{Batch, NoMemory, Seq};
 use std::alloc::Global;
 use std::marker::Model;
+use std::sync::Arc;
 
 /// A handle that writes, without the store that it writes to. SlateDB's `Db`, as a plain value.
 ///
 /// A contract sees it as a handle whose line is the batches that it keeps in memory: after each flush, refresh and
 /// compaction these are the batches that it accepted and that aren't in the tables of its manifest. Its memory grows
 /// with them, and with the prefixes of their keys, where it writes with an extractor; once the unflushed bytes reach
-/// its limit (`WriterOptions`), it accepts no batch until a flush brings them below. It keeps when its batches were
-/// written, of at most 8192 (`find_ts`, `find_seq`), and from its first transaction on, for good, which batch last
-/// wrote each key. Tasks run for it until it is closed.
+/// its limit (`WriterOptions`), it accepts no batch until a flush brings them below. It keeps when batches were
+/// written, of at most 8192 (`find_ts`, `find_seq`): those that it wrote or replayed, and those of which the manifest knew
+/// by which it was opened. And it keeps from its first transaction on, for good, which batch last wrote each key. Tasks run
+/// for it until it is closed.
 pub struct WriterState {
     pub(crate) keeps_log: bool,
     pub(crate) limit: u64,
@@ -38,6 +41,10 @@ pub struct WriterState {
     pub(crate) stored_rise: bool,
     pub(crate) epoch: u64,
     pub(crate) counter: u64,
+    /// What other threads read of it: its tick, its durable number and its close code.
+    pub(crate) board: Arc<Board, Global>,
+    /// The seat that alone changes them.
+    pub(crate) lead: BoardSeat,
     pub(crate) tick: i64,
     pub(crate) tracker: SequenceTracker,
     /// The last writes that it tracks for transactions, from the first of them on.
@@ -60,6 +67,8 @@ impl Drop for WriterState {
             stored_rise: _,
             epoch: _,
             counter: _,
+            board: _,
+            lead: _,
             tick: _,
             tracker: _,
             tracked: _,
@@ -98,6 +107,21 @@ impl WriterState {
         ensures { result ≡ self.now.durable }
     {
         self.status.durable()
+    }
+
+    /// Its epoch, with which it fenced the handles that were opened before it: that of each is above theirs.
+    pub fn epoch(&self) -> u64
+        ensures { result ≡ self.now.epoch }
+    {
+        self.epoch
+    }
+
+    /// The creation time of its last batch, in milliseconds; the greatest one in the manifest that it opened by and in the log
+    /// files that it replayed, where it accepted none. A write below it is refused.
+    pub fn tick(&self) -> i64
+        ensures { result ≡ self.now.tick }
+    {
+        self.tick
     }
 
     /// Whether it keeps a log.
@@ -142,15 +166,6 @@ impl WriterState {
         let durable = self.durable();
         self.stored_rise = rise(manifest.manifest.segments.as_slice());
         self.status.report_view(durable, manifest);
-    }
-
-    /// Takes a manifest as the one that it goes by, and all its batches as stored.
-    pub(crate) fn go_by_stored(&mut self, manifest: VersionedManifest)
-        ensures { self.new ≡ record self.old { durable = accepted self.old; view = manifest } }
-    {
-        let accepted = self.accepted();
-        self.stored_rise = rise(manifest.manifest.segments.as_slice());
-        self.status.report_view(accepted, manifest);
     }
 
     /// Whether it accepted batches that aren't in the tables of the manifest that it goes by.

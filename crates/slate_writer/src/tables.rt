@@ -3,12 +3,14 @@ ghost use Rattle.std.specs.Prelude.{◌≡◌, ◌+◌, ◌<◌, ◌≤◌, ◌�
 ghost use Rattle.slate_types.specs.declared.options.FlushType.TheVariants.{MemTable};
 ghost use Rattle.slate_store.specs.Calls.{WhereModelled};
 ghost use Rattle.slate_store.specs.Objects.{last_log};
-ghost use Rattle.slate_model.specs.Flush.{flushed_manifest, log_after, next_flushed};
+ghost use Rattle.slate_seqtrack.specs.Bytes.{has_bytes, packed};
+ghost use Rattle.slate_seqtrack.specs.Spelling.{tracker_bytes};
+ghost use Rattle.slate_model.specs.Flush.{IsReadAgain, flushed_manifest, log_after, next_flushed};
 ghost use Rattle.slate_model.specs.Handle.{next_table, to_log};
 ghost use Rattle.slate_model.specs.Known.{CountsFaults, known};
 ghost use Rattle.slate_model.specs.Stores.{by_objects};
 ghost use Rattle.slate_model.specs.Write.{last_number};
-ghost use Rattle.slate_writer.specs.Puts.{DurableThen, MakesPart, PutsLog, StoresBy, all_changes, durable_by, has_all_ids, logged_durable, plain, table_puts};
+ghost use Rattle.slate_writer.specs.Puts.{DurableThen, IsDecided, MakesPart, PutsLog, StoresBy, all_changes, calls_of, durable_by, has_all_ids, logged_durable, plain, put_calls, table_puts};
 
 use crate::WriterState;
 use crate::flushes::current_manifest;
@@ -32,12 +34,15 @@ impl WriterState {
         ensures stored { (made : ℕ) × StoresBy (λ handle. handle) (by_objects (S.objects store.old)) MemTable self.old
             (known S.objects S.faults store.old) result self.new (known S.objects S.faults store.new) made }
         ensures calls { S.calls store.new ≤ S.calls store.old + 5 }
+        ensures counted { S.calls store.new ≤ S.calls store.old + calls_of MemTable self.old }
+        ensures first { IfSome (S.objects store.old) (λ o. IsDecided MemTable self.old o → S.calls store.new ≤ S.calls store.old + 1) }
     {
         let latest = current_manifest(alloc, store, self.epoch)?;
         if self.accepted() <= latest.manifest.last_l0_seq {
             self.go_by_stored(latest);
             return Ok(());
         }
+        self.pack_tracker();
         match self.commit_table(alloc, store, &latest) {
             Ok(next) => {
                 self.go_by_stored(next);
@@ -50,18 +55,28 @@ impl WriterState {
         }
     }
 
-    /// Puts what a flush to a table under the latest manifest puts, and answers the manifest that it commits. What takes
-    /// memory of its own, and the ids, is seen to before anything is put.
+    /// Packs the tracker, so that it has bytes.
+    fn pack_tracker(&mut self)
+        ensures packed { self.new ≡ record self.old { tracker = packed self.old.tracker } }
+        ensures encodable { has_bytes self.new.tracker ≡ true }
+    {
+        self.tracker.pack();
+    }
+
+    /// Puts what a flush to a table under the latest manifest puts, and answers the manifest that it commits, which has the
+    /// bytes of the tracker. What takes memory of its own, and the ids, is seen to before anything is put.
     fn commit_table<S: Store>(
         &mut self,
         alloc: Global,
         store: &mut S,
         latest: &VersionedManifest,
     ) -> Result<VersionedManifest, SlateError>
+        requires { has_bytes self.old.tracker ≡ true }
         ensures moved { self.new ≡ record self.old { durable = self.new.durable; counter = self.new.counter } }
+        ensures again { IfOk result (λ next. IsReadAgain self.old.tracker) }
         ensures counter { (self.old.counter ≤ self.new.counter) × (self.new.counter ≤ self.old.counter + 1) }
         ensures faults { CountsFaults (S.faults store.old) (S.faults store.new) result }
-        ensures calls { S.calls store.new ≤ S.calls store.old + 4 }
+        ensures calls { S.calls store.new ≤ S.calls store.old + 3 + put_calls (to_log self.old) }
         ensures commits { IfOk result (λ next. IfSome (S.objects store.old) (λ o. next ≡ next_flushed self.old latest.now (last_log latest.now.manifest.replay_after_wal_id o))) }
         ensures put { (made : ℕ) × DurableThen made self.old (plain result) self.new
             × WhereModelled (λ o o'. let last = last_log latest.now.manifest.replay_after_wal_id o in
@@ -83,7 +98,9 @@ impl WriterState {
         latest: &VersionedManifest,
         last: u64,
     ) -> Result<VersionedManifest, SlateError>
+        requires { has_bytes self.now.tracker ≡ true }
         ensures next { IfOk result (λ next. next ≡ next_flushed self.now latest.now last) }
+        ensures again { IfOk result (λ next. IsReadAgain self.now.tracker) }
         ensures room { IfOk result (λ next. self.now.counter < u64.MAX) }
         ensures refused { IfErr result (λ error. (error ≡ SlateError.NoMemory) ⊎ ((error ≡ SlateError.InvalidDBState) × (has_all_ids self.now latest.now last ≡ false))) }
     {
@@ -113,7 +130,7 @@ impl WriterState {
     }
 
     /// The manifest after the latest one that names the handle's next table, and a replay of which begins after `mark`. Its
-    /// segments are those of the latest one and those of the handle's batches.
+    /// segments are those of the latest one and those of the handle's batches, and it has the bytes of the tracker.
     fn flushed_manifest(
         &self,
         alloc: Global,
@@ -122,8 +139,11 @@ impl WriterState {
     ) -> Result<VersionedManifest, NoMemory>
         requires id { latest.now.id < u64.MAX }
         requires mark { mark < u64.MAX }
-        ensures { IfOk result (λ next. next ≡ record { id = latest.now.id + 1; manifest = flushed_manifest self.now latest.now.manifest mark }) }
+        requires tracker { has_bytes self.now.tracker ≡ true }
+        ensures next { IfOk result (λ next. next ≡ record { id = latest.now.id + 1; manifest = flushed_manifest self.now latest.now.manifest mark }) }
+        ensures again { IfOk result (λ next. IsReadAgain self.now.tracker) }
     {
+        let sequence_tracker = self.tracker_bytes(alloc)?;
         let manifest = latest.manifest.clone()?;
         let untabled = self.batches_above(manifest.last_l0_seq);
         let last_tick = latest_tick(manifest.last_tick, untabled);
@@ -143,9 +163,22 @@ impl WriterState {
                 replay_after_wal_id: mark,
                 next_wal_id: mark + 1,
                 segments: Seq::of(segments),
+                sequence_tracker: Some(Seq::of(sequence_tracker)),
                 ..manifest
             },
         })
+    }
+
+    /// The bytes of the tracker.
+    fn tracker_bytes(&self, alloc: Global) -> Result<Vec<u8>, NoMemory>
+        requires { has_bytes self.now.tracker ≡ true }
+        ensures bytes { IfOk result (λ bytes. bytes.items ≡ tracker_bytes (packed self.now.tracker)) }
+        ensures again { IfOk result (λ bytes. IsReadAgain self.now.tracker) }
+    {
+        match self.tracker.to_bytes(alloc) {
+            Ok(bytes) => Ok(bytes),
+            Err(_full) => Err(NoMemory),
+        }
     }
 
     /// The id of its next table.
@@ -171,7 +204,7 @@ impl WriterState {
         ensures moved { self.new ≡ record self.old { durable = self.new.durable; counter = self.new.counter } }
         ensures counter { (self.old.counter ≤ self.new.counter) × (self.new.counter ≤ self.old.counter + 1) }
         ensures faults { CountsFaults (S.faults store.old) (S.faults store.new) result }
-        ensures calls { S.calls store.new ≤ S.calls store.old + 3 }
+        ensures calls { S.calls store.new ≤ S.calls store.old + 2 + put_calls (to_log self.old) }
         ensures put { (made : ℕ) × DurableThen made self.old result self.new
             × WhereModelled (MakesPart true (table_puts next.now.manifest.replay_after_wal_id (to_log self.old) (next_table self.old) table.now next.now)
             result self.old.counter self.new.counter made) (S.objects store.old) (S.objects store.new) }
@@ -193,7 +226,7 @@ impl WriterState {
     ) -> Result<(), SlateError>
         ensures moved { self.new ≡ record self.old { durable = durable_by (to_log self.old) self.old result } }
         ensures faults { CountsFaults (S.faults store.old) (S.faults store.new) result }
-        ensures calls { S.calls store.new ≤ S.calls store.old + 1 }
+        ensures calls { S.calls store.new ≤ S.calls store.old + put_calls (to_log self.old) }
         ensures put { WhereModelled (PutsLog id (to_log self.old) result) (S.objects store.old) (S.objects store.new) }
     {
         let batches = self.to_log();
@@ -210,8 +243,7 @@ impl WriterState {
         ensures { self.new ≡ record self.old { durable = logged_durable self.old } }
     {
         if self.keeps_log {
-            let accepted = self.accepted();
-            self.status.report_durable_seq(accepted);
+            self.report_stored();
         }
     }
 }

@@ -10,7 +10,7 @@ ghost use Rattle.slate_model.specs.Handle.{Handle as AHandle, kept_handle};
 ghost use Rattle.slate_model.specs.Segments.{Extractor, IsExtractor};
 ghost use Rattle.slate_model.specs.Serial.{AreSerial, Run, Step, first_side, last_side};
 ghost use Rattle.slate_model.specs.Snapshot.{unless_closed};
-ghost use Rattle.slate_model.specs.Transaction.{Commits, Transaction as ATransaction, begun, is_in_conflict, start_of, tracking_if, writes_of};
+ghost use Rattle.slate_model.specs.Transaction.{Commits, CommitsByAny, Transaction as ATransaction, begun, is_in_conflict, start_of, tracking_if, writes_of};
 
 use crate::WriterState;
 use slate_errors::SlateError;
@@ -220,6 +220,7 @@ impl Transaction {
         extractor: Option<&E>,
     ) -> Result<Option<Written>, SlateError>
         ensures commits { (x : Option Extractor) → IsExtractor E.may_name E.may_extract (option_copied extractor.entry) x → Commits x self writer.old moment second result writer.new }
+        ensures by_any { CommitsByAny self writer.old moment second result writer.new }
         ensures serial { (x : Option Extractor) (merge : Option Merge) (h : AHandle) (steps : List Step) → IsLine h.line → Run x merge (first_side h self.id) steps →
             kept_handle (last_side (first_side h self.id) steps).handle ≡ writer.old → (last_side (first_side h self.id) steps).transaction ≡ self →
             IfOk result (λ written. IfSome written (λ w. AreSerial merge steps (last_side (first_side h self.id) steps).handle.line.batches)) }

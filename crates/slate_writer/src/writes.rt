@@ -1,5 +1,5 @@
 // Writing a batch to a handle, and what refuses it.
-ghost use Rattle.std.specs.Prelude.{◌≡◌, ◌∷◌, ◌++◌, [], All, IsTrue, OnOk, option_map, ◌+◌, ◌<◌, ◌≤◌, ◌^◌, ◌⊎◌, List, Option, Some, None, Ok, Err, IfOk, IfErr, IfSome, unwrap_or};
+ghost use Rattle.std.specs.Prelude.{◌≡◌, ◌∷◌, ◌++◌, [], All, IsTrue, OnOk, option_map, ◌+◌, ◌<◌, ◌≤◌, ◌≤ℤ◌, ◌^◌, ◌⊎◌, List, Option, Some, None, Ok, Err, IfOk, IfErr, IfSome, unwrap_or};
 ghost use Rattle.std.specs.Option.{option_copied};
 ghost use Rattle.slate_types.specs.declared.batches.Batch.{Batch as ABatch};
 ghost use Rattle.slate_types.specs.declared.batches.KeyOp.{KeyOp as AKeyOp};
@@ -8,7 +8,7 @@ ghost use Rattle.slate_model.specs.Handle.{accepted, known_segments, untabled_se
 ghost use Rattle.slate_model.specs.Segments.{Extractor, IsExtractor, segment_refusal, segments_with};
 ghost use Rattle.slate_errors.specs.Errors.{closed_error};
 ghost use Rattle.slate_transactions.specs.Writes.{after_writes, is_among};
-ghost use Rattle.slate_model.specs.Write.{Writes, WritesBut, accepted_moment, batch_refusal, has_empty_key, write_refusal};
+ghost use Rattle.slate_model.specs.Write.{IsOfSegments, Writes, WritesBut, WritesByAny, accepted_moment, batch_refusal, has_empty_key, write_refusal};
 ghost use Rattle.slate_model.specs.Tracked.{seconds_of, tracked};
 ghost use Rattle.slate_seqtrack.specs.Tracker.{inserted, last_number};
 ghost use Rattle.slate_writer.specs.Refusal.{answer_of};
@@ -16,6 +16,7 @@ ghost use Rattle.slate_segments.specs.Prefixes.{HaveSame};
 ghost use Rattle.slate_writer.specs.Segments.{prefixes_by};
 
 use crate::WriterState;
+use crate::board::take_tick;
 use crate::merges::merge_refusal;
 use crate::segments::{are_among, take_prefixes};
 use crate::sizes::ops_size;
@@ -71,6 +72,7 @@ impl WriterState {
     ) -> Result<Written, WriteRefusal>
         ensures does { (x : Option Extractor) → IsExtractor E.may_name E.may_extract (option_copied extractor.entry) x →
             Writes x self.old batch.ops moment second (answer_of result) self.new }
+        ensures by_any { WritesByAny [] self.old batch.ops moment second (answer_of result) self.new }
         ensures handed_back { IfErr result (λ r. r.batch ≡ batch) }
     {
         self.write_but(alloc, batch, &KeySet::new(alloc), moment, second, extractor)
@@ -88,6 +90,7 @@ impl WriterState {
     ) -> Result<Written, WriteRefusal>
         ensures does { (x : Option Extractor) → IsExtractor E.may_name E.may_extract (option_copied extractor.entry) x →
             WritesBut unmarked.now x self.old batch.ops moment second (answer_of result) self.new }
+        ensures by_any { WritesByAny unmarked.now self.old batch.ops moment second (answer_of result) self.new }
         ensures handed_back { IfErr result (λ r. r.batch ≡ batch) }
     {
         let (written, segments) = match self.admit(alloc, &batch, moment, second, extractor) {
@@ -111,7 +114,8 @@ impl WriterState {
         self.counted = durable;
         self.unlogged = unlogged;
         replace(&mut self.segments, segments);
-        self.tick = written.create_ts;
+        let tick = written.create_ts;
+        take_tick(&self.board, &mut self.lead, &mut self.tick, tick);
         track(&mut self.tracker, written);
         let ops = last_ops(self.memory.batches());
         note(&mut self.tracked, written.number, ops, unmarked);
@@ -132,6 +136,10 @@ impl WriterState {
             (write_refusal x self.now batch.now.ops moment second ≡ None) × (accepted_moment self.now.tick moment second ≡ Some a.0.create_ts)
             × (a.0.number ≡ accepted self.now + 1) × (unwrap_or a.1 self.now.segments ≡ segments_with x (untabled_segments self.now) batch.now.ops)) }
         ensures number { IfOk result (λ a. (a.0.number ≡ accepted self.now + 1) × (accepted self.now + 1 < 2 ^ 64)) }
+        ensures closed { IfSome self.now.result (λ r. result ≡ Err (closed_error r)) }
+        ensures by_any { IfOk result (λ a. (write_refusal None self.now batch.now.ops moment second ≡ None) × (accepted_moment self.now.tick moment second ≡ Some a.0.create_ts)) }
+        ensures refused_by_any { IfErr result (λ e. (e ≡ SlateError.NoMemory) ⊎ (IsOfSegments e ⊎ (write_refusal None self.now batch.now.ops moment second ≡ Some e))) }
+        ensures later { IfOk result (λ a. self.now.tick ≤ℤ a.0.create_ts) }
         ensures rising { IfOk result (λ a. AreRising (unwrap_or a.1 self.now.segments)) }
         ensures refused { (x : Option Extractor) → IsExtractor E.may_name E.may_extract (option_copied extractor.entry) x → IfErr result (λ e.
             (e ≡ SlateError.NoMemory) ⊎ (write_refusal x self.now batch.now.ops moment second ≡ Some e)) }
@@ -170,6 +178,7 @@ impl WriterState {
             (segment_refusal x (known_segments self.now) ops.now ≡ None) × HaveSame taken.items (prefixes_by x ops.now)) }
         ensures err { (x : Option Extractor) → IsExtractor E.may_name E.may_extract (option_copied extractor.entry) x → IfErr result (λ error.
             (error ≡ SlateError.NoMemory) ⊎ (segment_refusal x (known_segments self.now) ops.now ≡ Some error)) }
+        ensures kind { IfErr result (λ error. (error ≡ SlateError.NoMemory) ⊎ IsOfSegments error) }
     {
         let stored = self.view().manifest.segments.as_slice();
         let segments = self.untabled_segments();
@@ -276,7 +285,8 @@ fn has_empty_key(ops: &[KeyOp]) -> bool
 
 /// The first of a write's moments that isn't below the tick.
 fn accepted_moment(tick: i64, moment: i64, second: Option<i64>) -> Option<i64>
-    ensures { result ≡ accepted_moment tick moment second }
+    ensures later { IfSome result (λ accepted. tick ≤ℤ accepted) }
+    ensures value { result ≡ accepted_moment tick moment second }
 {
     if tick <= moment {
         return Some(moment);

@@ -1,13 +1,16 @@
-use Rattle.std.proofs.Common.{◌≡◌, ◌∙◌, ◌||◌, Bool, false, not, true, None, Some, Ok, Err, ap, refl, rules, subst, sym}
+use Rattle.std.proofs.Common.{◌≡◌, ◌∙◌, ◌||◌, Bool, false, not, true, Option, None, Some, Ok, Err, ap, refl, rules, subst, sym}
 use Rattle.std.proofs.lemmas.Result.{err_from_is_err_and}
 use Rattle.slate_types.specs.Modelled.{WhereModelled}
 use Rattle.slate_store.specs.Checkpoints.{to_write}
 use Rattle.slate_store.specs.declared.objects.VersionedManifest.{VersionedManifest}
 use Rattle.slate_errors.specs.declared.errors.SlateError.TheVariants.{NoMemory}
-use Rattle.slate_model.specs.Followed.{can_follow}
+use Rattle.std.specs.Option.{IfSome}
+use Rattle.slate_store.specs.Objects.{Objects}
+use Rattle.slate_model.specs.Followed.{RefusesLatest, can_follow, follow_refusal}
+use Rattle.slate_model.specs.Segments.{Extractor}
 use Rattle.slate_model.specs.Lease.{leased, to_take}
 use Rattle.slate_model.specs.declared.leases.Lease.{Lease}
-use Rattle.slate_follow.specs.Keeping.{GivesLease, MayMismatch, PutsManifest}
+use Rattle.slate_follow.specs.Keeping.{FindsLatest, GivesLease, MayMismatch, PutsManifest}
 use Rattle.slate_follow.proofs.Planned.{all-put, failed-put, mismatched, planless, put-matches, taken, unfollowed, unput, unput-same}
 use Rattle.slate_follow.proofs.leases.try_to_take.Goals as goal
 
@@ -90,3 +93,13 @@ returns-clause-puts g c =
     let is_put : c.in_ok-is_put.is_put ≡ true = search rules in
     let all = all-put {A = Taken} MayMismatch (to_take c.args.lifetime c.args.moment) v.latest v.ensures.found v.ensures.kept n.next n.lease (subst (λ p. p ≡ Ok (Some n.next, n.lease)) (sym (taken c.args.lifetime c.args.moment v.latest there)) gives) (n.next, n.lease) (subst (λ b. WhereModelled (PutsManifest n.next (Ok b)) (g.S.Store.objects c.latest_of.new.store) (g.S.Store.objects c.put_next.new.store)) is_put c.in_ok-is_put.ensures.puts) in
     search (rules, all)
+
+-- the latest manifest is one that can be followed
+followed : (x : Option Extractor) (latest : VersionedManifest) → follow_refusal x true latest ≡ None → (a : Option Objects) → IfSome a (λ o. FindsLatest o (Ok latest)) → IfSome a (λ o. RefusesLatest x true o None)
+followed x latest none None found = tt
+followed x latest none (Some o) is = (latest, is, none)
+
+pub returns-clause-fits : goal.returns-clause-fits
+returns-clause-fits g c x lawful =
+    let v = c.in_ok-latest in
+    followed x v.latest (sym (c.in_ok-refusal.ensures.refusal x lawful) ∙ c.in_default.is) (g.S.Store.objects c.args.store.now) v.ensures.found

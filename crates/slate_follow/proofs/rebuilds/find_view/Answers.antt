@@ -1,5 +1,7 @@
-use Rattle.std.proofs.Common.{None, Err, ap, sym, ◌∙◌}
+use Rattle.std.proofs.Common.{◌≡◌, ℕ, ◌+◌, ◌≤◌, Bool, true, false, cond, None, Err, ap, sym, ◌∙◌, arith}
 use Rattle.std.proofs.lemmas.Result.{err_from_is_err_and}
+use Rattle.slate_types.specs.Counts.{one_more}
+use Rattle.slate_model.specs.Follower.{is_pinned}
 use Rattle.slate_follow.proofs.Refusing.{err-same, last-fails, latest-refuses, view-fails, view-unnamed, view-valid}
 use Rattle.slate_follow.proofs.rebuilds.find_view.Goals as goal
 
@@ -29,3 +31,12 @@ pub returns-in_err-view-clause-valid : goal.returns-in_err-view-clause-valid
 returns-in_err-view-clause-valid g c polls is =
     let p = err_from_is_err_and c.from_residual-in_err-view.result c.from_residual-in_err-view.ensures.1 in
     view-valid c.in_err-view.field-0.0 c.in_err-view.ensures.kind (err-same _ _ _ (sym (p.1 ∙ ap Err p.2) ∙ is))
+
+-- a call for the latest manifest, and one more for the view or for the last log file
+two-calls : (pinned : Bool) (before first view last : ℕ) → first ≡ one_more before → view ≤ first + cond pinned 1 0 → last ≤ view + cond pinned 0 1 → last ≤ before + 2
+two-calls true before first view last one some none = omega (arith, one, some, none)
+two-calls false before first view last one none some = omega (arith, one, some, none)
+
+pub returns-in_err-last-clause-calls : goal.returns-in_err-last-clause-calls
+returns-in_err-last-clause-calls g c =
+    two-calls (is_pinned c.args.following.mode) _ _ _ _ c.in_ok-latest.ensures.counts.call_count c.in_ok-view.ensures.calls c.in_err-last.ensures.calls

@@ -3,7 +3,7 @@ use Rattle.slate_types.specs.Operator.{concat}
 use Rattle.slate_reads.specs.Read.{IsOperator}
 use Rattle.slate_script.specs.Generator.{generated, summary_text}
 use Rattle.slate_script.specs.declared.options.RunOptions.{RunOptions}
-use Rattle.slate_live.specs.Run.{IsRun}
+use Rattle.slate_live.specs.Run.{DidAll, IsRun}
 use Rattle.slate_live.specs.Session.{EndsWriting, generator_settings}
 use Rattle.slate_live.specs.declared.sessions.Outcome.TheVariants.{NoMemory}
 use Rattle.slate_model.specs.Known.{known}
@@ -51,6 +51,8 @@ returns-clause-ends g c left faults =
         count = c.args.count;
         accepted = refl;
         source = record { left = refl; source_faults = refl };
+        done = subst (λ commands. DidAll generator_settings commands c.finished-2.result.replies before after) commands
+            (subst (λ replies. DidAll generator_settings c.as_slice.result.now replies before after) (sym c.finished-2.ensures.replies) (c.in-Ok-run.ensures.does generator_settings lawful tt same));
         run = subst (λ commands. IsRun generator_settings commands c.finished-2.result.replies before after) commands
             (subst (λ replies. IsRun generator_settings c.as_slice.result.now replies before after) (sym c.finished-2.ensures.replies) (c.in-Ok-run.ensures.leads generator_settings lawful tt same));
         writing = subst (λ count. EndsWriting c.write_summary-ending.result (summary_text count c.finished-2.result.replies) written written-after failed failed-after) counted

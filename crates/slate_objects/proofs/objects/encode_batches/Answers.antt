@@ -1,4 +1,5 @@
-use Rattle.std.proofs.Common.{ℕ, List, ◌++◌, ◌∙◌, ap}
+use Rattle.std.proofs.Common.{ℕ, List, ◌++◌, ◌∙◌, ap, arith}
+use Rattle.slate_objects.specs.Objects.{version}
 use Rattle.slate_objects.specs.Batches.{batch_of}
 use Rattle.slate_objects.specs.Spelling.{list_of}
 use Rattle.slate_objects.proofs.BothLaws.{batch_format}
@@ -11,4 +12,4 @@ pub returns-clause-again : goal.returns-clause-again
 returns-clause-again c =
     let same = c.as_slice.ensures.value ∙ c.in_ok-write_list.ensures.0 ∙ ap (λ (b : List ℕ). b ++ list_of batch_of c.args.batches.now) c.new-body.ensures.items in
     if_ok c.seal.result c.seal.ensures.sealed c.seal.ensures.sum (λ bytes is sum.
-    written_again (list_format batch_format) c.args.kind c.args.batches.now c.as_slice.result.now bytes.items c.ranges.kind.fits c.in_ok-write_list.ensures.1 same c.seal.ensures.fits is sum)
+    written_again (list_format batch_format) c.args.kind version c.args.batches.now c.as_slice.result.now bytes.items c.ranges.kind.fits (omega arith) c.in_ok-write_list.ensures.1 same c.seal.ensures.fits is sum)

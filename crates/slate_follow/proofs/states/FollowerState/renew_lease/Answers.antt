@@ -1,10 +1,10 @@
-use Rattle.std.proofs.Common.{◌≡◌, false, Some, Ok, Err, rules, subst}
+use Rattle.std.proofs.Common.{◌≡◌, false, true, Some, Ok, Err, refl, rules, subst}
 use Rattle.slate_types.specs.Modelled.{WhereModelled}
 use Rattle.slate_store.specs.Checkpoints.{to_refresh}
 use Rattle.slate_model.specs.Lease.{leased}
 use Rattle.slate_model.specs.Managed.{unrefused}
 use Rattle.slate_follow.specs.Keeping.{PutsManifest}
-use Rattle.slate_follow.proofs.Planned.{failed-by, unput-by}
+use Rattle.slate_follow.proofs.Planned.{failed-by, put-by, unput-by}
 use Rattle.slate_follow.proofs.states.FollowerState.renew_lease.Goals as goal
 
 pub returns-in_err-is_put-clause-puts : goal.returns-in_err-is_put-clause-puts
@@ -25,4 +25,14 @@ returns-then-not-is_put-clause-puts g c =
     let gives : plan ≡ Ok (Some n.next, n.taken) = search rules in
     let is_put : c.in_ok-is_put.is_put ≡ false = search rules in
     let all = unput-by unrefused plan c.args.self.now.lease n.next n.taken gives {A = Unit {0}} (subst (λ b. WhereModelled (PutsManifest n.next (Ok b)) (g.S.Store.objects c.args.store.now) (g.S.Store.objects c.put_next.new.store)) is_put c.in_ok-is_put.ensures.puts) in
+    search (rules, all)
+
+pub returns-clause-puts : goal.returns-clause-puts
+returns-clause-puts g c =
+    let n = c.in_ok-next in
+    let l = c.args.lease.now in
+    let plan = leased l.lifetime (to_refresh l.id l.lifetime c.args.moment c.args.latest.now) in
+    let gives : plan ≡ Ok (Some n.next, n.taken) = search rules in
+    let is_put : c.in_ok-is_put.is_put ≡ true = search rules in
+    let all = put-by unrefused plan c.args.self.now.lease n.next n.taken gives refl (subst (λ b. WhereModelled (PutsManifest n.next (Ok b)) (g.S.Store.objects c.args.store.now) (g.S.Store.objects c.put_next.new.store)) is_put c.in_ok-is_put.ensures.puts) {A = Unit {0}} tt in
     search (rules, all)

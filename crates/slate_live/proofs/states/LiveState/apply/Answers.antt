@@ -1,5 +1,5 @@
 use Rattle.std.proofs.Common.{rules, ◌≡◌, ℕ, ℤ, Bool, Option, refl, subst, ap, w64, to_z, of_z}
-use Rattle.slate_live.specs.Calls.{NewHandle, NewSnapshot, NewFollower, NewCheckpoint, WholeStore, OfWrite, OfObject, target_of}
+use Rattle.slate_live.specs.Calls.{NewHandle, NewSnapshot, NewFollower, NewCheckpoint, WholeStore, OfWrite, OfObject, goes_by_extractor, target_of}
 use Rattle.slate_model.specs.Known.{known}
 use Rattle.slate_model.specs.Stores.{by_objects}
 use Rattle.slate_store.specs.declared.reader_modes.DbReaderMode.{DbReaderMode}
@@ -20,7 +20,7 @@ opens_as k s mode managed made before reply after moment moment' skips skips' at
 
 pub returns-in-Open-clause-does : goal.returns-in-Open-clause-does
 returns-in-Open-clause-does g c settings lawful extracts options_are =
-    let d = c.open.ensures.does settings extracts options_are in
+    let d = c.open.ensures.does settings (extracts (ap goes_by_extractor c.in-Open.is)) options_are in
     let k = by_objects (g.S.Store.objects c.args.store.now) in
     let store = known g.S.Store.objects g.S.Store.faults c.args.store.now in
     let store' = known g.S.Store.objects g.S.Store.faults c.open.new.store in
@@ -28,7 +28,7 @@ returns-in-Open-clause-does g c settings lawful extracts options_are =
 
 pub returns-in-Open-clause-link : goal.returns-in-Open-clause-link
 returns-in-Open-clause-link g c settings lawful extracts options_are =
-    let d = c.open.ensures.does settings extracts options_are in
+    let d = c.open.ensures.does settings (extracts (ap goes_by_extractor c.in-Open.is)) options_are in
     let k = by_objects (g.S.Store.objects c.args.store.now) in
     let store = known g.S.Store.objects g.S.Store.faults c.args.store.now in
     let store' = known g.S.Store.objects g.S.Store.faults c.open.new.store in
@@ -37,7 +37,7 @@ returns-in-Open-clause-link g c settings lawful extracts options_are =
 pub returns-in-Follow-clause-does : goal.returns-in-Follow-clause-does
 returns-in-Follow-clause-does g c settings lawful extracts options_are =
     let o = c.reader_options-options.ensures in
-    let d = c.follow.ensures.does settings c.in-Follow.managed extracts o.lifetime o.interval in
+    let d = c.follow.ensures.does settings c.in-Follow.managed (extracts (ap goes_by_extractor c.in-Follow.is)) o.lifetime o.interval in
     let k = by_objects (g.S.Store.objects c.args.store.now) in
     let before = running c.args.self.now (known g.S.Store.objects g.S.Store.faults c.args.store.now) in
     let after = running c.follow.new.self (known g.S.Store.objects g.S.Store.faults c.follow.new.store) in
@@ -47,7 +47,7 @@ returns-in-Follow-clause-does g c settings lawful extracts options_are =
 pub returns-in-Follow-clause-link : goal.returns-in-Follow-clause-link
 returns-in-Follow-clause-link g c settings lawful extracts options_are =
     let o = c.reader_options-options.ensures in
-    let d = c.follow.ensures.does settings c.in-Follow.managed extracts o.lifetime o.interval in
+    let d = c.follow.ensures.does settings c.in-Follow.managed (extracts (ap goes_by_extractor c.in-Follow.is)) o.lifetime o.interval in
     let k = by_objects (g.S.Store.objects c.args.store.now) in
     let store = known g.S.Store.objects g.S.Store.faults c.args.store.now in
     let store' = known g.S.Store.objects g.S.Store.faults c.follow.new.store in

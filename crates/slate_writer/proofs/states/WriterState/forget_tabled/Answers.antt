@@ -37,6 +37,7 @@ forgotten a n end unlogged memory bs segments rising kept end_is left same count
       tracked = ends-later _ _ a.tracker.pairs (omega (arith, end_is, many, all, fewer)) kept.tracked;
       rising = rising;
       stored = kept.stored;
+      seated = kept.seated;
       counted = counted;
     }
 

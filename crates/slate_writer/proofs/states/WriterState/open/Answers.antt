@@ -1,18 +1,20 @@
-use Rattle.std.proofs.Common.{◌≡◌, None, Err, ◌+◌, ◌∙◌, ap, subst, arith, length, rules}
+use Rattle.std.proofs.Common.{◌≡◌, None, Err, ◌+◌, ◌∙◌, ap, sym, subst, arith, length, rules}
 use Rattle.std.specs.Option.{IfSome}
 use Rattle.std.proofs.lemmas.Result.{err_from_is_err_and}
 use Rattle.slate_store.specs.Content.{content}
 use Rattle.slate_model.specs.Handle.{Handle, latest_tick}
 use Rattle.slate_model.specs.Open.{AreSegmented, opened_manifest, replayed}
 use Rattle.slate_model.specs.Segments.{extractor_name, ops_of, segments_of, unsegmented_refusal}
+use Rattle.slate_model.specs.Tracked.{tracked_all}
 use Rattle.slate_writer.specs.Opening.{FindsNext}
 use Rattle.slate_writer.specs.Tasks.{tasks_of}
 use Rattle.slate_writer.proofs.Counted.{counted-none}
-use Rattle.slate_writer.proofs.Openings.{calls-of, calls-of-ok, calls-of-puts, calls-of-segments, found_view, has_logs, none_modelled, opened_modelled, opens_err, opens_ok, puts_modelled, recovered_at, recovered_modelled, recovery_modelled, segment-faults, segmented_finding, segmented_modelled, segmented_putting, segmented_recovering, segmented_refusing, segments_modelled, untracked_modelled, whole_modelled}
+use Rattle.slate_writer.proofs.Openings.{calls-of, calls-of-ok, calls-of-puts, calls-of-segments, found_view, has_logs, none_modelled, opened-tracker, opened_modelled, opens_err, opens_ok, puts_modelled, recovered_at, recovered_modelled, recovery_modelled, segment-faults, segmented_finding, segmented_modelled, segmented_putting, segmented_recovering, segmented_refusing, segments_modelled, untracked_modelled, whole_modelled}
+use Rattle.slate_writer.proofs.Tracking.{ends-all, ends-stored}
 use Rattle.slate_writer.proofs.states.WriterState.open.Goals as goal
 
-pub returns-in_err-tracker-clause-opens : goal.returns-in_err-tracker-clause-opens
-returns-in_err-tracker-clause-opens g c x lawful =
+pub returns-in_err-board-clause-opens : goal.returns-in_err-board-clause-opens
+returns-in_err-board-clause-opens g c x lawful =
     let p = err_from_is_err_and c.from_residual.result c.from_residual.ensures.1 in
     rw (p.1, p.2) (opens_err x c.args.options.now.wal_enabled c.args.options.now.max_unflushed_bytes (tasks_of c.args.options.now) _ _ _ (search rules) (untracked_modelled x _) (λ o is sound. tt))
 
@@ -88,14 +90,15 @@ returns-clause-opens g c x lawful =
     let recovers = c.in_ok-memory.ensures.where_modelled in
     let segments = c.in_ok-segments.ensures.ok x lawful in
     let options = c.args.options.now in
-    rw c.new-2.ensures (opens_ok x options.wal_enabled options.max_unflushed_bytes (tasks_of options) _ _ _ (search rules)
+    let tracked = c.track_all.ensures ∙ (ap (tracked_all _) c.batches-2.ensures.value ∙ ap (λ t. tracked_all t memory) (sym (opened-tracker view.manifest _ v.tracked))) in
+    rw c.new.ensures (opens_ok x options.wal_enabled options.max_unflushed_bytes (tasks_of options) _ _ _ (search rules)
     (opened_modelled x view last found fits v.kept puts _ c.in_ok-memory.ensures.kept)
     (record { keeps = search rules; limit_is = search rules; tasked = c.in_ok-tasks.ensures; unclosed = search rules; epoch = search rules; counter = search rules; durable = search rules; tabled = omega arith })
     (found_view _ view last found)
     (λ o is sound. whole_modelled x view last found fits v.kept puts memory recovers (subst (λ bs. unsegmented_refusal x (ops_of bs) ≡ None) c.batches.ensures.value segments.0) o is sound)
-    (λ o is sound. recovered_at x options.wal_enabled options.max_unflushed_bytes (tasks_of options) view memory c.batches-2.result.now _ _ _ _ c.batches-2.ensures.value
+    (λ o is sound. recovered_at x options.wal_enabled options.max_unflushed_bytes (tasks_of options) view memory c.batches-3.result.now _ _ _ _ c.batches-3.ensures.value
     (segments.1 ∙ ap (segments_of x) c.batches.ensures.value)
-    (search rules ∙ (c.latest_tick.ensures ∙ (ap (latest_tick _) c.batches-3.ensures.value ∙ ap (λ t. latest_tick t memory) (search rules)))) c.in_ok-tracker.ensures c.in_ok-tasks.ensures
+    (search rules ∙ (c.latest_tick-tick.ensures ∙ (ap (latest_tick _) c.batches-4.ensures.value ∙ ap (λ t. latest_tick t memory) (search rules)))) tracked c.in_ok-tasks.ensures
     ∙ recovered_modelled x view last found fits v.kept puts options.wal_enabled options.max_unflushed_bytes (tasks_of options) memory recovers o is sound))
 
 pub returns-clause-replays : goal.returns-clause-replays
@@ -124,14 +127,15 @@ returns-clause-calls g c =
 
 pub invariant_of-result : goal.invariant_of-result
 invariant_of-result g c =
-    let fresh = c.new-2.ensures in
-    let same = ap length c.batches-2.ensures.value in
+    let fresh = c.new.ensures in
+    let same = ap length c.batches-3.ensures.value in
     record {
       numbered = c.in_ok-memory.ensures.numbered;
       fits = c.in_ok-memory.ensures.fits;
       durable = search rules;
-      tracked = rw c.in_ok-tracker.ensures tt;
+      tracked = rw c.track_all.ensures (rw c.batches-2.ensures.value (ends-all c.in_ok-view.view.manifest.last_l0_seq c.in_ok-view.tracker c.in_ok-memory.memory c.in_ok-memory.ensures.numbered (ends-stored c.in_ok-view.view.manifest.last_l0_seq c.in_ok-view.view.manifest.sequence_tracker c.in_ok-view.tracker c.in_ok-view.ensures.tracked)));
       rising = c.in_ok-segments.ensures.rising;
       stored = search rules;
-      counted = counted-none c.in_ok-view.view.manifest.last_l0_seq c.in_ok-memory.memory c.batches-2.result.now c.in_ok-memory.ensures.numbered c.batches-2.ensures.value;
+      seated = search rules;
+      counted = counted-none c.in_ok-view.view.manifest.last_l0_seq c.in_ok-memory.memory c.batches-3.result.now c.in_ok-memory.ensures.numbered c.batches-3.ensures.value;
     }

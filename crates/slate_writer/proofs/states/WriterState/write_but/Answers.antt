@@ -1,4 +1,4 @@
-use Rattle.std.proofs.Common.{◌≡◌, ◌+◌, ◌<◌, ◌^◌, min, List, length, length-append, arith, ap, sym, subst, ◌∙◌, false, All, IsTrue, Option, Result, Ok, Err}
+use Rattle.std.proofs.Common.{◌≡◌, ◌+◌, ◌<◌, ◌^◌, min, List, length, length-append, arith, rules, ap, sym, subst, ◌∙◌, false, All, IsTrue, Option, Result, Ok, Err}
 use Rattle.std.specs.Option.{IfSome}
 use Rattle.std.specs.Result.{OnOk, is_err}
 use Rattle.std.proofs.lemmas.Bool.{false≢true}
@@ -49,6 +49,7 @@ invariant_of-self-2 g c =
       tracked = ends-pushed c.self.inside.floor memory _ c.self.inside.tracker _ _ c.self.invariant.tracked next c.track.ensures.taken;
       rising = rw c.replace.ensures (subst (λ (h : Handle). AreRising (unwrap_or c.in-Ok.admitted.1 h.segments)) (sym c.self.view_is) rises);
       stored = c.self.invariant.stored;
+      seated = search rules;
       counted = counted-push c.durable-durable.result memory _ _ c.ops_size-size.result _ (omega (arith, durable, next, c.self.invariant.durable)) counted size c.saturating_add-unlogged.ensures;
     })
 

@@ -1,6 +1,6 @@
 use Rattle.std.proofs.Common.{append_assoc}
 use Rattle.slate_objects.proofs.Writing.{on_ok}
-use Rattle.slate_objects.proofs.manifests.ManifestFormat.write.Goals as goal
+use Rattle.slate_objects.proofs.manifests.write_untracked.Goals as goal
 
 pub returns : goal.returns
 returns c =

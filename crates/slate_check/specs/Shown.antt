@@ -8,6 +8,7 @@ use Rattle.slate_types.specs.declared.batches.Batch.{Batch}
 use Rattle.slate_text.specs.Words.{word_text}
 use Rattle.slate_reads.specs.Size.{size_of}
 use Rattle.slate_store.specs.declared.objects.Checkpoint.{Checkpoint}
+use Rattle.slate_store.specs.declared.objects.Listing.{Listing}
 use Rattle.slate_store.specs.declared.objects.Manifest.{Manifest}
 use Rattle.slate_store.specs.declared.objects.TableId.{TableId}
 use Rattle.slate_store.specs.Objects.{Objects, entry_at, log_at, table_at}
@@ -29,6 +30,11 @@ abbrev pub extractor_text : Option (List ℕ) → List ℕ
 extractor_text None = codes " extractor none"
 extractor_text (Some name) = codes " extractor named " ++ word_text name
 
+-- how many bytes its tracker has, where it has one
+abbrev pub tracker_text : Option (List ℕ) → List ℕ
+tracker_text None = codes " tracker none"
+tracker_text (Some bytes) = labelled (codes " tracker bytes ") (length bytes)
+
 -- the last number and the latest time in tables, the replay mark and the next log file
 abbrev pub reach_text : Manifest → List ℕ
 reach_text manifest =
@@ -36,7 +42,8 @@ reach_text manifest =
     ++ (labelled (codes " mark ") manifest.replay_after_wal_id ++ labelled (codes " next ") manifest.next_wal_id))
 
 abbrev pub named_text : Manifest → List ℕ
-named_text manifest = tables_text manifest.tables ++ (segments_text manifest.segments ++ extractor_text manifest.extractor_name)
+named_text manifest =
+    tables_text manifest.tables ++ (segments_text manifest.segments ++ (extractor_text manifest.extractor_name ++ tracker_text manifest.sequence_tracker))
 
 -- a manifest, on a line
 abbrev pub manifest_text : ℕ → Manifest → List ℕ
@@ -84,3 +91,10 @@ logs_text objects ids = flat_map (λ id. option_map_or (log_text id) (log_at id 
 
 abbrev pub stored_text : Objects → List TableId → List ℕ
 stored_text objects ids = flat_map (λ id. option_map_or (table_text id) (table_at id objects) []) ids
+
+-- the objects that a sweep would remove, each on a line: tables, log files, manifests
+abbrev pub sweep_text : Listing → List ℕ
+sweep_text listing =
+    flat_map (λ id. codes "sweep table " ++ (table_id_text id ++ codes "\n")) listing.tables
+    ++ (flat_map (λ id. labelled (codes "sweep log ") id ++ codes "\n") listing.logs
+    ++ flat_map (λ id. labelled (codes "sweep manifest ") id ++ codes "\n") listing.manifests)

@@ -13,4 +13,4 @@ mod shown;
 pub use checks::check_soundness;
 pub use faults::{CheckpointFault, ManifestFault, Soundness, SoundnessFault};
 pub use printing::print_soundness;
-pub use shown::{show_checkpoints, show_logs, show_manifests, show_tables};
+pub use shown::{show_checkpoints, show_logs, show_manifests, show_sweep, show_tables};

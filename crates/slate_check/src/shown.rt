@@ -6,15 +6,15 @@ ghost use Rattle.slate_text.specs.Words.{word_text};
 ghost use Rattle.slate_types.specs.Counts.{HasRisen};
 ghost use Rattle.slate_store.specs.Calls.{IsOfList};
 ghost use Rattle.slate_store.specs.Objects.{Objects, latest_manifest, listing_of};
-ghost use Rattle.slate_check.specs.Shown.{checkpoint_text, ends_text, extractor_text, labelled, lease_text, log_text, logs_text, manifest_text, manifests_text, named_text, reach_text, segments_text, span_text, stored_text, table_text, tables_text, times_text};
+ghost use Rattle.slate_check.specs.Shown.{checkpoint_text, ends_text, extractor_text, labelled, lease_text, log_text, logs_text, manifest_text, manifests_text, named_text, reach_text, segments_text, span_text, stored_text, sweep_text, table_text, tables_text, times_text, tracker_text};
 ghost use Rattle.slate_check.specs.Texts.{table_id_text};
 
 use crate::printing::{write_behind, write_table_id};
 use bytes::Bytes;
 use slate_reads::Table;
-use slate_store::{Checkpoint, Manifest, Store, StoreError, TableId};
+use slate_store::{Checkpoint, Listing, Manifest, Store, StoreError, TableId};
 use slate_text::{write_byte_word, write_number, write_signed, write_text};
-use slate_types::{Batch, Name, NoMemory};
+use slate_types::{Batch, Name, NoMemory, Seq};
 use std::alloc::Global;
 
 /// Writes the manifests with these ids, a line each, in this order. One that isn't stored is left out. It calls the store
@@ -99,6 +99,37 @@ pub fn show_checkpoints(out: &mut Vec<u8>, checkpoints: &[Checkpoint]) -> Result
     Ok(())
 }
 
+/// Writes the objects that a sweep would remove, as `to_sweep` lists them, a line each: tables, log files, and manifests. Where
+/// memory runs out, a part may be written.
+pub fn show_sweep(out: &mut Vec<u8>, listing: &Listing) -> Result<(), NoMemory>
+    ensures { OnOk result (out.new.items ≡ out.old.items ++ sweep_text listing.now) }
+{
+    show_swept_tables(out, listing.tables.as_slice())?;
+    show_swept(out, "sweep log ", listing.logs.as_slice())?;
+    show_swept(out, "sweep manifest ", listing.manifests.as_slice())
+}
+
+fn show_swept_tables(out: &mut Vec<u8>, ids: &[TableId]) -> Result<(), NoMemory>
+    ensures { OnOk result (out.new.items ≡ out.old.items ++ flat_map (λ id. codes "sweep table " ++ (table_id_text id ++ codes "\n")) ids.now) }
+{
+    for id in ids {
+        write_text(out, "sweep table ")?;
+        write_table_id(out, *id)?;
+        write_text(out, "\n")?;
+    }
+    Ok(())
+}
+
+fn show_swept(out: &mut Vec<u8>, before: &str, ids: &[u64]) -> Result<(), NoMemory>
+    ensures { OnOk result (out.new.items ≡ out.old.items ++ flat_map (λ id. labelled before.now id ++ codes "\n") ids.now) }
+{
+    for id in ids {
+        write_behind(out, before, *id)?;
+        write_text(out, "\n")?;
+    }
+    Ok(())
+}
+
 /// Writes a checkpoint behind a text.
 fn write_checkpoint(
     out: &mut Vec<u8>,
@@ -162,7 +193,8 @@ fn write_named(out: &mut Vec<u8>, manifest: &Manifest) -> Result<(), NoMemory>
 {
     write_tables(out, manifest.tables.as_slice())?;
     write_segments(out, manifest.segments.as_slice())?;
-    write_extractor(out, &manifest.extractor_name)
+    write_extractor(out, &manifest.extractor_name)?;
+    write_tracker(out, &manifest.sequence_tracker)
 }
 
 fn write_tables(out: &mut Vec<u8>, ids: &[TableId]) -> Result<(), NoMemory>
@@ -208,6 +240,15 @@ fn write_extractor(out: &mut Vec<u8>, name: &Option<Name>) -> Result<(), NoMemor
             write_text(out, " extractor named ")?;
             write_byte_word(out, name.as_str().as_bytes())
         }
+    }
+}
+
+fn write_tracker(out: &mut Vec<u8>, tracker: &Option<Seq<u8>>) -> Result<(), NoMemory>
+    ensures { OnOk result (out.new.items ≡ out.old.items ++ tracker_text tracker.now) }
+{
+    match tracker {
+        None => write_text(out, " tracker none"),
+        Some(bytes) => write_behind(out, " tracker bytes ", bytes.as_slice().len() as u64),
     }
 }
 

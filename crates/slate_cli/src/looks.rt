@@ -4,12 +4,12 @@ use bytes::Bytes;
 use slate_blobs::Blobs;
 use slate_check::{
     Soundness, check_soundness, print_soundness, show_checkpoints, show_logs, show_manifests,
-    show_tables,
+    show_sweep, show_tables,
 };
 use slate_directory::{DirectoryBlobs, FileId, open_directory};
 use slate_live::Outcome;
 use slate_objects::{DecodeError, DecodeFault, decode_log, decode_manifest, decode_table};
-use slate_store::{Store, StoreError, TableId};
+use slate_store::{Store, StoreError, StoreRefusal, TableId, to_sweep};
 use slate_types::Seq;
 use std::alloc::Global;
 use std::{fs, io};
@@ -42,9 +42,10 @@ pub(crate) fn check_directory(rt: &HostRuntime, path: &str) -> u8 {
     }
 }
 
-/// Prints the manifests, the checkpoints of the latest one, the log files and the tables in the files of a directory, or
-/// names the first file that isn't an object. No file and no folder is made or changed. It answers the exit status.
-pub(crate) fn show_directory(rt: &HostRuntime, path: &str) -> u8 {
+/// Prints the manifests, the checkpoints of the latest one, the log files and the tables in the files of a directory, and
+/// what a sweep at a moment would remove, where one is given; or names the first file that isn't an object. No file and no
+/// folder is made or changed. It answers the exit status.
+pub(crate) fn show_directory(rt: &HostRuntime, path: &str, moment: Option<i64>) -> u8 {
     if let Err(error) = find_folders(rt, path) {
         return refuse(rt, path, &error);
     }
@@ -53,22 +54,46 @@ pub(crate) fn show_directory(rt: &HostRuntime, path: &str) -> u8 {
         Err(error) => return refuse(rt, path, &error),
     };
     let mut text = Vec::new(rt.alloc());
-    match show_store(rt.alloc(), &mut store, &mut text) {
+    match show_store(rt.alloc(), &mut store, moment, &mut text) {
         Ok(()) => print_bytes(rt, text.as_slice(), 0),
         Err(StoreError::NoMemory) => report(rt, Outcome::NoMemory),
         Err(_) => name_damage(rt, path),
     }
 }
 
-/// Writes the objects of a store, a line each.
-fn show_store<S: Store>(alloc: Global, store: &mut S, out: &mut Vec<u8>) -> Result<(), StoreError> {
+/// Writes the objects of a store, a line each, and what a sweep at a moment would remove, where one is given.
+fn show_store<S: Store>(
+    alloc: Global,
+    store: &mut S,
+    moment: Option<i64>,
+    out: &mut Vec<u8>,
+) -> Result<(), StoreError> {
     let listing = store.list(alloc)?;
     show_manifests(alloc, store, listing.manifests.as_slice(), out)?;
     if let Some(latest) = store.latest_manifest(alloc)? {
         show_checkpoints(out, latest.manifest.checkpoints.as_slice())?;
     }
     show_logs(alloc, store, listing.logs.as_slice(), out)?;
-    show_tables(alloc, store, listing.tables.as_slice(), out)
+    show_tables(alloc, store, listing.tables.as_slice(), out)?;
+    match moment {
+        Some(moment) => show_swept(alloc, store, moment, out),
+        None => Ok(()),
+    }
+}
+
+/// Writes what a sweep at a moment would remove: nothing, where it would be refused.
+fn show_swept<S: Store>(
+    alloc: Global,
+    store: &mut S,
+    moment: i64,
+    out: &mut Vec<u8>,
+) -> Result<(), StoreError> {
+    match to_sweep(alloc, store, moment) {
+        Ok(listing) => Ok(show_sweep(out, &listing)?),
+        Err(StoreRefusal::NoMemory) => Err(StoreError::NoMemory),
+        Err(StoreRefusal::ObjectStoreError(_)) => Err(StoreError::Failed),
+        Err(_) => Ok(()),
+    }
 }
 
 /// Prints whether a store is sound.

@@ -10,6 +10,7 @@ use slate_directory::open_directory;
 use slate_live::{Outcome, session};
 use slate_script::read_words;
 use slate_store::{MemoryStore, Store};
+use slate_text::read_time;
 use std::process::ExitCode;
 use std::{env, io};
 use streams::Counted;
@@ -22,7 +23,7 @@ usage: slate [--store DIR] [--merge concat] [--segments N] [--limit N] [--bare]
              < SCRIPT
        slate [--store DIR] gen SEED COUNT
        slate check --store DIR
-       slate show --store DIR
+       slate show --store DIR [--sweep MOMENT]
        slate --help | --version
 
 With --store DIR the database is kept in the directory DIR, which is made where
@@ -46,7 +47,8 @@ With check no script is read either, and no file is changed: whether the databas
 in DIR is sound is printed, as sound at K, where K is the number of the last
 stored batch, or as the first thing that is wrong, with the status 1. With show
 the manifests, the checkpoints of the latest one, the log files and the tables
-are printed, a line each.
+are printed, a line each, and with --sweep what a sweep at a moment in
+milliseconds would remove.
 
 A line of the script is a moment in milliseconds and a command, as in
   0 open
@@ -89,7 +91,17 @@ fn answer(rt: &HostRuntime, words: &[String]) -> u8 {
             check_directory(rt, path.as_str())
         }
         [word, option, path] if word.as_str() == "show" && option.as_str() == "--store" => {
-            show_directory(rt, path.as_str())
+            show_directory(rt, path.as_str(), None)
+        }
+        [word, option, path, sweep, moment]
+            if word.as_str() == "show"
+                && option.as_str() == "--store"
+                && sweep.as_str() == "--sweep" =>
+        {
+            match read_time(moment.as_bytes()) {
+                Some(moment) => show_directory(rt, path.as_str(), Some(moment)),
+                None => report(rt, Outcome::WordsRefused),
+            }
         }
         [word, path, others @ ..] if word.as_str() == "--store" => {
             run_over_directory(rt, path.as_str(), others)

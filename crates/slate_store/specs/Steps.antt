@@ -17,7 +17,7 @@ use Rattle.slate_store.specs.Compaction.{CompactCause, MayCompact, with_table}
 use Rattle.slate_store.specs.Content.{table_batches}
 use Rattle.slate_store.specs.Objects.{Change, Objects, ObjectsOf, PutManifest, RemoveLog, RemoveManifest, RemoveTable, entry_at, is_present, latest_manifest, table_at}
 use Rattle.slate_store.specs.Refusals.{PartMade}
-use Rattle.slate_store.specs.Sweeps.{expiries, has_expired, removals, without_expired}
+use Rattle.slate_store.specs.Sweeps.{SweepCause, expiries, has_expired, removals, without_expired}
 
 -- Changes are made in their order: at Ok all of them, at any refusal some first ones.
 abbrev pub Makes : {A E : Type 0} → List Change → Result A E → Objects → Objects → Type 0
@@ -120,6 +120,12 @@ UnprotectedCause latest objects refusal = IsOfStore refusal
 abbrev pub FindsUnprotected : VersionedManifest → Objects → Result Listing StoreRefusal → Type 0
 FindsUnprotected latest objects (Ok listing) = removals_of listing ≡ removals latest objects
 FindsUnprotected latest objects (Err refusal) = UnprotectedCause latest objects refusal
+
+-- What a sweep at a moment would remove: what isn't protected, once the expired checkpoints are taken out of the latest manifest.
+abbrev pub ToSweep : ℤ → Objects → Result Listing StoreRefusal → Type 0
+ToSweep moment objects (Ok listing) =
+    (latest : VersionedManifest) × (latest_manifest objects ≡ Some latest) × (removals_of listing ≡ removals (without_expired moment latest) objects)
+ToSweep moment objects (Err refusal) = SweepCause moment objects refusal
 
 -- and removed, and the answer is how many objects that was
 abbrev pub RemovesUnprotected : VersionedManifest → Result ℕ StoreRefusal → Objects → Objects → Type 0

@@ -24,4 +24,4 @@ pub use reader_modes::DbReaderMode;
 pub use refusals::StoreRefusal;
 pub use slate_types::{StoreError, StoreFault};
 pub use stores::Store;
-pub use sweeps::sweep;
+pub use sweeps::{sweep, to_sweep};

@@ -7,7 +7,7 @@ ghost use Rattle.slate_store.specs.Calls.{WhereModelled};
 ghost use Rattle.slate_store.specs.Checkpoints.{is_expired};
 ghost use Rattle.slate_store.specs.Objects.{Objects, RemoveLog, RemoveManifest, RemoveTable, listing_of, table_cmp};
 ghost use Rattle.slate_store.specs.Refusals.{CountsFaults, KeepsContent};
-ghost use Rattle.slate_store.specs.Steps.{FindsUnprotected, GivesUnexpired, IsOfStore, Makes, ReadsKept, RemovesUnprotected, TakesOut, removals_of};
+ghost use Rattle.slate_store.specs.Steps.{FindsUnprotected, GivesUnexpired, IsOfStore, Makes, ReadsKept, RemovesUnprotected, TakesOut, ToSweep, removals_of};
 ghost use Rattle.slate_store.specs.Sweeps.{Sweeps, expiries, keeps_log, keeps_manifest, keeps_table, protecting, removals, sweep_calls};
 
 use crate::checkpoints::{next_id, with_checkpoints};
@@ -37,6 +37,28 @@ pub fn sweep<S: Store>(alloc: Global, store: &mut S, moment: i64) -> Result<u64,
     let latest = latest_of(alloc, store)?;
     let latest = take_out_expired(alloc, store, &latest, moment)?.unwrap_or(latest);
     remove_unprotected(alloc, store, &latest)
+}
+
+/// The objects that a sweep at a moment, in milliseconds, would remove: those that aren't protected once the expired
+/// checkpoints are taken out, each kind in the order of the store's list. It changes nothing.
+///
+/// It answers `LatestTransactionalObjectVersionMissing` where no manifest is stored; `InvalidDBState` where a checkpoint is
+/// expired and the latest id is the greatest `u64`; and `ObjectStoreError`, with `NotFound` where the manifest of a checkpoint
+/// isn't stored. It calls the store at most twice, and once for each checkpoint that isn't expired, and takes time linear in
+/// the objects, times the checkpoints and their tables.
+pub fn to_sweep<S: Store>(
+    alloc: Global,
+    store: &mut S,
+    moment: i64,
+) -> Result<Listing, StoreRefusal>
+    ensures kept { S.objects store.new ≡ S.objects store.old }
+    ensures finds { IfSome (S.objects store.old) (λ o. ToSweep moment o result) }
+    ensures faults { CountsFaults (S.faults store.old) (S.faults store.new) result }
+    ensures calls { IfSome (S.objects store.old) (λ o. S.calls store.new ≤ S.calls store.old + sweep_calls moment o) }
+{
+    let latest = latest_of(alloc, store)?;
+    let latest = without_expired(alloc, &latest, moment)?.unwrap_or(latest);
+    find_unprotected(alloc, store, &latest)
 }
 
 /// Commits a manifest without the expired checkpoints, where there are any, and answers it.

@@ -83,12 +83,21 @@ abbrev pub open_changes : {L : Type 0} → Option (List ℕ) → (List Batch →
 open_changes name summary objects =
     PutManifest (opened_manifest name objects).id (opened_manifest name objects).manifest ∷ PutLog (found_log objects + 1) (summary []) ∷ []
 
--- whether a database can be opened by its latest manifest: it is initialised, its tracker can be read and fits it, and its
--- id and its epoch aren't the last
+-- whether a database is ready to be opened by its latest manifest: it is initialised, and its tracker can be read and fits it
+abbrev pub is_ready : VersionedManifest → Bool
+is_ready latest = latest.manifest.initialized && is_some (stored_tracker latest.manifest)
+
+-- whether neither its id nor its epoch is the last
+abbrev pub has_next : VersionedManifest → Bool
+has_next latest = nat_lt latest.id last_number && nat_lt latest.manifest.writer_epoch last_number
+
+-- whether it can be opened by its latest manifest
 abbrev pub can_reopen : VersionedManifest → Bool
-can_reopen latest =
-    latest.manifest.initialized && is_some (stored_tracker latest.manifest) && nat_lt latest.id last_number
-    && nat_lt latest.manifest.writer_epoch last_number
+can_reopen latest = is_ready latest && has_next latest
+
+-- an opening is refused unless this holds
+abbrev pub refusal_unless : Bool → Option SlateError
+refusal_unless holds = if holds then None else Some errors.InvalidDBState
 
 -- whether a store can be opened, where this log file is the last: it isn't the last one that there can be
 abbrev pub can_open_by : Option VersionedManifest → ℕ → Bool
@@ -98,14 +107,16 @@ can_open_by (Some latest) last = can_reopen latest && nat_lt last last_number
 abbrev pub can_open : {L : Type 0} → ObjectsOf L → Bool
 can_open objects = can_open_by (latest_manifest objects) (found_log objects)
 
--- the refusal of an opening by the latest manifest: the database can't be opened by it, or the extractor doesn't fit it
+-- the refusal of an opening by the latest manifest, the first of these: the database isn't ready, the extractor doesn't fit it,
+-- or its id or its epoch is the last
 abbrev pub manifest_refusal : Option Extractor → Option VersionedManifest → Option SlateError
 manifest_refusal extractor None = None
-manifest_refusal extractor (Some latest) = if can_reopen latest then extractor_refusal extractor latest.manifest else Some errors.InvalidDBState
+manifest_refusal extractor (Some latest) =
+    if is_ready latest then option_or (extractor_refusal extractor latest.manifest) (refusal_unless (has_next latest)) else Some errors.InvalidDBState
 
 -- and by the last log file
 abbrev pub log_refusal : ℕ → Option SlateError
-log_refusal last = if nat_lt last last_number then None else Some errors.InvalidDBState
+log_refusal last = refusal_unless (nat_lt last last_number)
 
 -- why a store isn't opened with an extractor, where it isn't: the first of these in their order
 abbrev pub open_refusal : {L : Type 0} → Option Extractor → ObjectsOf L → Option SlateError

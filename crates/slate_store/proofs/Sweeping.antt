@@ -20,7 +20,8 @@ use Rattle.slate_store.specs.Changes.{after_part}
 use Rattle.slate_store.specs.Checkpoints.{is_expired, with_checkpoints}
 use Rattle.slate_store.specs.Objects.{Change, Objects, PutManifest, changed_all, entry_at, latest_manifest}
 use Rattle.slate_store.specs.Refusals.{FindsLatest, KeepsContent, PartMade}
-use Rattle.slate_store.specs.Steps.{RemovesUnprotected, TakesOut, UnprotectedCause}
+use Rattle.slate_store.specs.declared.objects.Listing.{Listing}
+use Rattle.slate_store.specs.Steps.{FindsUnprotected, RemovesUnprotected, TakesOut, ToSweep, UnprotectedCause}
 use Rattle.slate_store.specs.Sweeps.{SweepCause, Sweeps, expiries, has_expired, removals, sweep_calls, sweep_changes, sweep_changes_by, without_expired}
 use Rattle.slate_store.proofs.Entries.{lookup-insert_other, lookup-insert_same}
 use Rattle.slate_store.proofs.Leaves.{removals-leave}
@@ -189,3 +190,26 @@ module _ (moment : ℤ) (latest : VersionedManifest) where
 -- which it does
 pub keeps-sound : {a b : Option Objects} (moment : ℤ) (r : Result ℕ StoreRefusal) → WhereModelled (λ o o'. (made : ℕ) × Sweeps moment o r made o') a b → WhereModelled KeepsContent a b
 keeps-sound moment r sweeps = sweep-sound moment (λ o o' made. Sweeps moment o r made o') sweeps (λ o o' made s. s.after)
+
+-- why what isn't protected isn't found is why a sweep refuses
+pub would-refuse : (moment : ℤ) (latest : VersionedManifest) (e : StoreRefusal) (o : Objects) → latest_manifest o ≡ Some latest → UnprotectedCause (without_expired moment latest) o e → SweepCause moment o e
+would-refuse moment latest (CheckpointMissing id) o is r = absurd r
+would-refuse moment latest LatestTransactionalObjectVersionMissing o is r = absurd r
+would-refuse moment latest Fenced o is r = absurd r
+would-refuse moment latest InvalidDBState o is r = absurd r
+would-refuse moment latest (ObjectStoreError fault.NotFound) o is r = (latest, r.0, is, was-there moment latest (has_expired moment latest) r.0 r.1, r.2)
+would-refuse moment latest (ObjectStoreError fault.Unavailable) o is r = tt
+would-refuse moment latest TransactionalObjectVersionExists o is r = absurd r
+would-refuse moment latest (TransactionalObjectTimeout tries) o is r = absurd r
+would-refuse moment latest NoMemory o is r = tt
+
+-- so what isn't protected is what a sweep would remove
+pub would-sweep : {a b : Option Objects} (moment : ℤ) (latest view : VersionedManifest) (r : Result Listing StoreRefusal) → view ≡ without_expired moment latest →
+    WhereModelled (λ o o'. (o' ≡ o) × FindsLatest o (Ok latest)) a b → IfSome b (λ o. FindsUnprotected view o r) → IfSome a (λ o. ToSweep moment o r)
+would-sweep moment latest view r is found finds =
+    known-then (λ o. ToSweep moment o r) found finds
+    (λ x y p q. by x r p.1 (subst (λ v. FindsUnprotected v x r) is (subst (λ z. FindsUnprotected view z r) p.0 q)))
+  where
+    by : (o : Objects) (r : Result Listing StoreRefusal) → latest_manifest o ≡ Some latest → FindsUnprotected (without_expired moment latest) o r → ToSweep moment o r
+    by o (Ok listing) is removes = (latest, is, removes)
+    by o (Err e) is cause = would-refuse moment latest e o is cause

@@ -8,7 +8,7 @@ ghost use Rattle.slate_store.specs.Objects.{latest_manifest};
 ghost use Rattle.slate_model.specs.Handle.{latest_tick};
 ghost use Rattle.slate_model.specs.Tracked.{latest_tracker, stored_tracker};
 ghost use Rattle.slate_model.specs.Known.{CountsFaults, known};
-ghost use Rattle.slate_model.specs.Open.{OpensHandle, can_open_by, can_reopen, first_manifest, manifest_refusal, mark_of, next_manifest};
+ghost use Rattle.slate_model.specs.Open.{OpensHandle, can_open_by, first_manifest, has_next, manifest_refusal, mark_of, next_manifest};
 ghost use Rattle.slate_model.specs.Segments.{Extractor, IsExtractor, extractor_name};
 ghost use Rattle.slate_model.specs.Stores.{by_objects};
 ghost use Rattle.slate_model.specs.Write.{last_number};
@@ -157,13 +157,11 @@ fn first_manifest(alloc: Global, name: Option<Name>) -> Manifest
     }
 }
 
-/// Whether a database can be opened by its latest manifest, whose tracker can be read and fits it.
-fn can_reopen(latest: &VersionedManifest) -> bool
-    requires { IsSome (stored_tracker latest.now.manifest) }
-    ensures { result ≡ can_reopen latest.now }
+/// Whether neither the id of the latest manifest nor its epoch is the last.
+fn has_next(latest: &VersionedManifest) -> bool
+    ensures { result ≡ has_next latest.now }
 {
-    let manifest = &latest.manifest;
-    manifest.initialized && latest.id < u64::MAX && manifest.writer_epoch < u64::MAX
+    latest.id < u64::MAX && latest.manifest.writer_epoch < u64::MAX
 }
 
 /// The manifest that an opening commits after the latest one, where `last` is the last log file.
@@ -209,10 +207,13 @@ fn manifest_refusal<E: PrefixExtractor>(
     let Some(latest) = latest else {
         return Ok(None);
     };
-    if !can_reopen(latest) {
+    if !latest.manifest.initialized {
         return Ok(Some(SlateError::InvalidDBState));
     }
-    extractor_refusal(alloc, extractor, &latest.manifest)
+    if let Some(refusal) = extractor_refusal(alloc, extractor, &latest.manifest)? {
+        return Ok(Some(refusal));
+    }
+    Ok((!has_next(latest)).then_some(SlateError::InvalidDBState))
 }
 
 /// The id of the last log file after the replay mark of the latest manifest. There is one more id after it.

@@ -1,5 +1,5 @@
 -- What a reader keeps in memory, and the follower that it represents.
-use Rattle.std.specs.Prelude.{◌≡◌, ◌+◌, ◌<◌, ◌^◌, [], None, is_some, length}
+use Rattle.std.specs.Prelude.{◌≡◌, ◌+◌, ◌<◌, ◌^◌, [], None, Some, is_some, length, IfSome}
 use Rattle.slate_types.specs.Line.{AreNumberedFrom}
 use Rattle.slate_model.specs.Follower.{Follower, follower_tasks, is_managed, rebuilt}
 use Rattle.slate_follow.specs.Joined.{AreFilled, joined}
@@ -18,12 +18,12 @@ follower_of a =
       mark = a.mark;
       lease = a.lease;
       result = a.status.result;
-      tasks = a.tasks;
+      tasks = a.tasks.names;
     }
 
 -- each table in memory has a batch; their batches are numbered from the last number in tables on, and its number is that of the
 -- last one. It has a lease exactly where it keeps a checkpoint of its own. What it reports has no segments of its own.
--- While it is open, the task of its mode runs.
+-- While it is open, the task of its mode runs; one that has ended was told the result with which it closed.
 pub record IsKept (a : Inside) : Type 0 where
   pub filled : AreFilled a.kept.items
   pub numbered : AreNumberedFrom a.status.manifest.manifest.last_l0_seq (joined a.kept.items)
@@ -31,7 +31,8 @@ pub record IsKept (a : Inside) : Type 0 where
   pub number : a.status.durable ≡ a.status.manifest.manifest.last_l0_seq + length (joined a.kept.items)
   pub unsegmented : a.status.segments ≡ []
   pub leased : is_some a.lease ≡ is_managed a.following.mode
-  pub running : a.status.result ≡ None → a.tasks ≡ follower_tasks a.following.mode
+  pub running : a.status.result ≡ None → a.tasks.names ≡ follower_tasks a.following.mode
+  pub told : IfSome a.tasks.told (λ outcome. a.status.result ≡ Some outcome)
 
 -- the follower that what was built makes
 abbrev pub rebuilt_follower : Rebuilt → Follower

@@ -1,5 +1,5 @@
 // Starting the task of a reader.
-ghost use Rattle.std.specs.Prelude.{◌≡◌, IfOk};
+ghost use Rattle.std.specs.Prelude.{◌≡◌, None, IfOk};
 ghost use Rattle.slate_model.specs.Follower.{follower_tasks};
 
 use slate_errors::TaskName;
@@ -10,7 +10,7 @@ use std::alloc::Global;
 
 /// Starts the task of a reader in a mode: one that polls, unless the reader stays at a checkpoint.
 pub(crate) fn start_tasks(alloc: Global, mode: DbReaderMode) -> Result<Tasks, NoMemory>
-    ensures { IfOk result (λ tasks. tasks ≡ follower_tasks mode) }
+    ensures { IfOk result (λ tasks. tasks ≡ record { names = follower_tasks mode; told = None }) }
 {
     match mode {
         DbReaderMode::Checkpoint(_) => Tasks::start(alloc, &[]),

@@ -1,5 +1,5 @@
 -- What a handle keeps in memory, and the handle of the model that it represents.
-use Rattle.std.specs.Prelude.{◌≡◌, true, ◌+◌, ◌<◌, ◌≤◌, ◌^◌, length, min, option_map, IfSome}
+use Rattle.std.specs.Prelude.{◌≡◌, true, ◌+◌, ◌<◌, ◌≤◌, ◌^◌, length, min, option_map, Some, IfSome}
 use Rattle.slate_seqtrack.specs.Tracker.{last_number}
 use Rattle.slate_types.specs.Line.{AreNumberedFrom, batches_above}
 use Rattle.slate_model.specs.Handle.{Handle}
@@ -26,12 +26,12 @@ handle_of a =
       writes = option_map (λ t. t.writes) a.tracked;
       view = a.status.manifest;
       result = a.status.result;
-      tasks = a.tasks;
+      tasks = a.tasks.names;
     }
 
 -- the batches in memory are numbered from the floor on, none past the last of them is stored or tracked, their prefixes
--- rise, and so do those of the view where the handle says so, its seat is the lead of its board and has seen its words, and
--- those above a number have so many bytes
+-- rise, and so do those of the view where the handle says so, its seat is the lead of its board and has seen its words,
+-- those above a number have so many bytes, and tasks that have ended were told the result with which it closed
 pub record IsKept (a : Inside) : Type 0 where
   pub numbered : AreNumberedFrom a.floor a.memory
   pub fits : a.floor + length a.memory < 2 ^ 64
@@ -40,4 +40,5 @@ pub record IsKept (a : Inside) : Type 0 where
   pub rising : AreRising a.segments.items
   pub stored : a.stored_rise ≡ true → AreRising a.status.manifest.manifest.segments
   pub seated : a.lead ≡ lead_at (arc_value a.board) (words_of (handle_of a))
+  pub told : IfSome a.tasks.told (λ outcome. a.status.result ≡ Some outcome)
   pub counted : a.unlogged ≡ min (size_of (batches_above a.counted a.memory)) most_bytes

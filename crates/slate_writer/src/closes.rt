@@ -1,5 +1,5 @@
 // Closing a handle, with the flush that is asked for.
-ghost use Rattle.std.specs.Prelude.{◌≡◌, ◌+◌, ◌≤◌, ℕ, [], None, IfSome};
+ghost use Rattle.std.specs.Prelude.{◌≡◌, ◌+◌, ◌≤◌, ℕ, [], None, Some, IfSome};
 ghost use Rattle.slate_model.specs.Close.{Closes, closed, ended, without_tasks};
 ghost use Rattle.slate_model.specs.Flush.{CanFlush};
 ghost use Rattle.slate_model.specs.Known.{known};
@@ -62,6 +62,7 @@ impl WriterState {
 
     /// Ends the tasks that run, and answers them beside a fault. They are told how the handle closed.
     fn end_tasks(&mut self, outcome: Result<(), CloseFault>, fault: Option<SlateError>) -> Ended
+        requires { self.old.result ≡ Some outcome }
         ensures answer { result ≡ ended self.old.tasks fault }
         ensures ended { self.new ≡ without_tasks self.old }
     {

@@ -1,5 +1,5 @@
 // Starting the tasks of a handle.
-ghost use Rattle.std.specs.Prelude.{◌≡◌, ◌+◌, ◌<◌, ◌≤◌, ◌++◌, length, IfOk};
+ghost use Rattle.std.specs.Prelude.{◌≡◌, ◌+◌, ◌<◌, ◌≤◌, ◌++◌, length, None, IfOk};
 ghost use Rattle.slate_model.specs.Tasks.{task_if};
 ghost use Rattle.slate_writer.specs.Tasks.{tasks_of};
 
@@ -11,7 +11,7 @@ use std::alloc::Global;
 
 /// Starts the tasks that the options ask for, in the order in which a close ends them.
 pub(crate) fn start_tasks(alloc: Global, options: &WriterOptions) -> Result<Tasks, NoMemory>
-    ensures { IfOk result (λ tasks. tasks ≡ tasks_of options.now) }
+    ensures { IfOk result (λ tasks. tasks ≡ record { names = tasks_of options.now; told = None }) }
 {
     let mut names = Ending::new();
     names.push(TaskName::MemtableFlusher);

@@ -5,6 +5,7 @@ use Rattle.slate_model.specs.Follower.{Follower, is_managed}
 use Rattle.slate_model.specs.Known.{known}
 use Rattle.slate_model.specs.Managed.{ClosesManaged, EndsLease}
 use Rattle.slate_model.specs.Stores.{by_objects}
+use Rattle.slate_tasks.specs.Running.{Running}
 use Rattle.slate_follow.specs.Kept.{follower_of}
 use Rattle.slate_follow.proofs.Closing.{closes-again, closes-first, has-lease}
 use Rattle.slate_follow.proofs.Rebuilt.{some_at}
@@ -20,7 +21,7 @@ returns-clause-managed g c = λ managed.
     let new = follower_of (record c.self.inside { status = c.report_closed.new.self; tasks = c.end.new.self }) in
     let closed : new ≡ closed_follower old =
     ap (λ s. follower_of (record c.self.inside { status = s; tasks = c.end.new.self })) c.report_closed.ensures.closed
-    ∙ (ap (λ x. record (closed_follower (follower_of c.self.inside)) { tasks = x }) c.end.ensures.none ∙ ap closed_follower c.self.view_is) in
+    ∙ (ap (λ (x : Running). record (closed_follower (follower_of c.self.inside)) { tasks = x.names }) c.end.ensures.none ∙ ap closed_follower c.self.view_is) in
     let tasks : answer ≡ ended old.tasks answer.fault = ap (λ x. ended x c.match-closed.fault) (c.end.ensures.ended ∙ ap (λ (f : Follower). f.tasks) c.self.view_is) in
     elim c.match-closed.branch [
       | in-Some-Err w ↦

@@ -93,7 +93,7 @@ returns-clause-opens g c x lawful =
     let tracked = c.track_all.ensures ∙ (ap (tracked_all _) c.batches-2.ensures.value ∙ ap (λ t. tracked_all t memory) (sym (opened-tracker view.manifest _ v.tracked))) in
     rw c.new.ensures (opens_ok x options.wal_enabled options.max_unflushed_bytes (tasks_of options) _ _ _ (search rules)
     (opened_modelled x view last found fits v.kept puts _ c.in_ok-memory.ensures.kept)
-    (record { keeps = search rules; limit_is = search rules; tasked = c.in_ok-tasks.ensures; unclosed = search rules; epoch = search rules; counter = search rules; durable = search rules; tabled = omega arith })
+    (record { keeps = search rules; limit_is = search rules; tasked = ap (λ t. t.names) c.in_ok-tasks.ensures; unclosed = search rules; epoch = search rules; counter = search rules; durable = search rules; tabled = omega arith })
     (found_view _ view last found)
     (λ o is sound. whole_modelled x view last found fits v.kept puts memory recovers (subst (λ bs. unsegmented_refusal x (ops_of bs) ≡ None) c.batches.ensures.value segments.0) o is sound)
     (λ o is sound. recovered_at x options.wal_enabled options.max_unflushed_bytes (tasks_of options) view memory c.batches-3.result.now _ _ _ _ c.batches-3.ensures.value

@@ -37,3 +37,4 @@ pub mod Tasked
 pub mod Turning
 pub mod Untouched
 pub mod Writing
+pub mod Lines

@@ -20,3 +20,4 @@ pub mod Steps
 pub mod Valid
 pub mod World
 pub mod Objects
+pub mod Laws

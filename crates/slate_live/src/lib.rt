@@ -4,6 +4,7 @@
 
 mod followers;
 mod handles;
+mod laws;
 mod maintenance;
 mod objects;
 mod runs;
@@ -11,6 +12,7 @@ mod scans;
 mod sessions;
 mod states;
 
+pub use laws::calls_are_steps;
 pub use runs::run;
 pub use sessions::{Finished, Outcome, session};
 pub use slate_receivers::{

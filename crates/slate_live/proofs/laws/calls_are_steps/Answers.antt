@@ -1,0 +1,12 @@
+use Rattle.std.proofs.Common.{refl}
+use Rattle.slate_live.proofs.Chains.{stands_start}
+use Rattle.slate_live.proofs.Lines.{read-lines}
+use Rattle.slate_live.proofs.Representing.{leads}
+use Rattle.slate_live.proofs.laws.calls_are_steps.Goals as goal
+
+pub returns : goal.returns
+returns c = record {
+  begins = λ options objects faults sound. stands_start objects (record { objects = Some objects; faults = faults }) (record { options = options; objects = []; writes = [] }) refl refl refl sound;
+  steps = leads;
+  rows = read-lines;
+}

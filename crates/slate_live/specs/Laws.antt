@@ -1,0 +1,36 @@
+-- What holds of the handles and readers that a program holds over an honest store.
+use Rattle.std.specs.Prelude.{◌≡◌, ℕ, List, [], slice_get, Option, Some}
+use Rattle.slate_types.specs.declared.batches.Batch.{Batch}
+use Rattle.slate_store.specs.Content.{IsSound}
+use Rattle.slate_store.specs.Objects.{Objects}
+use Rattle.slate_model.specs.Known.{Known}
+use Rattle.slate_model.specs.Object.{Object, batches_of, kept}
+use Rattle.slate_model.specs.Stores.{by_objects, kept_rows}
+use Rattle.slate_script.specs.declared.commands.Command.{Command}
+use Rattle.slate_script.specs.declared.options.Options.{Options}
+use Rattle.slate_script.specs.declared.replies.Reply.{Reply}
+use Rattle.slate_live.specs.Commands.{Does}
+use Rattle.slate_live.specs.Represents.{Represents}
+use Rattle.slate_live.specs.Settings.{Settings}
+use Rattle.slate_live.specs.State.{Live, running}
+use Rattle.slate_live.specs.World.{Next, World, start}
+
+-- before an object is opened, none represents the world of the start
+abbrev pub NoneRepresentsTheStart : Type 0
+NoneRepresentsTheStart =
+    (options : Options) (objects : Objects) (faults : ℕ) → IsSound objects →
+    Represents (record { options = options; objects = []; writes = [] }) (record { objects = Some objects; faults = faults }) (start objects faults)
+
+-- What a call does to these objects and to the store, by the store's own objects, is a step of the world that they represent, and
+-- they represent the next one.
+abbrev pub CallsAreSteps : Type 0
+CallsAreSteps =
+    (settings : Settings) (live live' : Live) (store store' : Known (List Batch)) (w : World) (command : Command) (made : ℕ) (reply : Reply) →
+    Represents live store w → Does (by_objects store.objects) settings made (running live store) command reply (running live' store') →
+    (w' : World) × Next settings w command reply w' × Represents live' store' w'
+
+-- the batches that one of them reads are those of its line
+abbrev pub ReadTheirLines : Type 0
+ReadTheirLines =
+    (live : Live) (store : Known (List Batch)) (w : World) (n : ℕ) (object : Object) (rows : List Batch) →
+    Represents live store w → slice_get w.objects n ≡ Some object → kept_rows store.objects (kept object) rows → rows ≡ batches_of object

@@ -3,13 +3,14 @@ use crate::printing::{
     add_number, is_none, look_up, number_of, print_blank, print_error, print_number, print_numbers,
     print_text, print_time, size_of, split_name, time_of,
 };
-use crate::store_calls::{batches_of, print_done, print_store_error, table_of};
+use crate::store_calls::{batches_of, print_done, print_listing, print_store_error, table_of};
 use crate::subjects::CallFailure;
 use crate::told_stores::ToldStore;
+use slate_check::{check_soundness, print_soundness};
 use slate_model::error_of_refusal;
 use slate_store::{
     Checkpoint, FailingCall, Manifest, Store, StoreError, StoreRefusal, TableId, compact_tables,
-    delete_checkpoint, refresh_checkpoint, replace_checkpoint, sweep, write_checkpoint,
+    delete_checkpoint, refresh_checkpoint, replace_checkpoint, sweep, to_sweep, write_checkpoint,
 };
 use slate_types::{Batch, NoMemory, Seq};
 use std::alloc::Global;
@@ -97,6 +98,8 @@ enum ObjectCall {
     Batches,
     Compact,
     Sweep,
+    ToSweep,
+    Check,
     Leases,
     Calls,
     FaultyCalls,
@@ -110,6 +113,8 @@ const OBJECT_CALLS: &[(&[u8], ObjectCall)] = &[
     (b"batches", ObjectCall::Batches),
     (b"compact", ObjectCall::Compact),
     (b"sweep", ObjectCall::Sweep),
+    (b"to_sweep", ObjectCall::ToSweep),
+    (b"check", ObjectCall::Check),
     (b"leases", ObjectCall::Leases),
     (b"calls", ObjectCall::Calls),
     (b"faulty_calls", ObjectCall::FaultyCalls),
@@ -136,6 +141,8 @@ pub fn call_objects(
             compact(alloc, store, number_of(epoch)?, number_of(index)?, answer)
         }
         (ObjectCall::Sweep, [moment]) => remove(alloc, store, time_of(moment)?, answer),
+        (ObjectCall::ToSweep, [moment]) => list_swept(alloc, store, time_of(moment)?, answer),
+        (ObjectCall::Check, []) => check(alloc, store, answer),
         (ObjectCall::Leases, []) => print_leases(alloc, store, answer),
         (ObjectCall::Calls, []) => print_number(answer, store.calls()),
         (ObjectCall::FaultyCalls, []) => print_number(answer, store.faulty_calls()),
@@ -175,6 +182,30 @@ fn remove(
         Ok(count) => print_number(answer, count),
         Err(refusal) => print_refusal(answer, Err(refusal)),
     }
+}
+
+/// Appends what a sweep would remove.
+fn list_swept(
+    alloc: Global,
+    store: &mut ToldStore,
+    moment: i64,
+    answer: &mut Vec<u8>,
+) -> Result<(), CallFailure> {
+    match to_sweep(alloc, store, moment) {
+        Ok(listing) => print_listing(answer, &listing),
+        Err(refusal) => print_refusal(answer, Err(refusal)),
+    }
+}
+
+/// Appends whether the objects are sound, or the first thing that is wrong.
+fn check(alloc: Global, store: &mut ToldStore, answer: &mut Vec<u8>) -> Result<(), CallFailure> {
+    let soundness = match check_soundness(alloc, store) {
+        Ok(soundness) => soundness,
+        Err(error) => return print_store_error(answer, error),
+    };
+    print_soundness(answer, &soundness)?;
+    let _newline = answer.pop();
+    Ok(())
 }
 
 fn lifetime_of(word: &[u8]) -> Result<Option<u64>, CallFailure> {

@@ -4,7 +4,7 @@ use crate::printing::{
 };
 use crate::subjects::CallFailure;
 use slate_reads::{IndexedTable, Table};
-use slate_store::{Store, TableId};
+use slate_store::{Listing, Store, TableId};
 use slate_types::{Batch, Seq, StoreError};
 use std::alloc::Global;
 
@@ -231,16 +231,19 @@ fn latest_manifest<S: Store>(
 
 fn list<S: Store>(alloc: Global, store: &mut S, answer: &mut Vec<u8>) -> Result<(), CallFailure> {
     match store.list(alloc) {
-        Ok(listing) => {
-            print_text(answer, "manifests")?;
-            print_numbers(answer, listing.manifests.as_slice())?;
-            print_text(answer, " logs")?;
-            print_numbers(answer, listing.logs.as_slice())?;
-            print_text(answer, " tables")?;
-            print_ids(answer, listing.tables.as_slice())
-        }
+        Ok(listing) => print_listing(answer, &listing),
         Err(error) => print_store_error(answer, error),
     }
+}
+
+/// Appends the ids that are listed, behind the name of their kind.
+pub fn print_listing(answer: &mut Vec<u8>, listing: &Listing) -> Result<(), CallFailure> {
+    print_text(answer, "manifests")?;
+    print_numbers(answer, listing.manifests.as_slice())?;
+    print_text(answer, " logs")?;
+    print_numbers(answer, listing.logs.as_slice())?;
+    print_text(answer, " tables")?;
+    print_ids(answer, listing.tables.as_slice())
 }
 
 /// Appends the ids of tables, with a blank before each.

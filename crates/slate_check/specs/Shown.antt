@@ -92,9 +92,15 @@ logs_text objects ids = flat_map (λ id. option_map_or (log_text id) (log_at id 
 abbrev pub stored_text : Objects → List TableId → List ℕ
 stored_text objects ids = flat_map (λ id. option_map_or (table_text id) (table_at id objects) []) ids
 
--- the objects that a sweep would remove, each on a line: tables, log files, manifests
+-- an object that a sweep would remove, on a line
+abbrev pub swept_text : List ℕ → ℕ → List ℕ
+swept_text label id = labelled label id ++ codes "\n"
+
+abbrev pub swept_table_text : TableId → List ℕ
+swept_table_text id = codes "sweep table " ++ (table_id_text id ++ codes "\n")
+
+-- all of these: tables, log files, manifests
 abbrev pub sweep_text : Listing → List ℕ
 sweep_text listing =
-    flat_map (λ id. codes "sweep table " ++ (table_id_text id ++ codes "\n")) listing.tables
-    ++ (flat_map (λ id. labelled (codes "sweep log ") id ++ codes "\n") listing.logs
-    ++ flat_map (λ id. labelled (codes "sweep manifest ") id ++ codes "\n") listing.manifests)
+    flat_map swept_table_text listing.tables
+    ++ (flat_map (swept_text (codes "sweep log ")) listing.logs ++ flat_map (swept_text (codes "sweep manifest ")) listing.manifests)

@@ -6,7 +6,7 @@ ghost use Rattle.slate_text.specs.Words.{word_text};
 ghost use Rattle.slate_types.specs.Counts.{HasRisen};
 ghost use Rattle.slate_store.specs.Calls.{IsOfList};
 ghost use Rattle.slate_store.specs.Objects.{Objects, latest_manifest, listing_of};
-ghost use Rattle.slate_check.specs.Shown.{checkpoint_text, ends_text, extractor_text, labelled, lease_text, log_text, logs_text, manifest_text, manifests_text, named_text, reach_text, segments_text, span_text, stored_text, sweep_text, table_text, tables_text, times_text, tracker_text};
+ghost use Rattle.slate_check.specs.Shown.{checkpoint_text, ends_text, extractor_text, labelled, lease_text, log_text, logs_text, manifest_text, manifests_text, named_text, reach_text, segments_text, span_text, stored_text, sweep_text, swept_table_text, swept_text, table_text, tables_text, times_text, tracker_text};
 ghost use Rattle.slate_check.specs.Texts.{table_id_text};
 
 use crate::printing::{write_behind, write_table_id};
@@ -110,18 +110,24 @@ pub fn show_sweep(out: &mut Vec<u8>, listing: &Listing) -> Result<(), NoMemory>
 }
 
 fn show_swept_tables(out: &mut Vec<u8>, ids: &[TableId]) -> Result<(), NoMemory>
-    ensures { OnOk result (out.new.items ≡ out.old.items ++ flat_map (λ id. codes "sweep table " ++ (table_id_text id ++ codes "\n")) ids.now) }
+    ensures { OnOk result (out.new.items ≡ out.old.items ++ flat_map swept_table_text ids.now) }
 {
     for id in ids {
-        write_text(out, "sweep table ")?;
-        write_table_id(out, *id)?;
-        write_text(out, "\n")?;
+        write_swept_table(out, *id)?;
     }
     Ok(())
 }
 
+fn write_swept_table(out: &mut Vec<u8>, id: TableId) -> Result<(), NoMemory>
+    ensures { OnOk result (out.new.items ≡ out.old.items ++ swept_table_text id) }
+{
+    write_text(out, "sweep table ")?;
+    write_table_id(out, id)?;
+    write_text(out, "\n")
+}
+
 fn show_swept(out: &mut Vec<u8>, before: &str, ids: &[u64]) -> Result<(), NoMemory>
-    ensures { OnOk result (out.new.items ≡ out.old.items ++ flat_map (λ id. labelled before.now id ++ codes "\n") ids.now) }
+    ensures { OnOk result (out.new.items ≡ out.old.items ++ flat_map (swept_text before.now) ids.now) }
 {
     for id in ids {
         write_behind(out, before, *id)?;

@@ -1,8 +1,7 @@
 use Rattle.std.proofs.Common.{◌≡◌, ◌++◌, take}
-use Rattle.std.specs.Prelude.{codes}
 use Rattle.std.specs.List.{flat_map}
-use Rattle.slate_check.specs.Shown.{labelled}
+use Rattle.slate_check.specs.Shown.{swept_text}
 use Rattle.slate_check.proofs.shown.show_swept.Given as goal
 
 abbrev pub invariant-loop-id : goal.invariant-loop-id
-invariant-loop-id l = l.out.items ≡ l.fn.out.items ++ flat_map (λ id. labelled l.before id ++ codes "\n") (take l.id-index l.ids)
+invariant-loop-id l = l.out.items ≡ l.fn.out.items ++ flat_map (swept_text l.before) (take l.id-index l.ids)

@@ -1,7 +1,7 @@
 -- What an object of a world reads are the batches of its line.
 use Rattle.std.proofs.Common.{◌≡◌, ◌∙◌, ℕ, List, [], ◌∷◌, ◌++◌, Option, Some, None, refl, sym, ap, subst}
-use Rattle.std.specs.Prelude.{slice_get}
-use Rattle.std.specs.List.{All}
+use Rattle.std.specs.Prelude.{◌≢◌, slice_get}
+use Rattle.std.proofs.lemmas.List.Elements.{All-nil}
 use Rattle.slate_types.specs.declared.batches.Batch.{Batch}
 use Rattle.slate_store.specs.Content.{AreStored, table_batches}
 use Rattle.slate_store.specs.Objects.{Objects, table_at}
@@ -17,7 +17,7 @@ use Rattle.slate_live.specs.World.{World}
 
 -- tables that are joined are stored, and these are their batches
 joined-stored : (o : Objects) (ids : List TableId) (stored : List Batch) → AreJoined (Some o) ids stored → AreStored o ids × (stored ≡ table_batches o ids)
-joined-stored o [] stored joined = (search, joined)
+joined-stored o [] stored joined = (All-nil (λ id. table_at id o ≢ None), joined)
 joined-stored o (id ∷ ids) stored joined = joined
 
 -- with what is in memory they are a line

@@ -1,4 +1,4 @@
-use Rattle.std.proofs.Common.{refl}
+use Rattle.std.proofs.Common.{[], Some, refl}
 use Rattle.slate_live.proofs.Chains.{stands_start}
 use Rattle.slate_live.proofs.Lines.{read-lines}
 use Rattle.slate_live.proofs.Representing.{leads}

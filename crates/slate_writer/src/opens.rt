@@ -81,7 +81,8 @@ impl WriterState {
     /// than 8192 pairs or one of a batch that isn't in its tables, and where the next manifest, epoch or log file would pass
     /// the greatest number; nothing is put then. Nor is where the name of the extractor isn't the one in
     /// the latest manifest, or one of them is absent (`SegmentExtractorMismatch`, which has both), nor, then, where the
-    /// extractor doesn't answer a stored prefix of itself (`SegmentPrefixNotRecognized`, which names the first). After the
+    /// extractor doesn't answer a stored prefix of itself (`SegmentPrefixNotRecognized`, which names the first); both come
+    /// before a number that would pass the greatest. After the
     /// replay `EmptySegmentPrefix` names the first key that was replayed and has no prefix, or an empty one; the manifest and
     /// the log file are put then. A fault of the store (`ObjectStoreError`) or `NoMemory` may leave the manifest, which
     /// fences the handles before it, or the manifest and the log file. `WalTruncated` names the log file at which the

@@ -16,7 +16,9 @@ pub mod Session
 pub mod Settings
 pub mod Snapshots
 pub mod State
+pub mod Statuses
 pub mod Steps
+pub mod Trackers
 pub mod Valid
 pub mod World
 pub mod Objects

@@ -1,5 +1,5 @@
 -- What holds of each object of a world after a command, since it held before, and the command keeps it.
-use Rattle.std.proofs.Common.{◌≡◌, ◌++◌, ◌∙◌, inl, inr, ℕ, Bool, true, false, List, set, Option, Some, None, Result, Ok, Err, refl, sym, subst, ap}
+use Rattle.std.proofs.Common.{◌≡◌, ◌++◌, ◌∙◌, inl, inr, ℕ, Bool, true, set, Option, Some, None, Result, Ok, Err, refl, sym, subst, ap}
 use Rattle.std.specs.List.{slice_get}
 use Rattle.std.proofs.lemmas.List.{append-nil}
 use Rattle.slate_store.specs.declared.reader_modes.DbReaderMode.{DbReaderMode}

@@ -1,13 +1,11 @@
 -- Over a run, a poll finds no key without a segment.
-use Rattle.std.proofs.Common.{◌≡◌, ◌⊎◌, ◌++◌, ◌∷◌, ◌∙◌, ◌≤◌, ◌<◌, [], inl, inr, ℕ, ℤ, Bool, true, false, cond, zero, suc, List, map, Option, Some, None, Result, Ok, Err, refl, sym, subst, ap, arith}
+use Rattle.std.proofs.Common.{◌≡◌, ◌++◌, ◌∷◌, ◌∙◌, ◌≤◌, [], inl, inr, ℕ, ℤ, Bool, true, false, cond, zero, suc, List, map, Option, Some, None, Result, Ok, Err, refl, sym, subst, ap, arith}
 use Rattle.std.specs.List.{All, slice_get}
 use Rattle.std.specs.Prelude.{nat_lt}
 use Rattle.std.specs.Option.{unwrap_or}
 use Rattle.std.proofs.lemmas.Bool.{ltb-false}
 use Rattle.std.proofs.lemmas.List.Elements.{All-head, All-tail}
 use Rattle.slate_store.specs.Checkpoints.{Plan, found, lease_end, new_checkpoint, puts_next, refreshed, to_end, to_refresh, to_write, with_checkpoints, without_id}
-use Rattle.slate_store.specs.Objects.{latest_manifest}
-use Rattle.slate_store.specs.Refusals.{PlanIs}
 use Rattle.slate_store.specs.declared.objects.Checkpoint.{Checkpoint}
 use Rattle.slate_store.specs.declared.objects.VersionedManifest.{VersionedManifest}
 use Rattle.slate_store.specs.declared.reader_modes.DbReaderMode.{DbReaderMode}
@@ -23,13 +21,12 @@ use Rattle.slate_model.specs.Catalogue.{Span}
 use Rattle.slate_model.specs.Close.{closed_follower}
 use Rattle.slate_model.specs.Follow.{AreFollowed, LacksSegment, Polls}
 use Rattle.slate_model.specs.Follower.{Follower, is_managed, is_pinned}
-use Rattle.slate_model.specs.Handle.{CloseResult, Handle}
+use Rattle.slate_model.specs.Handle.{CloseResult}
 use Rattle.slate_model.specs.Knowledge.{Knowledge}
 use Rattle.slate_model.specs.Known.{Known, Untouched}
-use Rattle.slate_model.specs.Lease.{is_due, lease_of, leased, replaces, to_keep}
+use Rattle.slate_model.specs.Lease.{is_due, leased, replaces, to_keep}
 use Rattle.slate_model.specs.Managed.{KeepsLease, PollsManaged, poll_result}
 use Rattle.slate_model.specs.Object.{Object, Handle as AHandle, Snapshot as ASnapshot, Follower as AFollower}
-use Rattle.slate_model.specs.Segments.{Extractor}
 use Rattle.slate_model.specs.Stores.{by_catalogue}
 use Rattle.slate_model.specs.Write.{last_number}
 use Rattle.slate_model.specs.declared.answers.PollAnswer.{PollAnswer}
@@ -49,10 +46,9 @@ use Rattle.slate_live.specs.Represents.{AreInSegments, IsFollowerAt, IsReached}
 use Rattle.slate_live.specs.Settings.{Settings}
 use Rattle.slate_live.specs.Statuses.{IsFull, PollsFit}
 use Rattle.slate_live.specs.Steps.{Chain, Step}
-use Rattle.slate_live.specs.Valid.{Link}
 use Rattle.slate_live.specs.World.{Next, World, state_of}
 use Rattle.slate_live.proofs.Cases.{by-bool, by-option, some-of}
-use Rattle.slate_live.proofs.Everywhere.{Kept, everywhere}
+use Rattle.slate_live.proofs.Everywhere.{everywhere}
 use Rattle.slate_live.proofs.Leases.{latest-after, nothing-spared}
 use Rattle.slate_live.proofs.Naming.{follower-did, handle-acted}
 use Rattle.slate_live.proofs.Rising.{managed-mode}

@@ -1,8 +1,7 @@
 -- A close of a reader that an error closed answers that error.
-use Rattle.std.proofs.Common.{◌≡◌, ◌++◌, ◌∷◌, ◌∙◌, [], ℕ, Bool, true, false, List, Option, Some, None, Result, Ok, Err, refl, sym, subst, ap}
+use Rattle.std.proofs.Common.{◌≡◌, ◌++◌, ◌∷◌, ◌∙◌, [], ℕ, Bool, true, false, List, Some, Err, refl, subst, ap}
 use Rattle.std.proofs.lemmas.Bool.{eqb-true}
 use Rattle.std.specs.List.{slice_get}
-use Rattle.slate_types.specs.declared.options.FlushType.{FlushType}
 use Rattle.slate_errors.specs.Errors.{error_of_fault}
 use Rattle.slate_errors.specs.declared.closing.CloseFault.{CloseFault}
 use Rattle.slate_errors.specs.declared.endings.Ended.{Ended}
@@ -11,7 +10,7 @@ use Rattle.slate_model.specs.Close.{ended, recorded_fault}
 use Rattle.slate_model.specs.Follower.{Follower, is_managed}
 use Rattle.slate_model.specs.Handle.{CloseResult}
 use Rattle.slate_model.specs.Knowledge.{Knowledge}
-use Rattle.slate_model.specs.Known.{Known, Untouched}
+use Rattle.slate_model.specs.Known.{Untouched}
 use Rattle.slate_model.specs.Object.{Object, Handle as AHandle, Snapshot as ASnapshot, Follower as AFollower}
 use Rattle.slate_model.specs.Stores.{by_catalogue}
 use Rattle.slate_script.specs.declared.commands.Action.{Action}
@@ -25,11 +24,9 @@ use Rattle.slate_live.specs.Commands.{ActsOn, DoesBy}
 use Rattle.slate_live.specs.Followers.{ClosesAs}
 use Rattle.slate_live.specs.Leases.{closes}
 use Rattle.slate_live.specs.Replies.{follower_ended_reply}
-use Rattle.slate_live.specs.Represents.{IsFollowerAt}
 use Rattle.slate_live.specs.Rising.{Rise, Rises}
 use Rattle.slate_live.specs.Settings.{Settings}
 use Rattle.slate_live.specs.Steps.{Chain, Step, last_world}
-use Rattle.slate_live.specs.Valid.{Link}
 use Rattle.slate_live.specs.World.{Next, World, state_of}
 use Rattle.slate_live.proofs.Cases.{some-of}
 use Rattle.slate_live.proofs.Lasting.{chain-halves}

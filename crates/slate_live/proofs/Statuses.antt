@@ -1,18 +1,17 @@
 -- Over a run, statuses name the segments of the lines above the views.
-use Rattle.std.proofs.Common.{◌≡◌, ◌⊎◌, ◌++◌, ◌∷◌, ◌∙◌, ◌||◌, ◌+◌, ◌<◌, ◌≤◌, [], inl, inr, ℕ, ℤ, Bool, true, false, cond, ltb, length, set, zero, suc, List, Option, Some, None, Result, Ok, Err, refl, sym, subst, ap, arith}
+use Rattle.std.proofs.Common.{◌≡◌, ◌⊎◌, ◌++◌, ◌∷◌, ◌∙◌, ◌||◌, ◌≤◌, [], inl, inr, ℕ, ℤ, Bool, true, false, cond, ltb, length, zero, suc, List, Option, Some, None, Result, Ok, Err, refl, sym, subst, ap, arith}
 use Rattle.std.specs.List.{All, slice_get}
 use Rattle.std.proofs.lemmas.Bool.{le-ltb, lt-ltb, ltb-false}
 use Rattle.std.proofs.lemmas.List.{append-nil, length-append}
 use Rattle.std.proofs.lemmas.List.Elements.{All-head, All-tail}
 use Rattle.slate_types.proofs.Lines.{above-none, above-push}
-use Rattle.slate_types.specs.Line.{IsLine, Line, batches_above, end, extended}
+use Rattle.slate_types.specs.Line.{IsLine, Line, batches_above, end}
 use Rattle.slate_types.specs.Operator.{Merge}
 use Rattle.slate_types.specs.declared.batches.Batch.{Batch}
 use Rattle.slate_types.specs.declared.batches.KeyOp.{KeyOp}
 use Rattle.slate_types.specs.declared.options.FlushType.{FlushType}
 use Rattle.slate_types.specs.declared.options.FlushType.TheVariants.{MemTable, Wal}
 use Rattle.slate_store.specs.Compaction.{compacted, with_table}
-use Rattle.slate_store.specs.Objects.{last_log, latest_manifest}
 use Rattle.slate_store.specs.declared.objects.TableId.{TableId}
 use Rattle.slate_store.specs.declared.objects.VersionedManifest.{VersionedManifest}
 use Rattle.slate_errors.specs.Errors.{closed_error}
@@ -28,12 +27,10 @@ use Rattle.slate_model.proofs.Reopened.{segments-none}
 use Rattle.slate_model.specs.Catalogue.{Catalogue, Span}
 use Rattle.slate_model.specs.Close.{closed_follower, closing_flush}
 use Rattle.slate_model.specs.Flush.{FlushAnswer, IsCurrent, Stores, flush_view, next_flushed}
-use Rattle.slate_model.specs.Follow.{Polls}
 use Rattle.slate_model.specs.Follower.{Follower, HasSegments, is_managed}
 use Rattle.slate_model.specs.Handle.{Handle, accepted, has_untabled, next_table, untabled, untabled_segments}
 use Rattle.slate_model.specs.Knowledge.{Knowledge}
 use Rattle.slate_model.specs.Known.{Known, Untouched}
-use Rattle.slate_model.specs.Managed.{PollsManaged}
 use Rattle.slate_model.specs.Object.{Object, Handle as AHandle, Snapshot as ASnapshot, Follower as AFollower}
 use Rattle.slate_model.specs.Open.{OpensHandle, opened_handle, opened_manifest}
 use Rattle.slate_model.specs.Refresh.{CompactAnswer, RefreshAnswer}
@@ -54,15 +51,13 @@ use Rattle.slate_live.specs.Calls.{Call, Write as WriteCall, Merge as MergeCall,
 use Rattle.slate_live.specs.Commands.{ActsOn, DoesBy, ReadsSnapshot}
 use Rattle.slate_live.specs.Followers.{ClosesAs, FollowerActs, PollsAs}
 use Rattle.slate_live.specs.Handles.{HandleActs, MergesTo, flush_type_by}
-use Rattle.slate_live.specs.Represents.{IsFollowerAt, IsHandleAt, IsLeased, IsReached}
+use Rattle.slate_live.specs.Represents.{IsLeased, IsReached}
 use Rattle.slate_live.specs.Settings.{Settings}
-use Rattle.slate_live.specs.State.{State}
 use Rattle.slate_live.specs.Statuses.{StatusesName, above_view}
 use Rattle.slate_live.specs.Steps.{Chain, Step}
-use Rattle.slate_live.specs.Valid.{Link}
 use Rattle.slate_live.specs.World.{Next, World, state_of}
 use Rattle.slate_live.proofs.Cases.{by-bool, by-option, close-by, compact-by, flush-by, refresh-by, some-of}
-use Rattle.slate_live.proofs.Everywhere.{Kept, everywhere}
+use Rattle.slate_live.proofs.Everywhere.{everywhere}
 use Rattle.slate_live.proofs.Naming.{follower-did, handle-acted}
 use Rattle.slate_live.proofs.Places.{get-set_same}
 

@@ -1,5 +1,5 @@
 -- The tracker of a handle that flushed to a table is that of the next opening.
-use Rattle.std.proofs.Common.{◌≡◌, ◌≢◌, ◌⊎◌, ◌++◌, ◌∷◌, ◌&&◌, ◌+◌, ◌<◌, ◌≤◌, ◌∙◌, [], inl, inr, ℕ, Bool, true, false, cond, ltb, length, set, List, map, Option, Some, None, Result, Ok, Err, refl, sym, subst, ap, arith}
+use Rattle.std.proofs.Common.{◌≡◌, ◌⊎◌, ◌++◌, ◌∷◌, ◌&&◌, ◌+◌, ◌<◌, ◌≤◌, ◌∙◌, [], inl, inr, ℕ, Bool, true, false, cond, ltb, length, set, List, map, Option, Some, None, Result, Ok, Err, refl, sym, subst, ap, arith}
 use Rattle.std.proofs.lemmas.Bool.{eqb-true, lt-ltb, ltb-true}
 use Rattle.std.proofs.lemmas.List.{length-append, take_all}
 use Rattle.std.proofs.lemmas.List.Elements.{All-head, All-tail}
@@ -7,7 +7,7 @@ use Rattle.std.specs.List.{All, slice_get}
 use Rattle.std.specs.Option.{option_or}
 use Rattle.std.specs.Prelude.{is_some, nat_le, unwrap_or}
 use Rattle.slate_types.proofs.Lines.{above-none}
-use Rattle.slate_types.specs.Line.{Line, batches_above, end, extended}
+use Rattle.slate_types.specs.Line.{Line, end, extended}
 use Rattle.slate_types.specs.declared.batches.Batch.{Batch}
 use Rattle.slate_types.specs.declared.options.CloseOptions.{CloseOptions}
 use Rattle.slate_types.specs.declared.options.FlushType.{FlushType}
@@ -39,7 +39,7 @@ use Rattle.slate_model.specs.Handle.{Handle, accepted, has_untabled, next_table,
 use Rattle.slate_model.specs.Knowledge.{Knowledge}
 use Rattle.slate_model.specs.Lease.{to_keep}
 use Rattle.slate_model.specs.Object.{Object, Handle as AHandle, Snapshot as ASnapshot, Follower as AFollower}
-use Rattle.slate_model.specs.Open.{OpensHandle, can_reopen, found_log, log_refusal, manifest_refusal, next_manifest, opened_handle, replayed}
+use Rattle.slate_model.specs.Open.{OpensHandle, can_reopen, found_log, log_refusal, manifest_refusal, next_manifest, replayed}
 use Rattle.slate_model.specs.Known.{Known}
 use Rattle.slate_model.specs.Segments.{Extractor, extractor_name, extractor_refusal}
 use Rattle.slate_model.specs.Write.{last_number}
@@ -52,7 +52,7 @@ use Rattle.slate_script.specs.declared.replies.Reply.{Reply}
 use Rattle.slate_script.specs.declared.replies.Reply.TheVariants as replies
 use Rattle.slate_live.specs.Calls.{Call, Close, Flush, OfObject, call_of, flush_of_close, target_of}
 use Rattle.slate_live.specs.Commands.{ActsOn, Adds, DoesBy, added}
-use Rattle.slate_live.specs.Handles.{ClosesHandle, FlushesHandle, flush_type_by}
+use Rattle.slate_live.specs.Handles.{ClosesHandle, flush_type_by}
 use Rattle.slate_live.specs.Replies.{closed_reply, refusal, reply_to}
 use Rattle.slate_live.specs.Represents.{IsHandleAt, IsReached}
 use Rattle.slate_live.specs.Rising.{Rise, Rises}
@@ -60,7 +60,6 @@ use Rattle.slate_live.specs.Settings.{Settings, option_tasks}
 use Rattle.slate_live.specs.State.{State}
 use Rattle.slate_live.specs.Steps.{Chain, Step, last_world}
 use Rattle.slate_live.specs.Trackers.{Commits, TrackersStay, flushes}
-use Rattle.slate_live.specs.Valid.{Link}
 use Rattle.slate_live.specs.World.{Next, World, grown_by, state_of, stored_after}
 use Rattle.slate_live.proofs.Carrying.{Spares}
 use Rattle.slate_live.proofs.Cases.{close-by, flush-by}

@@ -14,6 +14,7 @@ pub mod Sampling
 pub mod Scans
 pub mod Session
 pub mod Settings
+pub mod Shut
 pub mod Snapshots
 pub mod State
 pub mod Statuses

@@ -25,7 +25,12 @@ use Rattle.slate_live.proofs.Prefixes.{prefix-same, prefix-then}
 use Rattle.slate_live.proofs.Lasting.{leases_hold}
 use Rattle.slate_live.proofs.Listing.{list_tasks}
 use Rattle.slate_live.proofs.Snapshots.{snapshots_stay}
+use Rattle.slate_live.proofs.Polling.{polls_fit}
+use Rattle.slate_live.proofs.Repeating.{repeat_errors}
+use Rattle.slate_live.proofs.Segmented.{segmented-start}
+use Rattle.slate_live.proofs.Statuses.{statuses_name}
 use Rattle.slate_live.proofs.Staying.{stay_confirmed}
+use Rattle.slate_live.proofs.Tracking.{trackers_stay}
 
 -- no object yet, over sound objects, represents the world of their start
 pub stands_start : (o : Objects) (store : Known (List Batch)) (live : Live) → live.objects ≡ [] → live.writes ≡ [] → store.objects ≡ Some o → IsSound o → Represents live store (start o store.faults)
@@ -118,6 +123,10 @@ leads_all settings commands i replies o faults live store steps sound all done s
       confirmed = stay_confirmed settings (start o faults) steps refl done.chain;
       leases = leases_hold settings (start o faults) steps refl (start-reached settings.options o faults sound) done.chain done.reached;
       closings = list_tasks settings (start o faults) steps done.chain done.reached;
+      repeated = repeat_errors settings (start o faults) steps done.chain;
+      trackers = trackers_stay settings (start o faults) steps (start-reached settings.options o faults sound) done.chain done.reached;
+      statuses = statuses_name settings (start o faults) steps refl (start-reached settings.options o faults sound) done.chain done.reached;
+      polls = polls_fit settings (start o faults) steps refl (start-reached settings.options o faults sound) (segmented-start settings.extractor (start o faults) refl) done.chain done.reached;
       snapshots = snapshots_stay settings (start o faults) steps refl done.chain done.reached;
       after = held.0;
       modelled = held.1;

@@ -28,7 +28,9 @@ use Rattle.slate_model.specs.declared.leases.Lease.{Lease}
 use Rattle.slate_model.specs.Follower.{Follower}
 use Rattle.slate_script.specs.declared.commands.Command.{Command}
 use Rattle.slate_script.specs.declared.replies.Reply.{Reply}
-use Rattle.slate_live.specs.Calls.{OfObject}
+use Rattle.slate_script.specs.declared.commands.Action.{Action}
+use Rattle.slate_script.specs.declared.commands.Action.TheVariants as actions
+use Rattle.slate_live.specs.Calls.{OfObject, WholeStore, target_of}
 use Rattle.slate_live.specs.Leases.{closes, polls}
 use Rattle.slate_live.specs.Represents.{IsFollowerAt, IsReached}
 use Rattle.slate_live.specs.Settings.{Settings}
@@ -103,12 +105,17 @@ new-apart w reached latest is low k d less =
     let number = ids-differ (get_or latest.manifest.checkpoints k d).manifest_id (latest.id + 1) (omega (arith, within, low)) (omega (arith, low)) (sym pin.id ∙ ids) in
     omega (arith, number, within))
 
+-- what goes to the whole store sweeps it
+is-sweep : (action : Action) → target_of action ≡ WholeStore → action ≡ actions.Sweep
+is-sweep actions.Sweep is = refl
+is-sweep action is = absurd (cc)
+
 module _ (settings : Settings) (w w' : World) (command : Command) (reply : Reply) (reached : IsReached w) (reached' : IsReached w') (next : Next settings w command reply w') (apart : AreApart w) (n lifetime : ℕ) (last : ℤ) (h : Holds n lifetime last w) where
-  -- a command in time that neither polls nor closes it
-  pub holds-still : polls n command.action ≡ false → closes n command.action ≡ false → int_lt command.moment (lease_end last lifetime) ≡ true → Holds n lifetime last w'
+  -- a command that neither polls nor closes it, and sweeps in time
+  pub holds-still : polls n command.action ≡ false → closes n command.action ≡ false → (command.action ≡ actions.Sweep → int_lt command.moment (lease_end last lifetime) ≡ true) → Holds n lifetime last w'
   holds-still unpolled unclosed before =
       let quiet = is-quiet n command.action unpolled unclosed in
-      let spares = spared w command h.has.latest h.lease.id h.checkpoint h.has.there (holds-lasts n lifetime last command.moment w h before)
+      let spares = spared w command h.has.latest h.lease.id h.checkpoint h.has.there (λ whole. holds-lasts n lifetime last command.moment w h (before (is-sweep command.action whole)))
       (λ m f lease names disturbs at has same. quiet (names ∙ ap OfObject (apart m n f h.follower lease h.lease at h.at has h.leased same)) disturbs) in
       record {
         follower = h.follower;

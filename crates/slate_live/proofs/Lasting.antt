@@ -76,8 +76,8 @@ module _ (settings : Settings) where
   ready-chain w (s ∷ steps) ready (link, chain) all =
       ready-chain s.world steps (ready-step w s ready link (All-head (λ step. IsReached step.world) s steps all)) chain (All-tail (λ step. IsReached step.world) s steps all)
 
-  -- a step in time
-  holds-step : (w : World) (s : Step) (n lifetime : ℕ) (last : ℤ) → IsReady w → Link settings w s.command s.reply s.world → IsReached s.world → Holds n lifetime last w → IsInTime lifetime last s → closes n s.command.action ≡ false → (polls n s.command.action ≡ true → is_whole s.reply ≡ true) → Holds n lifetime (turn n last s) s.world
+  -- a step, in time where it sweeps
+  holds-step : (w : World) (s : Step) (n lifetime : ℕ) (last : ℤ) → IsReady w → Link settings w s.command s.reply s.world → IsReached s.world → Holds n lifetime last w → (s.command.action ≡ actions.Sweep → IsInTime lifetime last s) → closes n s.command.action ≡ false → (polls n s.command.action ≡ true → is_whole s.reply ≡ true) → Holds n lifetime (turn n last s) s.world
   holds-step w s n lifetime last ready link reached' h before unclosed whole = by (polls n s.command.action) refl where
     by : (b : Bool) → polls n s.command.action ≡ b → Holds n lifetime (if b then s.command.moment else last) s.world
     by true asks = poll-holds settings w s.world s.command s.reply ready.reached reached' link.next ready.apart n lifetime last h asks (whole asks)
@@ -181,7 +181,7 @@ module _ (settings : Settings) (w w' : World) (command : Command) (reply : Reply
 
 -- ---- the law
 pub leases_hold : (settings : Settings) (w : World) (steps : List Step) → w.objects ≡ [] → IsReached w → Chain settings w steps → All (λ step. IsReached step.world) steps → LeasesHold steps
-leases_hold settings w steps empty reached chain all before later rest opened step n at managed skips is follows answered timely in_time =
+leases_hold settings w steps empty reached chain all before later rest opened step n at managed skips is follows answered timely =
     let ready : IsReady w = record { reached = reached; past = λ m f lease there has. absurd (let no = subst (λ os. slice_get os m ≡ Some (AFollower f)) empty there in cc); apart = λ m i f g a b there here has_a has_b same. absurd (let no = subst (λ os. slice_get os m ≡ Some (AFollower f)) empty there in cc) } in
     let halves = chain-halves settings w before (opened ∷ (later ++ step ∷ rest)) (subst (Chain settings w) is chain) in
     let alls = all-halves settings (λ step. IsReached step.world) before (opened ∷ (later ++ step ∷ rest)) (subst (All (λ step. IsReached step.world)) is all) in
@@ -194,7 +194,7 @@ leases_hold settings w steps empty reached chain all before later rest opened st
     let begins = opening-holds settings (last_world w before) opened.world opened.command opened.reply first.reached reached_opened link.next managed skips n at follows answered in
     let holds = holds-chain settings opened.world later n (lifetime_of managed / 2) opened.command.moment ready_opened more.0 mores.0 begins timely in
     let ready_last = ready-chain settings opened.world later ready_opened more.0 mores.0 in
-    let keeps = keeps-it settings (last_world opened.world later) n (lifetime_of managed / 2) (last_turn n opened.command.moment later) step.command.moment ready_last.reached holds in_time in (
-      keeps,
-      λ asks missing. reads-find settings (last_world opened.world later) step.world step.command step.reply more.1.0.next n (lifetime_of managed / 2) (last_turn n opened.command.moment later) holds (holds-stored settings (last_world opened.world later) n (lifetime_of managed / 2) (last_turn n opened.command.moment later) ready_last.reached holds) missing step.command.action refl asks,
+    let last = last_turn n opened.command.moment later in (
+      keeps-it settings (last_world opened.world later) n (lifetime_of managed / 2) last step.command.moment ready_last.reached holds,
+      λ asks missing. reads-find settings (last_world opened.world later) step.world step.command step.reply more.1.0.next n (lifetime_of managed / 2) last holds (holds-stored settings (last_world opened.world later) n (lifetime_of managed / 2) last ready_last.reached holds) missing step.command.action refl asks,
     )

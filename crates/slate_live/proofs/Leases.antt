@@ -21,7 +21,7 @@ use Rattle.slate_model.proofs.Moving.{known-stored}
 use Rattle.slate_model.proofs.Reduced.{some-same}
 use Rattle.slate_script.specs.declared.commands.Command.{Command}
 use Rattle.slate_script.specs.declared.replies.Reply.{Reply}
-use Rattle.slate_live.specs.Calls.{OfObject, call_of, target_of}
+use Rattle.slate_live.specs.Calls.{OfObject, WholeStore, call_of, target_of}
 use Rattle.slate_live.proofs.Untouched.{Disturbs}
 use Rattle.slate_live.specs.Represents.{IsFollowerAt, IsReached}
 use Rattle.slate_live.specs.Settings.{Settings}
@@ -110,15 +110,15 @@ unexpired-found id c latest moment there lasts = by (has_expired moment latest) 
   by true = find-filter (has_id id) (λ checkpoint. not (is_expired moment checkpoint)) c latest.manifest.checkpoints there (ap not lasts)
   by false = there
 
--- A command leaves it that neither polls nor closes the reader that keeps it, at a moment at which it isn't over.
-pub spared : (w : World) (command : Command) (latest : VersionedManifest) (id : List ℕ) (c : Checkpoint) → found id latest ≡ Some c → is_expired command.moment c ≡ false →
+-- A command leaves it that neither polls nor closes the reader that keeps it, and sweeps at a moment at which it isn't over.
+pub spared : (w : World) (command : Command) (latest : VersionedManifest) (id : List ℕ) (c : Checkpoint) → found id latest ≡ Some c → (target_of command.action ≡ WholeStore → is_expired command.moment c ≡ false) →
     ((n : ℕ) (f : Follower) (lease : Lease) → target_of command.action ≡ OfObject n → Disturbs (call_of command.action) → IsFollowerAt w.objects n f → f.lease ≡ Some lease → lease.id ≢ id) → Spares (Has (Finds id c)) w latest command
 spared w command latest id c there lasts apart = record {
   kept = there;
   flushed = λ handle last some. there;
   compacted = λ table. there;
   opened = λ name last. there;
-  swept = λ sweeps. unexpired-found id c latest command.moment there lasts;
+  swept = λ sweeps. unexpired-found id c latest command.moment there (lasts sweeps);
   added = λ checkpoint. find-append (has_id id) c latest.manifest.checkpoints (checkpoint ∷ []) there;
   polled = λ n f lease given next names asks at has gives. kept-stays id lease c f.view latest command.moment there (apart n f lease names (subst Disturbs (sym asks) tt) at has) next given gives;
   closed = λ n f lease next flush_type names asks at live has gives. deleted-stays id lease.id c latest there (apart n f lease names (subst Disturbs (sym asks) tt) at has) next gives;

@@ -52,11 +52,11 @@ last_turn n last (step ∷ steps) = last_turn n (turn n last step) steps
 abbrev pub IsInTime : (lifetime : ℕ) → (last : ℤ) → Step → Type 0
 IsInTime lifetime last step = int_lt step.command.moment (lease_end last lifetime) ≡ true
 
--- Each of these steps does, and the reader isn't closed, and each poll of it took all log files.
+-- Each sweep of these steps does, the reader isn't closed, and each poll of it took all log files.
 abbrev pub AreInTime : (n lifetime : ℕ) → (last : ℤ) → List Step → Type 0
 AreInTime n lifetime last [] = Unit {0}
 AreInTime n lifetime last (step ∷ steps) =
-    IsInTime lifetime last step × (closes n step.command.action ≡ false) × (polls n step.command.action ≡ true → is_whole step.reply ≡ true)
+    (step.command.action ≡ actions.Sweep → IsInTime lifetime last step) × (closes n step.command.action ≡ false) × (polls n step.command.action ≡ true → is_whole step.reply ≡ true)
     × AreInTime n lifetime (turn n last step) steps
 
 -- A reader keeps its checkpoint at a moment: that is in the latest manifest and not over, and the tables are stored that the
@@ -73,13 +73,13 @@ pub record KeepsCheckpoint (n : ℕ) (moment : ℤ) (w : World) : Type 0 where
   pub lasts : is_expired moment checkpoint ≡ false
   pub tables : AreStored w.catalogue follower.view.manifest.tables
 
--- Take an opening of a reader that keeps a checkpoint with a lifetime, steps after it, and one more, of which each comes less
--- than half the lifetime after the reader's last turn. At the last of these the reader keeps its checkpoint, and where that is
--- a read of it, it finds no table missing.
+-- Take an opening of a reader that keeps a checkpoint with a lifetime, steps after it of which each sweep comes less than half
+-- the lifetime after the reader's last turn, and one step more. Where that comes so too, the reader keeps its checkpoint at it,
+-- and where it is a read of the reader, at any moment, it finds no table missing.
 abbrev pub LeasesHold : List Step → Type 0
 LeasesHold steps =
     (before later rest : List Step) (opened step : Step) (n at : ℕ) (managed : Option (ℕ × ℕ)) (skips : Bool) → steps ≡ before ++ opened ∷ (later ++ step ∷ rest) →
     opened.command.action ≡ actions.Follow ManagedCheckpoint managed skips → opened.reply ≡ replies.Follower n true at →
-    AreInTime n (lifetime_of managed / 2) opened.command.moment later → IsInTime (lifetime_of managed / 2) (last_turn n opened.command.moment later) step →
-    KeepsCheckpoint n step.command.moment (last_world opened.world later)
+    AreInTime n (lifetime_of managed / 2) opened.command.moment later →
+    (IsInTime (lifetime_of managed / 2) (last_turn n opened.command.moment later) step → KeepsCheckpoint n step.command.moment (last_world opened.world later))
     × (reads n step.command.action ≡ true → step.reply ≡ refusal (errors.ObjectStoreError NotFound) → ⊥)

@@ -14,9 +14,12 @@ pub mod Sampling
 pub mod Scans
 pub mod Session
 pub mod Settings
+pub mod Shut
 pub mod Snapshots
 pub mod State
+pub mod Statuses
 pub mod Steps
+pub mod Trackers
 pub mod Valid
 pub mod World
 pub mod Objects

@@ -9,7 +9,7 @@ use Rattle.slate_model.specs.Known.{Known}
 use Rattle.slate_model.specs.Stores.{by_objects}
 use Rattle.slate_script.specs.declared.commands.Command.{Command}
 use Rattle.slate_script.specs.declared.replies.Reply.{Reply}
-use Rattle.slate_live.specs.Closings.{ListTasks}
+use Rattle.slate_live.specs.Closings.{ListTasks, RepeatErrors}
 use Rattle.slate_live.specs.Commands.{Does}
 use Rattle.slate_live.specs.State.{State}
 use Rattle.slate_live.specs.Steps.{Chain, StayConfirmed, Step, last_world}
@@ -17,6 +17,8 @@ use Rattle.slate_live.specs.Represents.{Holds, IsReached}
 use Rattle.slate_live.specs.Settings.{Settings}
 use Rattle.slate_live.specs.Leases.{LeasesHold}
 use Rattle.slate_live.specs.Snapshots.{SnapshotsStay}
+use Rattle.slate_live.specs.Statuses.{PollsFit, StatusesName}
+use Rattle.slate_live.specs.Trackers.{TrackersStay}
 use Rattle.slate_live.specs.World.{World, start}
 
 -- Over any store: the commands are done one after another, each with its reply, from a state to another.
@@ -33,8 +35,8 @@ DidAll settings commands replies store store' =
 
 -- The commands lead from the world of these objects, by one step each with its reply and each to a valid world, to one
 -- that the store holds afterwards. What was stored before is stored afterwards, a write that is reported durable is confirmed for good, what a
--- snapshot gives stays, a reader that is polled in time keeps its checkpoint, and the first close of a handle or a reader lists
--- the tasks that its opening registered.
+-- snapshot gives stays, a reader that is polled in time keeps its checkpoint, the first close of a handle or a reader lists
+-- the tasks that its opening registered, and a handle that is opened has the tracker of the one that flushed to a table before.
 pub record LeadsTo (settings : Settings) (commands : List Command) (replies : List Reply) (before : Objects) (faults : ℕ) (store : Known (List Batch)) : Type 0 where
   pub steps : List Step
   pub commands_are : map (λ step. step.command) steps ≡ commands
@@ -48,6 +50,10 @@ pub record LeadsTo (settings : Settings) (commands : List Command) (replies : Li
   pub snapshots : SnapshotsStay steps
   pub leases : LeasesHold steps
   pub closings : ListTasks settings.options steps
+  pub repeated : RepeatErrors steps
+  pub trackers : TrackersStay (start before faults) steps
+  pub statuses : StatusesName settings.extractor steps
+  pub polls : PollsFit steps
   pub after : Objects
   pub modelled : store.objects ≡ Some after
   pub sound : IsSound after

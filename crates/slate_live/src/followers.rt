@@ -37,6 +37,7 @@ pub(crate) fn act<S: Store, M: MergeOperator, E: PrefixExtractor>(
 ) -> Reply
     ensures faults { S.faults store.old ≤ S.faults store.new }
     ensures calls { IfSome (S.objects store.old) (λ o. S.calls store.new ≤ S.calls store.old + most_asked o (Some (AFollower follower.old)) (call_of command.now.action)) }
+    ensures untouched { (follower.old.result ≡ None → ⊥) → store.new ≡ store.old }
     ensures does { (settings : Settings) (writes : List Write) → (goes_by_operator command.now.action ≡ true → IsOperator M.may_answer (option_copied operator.entry) settings.merge) → (goes_by_extractor command.now.action ≡ true → IsExtractor E.may_name E.may_extract (option_copied extractor.entry) settings.extractor) →
         (made : ℕ) × FollowerActs (by_objects (S.objects store.old)) settings command.now.moment (call_of command.now.action) made
         follower.old (known S.objects S.faults store.old) writes result follower.new (known S.objects S.faults store.new) writes }
@@ -78,6 +79,7 @@ fn get<S: Store, M: MergeOperator>(
 ) -> Reply
     ensures faults { S.faults store.old ≤ S.faults store.new }
     ensures calls { S.calls store.new ≤ S.calls store.old + length follower.now.view.manifest.tables }
+    ensures untouched { (follower.now.result ≡ None → ⊥) → store.new ≡ store.old }
     ensures read { (merge : Option Merge) → IsOperator M.may_answer (option_copied operator.entry) merge →
         GetsFromFollower (by_objects (S.objects store.old)) merge key.now follower.now (known S.objects S.faults store.old) result (known S.objects S.faults store.new) }
 {
@@ -95,6 +97,7 @@ fn scan<S: Store, M: MergeOperator>(
 ) -> Reply
     ensures faults { S.faults store.old ≤ S.faults store.new }
     ensures calls { S.calls store.new ≤ S.calls store.old + length follower.now.view.manifest.tables }
+    ensures untouched { (follower.now.result ≡ None → ⊥) → store.new ≡ store.old }
     ensures read { (merge : Option Merge) → IsOperator M.may_answer (option_copied operator.entry) merge →
         TakesFromFollower (by_objects (S.objects store.old)) merge range.now order scanned
         follower.now (known S.objects S.faults store.old) result (known S.objects S.faults store.new) }
@@ -115,6 +118,7 @@ fn seek<S: Store, M: MergeOperator>(
 ) -> Reply
     ensures faults { S.faults store.old ≤ S.faults store.new }
     ensures calls { S.calls store.new ≤ S.calls store.old + length follower.now.view.manifest.tables }
+    ensures untouched { (follower.now.result ≡ None → ⊥) → store.new ≡ store.old }
     ensures read { (merge : Option Merge) → IsOperator M.may_answer (option_copied operator.entry) merge →
         TakesFromFollower (by_objects (S.objects store.old)) merge range.now order (sought range.now take_and_key.entry.0 take_and_key.entry.1.now)
         follower.now (known S.objects S.faults store.old) result (known S.objects S.faults store.new) }
@@ -134,6 +138,7 @@ fn poll<S: Store, E: PrefixExtractor>(
 ) -> Reply
     ensures faults { S.faults store.old ≤ S.faults store.new }
     ensures calls { IfSome (S.objects store.old) (λ o. S.calls store.new ≤ S.calls store.old + poll_calls (is_managed follower.old.mode) o) }
+    ensures untouched { (follower.old.result ≡ None → ⊥) → store.new ≡ store.old }
     ensures does { (x : Option Extractor) → IsExtractor E.may_name E.may_extract (option_copied extractor.entry) x →
         (made : ℕ) × PollsFollower (by_objects (S.objects store.old)) x made moment follower.old (known S.objects S.faults store.old) result follower.new (known S.objects S.faults store.new) }
 {
@@ -155,6 +160,7 @@ fn status(follower: &FollowerState, alloc: Global) -> Reply
 fn close<S: Store>(follower: &mut FollowerState, alloc: Global, store: &mut S) -> Reply
     ensures faults { S.faults store.old ≤ S.faults store.new }
     ensures calls { S.calls store.new ≤ S.calls store.old + end_calls (is_managed follower.old.mode) }
+    ensures untouched { (follower.old.result ≡ None → ⊥) → store.new ≡ store.old }
     ensures does { (made : ℕ) × ClosesFollower (by_objects (S.objects store.old)) made follower.old (known S.objects S.faults store.old) result follower.new (known S.objects S.faults store.new) }
 {
     if follower.closed().is_some() {

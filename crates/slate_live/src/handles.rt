@@ -48,6 +48,7 @@ pub(crate) fn act<S: Store, M: MergeOperator, E: PrefixExtractor>(
     ensures faults { S.faults store.old ≤ S.faults store.new }
     ensures calls { IfSome (S.objects store.old) (λ o.
         S.calls store.new ≤ S.calls store.old + most_asked o (Some (AHandle writer.old)) (call_of command.now.action)) }
+    ensures untouched { (writer.old.result ≡ None → ⊥) → store.new ≡ store.old }
     ensures does { (settings : Settings) → (goes_by_operator command.now.action ≡ true → IsOperator M.may_answer (option_copied operator.entry) settings.merge) → (goes_by_extractor command.now.action ≡ true → IsExtractor E.may_name E.may_extract (option_copied extractor.entry) settings.extractor) →
         (made : ℕ) × HandleActs (by_objects (S.objects store.old)) settings number command.now.moment command.now.second (call_of command.now.action) made
         writer.old (known S.objects S.faults store.old) writes.old.items result writer.new (known S.objects S.faults store.new) writes.new.items }
@@ -108,6 +109,7 @@ pub(crate) fn act_at<S: Store, M: MergeOperator>(
     ensures faults { S.faults store.old ≤ S.faults store.new }
     ensures calls { IfSome (S.objects store.old) (λ o.
         S.calls store.new ≤ S.calls store.old + most_asked o (Some (AHandle writer.now)) (call_of command.now.action)) }
+    ensures untouched { (writer.now.result ≡ None → ⊥) → store.new ≡ store.old }
     ensures does { (settings : Settings) (handle : ℕ) (writes : List AWrite) → (goes_by_operator command.now.action ≡ true → IsOperator M.may_answer (option_copied operator.entry) settings.merge) →
         HandleActs (by_objects (S.objects store.old)) settings handle command.now.moment command.now.second (at_snapshot snapshot (call_of command.now.action)) 0
         writer.now (known S.objects S.faults store.old) writes result writer.now (known S.objects S.faults store.new) writes }
@@ -261,6 +263,7 @@ fn flush<S: Store>(
 ) -> Reply
     ensures faults { S.faults store.old ≤ S.faults store.new }
     ensures calls { S.calls store.new ≤ S.calls store.old + 5 }
+    ensures untouched { (writer.old.result ≡ None → ⊥) → store.new ≡ store.old }
     ensures does { (made : ℕ) × FlushesHandle (by_objects (S.objects store.old)) made (flush_type_by flush_type writer.old)
         writer.old (known S.objects S.faults store.old) result writer.new (known S.objects S.faults store.new) }
 {
@@ -286,6 +289,7 @@ fn flush_type_by(writer: &WriterState, flush_type: Option<FlushType>) -> FlushTy
 fn refresh<S: Store>(writer: &mut WriterState, alloc: Global, store: &mut S) -> Reply
     ensures faults { S.faults store.old ≤ S.faults store.new }
     ensures calls { S.calls store.new ≤ S.calls store.old + 1 }
+    ensures untouched { (writer.old.result ≡ None → ⊥) → store.new ≡ store.old }
     ensures does { RefreshesHandle (by_objects (S.objects store.old))
         writer.old (known S.objects S.faults store.old) result writer.new (known S.objects S.faults store.new) }
 {
@@ -299,6 +303,7 @@ fn refresh<S: Store>(writer: &mut WriterState, alloc: Global, store: &mut S) -> 
 fn compact<S: Store>(writer: &mut WriterState, alloc: Global, store: &mut S) -> Reply
     ensures faults { S.faults store.old ≤ S.faults store.new }
     ensures calls { IfSome (S.objects store.old) (λ o. S.calls store.new ≤ S.calls store.old + compact_calls o) }
+    ensures untouched { (writer.old.result ≡ None → ⊥) → store.new ≡ store.old }
     ensures does { (made : ℕ) × CompactsHandle (by_objects (S.objects store.old)) made
         writer.old (known S.objects S.faults store.old) result writer.new (known S.objects S.faults store.new) }
 {
@@ -320,6 +325,7 @@ fn get<S: Store, M: MergeOperator>(
 ) -> Reply
     ensures faults { S.faults store.old ≤ S.faults store.new }
     ensures calls { S.calls store.new ≤ S.calls store.old + length writer.now.view.manifest.tables }
+    ensures untouched { (writer.now.result ≡ None → ⊥) → store.new ≡ store.old }
     ensures read { (merge : Option Merge) → IsOperator M.may_answer (option_copied operator.entry) merge →
         GetsFrom (by_objects (S.objects store.old)) merge key.now remote snapshot writer.now (known S.objects S.faults store.old) result (known S.objects S.faults store.new) }
 {
@@ -366,6 +372,7 @@ fn scan<S: Store, M: MergeOperator>(
 ) -> Reply
     ensures faults { S.faults store.old ≤ S.faults store.new }
     ensures calls { S.calls store.new ≤ S.calls store.old + length writer.now.view.manifest.tables }
+    ensures untouched { (writer.now.result ≡ None → ⊥) → store.new ≡ store.old }
     ensures read { (merge : Option Merge) → IsOperator M.may_answer (option_copied operator.entry) merge →
         TakesFrom (by_objects (S.objects store.old)) merge range.now order remote snapshot scanned
         writer.now (known S.objects S.faults store.old) result (known S.objects S.faults store.new) }
@@ -390,6 +397,7 @@ fn seek<S: Store, M: MergeOperator>(
 ) -> Reply
     ensures faults { S.faults store.old ≤ S.faults store.new }
     ensures calls { S.calls store.new ≤ S.calls store.old + length writer.now.view.manifest.tables }
+    ensures untouched { (writer.now.result ≡ None → ⊥) → store.new ≡ store.old }
     ensures read { (merge : Option Merge) → IsOperator M.may_answer (option_copied operator.entry) merge →
         TakesFrom (by_objects (S.objects store.old)) merge range.now order remote snapshot (sought range.now take_and_key.entry.0 take_and_key.entry.1.now)
         writer.now (known S.objects S.faults store.old) result (known S.objects S.faults store.new) }
@@ -414,6 +422,7 @@ fn begin_scan<S: Store, M: MergeOperator>(
 ) -> Result<DbIterator, SlateError>
     ensures faults { S.faults store.old ≤ S.faults store.new }
     ensures calls { S.calls store.new ≤ S.calls store.old + length writer.now.view.manifest.tables }
+    ensures untouched { (writer.now.result ≡ None → ⊥) → store.new ≡ store.old }
     ensures scans { (merge : Option Merge) → IsOperator M.may_answer (option_copied operator.entry) merge →
         Reads writer.now.result writer.now.view.manifest.tables (kept_rows (S.objects store.old) (AHandle writer.now))
         (Gives (IsPlainScan merge range.now order remote snapshot writer.now)) (known S.objects S.faults store.old) result (known S.objects S.faults store.new) }
@@ -446,6 +455,7 @@ fn close<S: Store>(
 ) -> Reply
     ensures faults { S.faults store.old ≤ S.faults store.new }
     ensures calls { S.calls store.new ≤ S.calls store.old + 5 }
+    ensures untouched { (writer.old.result ≡ None → ⊥) → store.new ≡ store.old }
     ensures does { (made : ℕ) × ClosesHandle (by_objects (S.objects store.old)) made (flush_of_close options)
         writer.old (known S.objects S.faults store.old) result writer.new (known S.objects S.faults store.new) }
 {

@@ -1,0 +1,298 @@
+-- Over a run, a poll finds no key without a segment.
+use Rattle.std.proofs.Common.{◌≡◌, ◌++◌, ◌∷◌, ◌∙◌, ◌≤◌, [], inl, inr, ℕ, ℤ, Bool, true, false, cond, zero, suc, List, map, Option, Some, None, Result, Ok, Err, refl, sym, subst, ap, arith}
+use Rattle.std.specs.List.{All, slice_get}
+use Rattle.std.specs.Prelude.{nat_lt}
+use Rattle.std.specs.Option.{unwrap_or}
+use Rattle.std.proofs.lemmas.Bool.{ltb-false}
+use Rattle.std.proofs.lemmas.List.Elements.{All-head, All-tail}
+use Rattle.slate_store.specs.Checkpoints.{Plan, found, lease_end, new_checkpoint, puts_next, refreshed, to_end, to_refresh, to_write, with_checkpoints, without_id}
+use Rattle.slate_store.specs.declared.objects.Checkpoint.{Checkpoint}
+use Rattle.slate_store.specs.declared.objects.VersionedManifest.{VersionedManifest}
+use Rattle.slate_store.specs.declared.reader_modes.DbReaderMode.{DbReaderMode}
+use Rattle.slate_store.specs.declared.reader_modes.DbReaderMode.TheVariants as modes
+use Rattle.slate_store.specs.declared.refusals.StoreRefusal.TheVariants as refusals
+use Rattle.slate_errors.specs.Errors.{closed_error}
+use Rattle.slate_errors.specs.declared.closing.CloseFault.{CloseFault}
+use Rattle.slate_errors.specs.declared.closing.CloseFault.TheVariants as faults
+use Rattle.slate_errors.specs.declared.endings.Ended.{Ended}
+use Rattle.slate_errors.specs.declared.errors.SlateError.{SlateError}
+use Rattle.slate_errors.specs.declared.errors.SlateError.TheVariants as errors
+use Rattle.slate_model.specs.Catalogue.{Span}
+use Rattle.slate_model.specs.Close.{closed_follower}
+use Rattle.slate_model.specs.Follow.{AreFollowed, LacksSegment, Polls}
+use Rattle.slate_model.specs.Follower.{Follower, is_managed, is_pinned}
+use Rattle.slate_model.specs.Handle.{CloseResult}
+use Rattle.slate_model.specs.Knowledge.{Knowledge}
+use Rattle.slate_model.specs.Known.{Known, Untouched}
+use Rattle.slate_model.specs.Lease.{is_due, leased, replaces, to_keep}
+use Rattle.slate_model.specs.Managed.{KeepsLease, PollsManaged, poll_result}
+use Rattle.slate_model.specs.Object.{Object, Handle as AHandle, Snapshot as ASnapshot, Follower as AFollower}
+use Rattle.slate_model.specs.Stores.{by_catalogue}
+use Rattle.slate_model.specs.Write.{last_number}
+use Rattle.slate_model.specs.declared.answers.PollAnswer.{PollAnswer}
+use Rattle.slate_model.specs.declared.answers.PollAnswer.TheVariants.{Whole, Truncated}
+use Rattle.slate_model.specs.declared.leases.Lease.{Lease}
+use Rattle.slate_model.specs.declared.snapshots.HandleSnapshot.{HandleSnapshot}
+use Rattle.slate_script.specs.declared.commands.Action.TheVariants as actions
+use Rattle.slate_script.specs.declared.commands.Command.{Command}
+use Rattle.slate_script.specs.declared.replies.Reply.{Reply}
+use Rattle.slate_script.specs.declared.replies.Reply.TheVariants as replies
+use Rattle.slate_live.specs.declared.states.Write.{Write}
+use Rattle.slate_live.specs.Calls.{Call, Write as WriteCall, Merge as MergeCall, Flush, Refresh, Compact, Get, Scan, Seek, Close, Poll, Status, FindTime, FindNumber, Nothing, call_of, target_of}
+use Rattle.slate_live.specs.Commands.{ActsOn, DoesBy, ReadsSnapshot}
+use Rattle.slate_live.specs.Followers.{ClosesAs, FollowerActs, PollsAs}
+use Rattle.slate_live.specs.Replies.{polled_reply, refusal, reply_to}
+use Rattle.slate_live.specs.Represents.{AreInSegments, IsFollowerAt, IsReached}
+use Rattle.slate_live.specs.Settings.{Settings}
+use Rattle.slate_live.specs.Statuses.{IsFull, PollsFit}
+use Rattle.slate_live.specs.Steps.{Chain, Step}
+use Rattle.slate_live.specs.World.{Next, World, state_of}
+use Rattle.slate_live.proofs.Cases.{by-bool, by-option, some-of}
+use Rattle.slate_live.proofs.Everywhere.{everywhere}
+use Rattle.slate_live.proofs.Leases.{latest-after, nothing-spared}
+use Rattle.slate_live.proofs.Naming.{follower-did, handle-acted}
+use Rattle.slate_live.proofs.Rising.{managed-mode}
+use Rattle.slate_live.proofs.Segmented.{none-lacks, segmented-next}
+
+-- ---- a plan that has no id left
+put-full : {A : Type 0} (latest next : VersionedManifest) (answer : A) → puts_next latest next answer ≡ Err refusals.InvalidDBState → last_number ≤ latest.id
+put-full {A} latest next answer is = by (nat_lt latest.id last_number) refl is where
+  by : (b : Bool) → nat_lt latest.id last_number ≡ b → cond {A = Plan A} b (Ok (Some next, answer)) (Err refusals.InvalidDBState) ≡ Err refusals.InvalidDBState → last_number ≤ latest.id
+  by true which is = absurd (cc)
+  by false which is = ltb-false latest.id last_number which
+
+leased-refused : (lifetime : ℕ) (p : Plan Checkpoint) → leased lifetime p ≡ Err refusals.InvalidDBState → p ≡ Err refusals.InvalidDBState
+leased-refused lifetime (Ok given) is = absurd (cc)
+leased-refused lifetime (Err refusal) is = ap Err (let same : refusal ≡ refusals.InvalidDBState = cc in same)
+
+end-full : (id : List ℕ) (end : ℤ) (latest : VersionedManifest) (was : Option Checkpoint) → to_end id end latest was ≡ Err refusals.InvalidDBState → last_number ≤ latest.id
+end-full id end latest None is = absurd (cc)
+end-full id end latest (Some checkpoint) is = put-full latest (with_checkpoints (map (refreshed id end) latest.manifest.checkpoints) latest) (record checkpoint { expire_ms = Some end }) is
+
+keep-full : (view latest : VersionedManifest) (lease : Lease) (moment : ℤ) → to_keep view lease moment latest ≡ Err refusals.InvalidDBState → last_number ≤ latest.id
+keep-full view latest lease moment is = by (replaces view lease moment latest) (is_due moment lease) is where
+  by : (replaced due : Bool) → cond replaced (leased lease.lifetime (to_write (Some lease.id) (Some lease.lifetime) moment latest)) (cond due (leased lease.lifetime (to_refresh lease.id lease.lifetime moment latest)) (Ok (None, lease))) ≡ Err refusals.InvalidDBState → last_number ≤ latest.id
+  by true due is =
+      let checkpoint = new_checkpoint latest (Some lease.lifetime) moment in
+      put-full latest (with_checkpoints (without_id lease.id latest.manifest.checkpoints ++ checkpoint ∷ []) latest) checkpoint (leased-refused lease.lifetime (to_write (Some lease.id) (Some lease.lifetime) moment latest) is)
+  by false true is = end-full lease.id (lease_end moment lease.lifetime) latest (found lease.id latest) (leased-refused lease.lifetime (to_refresh lease.id lease.lifetime moment latest) is)
+  by false false is = absurd (cc)
+
+-- ---- what is recorded and answered
+abbrev broken : CloseResult
+broken = Some (Err faults.InvalidDBState)
+
+recorded-is : (e : SlateError) → poll_result e ≡ broken → e ≡ errors.InvalidDBState
+recorded-is errors.InvalidDBState is = refl
+recorded-is (errors.TransactionalObjectTimeout tries) is = absurd (cc)
+recorded-is errors.Fenced is = absurd (cc)
+recorded-is (errors.ObjectStoreError fault) is = absurd (cc)
+recorded-is errors.TransactionalObjectVersionExists is = absurd (cc)
+recorded-is errors.LatestTransactionalObjectVersionMissing is = absurd (cc)
+recorded-is e is = absurd (cc)
+
+closed-is : (q : Result (Unit {0}) CloseFault) → closed_error q ≡ errors.InvalidDBState → Some q ≡ broken
+closed-is (Ok u) is = absurd (cc)
+closed-is (Err faults.InvalidDBState) is = refl
+closed-is (Err fault) is = absurd (cc)
+
+refused-is : (e : SlateError) → refusal e ≡ replies.Refused errors.InvalidDBState → e ≡ errors.InvalidDBState
+refused-is errors.NoMemory is = absurd (cc)
+refused-is (errors.Backpressure unflushed limit) is = absurd (cc)
+refused-is e is = cc
+
+polled-not : (answer : PollAnswer) → polled_reply answer ≡ replies.Refused errors.InvalidDBState → ⊥
+polled-not (Whole at) is = absurd (cc)
+polled-not (Truncated at) is = absurd (cc)
+
+-- a reader that this closed finds no id left
+abbrev Broken : World → Object → Type 0
+Broken w (AHandle h) = Unit {0}
+Broken w (ASnapshot s) = Unit {0}
+Broken w (AFollower f) = f.result ≡ broken → IsFull w
+
+abbrev AllBroken : World → Type 0
+AllBroken w = (n : ℕ) (object : Object) → slice_get w.objects n ≡ Some object → Broken w object
+
+free-mode : (mode : DbReaderMode) → is_managed mode ≡ true → is_pinned mode ≡ false
+free-mode modes.ManagedCheckpoint managed = refl
+free-mode modes.FollowLatest managed = absurd (cc)
+free-mode (modes.Checkpoint id) managed = absurd (cc)
+
+-- ---- a poll
+module _ (settings : Settings) (w : World) (reached : IsReached w) (segments : AreInSegments settings.extractor w) (n : ℕ) (f f' : Follower) (at : IsFollowerAt w.objects n f) (had : Broken w (AFollower f)) (made : ℕ) (moment : ℤ) (after : Known Span) where
+  abbrev k : Knowledge Span
+  k = by_catalogue w.stored w.catalogue
+
+  -- an open reader that keeps a checkpoint
+  leased-full : (lease : Lease) (r : Result PollAnswer SlateError) → is_managed f.mode ≡ true → KeepsLease k settings.extractor made lease moment f (state_of w).store r f' after → r ≡ Err errors.InvalidDBState → IsFull w
+  leased-full lease r managed p is = elim (p.segmented w.catalogue w.stored refl refl tt is) [
+    | inl plan ↦ (plan.0, plan.1, keep-full f.view plan.0 lease moment plan.2)
+    | inr lacks ↦
+        let mode = managed-mode f.mode managed in
+        absurd (none-lacks settings.extractor w (reached.0).line segments n f at (free-mode f.mode managed) (subst (λ m. LacksSegment k settings.extractor m f.skips false w.catalogue w.stored) (sym mode) lacks))
+  ]
+
+  -- a closed one
+  shut-full : (r : Result PollAnswer SlateError) (q : Result (Unit {0}) CloseFault) → f.result ≡ Some q → r ≡ Err (closed_error q) → r ≡ Err errors.InvalidDBState → IsFull w
+  shut-full r q shut error is =
+      let both : ◌≡◌ {A = Result PollAnswer SlateError} (Err (closed_error q)) (Err errors.InvalidDBState) = sym error ∙ is in
+      let same : closed_error q ≡ errors.InvalidDBState = cc in
+      had (shut ∙ closed-is q same)
+
+  managed-full : (r : Result PollAnswer SlateError) → is_managed f.mode ≡ true → PollsManaged k settings.extractor made moment f (state_of w).store r f' after → r ≡ Err errors.InvalidDBState → IsFull w
+  managed-full r managed p is =
+      by-option f.result
+      (λ live. by-option f.lease
+      (λ none. absurd (let there = ((reached.0).followers n f at).2 managed live in cc))
+      (λ lease its. leased-full lease r managed (p.keeps lease live its) is))
+      (λ q shut. shut-full r q shut (some-of (λ q. (r ≡ Err (closed_error q)) × (f' ≡ f) × Untouched made (state_of w).store after) f.result q shut p.closed).0 is)
+
+  free-full : (r : Result PollAnswer SlateError) → Polls k settings.extractor f (state_of w).store r f' after → r ≡ Err errors.InvalidDBState → IsFull w
+  free-full (Ok answer) p is = absurd (cc)
+  free-full (Err e) p is =
+      let same : e ≡ errors.InvalidDBState = cc in
+      by-option f.result
+      (λ live. by-bool (is_pinned f.mode)
+      (λ stays. absurd (let no = (p.pinned live stays).0 in cc))
+      (λ free. absurd (none-lacks settings.extractor w (reached.0).line segments n f at free
+      (subst (λ e. AreFollowed {A = Follower × PollAnswer} k settings.extractor f.mode f.skips false w.catalogue w.stored (Err e)) same ((p.rebuilds live free).segmented w.catalogue w.stored refl refl tt)))))
+      (λ q shut. shut-full (Err e) q shut (some-of (λ q. (◌≡◌ {A = Result PollAnswer SlateError} (Err e) (Err (closed_error q))) × (after ≡ (state_of w).store)) f.result q shut p.closed).0 is)
+
+  polled-full : (managed : Bool) (r : Result PollAnswer SlateError) → is_managed f.mode ≡ managed → PollsAs k settings.extractor managed made moment f (state_of w).store r f' after → r ≡ Err errors.InvalidDBState → IsFull w
+  polled-full true r managed p is = managed-full r managed p is
+  polled-full false r managed p is = free-full r p.0 is
+
+  -- and what it leaves
+  kept-broken : f' ≡ f → f'.result ≡ broken → IsFull w
+  kept-broken same is = had (sym (ap (λ (g : Follower). g.result) same) ∙ is)
+
+  free-broken : (r : Result PollAnswer SlateError) → Polls k settings.extractor f (state_of w).store r f' after → f'.result ≡ broken → IsFull w
+  free-broken (Err e) p is = kept-broken p.failed is
+  free-broken (Ok answer) p is =
+      by-option f.result
+      (λ live. by-bool (is_pinned f.mode)
+      (λ stays. kept-broken (p.pinned live stays).1 is)
+      (λ free. absurd (let open_ = ((p.rebuilds live free).answer).3 in cc)))
+      (λ q shut. absurd (let no = (some-of (λ q. (◌≡◌ {A = Result PollAnswer SlateError} (Ok answer) (Err (closed_error q))) × (after ≡ (state_of w).store)) f.result q shut p.closed).0 in cc))
+
+  leased-broken : (lease : Lease) (r : Result PollAnswer SlateError) → is_managed f.mode ≡ true → KeepsLease k settings.extractor made lease moment f (state_of w).store r f' after → f'.result ≡ broken → IsFull w
+  leased-broken lease (Ok answer) managed p is = absurd (let open_ = (p.answers).2 in cc)
+  leased-broken lease (Err e) managed p is =
+      let recorded : poll_result e ≡ broken = sym (ap (λ (g : Follower). g.result) p.failed) ∙ is in
+      leased-full lease (Err e) managed p (ap Err (recorded-is e recorded))
+
+  managed-broken : (r : Result PollAnswer SlateError) → is_managed f.mode ≡ true → PollsManaged k settings.extractor made moment f (state_of w).store r f' after → f'.result ≡ broken → IsFull w
+  managed-broken r managed p is =
+      by-option f.result
+      (λ live. by-option f.lease
+      (λ none. absurd (let there = ((reached.0).followers n f at).2 managed live in cc))
+      (λ lease its. leased-broken lease r managed (p.keeps lease live its) is))
+      (λ q shut. kept-broken (some-of (λ q. (r ≡ Err (closed_error q)) × (f' ≡ f) × Untouched made (state_of w).store after) f.result q shut p.closed).1 is)
+
+  polled-broken : (managed : Bool) (r : Result PollAnswer SlateError) → is_managed f.mode ≡ managed → PollsAs k settings.extractor managed made moment f (state_of w).store r f' after → f'.result ≡ broken → IsFull w
+  polled-broken true r managed p is = managed-broken r managed p is
+  polled-broken false r managed p is = free-broken r p.0 is
+
+  closed-broken : f' ≡ closed_follower f → f'.result ≡ broken → IsFull w
+  closed-broken same is = by f.result refl where
+    by : (result : CloseResult) → f.result ≡ result → IsFull w
+    by None live =
+        let no : ◌≡◌ {A = CloseResult} (Some (Ok tt)) broken = ap (λ r. Some (unwrap_or r (Ok tt))) (sym live) ∙ (sym (ap (λ (g : Follower). g.result) same) ∙ is) in
+        absurd (cc)
+    by (Some q) shut =
+        let its : Some q ≡ broken = ap (λ r. Some (unwrap_or r (Ok tt))) (sym shut) ∙ (sym (ap (λ (g : Follower). g.result) same) ∙ is) in
+        had (shut ∙ its)
+
+  ended-broken : (managed : Bool) (answer : Ended) → ClosesAs k managed made f (state_of w).store answer f' after → f'.result ≡ broken → IsFull w
+  ended-broken true answer c is = closed-broken c.closed is
+  ended-broken false answer c is = closed-broken c.1 is
+
+  follower-broken : (call : Call) (reply : Reply) (writes' : List Write) → FollowerActs k settings moment call made f (state_of w).store w.writes reply f' after writes' → f'.result ≡ broken → IsFull w
+  follower-broken (Get key remote snapshot) reply writes' a is = kept-broken a.1 is
+  follower-broken (Scan range order remote snapshot) reply writes' a is = kept-broken a.1 is
+  follower-broken (Seek range take key order remote snapshot) reply writes' a is = kept-broken a.1 is
+  follower-broken (Close t) reply writes' a is = ended-broken (is_managed f.mode) (a.0).answer (a.0).does is
+  follower-broken Poll reply writes' a is = polled-broken (is_managed f.mode) (a.0).result refl (a.0).does is
+  follower-broken Status reply writes' a is = kept-broken a.1 is
+  follower-broken (WriteCall ops) reply writes' a is = kept-broken a.1 is
+  follower-broken (MergeCall op) reply writes' a is = kept-broken a.1 is
+  follower-broken (Flush t) reply writes' a is = kept-broken a.1 is
+  follower-broken Refresh reply writes' a is = kept-broken a.1 is
+  follower-broken Compact reply writes' a is = kept-broken a.1 is
+  follower-broken (FindTime number find) reply writes' a is = kept-broken a.1 is
+  follower-broken (FindNumber seconds find) reply writes' a is = kept-broken a.1 is
+  follower-broken Nothing reply writes' a is = kept-broken a.1 is
+
+-- ---- a step
+module _ (settings : Settings) (w w' : World) (command : Command) (reply : Reply) (reached : IsReached w) (reached' : IsReached w') (next : Next settings w command reply w') (segments : AreInSegments settings.extractor w) (all : AllBroken w) where
+  abbrev known : Knowledge Span
+  known = by_catalogue w.stored w.catalogue
+
+  -- the latest manifest has no lower id afterwards
+  full-after : IsFull w → IsFull w'
+  full-after (latest, is, full) =
+      let c = latest-after settings w w' command reply reached reached' next (λ manifest. Unit {0}) latest is (nothing-spared w latest command) in
+      let up = c.up in
+      (c.latest, c.is, omega (arith, full, up))
+
+  broken-after : (object : Object) → Broken w object → Broken w' object
+  broken-after (AHandle h) had = tt
+  broken-after (ASnapshot s) had = tt
+  broken-after (AFollower f) had = λ is. full-after (had is)
+
+  step-broken : AllBroken w'
+  step-broken =
+      everywhere settings w command next.made reply (state_of w') (Broken w') (record {
+        old = λ n object at. broken-after object (all n object at);
+        handle = λ n call h h' at a. tt;
+        snapshot = λ snapshot. tt;
+        follower = λ n f f' at names a is. full-after (follower-broken settings w reached segments n f f' at (all n (AFollower f) at) next.made command.moment (state_of w').store (call_of command.action) reply w'.writes a is);
+        opened = λ keeps_log h d. tt;
+        followed = λ mode skips b d is. absurd (let open_ = (d.answer).3 in cc);
+        taken = λ lifetime skips b d is. absurd (let open_ = (d.answers).2 in cc);
+      }) next.does
+
+  module _ (n : ℕ) (names : command.action ≡ actions.Poll n) (replied : reply ≡ refusal errors.InvalidDBState) where
+    unknown : reply ≡ replies.Unknown → ⊥
+    unknown is = let both : replies.Unknown ≡ replies.Refused errors.InvalidDBState = sym is ∙ replied in absurd (cc)
+
+    read-snapshot : (y : HandleSnapshot) (found : Option Object) → ReadsSnapshot known settings y command Poll next.made found (state_of w) reply (state_of w') → ⊥
+    read-snapshot y (Some (AHandle h)) a = let d = handle-acted known settings y.handle command Nothing next.made (state_of w) reply (state_of w') h a in unknown d.acts.0
+    read-snapshot y (Some (ASnapshot z)) a = unknown a.1
+    read-snapshot y (Some (AFollower f)) a = unknown a.1
+    read-snapshot y None a = unknown a.1
+
+    answers : (r : Result PollAnswer SlateError) → reply ≡ reply_to polled_reply r → r ≡ Err errors.InvalidDBState
+    answers (Ok answer) is = absurd (polled-not answer (sym is ∙ replied))
+    answers (Err e) is = ap Err (refused-is e (sym is ∙ replied))
+
+    on-poll : (found : Option Object) → slice_get w.objects n ≡ found → ActsOn known settings n command Poll next.made found (state_of w) reply (state_of w') → IsFull w
+    on-poll None at a = absurd (unknown a.1)
+    on-poll (Some (ASnapshot y)) at a = absurd (read-snapshot y (slice_get w.objects y.handle) a)
+    on-poll (Some (AHandle h)) at a = let d = handle-acted known settings n command Poll next.made (state_of w) reply (state_of w') h a in absurd (unknown d.acts.0)
+    on-poll (Some (AFollower f)) at a =
+        let d = follower-did known settings n command Poll next.made (state_of w) reply (state_of w') (Some (AFollower f)) f refl a in
+        let p = d.acts.0 in
+        polled-full settings w reached segments n f d.new at (all n (AFollower f) at) next.made command.moment (state_of w').store (is_managed f.mode) p.result refl p.does (answers p.result p.replied)
+
+    poll-full : IsFull w'
+    poll-full =
+        let does = subst (λ t. DoesBy known settings command t next.made (state_of w) reply (state_of w')) (ap target_of names) next.does in
+        full-after (on-poll (slice_get w.objects n) refl (subst (λ c. ActsOn known settings n command c next.made (slice_get w.objects n) (state_of w) reply (state_of w')) (ap call_of names) does))
+
+-- ---- the law
+fit-from : (settings : Settings) (w : World) (steps : List Step) → IsReached w → AreInSegments settings.extractor w → AllBroken w → Chain settings w steps → All (λ (step : Step). IsReached step.world) steps → PollsFit steps
+fit-from settings w [] reached segments broken chain all i n step at names replied = absurd (cc)
+fit-from settings w (s ∷ steps) reached segments broken (link, chain) all zero n step at names replied =
+    let is : s ≡ step = cc in
+    subst (λ (x : Step). IsFull x.world) is
+    (poll-full settings w s.world s.command s.reply reached (All-head (λ (step : Step). IsReached step.world) s steps all) link.next segments broken n (ap (λ (x : Step). (x.command).action) is ∙ names) (ap (λ (x : Step). x.reply) is ∙ replied))
+fit-from settings w (s ∷ steps) reached segments broken (link, chain) all (suc i) n step at names replied =
+    let reached' = All-head (λ (step : Step). IsReached step.world) s steps all in
+    fit-from settings s.world steps reached' (segmented-next settings w s.world s.command s.reply reached reached' link.next segments)
+    (step-broken settings w s.world s.command s.reply reached reached' link.next segments broken) chain (All-tail (λ (step : Step). IsReached step.world) s steps all) i n step at names replied
+
+pub polls_fit : (settings : Settings) (w : World) (steps : List Step) → w.objects ≡ [] → IsReached w → AreInSegments settings.extractor w → Chain settings w steps → All (λ step. IsReached step.world) steps → PollsFit steps
+polls_fit settings w steps none reached segments chain all =
+    fit-from settings w steps reached segments (λ n object at. absurd (let gone = sym (ap (λ os. slice_get os n) none) ∙ at in cc)) chain all

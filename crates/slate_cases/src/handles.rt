@@ -1,12 +1,14 @@
 // Calls of the handle of a database, beside those of script lines.
 use crate::databases::Database;
-use crate::operators::Cuts;
+use crate::operators::{Cuts, Refusing};
 use crate::printing::{
     bytes_of, is_none, look_up, number_of, print_blank, print_bytes, print_error, print_number,
     print_text, print_time, split_name, time_of,
 };
+use crate::ranges::{bound_of, order_of, range_of};
 use crate::subjects::CallFailure;
 use crate::told_stores::ToldStore;
+use crate::transactions::print_found;
 use slate_errors::{Ended, SlateError};
 use slate_live::FindOption;
 use slate_rows::DbRecencyIterator;
@@ -24,6 +26,7 @@ enum Call {
     Compact,
     Close,
     Recent,
+    First,
     Ts,
     Seq,
     Watch,
@@ -36,6 +39,7 @@ const CALLS: &[(&[u8], Call)] = &[
     (b"compact", Call::Compact),
     (b"close", Call::Close),
     (b"recent", Call::Recent),
+    (b"first", Call::First),
     (b"ts", Call::Ts),
     (b"seq", Call::Seq),
     (b"watch", Call::Watch),
@@ -80,6 +84,10 @@ impl Database {
                 print_ended(answer, &ended)
             }
             (Call::Recent, [prefix, level]) => recent(alloc, handle, store, prefix, level, answer),
+            (Call::First, [limit, scan @ ..]) => {
+                let (limit, operator) = (number_of(limit)?, self.operator.as_ref());
+                scan_first(alloc, handle, store, limit, scan, operator, answer)
+            }
             (Call::Ts, [number, direction]) => find_ts(handle, number, direction, answer),
             (Call::Seq, [second, direction]) => find_seq(handle, second, direction, answer),
             (Call::Watch, []) => {
@@ -132,6 +140,30 @@ fn recent(
     let prefix = bytes_of(alloc, prefix)?;
     match handle.scan_by_recency(alloc, store, prefix.as_slice(), &options) {
         Ok(found) => print_entries(answer, found),
+        Err(error) => print_error(answer, &error),
+    }
+}
+
+/// The first rows of a range, in an order and up to a snapshot's number, where one is given.
+fn scan_first(
+    alloc: Global,
+    handle: &WriterState,
+    store: &mut ToldStore,
+    limit: u64,
+    words: &[&[u8]],
+    operator: Option<&Refusing>,
+    answer: &mut Vec<u8>,
+) -> Result<(), CallFailure> {
+    let [low, high, order, snapshot] = words else {
+        return Err(CallFailure::Unread);
+    };
+    let (range, snapshot) = (range_of(alloc, low, high)?, bound_of(snapshot)?);
+    let options = ScanOptions {
+        order: order_of(order)?,
+        ..ScanOptions::default()
+    };
+    match handle.scan_first(alloc, store, &range, &options, limit, snapshot, operator) {
+        Ok(rows) => print_found(alloc, answer, rows),
         Err(error) => print_error(answer, &error),
     }
 }

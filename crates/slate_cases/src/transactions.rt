@@ -216,7 +216,12 @@ fn range_of(alloc: Global, low: &[u8], high: &[u8]) -> Result<ByteRange, CallFai
     })
 }
 
-fn print_found(alloc: Global, answer: &mut Vec<u8>, rows: DbIterator) -> Result<(), CallFailure> {
+/// Appends the rows of a scan, or the fault that ends them.
+pub fn print_found(
+    alloc: Global,
+    answer: &mut Vec<u8>,
+    rows: DbIterator,
+) -> Result<(), CallFailure> {
     match rows.into_rows(alloc) {
         Ok(rows) => print_rows(answer, rows.as_slice()),
         Err(fault) => print_end(answer, Err(fault.into())),

@@ -40,12 +40,12 @@ impl Worker {
         Ok(Some(job))
     }
 
-    /// The first job.
+    /// The first job. It is found in the time of one, however many there are.
     fn first_job<S: Store>(&self, alloc: Global, store: &mut S) -> Answer<Option<KeyValue>> {
         let (jobs, options) = (ByteRange::prefix(alloc, b"job:")?, ScanOptions::default());
         let mut found = self
             .db
-            .scan(alloc, store, &jobs, &options, None, NO_OPERATOR)?;
+            .scan_first(alloc, store, &jobs, &options, 1, None, NO_OPERATOR)?;
         Ok(found.next()?)
     }
 

@@ -1,6 +1,8 @@
 pub mod Committing
 pub mod Counted
 pub mod Ends
+pub mod Freezing
+pub mod Holding
 pub mod Joined
 pub mod Openings
 pub mod Orders
@@ -11,6 +13,7 @@ pub mod Merging
 pub mod Modelled
 pub mod Puts
 pub mod Reading
+pub mod Recent
 pub mod Spanning
 pub mod Storing
 pub mod Tracking

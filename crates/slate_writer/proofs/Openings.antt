@@ -37,7 +37,7 @@ use Rattle.std.specs.Prelude.{unwrap_or}
 use Rattle.slate_store.specs.declared.objects.Manifest.{Manifest}
 use Rattle.slate_model.specs.Tracked.{no_times, opened_tracker, stored_tracker, tracked_all}
 use Rattle.slate_writer.proofs.Modelled.{made_once, modelled_from, modelled_kept}
-use Rattle.slate_writer.specs.Opening.{Fits, CallsOpening, FindsLog, FindsNext, IsOfFinding, IsOfManifest, PutsOpening, Recovers, opening_puts}
+use Rattle.slate_writer.specs.Opening.{CallsOpening, FindsLog, FindsNext, IsOfFinding, IsOfManifest, PutsOpening, Recovers, opening_puts}
 use Rattle.slate_segments.specs.Refusals.{IsOfSegment}
 
 -- a put of the fence that was refused, after that of the manifest

@@ -1,5 +1,5 @@
 -- The words of a handle that other threads read.
-use Rattle.std.specs.Prelude.{ℕ, negsuc, ◌-◌, ◌^◌, true, Option, Some, None, Result}
+use Rattle.std.specs.Prelude.{ℕ, negsuc, ◌-◌, ◌^◌, true, Some, None, Result}
 use Rattle.atomic_table.specs.Seated.{TableId}
 use Rattle.slate_board.specs.Seat.{SeatState}
 use Rattle.slate_board.specs.declared.views.BoardView.{BoardView}

@@ -3,6 +3,8 @@ pub mod Opening
 pub mod Board
 pub mod Joined
 pub mod Kept
+pub mod Memories
+pub mod Reading
 pub mod Refusal
 pub mod Scanned
 pub mod Segments

@@ -27,10 +27,12 @@ impl WriterState {
     /// prefixes, where all are.
     ///
     /// It calls the store three times at most with `Wal`, and five times with `MemTable`; once where it is fenced, or its first
-    /// look finds all batches in tables, and never again after a call that failed. It takes time linear in the
-    /// batches that it puts in the log, in the operations of those that it puts in a table, with a logarithm of their keys
-    /// for each key, and in the manifest that it reads and compares with the present one; a flush to a table also takes
-    /// n log n comparisons, for n prefixes in the manifest and in memory. It copies no keys and no values.
+    /// look finds all batches in tables, and never again after a call that failed. It takes time linear in the batches
+    /// that it puts, however many operations they have, and in the manifest that it reads and compares with the present
+    /// one; a flush to a table also takes n log n comparisons, for n prefixes in the manifest and in memory. The table
+    /// shares what the handle has in memory, with its indexes, so that nothing is indexed again or copied. Only where the
+    /// tables of the latest manifest have some of these batches, which no store has that handles alone wrote, the others
+    /// are indexed anew.
     ///
     /// On a closed handle it answers `Closed` or the error that closed it, and touches no store. A handle that keeps
     /// no log answers `WalDisabled` to a flush with `Wal`. `Fenced`, where another handle opened since, and every fault of
@@ -38,7 +40,8 @@ impl WriterState {
     /// the handle with that error. `InvalidDBState`, where the next log file, table or manifest would pass the greatest id,
     /// and `NoMemory` close nothing. After `ObjectStoreError` and `TransactionalObjectVersionExists` the log file may be
     /// stored, or it and the table, and after `ObjectStoreError` all three; after `NoMemory` all but the last of them; after
-    /// any other error nothing is. The index of a table that was to be put is not used again. SlateDB's `flush`.
+    /// any other error nothing is. The index of a table that was to be put is not used again. Where `NoMemory` comes after
+    /// the table was put, memory is shared with it, and the next write indexes it once more. SlateDB's `flush`.
     pub fn flush<S: Store>(
         &mut self,
         alloc: Global,
@@ -102,7 +105,7 @@ impl WriterState {
         ensures first { IfSome (S.objects store.old) (λ o. IsDecided flush_type self.old o → S.calls store.new ≤ S.calls store.old + 1) }
     {
         let result = self.store_as(alloc, store, flush_type);
-        self.forget_tabled();
+        self.forget_tabled(alloc);
         result
     }
 

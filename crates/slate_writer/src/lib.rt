@@ -4,6 +4,7 @@
 mod board;
 mod closes;
 mod flushes;
+mod memories;
 mod merges;
 mod opens;
 mod reads;

@@ -18,6 +18,7 @@ ghost use Rattle.slate_writer.specs.Opening.{CallsOpening, FindsLog, FindsNext, 
 
 use crate::WriterState;
 use crate::board::{new_board, raise};
+use crate::memories::Memory;
 use crate::segments::rise;
 use crate::tasks::start_tasks;
 use crate::times::{track_all, tracker_of};
@@ -130,7 +131,7 @@ impl WriterState {
             tracked: None,
             counted: durable,
             unlogged: 0,
-            memory,
+            memory: Memory::of(memory),
             segments,
             stored_rise: rise(view.manifest.segments.as_slice()),
             status: StatusRecord::new(alloc, durable, view),

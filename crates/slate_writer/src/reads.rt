@@ -17,7 +17,7 @@ ghost use Rattle.slate_replay.specs.Tables.{IsOfTables};
 
 use crate::WriterState;
 use slate_errors::SlateError;
-use slate_reads::{Table, prepare_max_seq, read_indexed};
+use slate_reads::{Indexed, Table, prepare_max_seq, read_indexed};
 use slate_replay::read_tables;
 use slate_store::Store;
 use slate_types::{KeyValue, MergeOperator, ReadOptions};
@@ -79,7 +79,8 @@ impl WriterState {
             options.durability_filter,
             options.dirty,
         );
-        let memory = std::slice::from_ref(&self.memory);
+        let memory = self.memory.to_read(alloc)?;
+        let memory = std::slice::from_ref(memory.as_indexed());
         Ok(read_indexed(alloc, &[], stored.as_slice(), memory, bound, key, operator)?)
     }
 

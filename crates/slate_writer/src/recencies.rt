@@ -1,5 +1,5 @@
 // Operations on the keys with a prefix, of a handle's memory and of the tables of its view.
-ghost use Rattle.std.specs.Prelude.{◌≡◌, ◌+◌, ◌≤◌, ◌&&◌, [], ◌∷◌, None, IfErr, IfOk, IfSome, Err, find, length, not, reverse, true};
+ghost use Rattle.std.specs.Prelude.{◌≡◌, ◌+◌, ◌≤◌, ◌&&◌, [], ◌∷◌, None, IfErr, IfOk, IfSome, Err, find, length, map, not, reverse, true};
 ghost use Rattle.std.specs.List.{list_any};
 ghost use Rattle.std.specs.Option.{option_copied};
 ghost use Rattle.std.specs.Str.{bytes_eq};
@@ -8,15 +8,18 @@ ghost use Rattle.slate_model.specs.Known.{FaultsRise, known};
 ghost use Rattle.slate_model.specs.Recency.{AreEach, ScansByRecency, overlap, span_two};
 ghost use Rattle.slate_model.specs.Tables.{AreStored};
 ghost use Rattle.slate_replay.specs.Tables.{IsOfTables};
+ghost use Rattle.slate_rows.specs.Recency.{IsRecency, source_entries};
+ghost use Rattle.slate_writer.specs.Reading.{batches_of};
 
 use crate::WriterState;
+use crate::memories::Readable;
 use bytes::Bytes;
 use slate_errors::SlateError;
-use slate_reads::{Table, prepare_max_seq};
+use slate_reads::{Indexed, IndexedTable, Table, prepare_max_seq};
 use slate_replay::read_tables;
-use slate_rows::{DbRecencyIterator, recency};
+use slate_rows::{DbRecencyIterator, recency_indexed};
 use slate_store::{Store, TableId};
-use slate_types::{Batch, NoMemory, ScanOptions, Seq};
+use slate_types::{IterationOrder, NoMemory, ScanOptions};
 use std::alloc::Global;
 
 impl WriterState {
@@ -31,8 +34,9 @@ impl WriterState {
     /// the iterator keeps its operations, whatever is written later.
     ///
     /// It calls the store once for each table, the newest first, and not at all where it answers one of the first two errors. It
-    /// takes one pass over the segments and over the operations of memory and of each table, memory for each of them, and a
-    /// sort of those of each source that it lists. It copies no key and no value. SlateDB's `scan_prefix_by_recency`.
+    /// takes one pass over the segments, for memory and for each table time logarithmic in its keys, and then for each key with
+    /// the prefix a look-up and constant time for each of its operations. It takes memory for each of these keys and each
+    /// operation that it lists, and copies no key and no value. SlateDB's `scan_prefix_by_recency`.
     pub fn scan_by_recency<S: Store>(
         &self,
         alloc: Global,
@@ -54,7 +58,7 @@ impl WriterState {
             return Err(SlateError::RecencyScanPrefixSpansMultipleSegments);
         }
         let tables = self.read_newest_first(alloc, store)?;
-        let sources = sources(alloc, self.memory.batches(), tables.as_slice())?;
+        let memory = self.memory.to_read(alloc)?;
         let bound = prepare_max_seq(
             None,
             self.durable(),
@@ -62,7 +66,8 @@ impl WriterState {
             options.durability_filter,
             options.dirty,
         );
-        Ok(recency(alloc, &sources, bound, prefix, options.order)?)
+        let (memory, tables) = (memory.as_indexed(), tables.as_slice());
+        Ok(list_recent(alloc, memory, tables, bound, prefix, options.order)?)
     }
 
     /// The tables of the manifest that it goes by, newest first.
@@ -92,16 +97,35 @@ fn newest_first(alloc: Global, ids: &[TableId]) -> Result<Vec<TableId>, NoMemory
     Ok(ids.iter().rev().copied().collect(alloc)?)
 }
 
-/// The batches in memory, and then those of each table. Keys and values are shared, not copied.
-fn sources(alloc: Global, memory: &[Batch], tables: &[Table]) -> Result<Seq<Seq<Batch>>, NoMemory>
-    ensures { IfOk result (λ sources. sources ≡ memory.now ∷ tables.now) }
+/// The operations of the batches in memory, and then those of each table.
+fn list_recent(
+    alloc: Global,
+    memory: &IndexedTable,
+    tables: &[Table],
+    bound: Option<u64>,
+    prefix: &[u8],
+    order: IterationOrder,
+) -> Result<DbRecencyIterator, NoMemory>
+    ensures { IfOk result (IsRecency order (map (source_entries bound prefix.now) (memory.now ∷ tables.now))) }
+{
+    let sources = sources(alloc, memory, tables)?;
+    recency_indexed(alloc, sources.as_slice(), bound, prefix, order)
+}
+
+/// The batches in memory, and then those of each table.
+fn sources<'a>(
+    alloc: Global,
+    memory: &'a IndexedTable,
+    tables: &'a [Table],
+) -> Result<Vec<Readable<'a>>, NoMemory>
+    ensures { IfOk result (λ sources. map batches_of sources.items ≡ memory.now ∷ tables.now) }
 {
     let mut sources = Vec::new(alloc);
-    sources.push(Batch::copies(alloc, memory)?)?;
+    sources.push(Readable::Lent(memory))?;
     for table in tables {
-        sources.push(Batch::copies(alloc, table.batches())?)?;
+        sources.push(Readable::Lent(table.indexed()))?;
     }
-    Ok(Seq::of(sources))
+    Ok(sources)
 }
 
 /// Whether two different ones of these segments may have keys with a prefix. It takes time linear in them.

@@ -37,7 +37,7 @@ impl WriterState {
             return Err(SlateError::of_closed(result));
         }
         let result = self.take_latest(alloc, store);
-        self.settle(&result);
+        self.settle(alloc, &result);
         result
     }
 
@@ -67,7 +67,7 @@ impl WriterState {
             return Err(SlateError::of_closed(result));
         }
         let result = self.join_tables(alloc, store);
-        self.settle(&result);
+        self.settle(alloc, &result);
         result
     }
 
@@ -108,11 +108,11 @@ impl WriterState {
 
     /// Drops the batches that are in tables, after a call that may have moved the view, and closes the handle where it was
     /// found fenced.
-    fn settle(&mut self, answer: &Result<(), SlateError>)
+    fn settle(&mut self, alloc: Global, answer: &Result<(), SlateError>)
         requires { self.old.result ≡ None }
         ensures { self.new ≡ record (kept_handle self.old) { result = fenced_result answer.now } }
     {
-        self.forget_tabled();
+        self.forget_tabled(alloc);
         if let Err(SlateError::Fenced) = answer {
             self.record_close(Err(CloseFault::Fenced));
         }

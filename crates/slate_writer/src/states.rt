@@ -6,11 +6,11 @@ ghost use Rattle.slate_status.specs.Segments.{AreRising as AreRisingPrefixes};
 ghost use Rattle.slate_model.specs.Handle.{accepted, has_untabled, kept_handle, to_log, untabled_segments};
 ghost use Rattle.slate_model.specs.Status.{handle_status};
 
+use crate::memories::Memory;
 use crate::segments::{clear_unless, rise};
 use bytes::Bytes;
 use slate_board::{Board, BoardSeat};
 use slate_errors::CloseFault;
-use slate_reads::IndexedTable;
 use slate_seqtrack::SequenceTracker;
 use slate_status::{DbStatus, StatusRecord, copies};
 use slate_store::VersionedManifest;
@@ -34,7 +34,7 @@ pub struct WriterState {
     pub(crate) keeps_log: bool,
     pub(crate) limit: u64,
     pub(crate) floor: u64,
-    pub(crate) memory: IndexedTable,
+    pub(crate) memory: Memory,
     /// The prefixes of the batches in memory, rising.
     pub(crate) segments: Vec<Bytes>,
     /// Whether the prefixes of the manifest that it goes by rise.
@@ -207,14 +207,14 @@ impl WriterState {
     }
 
     /// Drops the batches that are in the tables of the manifest that it goes by, and, where all are, their prefixes.
-    pub(crate) fn forget_tabled(&mut self)
+    pub(crate) fn forget_tabled(&mut self, alloc: Global)
         ensures { self.new ≡ kept_handle self.old }
     {
         let accepted = self.accepted();
         let tabled = self.view().manifest.last_l0_seq;
         let untabled = self.has_untabled();
         clear_unless(&mut self.segments, untabled);
-        self.memory.drop_through(tabled);
+        self.memory.drop_through(alloc, tabled);
         self.floor = accepted - self.memory.batches().len() as u64;
         if self.counted < tabled {
             self.unlogged = self.memory.size();

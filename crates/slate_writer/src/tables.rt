@@ -1,6 +1,7 @@
 // Flushing a handle's batches to a table.
 ghost use Rattle.std.specs.Prelude.{◌≡◌, ◌+◌, ◌<◌, ◌≤◌, ◌⊎◌, ℕ, false, true, nat_lt, IfErr, IfOk, IfSome};
 ghost use Rattle.slate_types.specs.declared.options.FlushType.TheVariants.{MemTable};
+ghost use Rattle.slate_types.specs.Line.{batches_above};
 ghost use Rattle.slate_store.specs.Calls.{WhereModelled};
 ghost use Rattle.slate_store.specs.Objects.{last_log};
 ghost use Rattle.slate_seqtrack.specs.Bytes.{has_bytes, packed};
@@ -85,10 +86,19 @@ impl WriterState {
     {
         let last = store.last_log(alloc, latest.manifest.replay_after_wal_id)?;
         let next = self.next_flushed(alloc, latest, last)?;
-        let untabled = self.batches_above(latest.manifest.last_l0_seq);
-        let table = Table::of_batches(alloc, untabled)?;
+        let table = self.freeze_above(alloc, latest.manifest.last_l0_seq)?;
         self.put_flush(alloc, store, &table, &next)?;
         Ok(next)
+    }
+
+    /// The table of the batches in memory above a number. Where all are above it, it shares their indexes, and takes constant
+    /// time.
+    fn freeze_above(&mut self, alloc: Global, number: u64) -> Result<Table, NoMemory>
+        ensures same { self.new ≡ self.old }
+        ensures table { IfOk result (λ table. table ≡ batches_above number self.old.line.batches) }
+    {
+        self.memory.freeze(alloc)?;
+        self.memory.share(alloc)?.above(alloc, number)
     }
 
     /// The manifest that a flush to a table commits after the latest one, where `last` is the last log file.

@@ -13,7 +13,7 @@ ghost use Rattle.slate_model.specs.Transaction.{having_got, having_scanned, seen
 use crate::{Transaction, WriterState};
 use bytes::Bytes;
 use slate_errors::SlateError;
-use slate_reads::prepare_max_seq;
+use slate_reads::{Indexed, prepare_max_seq};
 use slate_rows::DbIterator;
 use slate_store::Store;
 use slate_transactions::IsolationLevel;
@@ -92,7 +92,8 @@ impl Transaction {
         let stored = writer.read_tables(alloc, store)?;
         let key = Bytes::copy_from_slice(alloc, key).map_err(NoMemory::from)?;
         let bound = self.bound(writer, options.durability_filter, options.dirty);
-        let memory = std::slice::from_ref(&writer.memory);
+        let memory = writer.memory.to_read(alloc)?;
+        let memory = std::slice::from_ref(memory.as_indexed());
         let stored = stored.as_slice();
         Ok(self.own.read(alloc, stored, memory, bound, &key, operator)?)
     }
@@ -178,7 +179,8 @@ impl Transaction {
         }
         let stored = writer.read_tables(alloc, store)?;
         let bound = self.bound(writer, options.durability_filter, options.dirty);
-        let memory = std::slice::from_ref(&writer.memory);
+        let memory = writer.memory.to_read(alloc)?;
+        let memory = std::slice::from_ref(memory.as_indexed());
         let stored = stored.as_slice();
         let order = options.order;
         Ok(

@@ -108,7 +108,7 @@ impl WriterState {
             create_ts: written.create_ts,
             ops: batch.ops,
         };
-        if let Err(batch) = self.memory.push(accepted) {
+        if let Err(batch) = self.memory.push(alloc, accepted) {
             return refuse(SlateError::NoMemory, WriteBatch { ops: batch.ops });
         }
         self.counted = durable;

@@ -1,4 +1,4 @@
-use Rattle.std.proofs.Common.{sym, ◌∙◌}
+use Rattle.std.proofs.Common.{sym}
 use Rattle.slate_writer.proofs.Tracking.{fits-few}
 use Rattle.slate_writer.proofs.times.fits_tables.Goals as goal
 

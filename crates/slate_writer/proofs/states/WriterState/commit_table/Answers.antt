@@ -1,5 +1,5 @@
-use Rattle.std.proofs.Common.{◌∙◌}
 use Rattle.std.proofs.lemmas.Result.{err_from_is_err_and}
+use Rattle.slate_writer.proofs.Freezing.{put-frozen}
 use Rattle.slate_writer.proofs.Storing.{commit_none, commit_put, commits-by, list_cause, unplanned}
 use Rattle.slate_writer.proofs.states.WriterState.commit_table.Goals as goal
 
@@ -16,18 +16,18 @@ returns-in_err-next-clause-put g c =
 pub returns-in_err-table-clause-put : goal.returns-in_err-table-clause-put
 returns-in_err-table-clause-put g c =
     let p = err_from_is_err_and c.from_residual-in_err-table.result c.from_residual-in_err-table.ensures.1 in
-    rw (p.1, p.2) (commit_none c.args.self.now c.args.latest.now _ c.last_log.ensures.kept (λ o is. tt))
+    rw (p.1, p.2, c.freeze_above.ensures.same) (commit_none c.args.self.now c.args.latest.now _ c.last_log.ensures.kept (λ o is. tt))
 
 pub returns-in_err-put_flush-clause-put : goal.returns-in_err-put_flush-clause-put
 returns-in_err-put_flush-clause-put g c =
     let p = err_from_is_err_and c.from_residual-in_err-put_flush.result c.from_residual-in_err-put_flush.ensures.1 in
-    let put = c.in_err-put_flush.ensures.put in
-    rw (p.1, p.2) (put.0, put.1, commit_put c.args.self.now c.args.latest.now c.in_ok-next.next c.in_ok-last.last c.in_ok-table.table _ _ put.0 c.last_log.ensures.kept c.in_ok-last.ensures.found c.in_ok-next.ensures.next (c.in_ok-table.ensures ∙ c.batches_above-untabled.ensures.value) put.2)
+    let put = put-frozen c.args.self.now c.freeze_above.new.self c.put_flush.new.self c.in_ok-table.table c.in_ok-next.next c.freeze_above.ensures.same c.in_err-put_flush.ensures.put in
+    rw (p.1, p.2) (put.0, put.1, commit_put c.args.self.now c.args.latest.now c.in_ok-next.next c.in_ok-last.last c.in_ok-table.table _ _ put.0 c.last_log.ensures.kept c.in_ok-last.ensures.found c.in_ok-next.ensures.next c.in_ok-table.ensures.table put.2)
 
 pub returns-clause-put : goal.returns-clause-put
 returns-clause-put g c =
-    let put = c.in_ok-put_flush.ensures.put in
-    (put.0, tt, commit_put c.args.self.now c.args.latest.now c.in_ok-next.next c.in_ok-last.last c.in_ok-table.table _ _ put.0 c.last_log.ensures.kept c.in_ok-last.ensures.found c.in_ok-next.ensures.next (c.in_ok-table.ensures ∙ c.batches_above-untabled.ensures.value) put.2)
+    let put = put-frozen c.args.self.now c.freeze_above.new.self c.put_flush.new.self c.in_ok-table.table c.in_ok-next.next c.freeze_above.ensures.same c.in_ok-put_flush.ensures.put in
+    (put.0, tt, commit_put c.args.self.now c.args.latest.now c.in_ok-next.next c.in_ok-last.last c.in_ok-table.table _ _ put.0 c.last_log.ensures.kept c.in_ok-last.ensures.found c.in_ok-next.ensures.next c.in_ok-table.ensures.table put.2)
 
 pub returns-clause-commits : goal.returns-clause-commits
 returns-clause-commits g c =

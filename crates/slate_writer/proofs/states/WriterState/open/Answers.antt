@@ -91,7 +91,7 @@ returns-clause-opens g c x lawful =
     let segments = c.in_ok-segments.ensures.ok x lawful in
     let options = c.args.options.now in
     let tracked = c.track_all.ensures ∙ (ap (tracked_all _) c.batches-2.ensures.value ∙ ap (λ t. tracked_all t memory) (sym (opened-tracker view.manifest _ v.tracked))) in
-    rw c.new.ensures (opens_ok x options.wal_enabled options.max_unflushed_bytes (tasks_of options) _ _ _ (search rules)
+    rw (c.new.ensures, c.of.ensures) (opens_ok x options.wal_enabled options.max_unflushed_bytes (tasks_of options) _ _ _ (search rules)
     (opened_modelled x view last found fits v.kept puts _ c.in_ok-memory.ensures.kept)
     (record { keeps = search rules; limit_is = search rules; tasked = ap (λ t. t.names) c.in_ok-tasks.ensures; unclosed = search rules; epoch = search rules; counter = search rules; durable = search rules; tabled = omega arith })
     (found_view _ view last found)
@@ -103,7 +103,7 @@ returns-clause-opens g c x lawful =
 
 pub returns-clause-replays : goal.returns-clause-replays
 returns-clause-replays g c =
-    has_logs _ c.in_ok-view.view c.in_ok-view.last c.in_ok-memory.memory c.in_ok-view.ensures.where_modelled c.in_ok-view.ensures.kept c.in_ok-put_opening.ensures.where_modelled c.in_ok-memory.ensures.where_modelled
+    rw c.of.ensures (has_logs _ c.in_ok-view.view c.in_ok-view.last c.in_ok-memory.memory c.in_ok-view.ensures.where_modelled c.in_ok-view.ensures.kept c.in_ok-put_opening.ensures.where_modelled c.in_ok-memory.ensures.where_modelled)
 
 pub returns-in_err-put_opening-clause-calls : goal.returns-in_err-put_opening-clause-calls
 returns-in_err-put_opening-clause-calls g c =
@@ -129,7 +129,7 @@ pub invariant_of-result : goal.invariant_of-result
 invariant_of-result g c =
     let fresh = c.new.ensures in
     let same = ap length c.batches-3.ensures.value in
-    record {
+    rw c.of.ensures (record {
       numbered = c.in_ok-memory.ensures.numbered;
       fits = c.in_ok-memory.ensures.fits;
       durable = search rules;
@@ -138,4 +138,4 @@ invariant_of-result g c =
       stored = search rules;
       seated = search rules;
       counted = counted-none c.in_ok-view.view.manifest.last_l0_seq c.in_ok-memory.memory c.batches-3.result.now c.in_ok-memory.ensures.numbered c.batches-3.ensures.value;
-    }
+    })

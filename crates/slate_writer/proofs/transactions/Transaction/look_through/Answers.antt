@@ -26,8 +26,8 @@ returns-clause-scan g c merge lawful =
     let options = c.args.options.now in
     let bound = start_bound t h options.durability_filter options.dirty in
     let live : h.result ≡ None = sym c.closed.ensures ∙ c.in_default.is in
-    let has : kept_rows (objects store) (AHandle h) rows = rows-kept (objects store) h stored c.from_ref-memory.result.now c.writer.inside.memory
-    (rw c.as_slice-stored.ensures.value c.in_ok-stored.ensures.joined) c.from_ref-memory.ensures.value (ap (λ (h : Handle). h.line.batches) c.writer.view_is)
+    let has : kept_rows (objects store) (AHandle h) rows = rows-kept (objects store) h stored c.from_ref-memory.result.now c.as_indexed.result.now
+    (rw c.as_slice-stored.ensures.value c.in_ok-stored.ensures.joined) c.from_ref-memory.ensures.value (c.as_indexed.ensures ∙ (c.in_ok-memory.ensures ∙ ap (λ (h : Handle). h.line.batches) c.writer.view_is))
     in
     let found : IsScan merge (seen_with c.bound-bound.result rows c.self.inside.own) None c.args.range.now options.order it.rows it.fault = c.in_ok-scan.ensures.plain merge lawful in
     let same : seen_with c.bound-bound.result rows c.self.inside.own ≡ seen_by t bound rows =

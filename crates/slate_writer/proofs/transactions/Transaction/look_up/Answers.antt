@@ -29,8 +29,8 @@ returns-in_err-read-clause-read g c merge lawful =
     let rows = stored ++ flat_map (λ table. table) c.from_ref-memory.result.now in
     let bound = start_bound t h c.args.options.now.durability_filter c.args.options.now.dirty in
     let live : h.result ≡ None = sym c.closed.ensures ∙ c.in_default.is in
-    let has : kept_rows (objects store) (AHandle h) rows = rows-kept (objects store) h stored c.from_ref-memory.result.now c.writer.inside.memory
-    (rw c.as_slice-stored.ensures.value c.in_ok-stored.ensures.joined) c.from_ref-memory.ensures.value (ap (λ (h : Handle). h.line.batches) c.writer.view_is)
+    let has : kept_rows (objects store) (AHandle h) rows = rows-kept (objects store) h stored c.from_ref-memory.result.now c.as_indexed.result.now
+    (rw c.as_slice-stored.ensures.value c.in_ok-stored.ensures.joined) c.from_ref-memory.ensures.value (c.as_indexed.ensures ∙ (c.in_ok-memory.ensures ∙ ap (λ (h : Handle). h.line.batches) c.writer.view_is))
     in
     let found : IsRead (read_at merge (seen_with c.bound-bound.result rows c.self.inside.own) None c.in_ok-key.key) (Err fault) = c.in_err-read.ensures.plain merge lawful in
     let key_is : c.in_ok-key.key ≡ key = search rules in

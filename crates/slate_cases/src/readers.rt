@@ -6,6 +6,8 @@ use crate::operators::Cuts;
 use crate::printing::{
     bytes_of, number_of, print_error, print_number, print_text, split_name, time_of,
 };
+use crate::ranges::{order_of, range_of};
+use crate::rows::print_left;
 use crate::store_calls::{print_done, print_store_error, push};
 use crate::subjects::CallFailure;
 use crate::told_stores::ToldStore;
@@ -22,6 +24,7 @@ enum Call {
     Poll,
     Mark,
     Tables,
+    First,
 }
 
 const CALLS: &[(&[u8], Call)] = &[
@@ -29,6 +32,7 @@ const CALLS: &[(&[u8], Call)] = &[
     (b"poll", Call::Poll),
     (b"mark", Call::Mark),
     (b"tables", Call::Tables),
+    (b"first", Call::First),
 ];
 
 #[derive(Clone, Copy)]
@@ -75,11 +79,20 @@ impl Database {
             }
             (Call::Mark, []) => print_number(answer, reader.mark()),
             (Call::Tables, []) => print_number(answer, reader.tables_in_memory()),
+            (Call::First, [low, high, order, limit]) => {
+                let (range, order) = (range_of(alloc, low, high)?, order_of(order)?);
+                let (limit, operator) = (number_of(limit)?, self.operator.as_ref());
+                let store = &mut self.store;
+                match reader.scan_first(alloc, store, &range, order, limit, operator) {
+                    Ok(mut rows) => print_left(alloc, &mut rows, answer),
+                    Err(error) => print_error(answer, &error),
+                }
+            }
             _ => Err(CallFailure::Unread),
         }
     }
 
-    /// Opens a reader of the latest manifest, which cuts its tables in memory at so many bytes.
+    /// Opens a reader of the latest manifest, whose tables in memory take no more batches once they have so many bytes.
     fn open_reader(
         &mut self,
         alloc: Global,

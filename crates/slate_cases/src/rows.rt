@@ -500,7 +500,7 @@ fn print_sought(
 }
 
 /// Prints the rows that are left, at most a hundred, or up to a fault.
-fn print_left(
+pub fn print_left(
     alloc: Global,
     rows: &mut DbIterator,
     answer: &mut Vec<u8>,

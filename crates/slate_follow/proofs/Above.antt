@@ -1,11 +1,13 @@
 -- The batches above a number: of lists that are joined, of those above a lower number, and of log files.
-use Rattle.std.proofs.Common.{◌≡◌, ℕ, suc, zero, inl, inr, ◌+◌, ◌-◌, ◌<◌, ◌≤◌, List, [], ◌∷◌, ◌++◌, length, Option, Some, None, unwrap_or, true, false, refl, sym, subst, ap, drop, length-append, length-drop, ◌∙◌, arith, ltb}
+use Rattle.std.proofs.Common.{◌≡◌, ℕ, suc, zero, inl, inr, ◌+◌, ◌-◌, ◌<◌, ◌≤◌, List, [], ◌∷◌, ◌++◌, length, Option, Some, None, unwrap_or, true, false, refl, sym, subst, ap, take, drop, length-append, length-drop, ◌∙◌, arith, ltb}
 use Rattle.std.proofs.lemmas.Bool.{lt-ltb, le-ltb, cases_lt}
+use Rattle.std.proofs.lemmas.List.{append-nil, length-take-le, take-append-drop}
 use Rattle.std.proofs.lemmas.List.Elements.{filter-append, recursion_from_All}
 use Rattle.std.specs.List.{All, AllByRecursion, flat_map, range_with_len}
 use Rattle.slate_types.specs.declared.batches.Batch.{Batch}
 use Rattle.slate_types.specs.Line.{AreNumberedFrom, batches_above}
 use Rattle.slate_types.proofs.Lines.{above-drop, numbered-drop}
+use Rattle.slate_model.proofs.Free.{numbered-front}
 use Rattle.slate_store.proofs.Logged.{numbered-append}
 use Rattle.slate_store.specs.Logs.{batches_between}
 use Rattle.slate_store.specs.Objects.{Objects, log_at}
@@ -75,4 +77,24 @@ numbered-on m n bs added floor numbered end_is more behind reached =
     let short = length-drop k all in (
       subst (AreNumberedFrom floor) (sym dropped) (subst (λ x. AreNumberedFrom x (drop k all)) at (numbered-drop m k all whole (omega (arith, lengths, end_is)))),
       ap (λ xs. floor + length xs) dropped ∙ omega (arith, short, lengths, end_is),
+    )
+
+-- what is above a number within it
+pub numbered-above : (m floor : ℕ) (bs left : List Batch) → AreNumberedFrom m bs → m ≤ floor → floor ≤ m + length bs → left ≡ batches_above floor bs → AreNumberedFrom floor left × (floor + length left ≡ m + length bs)
+numbered-above m floor bs left numbered behind reached is =
+    let on = numbered-on m (m + length bs) bs [] floor numbered refl tt behind reached in
+    let same : batches_above floor (bs ++ []) ≡ left = ap (batches_above floor) (append-nil bs) ∙ sym is in (
+      subst (AreNumberedFrom floor) same on.0,
+      sym (ap (λ xs. floor + length xs) same) ∙ (on.1 ∙ omega arith),
+    )
+
+-- and what is up to one within it
+pub numbered-up_to : (floor n : ℕ) (bs left : List Batch) → AreNumberedFrom floor bs → floor ≤ n → n ≤ floor + length bs → left ≡ take (n - floor) bs → AreNumberedFrom floor left × (floor + length left ≡ n)
+numbered-up_to floor n bs left numbered low high is =
+    let k = n - floor in
+    let within : k ≤ length bs = omega arith in
+    let short : length (take k bs) ≡ k = length-take-le k bs within in
+    let count = ap length is in (
+      subst (AreNumberedFrom floor) (sym is) (numbered-front floor (take k bs) (drop k bs) (subst (AreNumberedFrom floor) (sym (take-append-drop k bs)) numbered)),
+      omega (arith, count, short, low),
     )

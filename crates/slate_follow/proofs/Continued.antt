@@ -16,14 +16,14 @@ use Rattle.slate_store.specs.Objects.{Objects, last_log, latest_manifest, log_at
 use Rattle.slate_replay.proofs.Recovered.{recovered-all}
 use Rattle.slate_replay.specs.declared.replays.Replayed.{Replayed}
 use Rattle.slate_replay.specs.declared.replays.Replayed.TheVariants as replays
-use Rattle.slate_replay.specs.Replay.{Replays}
+use Rattle.slate_replay.specs.Replay.{Replays, line_of}
 use Rattle.slate_model.proofs.Free.{numbered-front}
 use Rattle.slate_model.proofs.Owing.{latest-view}
 use Rattle.slate_model.proofs.Reopened.{line_from, logs-by, numbered_rest}
 use Rattle.slate_errors.specs.declared.errors.SlateError.TheVariants as errors
 use Rattle.slate_model.specs.Follow.{HasAllLogs, LacksSegment, ReplayRefuses, SeesOwed}
 use Rattle.slate_model.specs.Followed.{IsView, last_read}
-use Rattle.slate_model.specs.Follower.{Follower, is_pinned, kept_follower, number, rebuilt, unsegmented}
+use Rattle.slate_model.specs.Follower.{Follower, follower_tasks, is_pinned, kept_follower, number, rebuilt, unsegmented}
 use Rattle.slate_model.specs.Handle.{line_above}
 use Rattle.slate_model.specs.Known.{IsContent}
 use Rattle.slate_model.specs.Open.{replayed}
@@ -31,6 +31,7 @@ use Rattle.slate_model.specs.Seen.{HasSeen}
 use Rattle.slate_model.specs.Segments.{Extractor, ops_of, unsegmented_refusal}
 use Rattle.slate_model.specs.Stores.{by_objects, kept_seen}
 use Rattle.slate_model.specs.declared.answers.PollAnswer.{PollAnswer}
+use Rattle.slate_follow.specs.Growing.{ExtendingLacks, added_to}
 use Rattle.slate_follow.specs.Rebuilding.{Continues, FindsView, GoesOn, GoingLacks, Lacks, Reaches, answer_of, followed, reached}
 use Rattle.slate_follow.proofs.Above.{above-append, above-fewer, above-twice, none-between}
 use Rattle.slate_follow.proofs.Rebuilt.{has-all, if_some, kept-end, kept-line, refuses_stored, sees-kept, sees_stored, some_at, unpinned-last, unpinned-owed}
@@ -199,29 +200,38 @@ goes-refuses t x o view reach old key reads free sound can seen reaches (added, 
     (view, content o, can.0, unpinned-owed o view t old.mode old.skips (content o) free reads, ap (λ bs. unsegmented_refusal x (ops_of bs)) (sym now) ∙ lacks)
 
 -- ---- a reader that goes on, by the steps of that
--- the log files above what it has gave these batches
-module _ (t : Option Objects) (view : VersionedManifest) (last from n : ℕ) (old : Follower) (before added : List Batch) (found : Replayed) (logs : IfSome t (λ o. Replays from last n before added o (Ok found)))
-    (from_is : from ≡ max old.mark view.manifest.replay_after_wal_id) (at : n ≡ number old) (empty : before ≡ []) where
-  pub replayed-at : (o : Objects) → t ≡ Some o → Replays (max old.mark view.manifest.replay_after_wal_id) last (number old) [] added o (Ok found)
-  replayed-at o is =
-      subst (λ k. Replays k last (number old) [] added o (Ok found)) from_is
-      (subst (λ k. Replays from last k [] added o (Ok found)) at
-      (subst (λ bs. Replays from last n bs added o (Ok found)) empty (some_at (λ o. Replays from last n before added o (Ok found)) t o is logs)))
+-- it has batches after its own, and then goes by a manifest
+module _ (view : VersionedManifest) (old mid new : Follower) (mark : ℕ) (tasks : old.tasks ≡ follower_tasks old.mode) (open_ : old.result ≡ None)
+    (pushed : mid ≡ record old { line = record old.line { batches = mid.line.batches }; segments = mid.segments }) (parts : mid.line.batches ≡ old.line.batches ++ added_to old.line.batches mid.line.batches)
+    (becomes : new ≡ record mid { view = view; line = line_of view.manifest.last_l0_seq (batches_above view.manifest.last_l0_seq mid.line.batches); mark = mark }) where
+  abbrev tabled : ℕ
+  tabled = view.manifest.last_l0_seq
 
-  pub gone-on : (new : Follower) (segments : List (List ℕ)) (mark seen : ℕ) (answer : PollAnswer) → old.lease ≡ None → mark ≡ reached found last → new ≡ record (followed old view added mark) { segments = segments; lease = old.lease } →
-      answer ≡ answer_of found seen → seen ≡ number new → IfSome t (λ o. GoesOn o view last old new answer)
-  gone-on new segments mark seen answer bare mark_is becomes answers seen_is =
+  pub followed-new : new ≡ record (followed old view (added_to old.line.batches mid.line.batches) mark) { segments = mid.segments; lease = old.lease }
+  followed-new =
+      becomes ∙ (ap (λ (f : Follower). record f { view = view; line = line_of tabled (batches_above tabled mid.line.batches); mark = mark }) pushed
+      ∙ (ap (λ bs. record old { view = view; line = line_of tabled (batches_above tabled bs); segments = mid.segments; mark = mark }) parts
+      ∙ (ap (λ t. record (followed old view (added_to old.line.batches mid.line.batches) mark) { segments = mid.segments; lease = old.lease; result = old.result; tasks = t }) tasks
+      ∙ ap (λ r. record (followed old view (added_to old.line.batches mid.line.batches) mark) { segments = mid.segments; lease = old.lease; result = r }) open_)))
+
+-- the log files above what it has gave these batches
+module _ (t : Option Objects) (view : VersionedManifest) (last from : ℕ) (old : Follower) (from_is : from ≡ max old.mark view.manifest.replay_after_wal_id) where
+  pub gone-on : (added : List Batch) (found : Replayed) → IfSome t (λ o. Replays from last (number old) [] added o (Ok found)) → (new : Follower) (segments : List (List ℕ)) (mark seen : ℕ) (answer : PollAnswer) → old.lease ≡ None → mark ≡ reached found last →
+      new ≡ record (followed old view added mark) { segments = segments; lease = old.lease } → answer ≡ answer_of found seen → seen ≡ number new → IfSome t (λ o. GoesOn o view last old new answer)
+  gone-on added found logs new segments mark seen answer bare mark_is becomes answers seen_is =
       if_some t
       (λ o is. record {
         added = added;
         found = found;
-        logs = replayed-at o is;
+        logs = subst (λ k. Replays k last (number old) [] added o (Ok found)) from_is (some_at (λ o. Replays from last (number old) [] added o (Ok found)) t o is logs);
         becomes = ap unsegmented becomes ∙ (ap (λ l. record (followed old view added mark) { lease = l }) bare ∙ ap (followed old view added) mark_is);
         answers = answers ∙ ap (answer_of found) seen_is;
       })
 
-  pub going-lacks : (x : Option Extractor) → (key : List ℕ) × Lacks x (batches_above view.manifest.last_l0_seq (old.line.batches ++ added)) key → IfSome t (λ o. (key : List ℕ) × GoingLacks x o view last old key)
-  going-lacks x lacks = if_some t (λ o is. (lacks.0, (added, found, replayed-at o is, lacks.1)))
+  pub going-lacks : (x : Option Extractor) → IfSome t (λ o. (key : List ℕ) × ExtendingLacks x from last view.manifest.last_l0_seq old o key) → IfSome t (λ o. (key : List ℕ) × GoingLacks x o view last old key)
+  going-lacks x lacks = if_some t
+      (λ o is.
+      subst (λ k. (key : List ℕ) × ExtendingLacks x k last view.manifest.last_l0_seq old o key) from_is (some_at (λ o. (key : List ℕ) × ExtendingLacks x from last view.manifest.last_l0_seq old o key) t o is lacks))
 
 -- what went on took what the log files of the latest manifest have
 pub continues : (o : Objects) (view : VersionedManifest) (reach : ℕ) (old new : Follower) (answer : PollAnswer) → FindsView old.mode old.skips false o (Ok (view, reach)) → Reaches old view → GoesOn o view reach old new answer → Continues o old new answer

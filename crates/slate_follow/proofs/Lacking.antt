@@ -33,8 +33,9 @@ use Rattle.slate_model.specs.Stores.{by_objects, kept_seen}
 use Rattle.slate_model.specs.declared.answers.PollAnswer.TheVariants.{Whole}
 use Rattle.slate_model.specs.declared.leases.Lease.{Lease}
 use Rattle.slate_follow.specs.Keeping.{FindsLatest, KeepLacks, NewsLacks, NextLacks, OnLacks, PutsBy, PutsManifest, ReplaceLacks}
+use Rattle.slate_follow.specs.Growing.{ExtendingLacks}
 use Rattle.slate_follow.specs.Rebuilding.{BuildLacks, Lacks, Reaches}
-use Rattle.slate_follow.proofs.Continued.{goes-refuses, replayed-at}
+use Rattle.slate_follow.proofs.Continued.{goes-refuses}
 use Rattle.slate_follow.proofs.Informed.{tabled-same}
 use Rattle.slate_follow.proofs.Keeping.{renewal, replacement, to-renewal, to-replace}
 use Rattle.slate_follow.proofs.Leased.{HasCheckpoints, PutsKept, put-is, written}
@@ -122,15 +123,16 @@ built-lacks x plan skips next given key gives t t1 puts lacks =
     inr (next, given, key, gives, subst (λ s. BuildLacks x s next (last_read ManagedCheckpoint skips next s) key) h.2 l))
 
 -- what it takes lacks one, by the steps of that
-pub taken-lacks : (t t1 : Option Objects) (x : Option Extractor) (latest : VersionedManifest) (last from n : ℕ) (old : Follower) (before added : List Batch) (found : Replayed) → t1 ≡ t → IfSome t1 (λ o. Replays from last n before added o (Ok found)) →
-    from ≡ max old.mark latest.manifest.replay_after_wal_id → n ≡ number old → before ≡ [] → IfSome t (λ o. last ≡ last_read old.mode old.skips latest o) → old.skips ≡ false →
-    (key : List ℕ) × Lacks x (batches_above old.view.manifest.last_l0_seq (old.line.batches ++ added)) key → IfSome t (λ o. NewsLacks x old latest o)
-taken-lacks t t1 x latest last from n old before added found kept logs from_is at empty reach reads lacks =
+pub taken-lacks : (t t1 : Option Objects) (x : Option Extractor) (latest : VersionedManifest) (last from tabled : ℕ) (old : Follower) → t1 ≡ t → IfSome t1 (λ o. (key : List ℕ) × ExtendingLacks x from last tabled old o key) →
+    from ≡ max old.mark latest.manifest.replay_after_wal_id → tabled ≡ old.view.manifest.last_l0_seq → IfSome t (λ o. last ≡ last_read old.mode old.skips latest o) → old.skips ≡ false → IfSome t (λ o. NewsLacks x old latest o)
+taken-lacks t t1 x latest last from tabled old kept lacks from_is tabled_is reach reads =
     if_some t
     (λ o is.
-    let logs_are = replayed-at t1 latest last from n old before added found logs from_is at empty o (kept ∙ is) in
+    let l = some_at (λ o. (key : List ℕ) × ExtendingLacks x from last tabled old o key) t1 o (kept ∙ is) lacks in
     let last_is = some_at (λ o. last ≡ last_read old.mode old.skips latest o) t o is reach in
-    (lacks.0, added, found, reads, subst (λ k. Replays (max old.mark latest.manifest.replay_after_wal_id) k (number old) [] added o (Ok found)) last_is logs_are, lacks.1))
+    let bs = l.1.0 in
+    let logs = subst (λ k. Replays (max old.mark latest.manifest.replay_after_wal_id) k (number old) [] bs o (Ok l.1.1)) last_is (subst (λ k. Replays k last (number old) [] bs o (Ok l.1.1)) from_is l.1.2) in
+    (l.0, bs, l.1.1, reads, logs, subst (λ n. Lacks x (batches_above n (old.line.batches ++ bs)) l.0) tabled_is l.1.3))
 
 -- so a poll does, which finds this manifest first
 module _ {t t1 : Option Objects} (x : Option Extractor) (latest : VersionedManifest) (kept : t1 ≡ t) (found : IfSome t (λ o. FindsLatest o (Ok latest))) (lease : Lease) (moment : ℤ) (old : Follower) where

@@ -3,6 +3,7 @@ pub mod Closing
 pub mod Continued
 pub mod Counted
 pub mod Cutting
+pub mod Growing
 pub mod Informed
 pub mod Joining
 pub mod Keeping

@@ -49,14 +49,12 @@ module _ (n : ℕ) (ts : List (List Batch)) (i : ℕ) (t : List Batch) (inside :
       ap (λ xs. batches_above n (joined xs)) (front-more ts i t inside item)
       ∙ (ap (batches_above n) (joined-append (take i ts) (t ∷ []) ∙ ap (λ ys. joined (take i ts) ++ ys) (append-nil t)) ∙ above-append n (joined (take i ts)) t)
 
-  pub tables-split : (added : List Batch) → batches_above n (joined ts ++ added) ≡ batches_above n (joined (take i ts)) ++ (batches_above n t ++ batches_above n (joined (drop (i + 1) ts) ++ added))
-  tables-split added =
+  pub tables-split : batches_above n (joined ts) ≡ batches_above n (joined (take i ts)) ++ (batches_above n t ++ batches_above n (joined (drop (i + 1) ts)))
+  tables-split =
       let front = joined (take i ts) in
       let back = joined (drop (i + 1) ts) in
-      let parts : joined ts ++ added ≡ front ++ (t ++ (back ++ added)) =
-      ap (λ xs. joined xs ++ added) (split-at ts i t inside item)
-      ∙ (ap (λ bs. bs ++ added) (joined-append (take i ts) (t ∷ drop (i + 1) ts)) ∙ (append_assoc front (t ++ back) added ∙ ap (λ ys. front ++ ys) (append_assoc t back added))) in
-      ap (batches_above n) parts ∙ (above-append n front (t ++ (back ++ added)) ∙ ap (λ ys. batches_above n front ++ ys) (above-append n t (back ++ added)))
+      ap (λ xs. batches_above n (joined xs)) (split-at ts i t inside item)
+      ∙ (ap (batches_above n) (joined-append (take i ts) (t ∷ drop (i + 1) ts)) ∙ (above-append n front (t ++ back) ∙ ap (λ ys. batches_above n front ++ ys) (above-append n t back)))
 
 -- ---- keys without a segment, and prefixes
 module _ (x : Extractor) where

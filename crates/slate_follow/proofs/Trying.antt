@@ -5,7 +5,9 @@ use Rattle.std.specs.Option.{IfSome}
 use Rattle.std.specs.Prelude.{ℤ, ◌⊎◌, nat_lt}
 use Rattle.std.specs.Result.{IfOk}
 use Rattle.slate_types.specs.Modelled.{WhereModelled}
-use Rattle.slate_types.specs.Line.{batches_above}
+use Rattle.slate_types.specs.Line.{AreNumberedFrom, batches_above}
+use Rattle.slate_replay.specs.Replay.{line_of}
+use Rattle.slate_follow.specs.Growing.{IsPushed, added_to, settled}
 use Rattle.slate_types.specs.declared.batches.Batch.{Batch}
 use Rattle.slate_store.specs.Checkpoints.{Plan, found, lease_end, to_end}
 use Rattle.slate_store.specs.Objects.{Objects}
@@ -20,7 +22,7 @@ use Rattle.slate_errors.specs.declared.errors.SlateError.{SlateError}
 use Rattle.slate_errors.specs.declared.errors.SlateError.TheVariants.{NoMemory, TransactionalObjectTimeout}
 use Rattle.slate_model.specs.Follow.{AnswersAt}
 use Rattle.slate_model.proofs.Reopened.{segments-none}
-use Rattle.slate_model.specs.Follower.{Follower, HasSegments, number, unsegmented}
+use Rattle.slate_model.specs.Follower.{Follower, HasSegments, follower_tasks, number, rebuilt, unsegmented}
 use Rattle.slate_model.specs.Segments.{Extractor, segments_of}
 use Rattle.slate_model.specs.Lease.{differs, is_due, lease_of, leased, replaces, to_keep}
 use Rattle.slate_model.specs.Managed.{IsOpenAt, Keeps, PlanCause, unrefused}
@@ -32,7 +34,7 @@ use Rattle.slate_follow.specs.Rebuilding.{answer_of}
 use Rattle.slate_follow.proofs.Keeping.{PutsAndKeeps, puts-by, renewal, renewed-keeps, replaced-keeps, replacement, stays-keeps, to-renewal, to-stay}
 use Rattle.slate_follow.proofs.Planned.{modelled-kept, modelled-put, stays-put}
 use Rattle.slate_follow.proofs.Rebuilt.{some_at}
-use Rattle.slate_follow.proofs.Segmented.{followed-segments}
+use Rattle.slate_follow.proofs.Segmented.{all-above, followed-segments}
 
 -- ---- a reader that goes on by its view
 answers-at : (n : ℕ) (replayed : Replayed) → AnswersAt n (answer_of replayed n)
@@ -52,10 +54,6 @@ informed-open old new added replayed mark lease answer managed becomes answers =
       subst (AnswersAt (number new)) (sym answers) (answers-at (number new) replayed),
     )
 
-informed-leased : (old : Follower) (lease : Option Lease) (skips : Bool) (added : List Batch) (mark : ℕ) → informed (record old { lease = lease }) skips added mark ≡ informed old skips added mark
-informed-leased old lease true added mark = refl
-informed-leased old lease false added mark = refl
-
 informed-plain : (old : Follower) (skips : Bool) (added : List Batch) (mark : ℕ) (segments : List (List ℕ)) (lease : Option Lease) →
     unsegmented (record (informed old skips added mark) { segments = segments; lease = lease }) ≡ record (informed old skips added mark) { lease = lease }
 informed-plain old true added mark segments lease = refl
@@ -66,20 +64,74 @@ module _ (old new : Follower) (added : List Batch) (mark : ℕ) (segments : List
   pub informed-becomes : new ≡ record (informed old old.skips added mark) { segments = segments; lease = lease } → unsegmented new ≡ record (informed old old.skips added mark) { lease = lease }
   informed-becomes becomes = ap unsegmented becomes ∙ informed-plain old old.skips added mark segments lease
 
-  -- one whose lease was renewed before goes on as the one before that
-  pub informed-renewed : (mid : Follower) → mid ≡ record old { lease = mid.lease } → new ≡ record (informed mid mid.skips added mark) { segments = segments; lease = lease } → new ≡ record (informed old old.skips added mark) { segments = segments; lease = lease }
-  informed-renewed mid same becomes =
-      becomes ∙ (ap (λ (f : Follower). record (informed f f.skips added mark) { segments = segments; lease = lease }) same
-      ∙ ap (λ (f : Follower). record f { segments = segments; lease = lease }) (informed-leased old mid.lease old.skips added mark))
+-- one that took what is new, and settled, goes on so
+module _ (old mid new : Follower) (n mark : ℕ) (had : List (List ℕ)) (open_ : old.result ≡ None) (tasks : old.tasks ≡ follower_tasks old.mode) (floor : old.line.floor ≡ old.view.manifest.last_l0_seq)
+    (numbered : AreNumberedFrom old.line.floor old.line.batches) (pushed : IsPushed old n had mid) (more : AreNumberedFrom (number old) (added_to old.line.batches mid.line.batches)) where
+  abbrev added : List Batch
+  added = added_to old.line.batches mid.line.batches
 
-  -- it has the segments of its batches
-  module _ (x : Option Extractor) (whole : batches_above old.view.manifest.last_l0_seq (old.line.batches ++ added) ≡ old.line.batches ++ added) where
-    segments-by : (skips : Bool) → (skips ≡ true → segments ≡ []) → (skips ≡ false → segments ≡ segments_of x (old.line.batches ++ added)) → HasSegments x (record (informed old skips added mark) { segments = segments; lease = lease })
-    segments-by true skipped are = skipped refl ∙ sym (segments-none x)
-    segments-by false skipped are = followed-segments x old old.view added mark segments lease (are refl ∙ ap (segments_of x) (sym whole))
+  abbrev tabled : ℕ
+  tabled = old.view.manifest.last_l0_seq
 
-    pub informed-segments : new ≡ record (informed old old.skips added mark) { segments = segments; lease = lease } → (old.skips ≡ true → segments ≡ []) → (old.skips ≡ false → segments ≡ segments_of x (old.line.batches ++ added)) → HasSegments x new
-    informed-segments becomes skipped are = subst (HasSegments x) (sym becomes) (segments-by old.skips skipped are)
+  abbrev shape : List Batch → List (List ℕ) → Follower → Follower
+  shape bs segments f = record f { line = line_of tabled bs; segments = segments; mark = mark; lease = mid.lease }
+
+  plain : (bs : List Batch) (segments : List (List ℕ)) → shape bs segments old ≡ record (rebuilt old.mode old.skips old.view (line_of tabled bs) mark) { segments = segments; lease = mid.lease }
+  plain bs segments =
+      ap (λ t. record (shape bs segments old) { tasks = t }) tasks ∙ ap (λ r. record (shape bs segments old) { tasks = follower_tasks old.mode; result = r }) open_
+
+  whole : mid.line.batches ≡ batches_above tabled (old.line.batches ++ added)
+  whole = pushed.parts ∙ sym (subst (λ k. batches_above k (old.line.batches ++ added) ≡ old.line.batches ++ added) floor (all-above old.line.floor old.line.batches added numbered more))
+
+  by : (skips : Bool) → new ≡ settled skips mid mark → new ≡ record (informed old skips added mark) { segments = new.segments; lease = mid.lease }
+  by true becomes =
+      let none : new.segments ≡ [] = ap (λ (f : Follower). f.segments) becomes in
+      becomes ∙ (ap (λ (f : Follower). record f { line = record f.line { batches = [] }; segments = []; mark = mark; lease = mid.lease }) pushed.same
+      ∙ (ap (λ k. record old { line = line_of k []; segments = []; mark = mark; lease = mid.lease }) floor
+      ∙ (plain [] [] ∙ ap (λ s. record (informed old true added mark) { segments = s; lease = mid.lease }) (sym none))))
+  by false becomes =
+      let are : new.segments ≡ mid.segments = ap (λ (f : Follower). f.segments) becomes in
+      becomes ∙ (ap (λ (f : Follower). record f { mark = mark }) pushed.same
+      ∙ (ap (λ k. record old { line = line_of k mid.line.batches; segments = mid.segments; mark = mark; lease = mid.lease }) floor
+      ∙ (ap (λ bs. shape bs mid.segments old) whole
+      ∙ (plain (batches_above tabled (old.line.batches ++ added)) mid.segments ∙ ap (λ s. record (informed old false added mark) { segments = s; lease = mid.lease }) (sym are)))))
+
+  pub settled-informed : new ≡ settled mid.skips mid mark → new ≡ record (informed old old.skips added mark) { segments = new.segments; lease = mid.lease }
+  settled-informed becomes = by old.skips (becomes ∙ ap (λ s. settled s mid mark) (ap (λ (f : Follower). f.skips) pushed.same))
+
+-- by its lease and its segments
+pub settled-lease : (mid new : Follower) (skips : Bool) (mark : ℕ) → new ≡ settled skips mid mark → new.lease ≡ mid.lease
+settled-lease mid new true mark becomes = ap (λ (f : Follower). f.lease) becomes
+settled-lease mid new false mark becomes = ap (λ (f : Follower). f.lease) becomes
+
+pub settled-segments : (x : Option Extractor) (old mid new : Follower) (n mark : ℕ) (had : List (List ℕ)) → IsPushed old n had mid → new ≡ settled mid.skips mid mark → HasSegments x old → (old.skips ≡ false → mid.segments ≡ segments_of x mid.line.batches) →
+    old.line.floor ≡ old.view.manifest.last_l0_seq → AreNumberedFrom old.line.floor old.line.batches → AreNumberedFrom (number old) (added_to old.line.batches mid.line.batches) → HasSegments x new
+settled-segments x old mid new n mark had pushed becomes has taken floor numbered more =
+    by mid.skips (sym (ap (λ (f : Follower). f.skips) pushed.same)) becomes where
+      by : (skips : Bool) → old.skips ≡ skips → new ≡ settled skips mid mark → HasSegments x new
+      by true is becomes = subst (HasSegments x) (sym becomes) (sym (segments-none x))
+      by false is becomes =
+          let added = added_to old.line.batches mid.line.batches in
+          let view : mid.view ≡ old.view = ap (λ (f : Follower). f.view) pushed.same in
+          let tabled : old.line.floor ≡ mid.view.manifest.last_l0_seq = floor ∙ ap (λ (v : VersionedManifest). v.manifest.last_l0_seq) (sym view) in
+          let all : batches_above mid.view.manifest.last_l0_seq mid.line.batches ≡ mid.line.batches =
+          ap (batches_above mid.view.manifest.last_l0_seq) pushed.parts
+          ∙ (subst (λ k. batches_above k (old.line.batches ++ added) ≡ old.line.batches ++ added) tabled (all-above old.line.floor old.line.batches added numbered more) ∙ sym pushed.parts) in
+          subst (HasSegments x) (sym becomes) (taken is ∙ ap (segments_of x) (sym all))
+
+-- a lease that is renewed leaves it so
+pub pushed-renewed : (old mid mid' : Follower) (n : ℕ) (had : List (List ℕ)) → IsPushed old n had mid → mid' ≡ record mid { lease = mid'.lease } → IsPushed old n had mid'
+pushed-renewed old mid mid' n had pushed same =
+    let batches : mid'.line.batches ≡ mid.line.batches = ap (λ (f : Follower). f.line.batches) same in
+    let segments : mid'.segments ≡ mid.segments = ap (λ (f : Follower). f.segments) same in
+    record {
+      same = same ∙ (ap (λ (f : Follower). record f { lease = mid'.lease }) pushed.same
+          ∙ (ap (λ bs. record old { line = record old.line { batches = bs }; segments = mid.segments; lease = mid'.lease }) (sym batches)
+          ∙ ap (λ s. record old { line = record old.line { batches = mid'.line.batches }; segments = s; lease = mid'.lease }) (sym segments)));
+      parts = batches ∙ (pushed.parts ∙ ap (λ bs. old.line.batches ++ added_to old.line.batches bs) (sym batches));
+      end_is = pushed.end_is;
+      segments_are = pushed.segments_are;
+    }
 
 -- ---- what renews a lease
 end-puts : (lifetime : ℕ) (id : List ℕ) (end : ℤ) (latest : VersionedManifest) (there : Option AnyCheckpoint) (next : Option VersionedManifest) (given : Lease) → leased lifetime (to_end id end latest there) ≡ Ok (next, given) →
@@ -102,16 +154,6 @@ module _ (view latest : VersionedManifest) (lease : Lease) (moment : ℤ) where
   pub renewal-failed : (refused : Objects → SlateError → Type 0) (old new : Option Lease) (o o' : Objects) (e : SlateError) → PutsBy {A = Unit {0}} unrefused (renewal view latest lease moment) old o (Err e) new o' →
       PutsBy {A = PollAnswer} refused (renewal view latest lease moment) old o (Err e) new o'
   renewal-failed refused old new o o' e p = record { made = p.made; cause = ⊎_map (λ c. c) (λ none. absurd none) p.cause; part = p.part; after = p.after; leased = p.leased }
-
-  -- it fails for want of memory after that
-  pub renewal-broken : (refused : Objects → SlateError → Type 0) (old new : Option Lease) (o o' : Objects) → PutsBy {A = Unit {0}} unrefused (renewal view latest lease moment) old o (Ok tt) new o' →
-      PutsBy {A = PollAnswer} refused (renewal view latest lease moment) old o (Err NoMemory) new o'
-  renewal-broken refused old new o o' p =
-      let l = p.leased in
-      let put = renewal-puts l.0 l.1 l.2 in
-      let all = p.part in
-      let one : p.made ≡ 1 = all ∙ ap (λ (x : Plan Lease). length (planned {L = List Batch} x)) put.1 in
-      record { made = p.made; cause = inl tt; part = omega (arith, all); after = p.after; leased = inr (one, Some put.0, l.1, put.1, l.3) }
 
   -- and it goes on
   pub renewal-done : (refused : Objects → SlateError → Type 0) (old new : Option Lease) (o o' : Objects) (answer : PollAnswer) → PutsBy {A = Unit {0}} unrefused (renewal view latest lease moment) old o (Ok tt) new o' →

@@ -28,7 +28,7 @@ pub record IsKept (a : Inside) : Type 0 where
   pub filled : AreFilled a.kept.items
   pub numbered : AreNumberedFrom a.status.manifest.manifest.last_l0_seq (joined a.kept.items)
   pub fits : a.status.manifest.manifest.last_l0_seq + length (joined a.kept.items) < 2 ^ 64
-  pub number : a.status.durable ≡ a.status.manifest.manifest.last_l0_seq + length (joined a.kept.items)
+  pub number : a.number ≡ a.status.manifest.manifest.last_l0_seq + length (joined a.kept.items)
   pub unsegmented : a.status.segments ≡ []
   pub leased : is_some a.lease ≡ is_managed a.following.mode
   pub running : a.status.result ≡ None → a.tasks.names ≡ follower_tasks a.following.mode

@@ -1,3 +1,4 @@
+pub mod Growing
 pub mod Joined
 pub mod Keeping
 pub mod Kept

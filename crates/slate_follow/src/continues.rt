@@ -1,23 +1,29 @@
 // Taking what log files have that a reader hasn't replayed yet.
-ghost use Rattle.std.specs.Prelude.{◌≡◌, ◌+◌, ◌-◌, ◌<◌, ◌≤◌, ◌^◌, ℕ, List, Option, None, Err, OnOk, OnErr, IsTrue, ◌↔◌, true, max, length, IfOk, IfErr, IfSome};
+ghost use Rattle.std.specs.Prelude.{◌≡◌, ◌⊎◌, ◌+◌, ◌-◌, ◌<◌, ◌≤◌, ◌^◌, ◌++◌, ℕ, List, Option, None, Err, OnOk, OnErr, IsTrue, ◌↔◌, true, max, length, take, IfOk, IfErr, IfSome};
 ghost use Rattle.std.specs.Option.{option_copied};
-ghost use Rattle.slate_types.specs.Line.{AreNumberedFrom};
+ghost use Rattle.slate_types.specs.declared.batches.Batch.{Batch};
+ghost use Rattle.slate_types.specs.Line.{batches_above};
 ghost use Rattle.slate_model.specs.Follow.{AnswersAt};
 ghost use Rattle.slate_model.specs.Follower.{HasSegments, number};
 ghost use Rattle.slate_model.specs.Known.{CountsFaults};
-ghost use Rattle.slate_model.specs.Segments.{Extractor, IsExtractor};
-ghost use Rattle.slate_follow.specs.Rebuilding.{GoesOn, GoingLacks, IsOfRebuilding, Reaches, followed};
+ghost use Rattle.slate_model.specs.Segments.{Extractor, IsExtractor, segments_of};
+ghost use Rattle.slate_segments.specs.Refusals.{IsOfSegment};
+ghost use Rattle.slate_replay.specs.Replay.{line_of};
+ghost use Rattle.slate_follow.specs.Growing.{ExtendingLacks, Grew};
+ghost use Rattle.slate_follow.specs.Rebuilding.{GoesOn, GoingLacks, IsOfRebuilding, Lacks, Reaches};
 
 use crate::rebuilds::{answer_of, reached};
-use crate::tables::{add, drop_through, merge_small};
+use crate::segments::segments_above;
+use crate::tables::{append_logs, drop_through, truncate};
 use crate::{FollowerState, PollAnswer};
 use bytes::Bytes;
 use slate_errors::SlateError;
-use slate_reads::IndexedTable;
-use slate_replay::replay;
+use slate_replay::Replayed;
+use slate_status::union;
 use slate_store::{Store, VersionedManifest};
-use slate_types::{NoMemory, PrefixExtractor, Seq};
+use slate_types::{PrefixExtractor, Seq};
 use std::alloc::Global;
+use std::mem;
 
 impl FollowerState {
     /// Whether its batches lead up to the tables of a manifest, so that it can go on from them.
@@ -55,39 +61,101 @@ impl FollowerState {
         ensures refusals { IfErr result IsOfRebuilding }
     {
         let from = self.mark.max(view.manifest.replay_after_wal_id);
-        let number = self.number();
-        let mut added = IndexedTable::new(alloc);
-        let replayed = replay(alloc, store, &mut added, number, from, last)?;
         let tabled = view.manifest.last_l0_seq;
-        let segments = self.segments_above(alloc, extractor, added.batches(), tabled)?;
-        self.take_more(alloc, view, added, segments, reached(replayed, last))?;
+        let (replayed, _had) = self.extend(alloc, store, from, last, tabled, extractor)?;
+        self.go_by(view, reached(replayed, last));
         Ok(answer_of(replayed, self.number()))
     }
 
-    /// Adds batches to its own, goes by this manifest, and drops those that are in its tables. The others have these segments.
-    pub(crate) fn take_more(
+    /// Adds what the log files above `from` up to `last` have after its batches, and takes the segments of those that are above
+    /// the number `tabled` then. It answers how the replay ended, and the segments that it had. Where it fails, it is as before.
+    pub(crate) fn extend<S: Store, E: PrefixExtractor>(
         &mut self,
         alloc: Global,
-        view: VersionedManifest,
-        added: IndexedTable,
-        segments: Seq<Bytes>,
-        mark: u64,
-    ) -> Result<(), NoMemory>
-        requires open_ { self.old.result ≡ None }
-        requires reaches { Reaches self.old view }
-        requires numbered { AreNumberedFrom (number self.old) added }
-        requires fits { number self.old + length added < 2 ^ 64 }
-        ensures ok { OnOk result (self.new ≡ record (followed self.old view added mark) { segments = segments; lease = self.old.lease }) }
+        store: &mut S,
+        from: u64,
+        last: u64,
+        tabled: u64,
+        extractor: Option<&E>,
+    ) -> Result<(Replayed, Seq<Bytes>), SlateError>
+        requires behind { self.old.view.manifest.last_l0_seq ≤ tabled }
+        requires arrived { tabled ≤ number self.old }
+        ensures grew { IfOk result (λ p. Grew (number self.old) from last (S.objects store.old) self.old.line.batches self.new.line.batches p.0) }
+        ensures same { IfOk result (λ p. self.new ≡ record self.old { line = record self.old.line { batches = self.new.line.batches }; segments = self.new.segments }) }
+        ensures had { IfOk result (λ p. p.1 ≡ self.old.segments) }
+        ensures segments { (x : Option Extractor) → IsExtractor E.may_name E.may_extract (option_copied extractor.entry) x → IfOk result (λ p.
+            HasSegments x self.old → self.new.segments ≡ segments_of x (batches_above tabled self.new.line.batches)) }
         ensures err { OnErr result (self.new ≡ self.old) }
+        ensures lacks { (x : Option Extractor) (key : List ℕ) → IsExtractor E.may_name E.may_extract (option_copied extractor.entry) x →
+            result ≡ Err (SlateError.EmptySegmentPrefix key) → IfSome (S.objects store.old) (λ o. (first : List ℕ) × ExtendingLacks x from last tabled self.old o first) }
+        ensures refusals { IfErr result IsOfRebuilding }
+        ensures faults { CountsFaults (S.faults store.old) (S.faults store.new) result }
+        ensures calls { S.calls store.new ≤ S.calls store.old + (last - from) }
+        ensures kept { S.objects store.new ≡ S.objects store.old }
     {
-        let number = self.number() + added.batches().len() as u64;
-        let tabled = view.manifest.last_l0_seq;
-        add(alloc, &mut self.kept, added, self.limit)?;
-        drop_through(&mut self.kept, tabled);
-        merge_small(alloc, &mut self.kept, self.limit);
-        self.segments = segments;
+        let number = self.number;
+        let added = append_logs(
+            alloc,
+            store,
+            &mut self.kept,
+            self.limit,
+            number,
+            from,
+            last,
+            extractor,
+        )?;
+        self.number += added.count;
+        match self.segments_then(alloc, extractor, added.prefixes.as_slice(), tabled) {
+            Ok(segments) => Ok((added.replayed, mem::replace(&mut self.segments, segments))),
+            Err(error) => {
+                self.take_back(number);
+                Err(error)
+            }
+        }
+    }
+
+    /// The segments of its batches above a number, where its own are those of the batches before some with these prefixes. It looks at
+    /// its batches only where the tables of its manifest don't end there.
+    fn segments_then<E: PrefixExtractor>(
+        &self,
+        alloc: Global,
+        extractor: Option<&E>,
+        prefixes: &[Bytes],
+        tabled: u64,
+    ) -> Result<Seq<Bytes>, SlateError>
+        ensures ok { (x : Option Extractor) → IsExtractor E.may_name E.may_extract (option_copied extractor.entry) x → IfOk result (λ segments. (old added : List Batch) →
+            self.now.line.batches ≡ old ++ added → self.now.segments ≡ segments_of x old → prefixes.now ≡ segments_of x added →
+            segments ≡ segments_of x (batches_above tabled self.now.line.batches)) }
+        ensures err { (x : Option Extractor) → IsExtractor E.may_name E.may_extract (option_copied extractor.entry) x → IfErr result (λ error.
+            (error ≡ SlateError.NoMemory) ⊎ ((key : List ℕ) × Lacks x (batches_above tabled self.now.line.batches) key)) }
+        ensures kind { IfErr result IsOfSegment }
+    {
+        if tabled == self.status.manifest().manifest.last_l0_seq {
+            let all = union(alloc, self.segments.as_slice(), prefixes)?;
+            return Ok(Seq::of(all));
+        }
+        let all = segments_above(alloc, extractor, self.kept.as_slice(), tabled)?;
+        Ok(Seq::of(all))
+    }
+
+    /// Takes the batches above a number back.
+    pub(crate) fn take_back(&mut self, end: u64)
+        requires low { self.old.line.floor ≤ end }
+        requires high { end ≤ number self.old }
+        ensures { self.new ≡ record self.old { line = record self.old.line { batches = take (end - self.old.line.floor) self.old.line.batches } } }
+    {
+        let floor = self.status.manifest().manifest.last_l0_seq;
+        truncate(&mut self.kept, (end - floor) as usize);
+        self.number = end;
+    }
+
+    /// Goes by a manifest, which its batches reach, and drops those that are in its tables.
+    fn go_by(&mut self, view: VersionedManifest, mark: u64)
+        requires reaches { Reaches self.old view }
+        ensures { self.new ≡ record self.old { view = view; line = line_of view.manifest.last_l0_seq (batches_above view.manifest.last_l0_seq self.old.line.batches); mark = mark } }
+    {
+        drop_through(&mut self.kept, view.manifest.last_l0_seq);
         self.mark = mark;
-        self.status.report_view(number, view);
-        Ok(())
+        self.status.report_view(self.number, view);
     }
 }

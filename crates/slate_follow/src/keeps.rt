@@ -1,39 +1,40 @@
 // Polling a reader that keeps a checkpoint of its own.
-ghost use Rattle.std.specs.Prelude.{◌≡◌, ◌+◌, ◌-◌, ◌*◌, ◌<◌, ◌≤◌, ◌^◌, ℕ, max, [], ◌++◌, Option, None, Some, Ok, Err, OnOk, OnErr, IfOk, IfErr, IfSome, IsSome, false, true, is_none, length};
+ghost use Rattle.std.specs.Prelude.{◌≡◌, ◌+◌, ◌-◌, ◌*◌, ◌≤◌, ℕ, [], Option, None, Some, Ok, Err, OnErr, IfOk, IfErr, IfSome, IsSome, false, true};
 ghost use Rattle.std.specs.Option.{option_copied};
 ghost use Rattle.slate_types.specs.Line.{AreNumberedFrom};
 ghost use Rattle.slate_store.specs.Calls.{WhereModelled};
 ghost use Rattle.slate_store.specs.Checkpoints.{found, to_refresh, to_write};
 ghost use Rattle.slate_replay.specs.declared.replays.Replayed.TheVariants.{Whole};
 ghost use Rattle.slate_model.specs.Followed.{read_logs};
-ghost use Rattle.slate_model.specs.Follower.{HasSegments, number};
+ghost use Rattle.slate_model.specs.Follower.{Follower, HasSegments, number};
 ghost use Rattle.slate_model.specs.Known.{CountsFaults, known};
 ghost use Rattle.slate_model.specs.Lease.{differs, leased, to_keep};
 ghost use Rattle.slate_model.specs.Managed.{IsOpenAt, Keeps, KeepsLease, KeepsOrNot, PutsPlanned, poll_result, unrefused};
 ghost use Rattle.slate_model.specs.Segments.{Extractor, IsExtractor, segments_of};
 ghost use Rattle.slate_model.specs.Open.{replayed_logs};
 ghost use Rattle.slate_model.specs.Stores.{Stands, by_objects};
-ghost use Rattle.slate_follow.specs.Keeping.{BuildsLatest, IsNews, IsOfPolling, KeepLacks, MayLack, NewsLacks, PutsBy, ReplaceLacks, informed, put_tried, tried};
+ghost use Rattle.slate_follow.specs.Growing.{IsPushed, added_to, settled};
+ghost use Rattle.slate_follow.specs.Keeping.{BuildsLatest, IsNews, IsOfPolling, KeepLacks, MayLack, NewsLacks, PutsBy, ReplaceLacks, put_tried, tried};
 ghost use Rattle.slate_follow.specs.Rebuilding.{answer_of};
 
 use crate::leases::{TRIES, latest_of, put_next, with_new_lease, with_renewed_lease};
 use crate::polls::poll_error;
-use crate::rebuilds::{Rebuilt, answer_of, find_checkpoint, last_read, reached, rebuild};
+use crate::rebuilds::{answer_of, find_checkpoint, last_read, reached, rebuild};
 use crate::{FollowerState, PollAnswer};
 use bytes::Bytes;
 use slate_errors::{CloseFault, SlateError};
 use slate_model::Lease;
-use slate_reads::IndexedTable;
-use slate_replay::{Replayed, replay};
+use slate_replay::Replayed;
 use slate_store::{Store, VersionedManifest};
-use slate_types::{NoMemory, PrefixExtractor, Seq};
+use slate_types::{PrefixExtractor, Seq};
 use std::alloc::Global;
+use std::mem;
 
-/// What log files have that a reader hasn't replayed yet: the batches, how the replay ended, and up to which log file; and the
-/// segments that the reader has with them.
+/// What a reader took of log files that it hadn't replayed yet: how the replay ended, and up to which log file. By the number of
+/// its last batch and its segments before that it is as it was then.
 #[derive(Drop)]
 pub(crate) struct News {
-    added: IndexedTable,
+    number: u64,
     segments: Seq<Bytes>,
     replayed: Replayed,
     mark: u64,
@@ -134,18 +135,24 @@ impl FollowerState {
         }
         let news = self.news(alloc, store, &latest, extractor)?;
         if !lease.is_due(moment) {
-            let answer = self.take_news(alloc, news)?;
-            return Ok(Some(answer));
+            return Ok(Some(self.take_news(alloc, &news)));
         }
         if find_checkpoint(&latest, lease.id).is_none() {
+            self.drop_news(news);
             return self.replace_lease(alloc, store, lease, &latest, extractor, moment);
         }
-        let renewed = self.renew_lease(alloc, store, lease, &latest, moment)?;
+        let renewed = match self.renew_lease(alloc, store, lease, &latest, moment) {
+            Ok(renewed) => renewed,
+            Err(error) => {
+                self.drop_news(news);
+                return Err(error);
+            }
+        };
         if !renewed {
+            self.drop_news(news);
             return Ok(None);
         }
-        let answer = self.take_news(alloc, news)?;
-        Ok(Some(answer))
+        Ok(Some(self.take_news(alloc, &news)))
     }
 
     /// Puts a manifest after the latest one with a new checkpoint in place of its own, and goes by that manifest. It answers
@@ -216,9 +223,9 @@ impl FollowerState {
         Ok(true)
     }
 
-    /// What log files have that it hasn't replayed yet, under the latest manifest.
+    /// Takes what log files have that it hasn't replayed yet, under the latest manifest. It is told by `take_news` that it has them.
     fn news<S: Store, E: PrefixExtractor>(
-        &self,
+        &mut self,
         alloc: Global,
         store: &mut S,
         latest: &VersionedManifest,
@@ -226,64 +233,63 @@ impl FollowerState {
     ) -> Result<News, SlateError>
         ensures faults { CountsFaults (S.faults store.old) (S.faults store.new) result }
         ensures kept { S.objects store.new ≡ S.objects store.old }
-        ensures news { IfOk result (λ news. IfSome (S.objects store.old) (λ o. IsNews o self.now latest.now self.now.skips news.added news.replayed news.mark)) }
-        ensures skipped { IfOk result (λ news. self.now.skips ≡ true → (news.added ≡ []) × (news.replayed ≡ Whole)) }
-        ensures numbered { IfOk result (λ news. AreNumberedFrom (number self.now) news.added × (number self.now + length news.added < 2 ^ 64)) }
-        ensures segments { (x : Option Extractor) → IsExtractor E.may_name E.may_extract (option_copied extractor.entry) x → IfOk result (λ news. self.now.skips ≡ false → HasSegments x self.now →
-            news.segments ≡ segments_of x (self.now.line.batches ++ news.added)) }
-        ensures unsegmented { IfOk result (λ news. self.now.skips ≡ true → news.segments ≡ []) }
-        ensures lacks { (x : Option Extractor) → IsExtractor E.may_name E.may_extract (option_copied extractor.entry) x → result ≡ Err SlateError.InvalidDBState → IfSome (S.objects store.old) (λ o. NewsLacks x self.now latest.now o) }
+        ensures pushed { IfOk result (λ news. IsPushed self.old news.number news.segments self.new) }
+        ensures err { OnErr result (self.new ≡ self.old) }
+        ensures leased { IfOk result (λ _. self.new.lease ≡ self.old.lease) }
+        ensures news { IfOk result (λ news. IfSome (S.objects store.old) (λ o. IsNews o self.old latest.now self.old.skips (added_to self.old.line.batches self.new.line.batches) news.replayed news.mark)) }
+        ensures skipped { IfOk result (λ news. self.old.skips ≡ true → (added_to self.old.line.batches self.new.line.batches ≡ []) × (news.replayed ≡ Whole)) }
+        ensures numbered { IfOk result (λ _. AreNumberedFrom (number self.old) (added_to self.old.line.batches self.new.line.batches)) }
+        ensures segments { (x : Option Extractor) → IsExtractor E.may_name E.may_extract (option_copied extractor.entry) x → IfOk result (λ _. self.old.skips ≡ false → HasSegments x self.old →
+            self.new.segments ≡ segments_of x self.new.line.batches) }
+        ensures lacks { (x : Option Extractor) → IsExtractor E.may_name E.may_extract (option_copied extractor.entry) x → result ≡ Err SlateError.InvalidDBState → IfSome (S.objects store.old) (λ o. NewsLacks x self.old latest.now o) }
         ensures refusals { IfErr result IsOfPolling }
-        ensures calls { IfSome (S.objects store.old) (λ o. S.calls store.new ≤ S.calls store.old + (read_logs self.now.mode self.now.skips o (Some latest.now) + 1)) }
+        ensures calls { IfSome (S.objects store.old) (λ o. S.calls store.new ≤ S.calls store.old + (read_logs self.old.mode self.old.skips o (Some latest.now) + 1)) }
     {
-        let mut added = IndexedTable::new(alloc);
+        let number = self.number();
         let last = last_read(alloc, store, self.following, latest)?;
         if self.following.skips {
             return Ok(News {
-                added,
-                segments: Seq::of(Vec::new(alloc)),
+                number,
+                segments: mem::replace(&mut self.segments, Seq::of(Vec::new(alloc))),
                 replayed: Replayed::Whole,
                 mark: last,
             });
         }
         let from = self.mark.max(latest.manifest.replay_after_wal_id);
-        let replayed = replay(alloc, store, &mut added, self.number(), from, last)?;
-        let segments = match self.segments_with(alloc, extractor, added.batches()) {
-            Ok(segments) => segments,
-            Err(error) => return Err(poll_error(error)),
-        };
-        Ok(News {
-            added,
-            segments,
-            replayed,
-            mark: reached(replayed, last),
-        })
+        let tabled = self.status.manifest().manifest.last_l0_seq;
+        match self.extend(alloc, store, from, last, tabled, extractor) {
+            Ok((replayed, segments)) => Ok(News {
+                number,
+                segments,
+                replayed,
+                mark: reached(replayed, last),
+            }),
+            Err(error) => Err(poll_error(error)),
+        }
     }
 
-    /// Takes what log files have, and stays at the manifest that it goes by.
-    fn take_news(&mut self, alloc: Global, news: News) -> Result<PollAnswer, NoMemory>
-        requires open_ { self.old.result ≡ None }
-        requires numbered { AreNumberedFrom (number self.old) news.added }
-        requires fits { number self.old + length news.added < 2 ^ 64 }
-        requires skipped { self.old.skips ≡ true → news.added ≡ [] }
-        ensures ok { OnOk result (self.new ≡ record (informed self.old self.old.skips news.added news.mark) { segments = news.segments; lease = self.old.lease }) }
-        ensures answer { IfOk result (λ answer. answer ≡ answer_of news.replayed (number self.new)) }
-        ensures err { OnErr result (self.new ≡ self.old) }
+    /// Has what log files have, and stays at the manifest that it goes by.
+    fn take_news(&mut self, alloc: Global, news: &News) -> PollAnswer
+        ensures ok { self.new ≡ settled self.old.skips self.old news.now.mark }
+        ensures answer { result ≡ answer_of news.now.replayed (number self.new) }
     {
-        let view = self.status.manifest().clone()?;
+        self.mark = news.mark;
         if self.following.skips {
-            let rebuilt = Rebuilt {
-                following: self.following,
-                view,
-                memory: news.added,
-                segments: news.segments,
-                mark: news.mark,
-            };
-            self.take(alloc, rebuilt)?;
-        } else {
-            self.take_more(alloc, view, news.added, news.segments, news.mark)?;
+            self.kept = Vec::new(alloc);
+            self.number = self.status.manifest().manifest.last_l0_seq;
+            self.segments = Seq::of(Vec::new(alloc));
         }
-        Ok(answer_of(news.replayed, self.number()))
+        answer_of(news.replayed, self.number())
+    }
+
+    /// Is as it was before it took what log files have.
+    fn drop_news(&mut self, news: News)
+        requires low { self.old.line.floor ≤ news.number }
+        requires high { news.number ≤ number self.old }
+        ensures { (before : Follower) → IsPushed before news.number news.segments self.old → self.new ≡ record before { lease = self.old.lease } }
+    {
+        self.take_back(news.number);
+        self.segments = news.segments;
     }
 }
 

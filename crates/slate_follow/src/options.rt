@@ -8,8 +8,9 @@ pub struct DbReaderOptions {
     pub checkpoint_lifetime_ms: u64,
     /// Whether the reader sees the tables alone, and reads no log file.
     pub skip_wal_replay: bool,
-    /// After the batch with which a table in memory has at least so many bytes of keys and values, another is begun. At 0
-    /// each batch has a table of its own.
+    /// A poll adds what it finds to the newest table in memory, unless that has at least so many bytes of keys and values:
+    /// then it begins another. So a table may have as many more as one poll finds, and what an opening finds is one
+    /// table. At 0 each poll that finds a batch begins a table.
     pub max_memtable_bytes: u64,
 }
 

@@ -38,8 +38,7 @@ impl FollowerState {
     /// database that was written with an extractor is opened with one of that name, and each key that is replayed is in a
     /// segment then. It calls the store twice at most, or three times where it puts a
     /// manifest, and once for each log file that it replays; and twice more for each time that another manifest was put
-    /// first, of eight. It takes time linear in the operations of the log files, and for each key a logarithm of the keys;
-    /// and as much once more, where they have `max_memtable_bytes` or more, since it cuts its tables in memory there.
+    /// first, of eight. It takes time linear in the operations of the log files, and for each key a logarithm of the keys.
     /// With an extractor it also takes a call of it for each segment of the manifest and each operation that it replays, and a
     /// logarithm of the prefixes for each operation. SlateDB's `DbReader::open`.
     ///
@@ -160,9 +159,9 @@ impl FollowerState {
     /// replay mark, and 27 times besides.
     ///
     /// It takes time linear in the operations of the log files that it reads, for each new key a logarithm of the keys,
-    /// and time for each batch that it drops, since it is in the tables of the manifest. Where it joins its last tables in
-    /// memory, so that they stay few, or cuts what is new, since it has `max_memtable_bytes` or more, that takes time
-    /// linear in the operations of these, too; and each poll looks at each table in memory, and copies the prefixes of its batches. Where the last number in the tables of
+    /// and time for each batch that it drops, since it is in the tables of the manifest. What it reads goes onto its newest table in
+    /// memory, unless that has `max_memtable_bytes` or more, and is taken back from there where it fails, which takes as long
+    /// again; and each poll looks at each table in memory, and copies the prefixes of its batches. Where the last number in the tables of
     /// the manifest has risen, it takes the prefixes of all batches in memory anew. Where its batches don't reach
     /// the manifest's tables, so that log files between may be gone, and where it replaced its checkpoint, it reads all log
     /// files above the replay mark, as an opening does.

@@ -30,16 +30,19 @@ pub(crate) struct Following {
 /// the manifest that it goes by.
 pub struct FollowerState {
     pub(crate) following: Following,
-    /// At how many bytes a table in memory is cut.
+    /// With how many bytes a table in memory takes no more batches.
     pub(crate) limit: u64,
-    /// Its batches, joined: the tables of each poll that found some, oldest first.
+    /// Its batches, joined: tables, oldest first.
     pub(crate) kept: Vec<IndexedTable>,
+    /// The number of the last batch that it sees.
+    pub(crate) number: u64,
     /// The prefixes of its batches, rising, each once.
     pub(crate) segments: Seq<Bytes>,
     /// The log files up to this id are replayed.
     pub(crate) mark: u64,
     /// Of the checkpoint that it keeps of its own, where it does.
     pub(crate) lease: Option<Lease>,
+    /// The manifest that it goes by, and the result with which it closed.
     pub(crate) status: StatusRecord,
     /// The task that runs until it is closed, unless it stays at a checkpoint.
     pub(crate) tasks: Tasks,
@@ -51,6 +54,7 @@ impl Drop for FollowerState {
             following: _,
             limit: _,
             kept: _,
+            number: _,
             segments: _,
             mark: _,
             lease: _,
@@ -73,8 +77,8 @@ impl Model for FollowerState {
 }
 
 impl FollowerState {
-    /// A reader that was opened with what was built, under a lease where it keeps a checkpoint of its own, and cuts its
-    /// tables in memory at `limit` bytes.
+    /// A reader that was opened with what was built, under a lease where it keeps a checkpoint of its own, and begins
+    /// another table in memory where one has `limit` bytes.
     pub(crate) fn new(
         alloc: Global,
         rebuilt: Rebuilt,
@@ -90,7 +94,8 @@ impl FollowerState {
         Ok(FollowerState {
             following,
             limit,
-            kept: list_of(alloc, rebuilt.memory, limit)?,
+            kept: list_of(alloc, rebuilt.memory)?,
+            number,
             segments: rebuilt.segments,
             mark: rebuilt.mark,
             lease,
@@ -107,7 +112,8 @@ impl FollowerState {
         ensures err { OnErr result (self.new ≡ self.old) }
     {
         let number = rebuilt.number();
-        self.kept = list_of(alloc, rebuilt.memory, self.limit)?;
+        self.kept = list_of(alloc, rebuilt.memory)?;
+        self.number = number;
         self.following = rebuilt.following;
         self.segments = rebuilt.segments;
         self.mark = rebuilt.mark;
@@ -133,7 +139,7 @@ impl FollowerState {
     pub fn number(&self) -> u64
         ensures { result ≡ number self.now }
     {
-        self.status.durable()
+        self.number
     }
 
     /// The id of the log file up to which it has what the log files have. After an answer `Whole` of a reader that follows
@@ -173,6 +179,7 @@ impl FollowerState {
         ensures { IfOk result (λ status. status ≡ follower_status self.now) }
     {
         Ok(DbStatus {
+            durable_seq: self.number,
             memtable_segments: Seq::of(copies(alloc, self.segments.as_slice())?),
             ..self.status.status(alloc)?
         })

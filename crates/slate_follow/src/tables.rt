@@ -1,89 +1,161 @@
-// The tables in memory of a reader, oldest first: those of each poll that found a batch, cut at a size.
-ghost use Rattle.std.specs.Prelude.{◌≡◌, ◌+◌, ◌-◌, ◌<◌, ◌≤◌, ◌++◌, ◌∷◌, [], List, length, take, IfOk, IfSome, OnOk, OnErr};
+// The tables in memory of a reader, oldest first: a poll adds to the newest one what it found, until that has enough.
+ghost use Rattle.std.specs.Prelude.{◌≡◌, ◌+◌, ◌-◌, ◌<◌, ◌≤◌, ◌^◌, ◌++◌, ◌∷◌, [], ℕ, List, length, take, IfOk, IfErr, IfSome, OnOk, OnErr, Option, Err, Some, None};
+ghost use Rattle.std.specs.Option.{option_copied};
 ghost use Rattle.slate_types.specs.declared.batches.Batch.{Batch as AnyBatch};
-ghost use Rattle.slate_types.specs.Line.{batches_above};
-ghost use Rattle.slate_reads.specs.Index.{IsAboveLast};
-ghost use Rattle.slate_reads.specs.Size.{size_of};
-ghost use Rattle.slate_follow.specs.Joined.{AddsCut, AreCut, AreFilled, filled_list, joined};
+ghost use Rattle.slate_types.specs.Line.{AreNumberedFrom, batches_above};
+ghost use Rattle.slate_model.specs.Known.{CountsFaults};
+ghost use Rattle.slate_model.specs.Segments.{Extractor, IsExtractor, ops_of, segments_of, unsegmented_refusal};
+ghost use Rattle.slate_follow.specs.Growing.{GivesRefused, Grew, added_to};
+ghost use Rattle.slate_follow.specs.Joined.{AreFilled, joined};
+ghost use Rattle.slate_follow.specs.Rebuilding.{IsOfRebuilding};
 
+use bytes::Bytes;
+use slate_errors::SlateError;
 use slate_reads::IndexedTable;
-use slate_types::{Batch, NoMemory};
+use slate_replay::{Replayed, replay};
+use slate_segments::replayed_segments;
+use slate_store::Store;
+use slate_types::{NoMemory, PrefixExtractor};
 use std::alloc::Global;
-use std::mem;
 
-/// A list of a table, cut at `limit` bytes as by `add`, and of none where it has no batch.
-pub(crate) fn list_of(
-    alloc: Global,
-    table: IndexedTable,
-    limit: u64,
-) -> Result<Vec<IndexedTable>, NoMemory>
+/// What log files gave beside the batches that are in memory: how many batches, the prefixes of their keys, and how the replay
+/// ended.
+#[derive(Drop)]
+pub(crate) struct Added {
+    pub(crate) count: u64,
+    pub(crate) prefixes: Vec<Bytes>,
+    pub(crate) replayed: Replayed,
+}
+
+/// A list of a table, and of none where it has no batch.
+pub(crate) fn list_of(alloc: Global, table: IndexedTable) -> Result<Vec<IndexedTable>, NoMemory>
     ensures same { IfOk result (λ tables. joined tables.items ≡ table) }
     ensures filled { IfOk result (λ tables. AreFilled tables.items) }
-    ensures cut { IfOk result (λ tables. AreCut limit table tables.items) }
 {
     let mut tables = Vec::new(alloc);
-    add(alloc, &mut tables, table, limit)?;
+    tables.push(table).map_err(NoMemory::from)?;
+    drop_empty(&mut tables);
     Ok(tables)
 }
 
-/// Adds a table after the others, where it has a batch. One with `limit` bytes or more is cut after each batch with
-/// which a table has that many.
-pub(crate) fn add(
-    alloc: Global,
-    tables: &mut Vec<IndexedTable>,
-    table: IndexedTable,
-    limit: u64,
-) -> Result<(), NoMemory>
-    ensures ok { OnOk result (AddsCut limit tables.old.items table tables.new.items) }
+/// Begins another table where there is none, or the newest one has `limit` bytes or more.
+fn begin_table(alloc: Global, tables: &mut Vec<IndexedTable>, limit: u64) -> Result<(), NoMemory>
+    ensures some { OnOk result (0 < length tables.new.items) }
+    ensures same { OnOk result (joined tables.new.items ≡ joined tables.old.items) }
     ensures err { OnErr result (tables.new.items ≡ tables.old.items) }
 {
-    if table.size() < limit {
-        return add_whole(tables, table);
-    }
-    let mut cut = cut(alloc, &table, limit)?;
-    tables.append(&mut cut)?;
-    Ok(())
-}
-
-/// Adds a table after the others as it is, where it has a batch.
-fn add_whole(tables: &mut Vec<IndexedTable>, table: IndexedTable) -> Result<(), NoMemory>
-    ensures ok { OnOk result (tables.new.items ≡ tables.old.items ++ filled_list table) }
-    ensures err { OnErr result (tables.new.items ≡ tables.old.items) }
-{
-    if table.batches().is_empty() {
-        return Ok(());
-    }
-    tables.push(table).map_err(NoMemory::from)?;
-    Ok(())
-}
-
-/// Copies of a table's batches, which share their keys and values, in tables that are cut after each batch with which
-/// one has `limit` bytes. It takes the time of as many pushes.
-fn cut(alloc: Global, table: &IndexedTable, limit: u64) -> Result<Vec<IndexedTable>, NoMemory>
-    ensures { IfOk result (λ tables. AreCut limit table.now tables.items) }
-{
-    let mut tables = Vec::new(alloc);
-    let mut last = IndexedTable::new(alloc);
-    for batch in table.batches() {
-        push_copy(&mut last, batch)?;
-        if limit <= last.size() {
-            let full = mem::replace(&mut last, IndexedTable::new(alloc));
-            tables.push(full).map_err(NoMemory::from)?;
+    if let Some(newest) = tables.last() {
+        if newest.size() < limit {
+            return Ok(());
         }
     }
-    add_whole(&mut tables, last)?;
-    Ok(tables)
+    tables
+        .push(IndexedTable::new(alloc))
+        .map_err(NoMemory::from)?;
+    Ok(())
 }
 
-/// Adds a copy of a batch, which shares its keys and values.
-fn push_copy(table: &mut IndexedTable, batch: &Batch) -> Result<(), NoMemory>
-    requires { IsAboveLast batch.now.number table.old }
-    ensures { OnOk result (table.new ≡ table.old ++ batch.now ∷ []) }
+/// Adds to the newest table what the log files above `from` up to `last` have after the batch with this number, the last one
+/// of all; or leaves the batches as they are, where that fails or a key of it has no segment. A table with `limit` bytes or more
+/// takes no more: another is begun.
+pub(crate) fn append_logs<S: Store, E: PrefixExtractor>(
+    alloc: Global,
+    store: &mut S,
+    tables: &mut Vec<IndexedTable>,
+    limit: u64,
+    number: u64,
+    from: u64,
+    last: u64,
+    extractor: Option<&E>,
+) -> Result<Added, SlateError>
+    requires numbered { (floor : ℕ) × AreNumberedFrom floor (joined tables.old.items) × (number ≡ floor + length (joined tables.old.items)) }
+    ensures grew { IfOk result (λ added. Grew number from last (S.objects store.old) (joined tables.old.items) (joined tables.new.items) added.replayed) }
+    ensures count { IfOk result (λ added. added.count ≡ length (added_to (joined tables.old.items) (joined tables.new.items))) }
+    ensures prefixes { (x : Option Extractor) → IsExtractor E.may_name E.may_extract (option_copied extractor.entry) x → IfOk result (λ added.
+        added.prefixes.items ≡ segments_of x (added_to (joined tables.old.items) (joined tables.new.items))) }
+    ensures err { OnErr result (joined tables.new.items ≡ joined tables.old.items) }
+    ensures filled { AreFilled tables.old.items → AreFilled tables.new.items }
+    ensures lacks { (x : Option Extractor) (key : List ℕ) → IsExtractor E.may_name E.may_extract (option_copied extractor.entry) x →
+        result ≡ Err (SlateError.EmptySegmentPrefix key) → IfSome (S.objects store.old) (GivesRefused x number from last (SlateError.EmptySegmentPrefix key)) }
+    ensures refusals { IfErr result IsOfRebuilding }
+    ensures faults { CountsFaults (S.faults store.old) (S.faults store.new) result }
+    ensures calls { S.calls store.new ≤ S.calls store.old + (last - from) }
+    ensures kept { S.objects store.new ≡ S.objects store.old }
 {
-    match table.push(batch.clone()?) {
-        Ok(()) => Ok(()),
-        Err(_batch) => Err(NoMemory),
+    begin_table(alloc, tables, limit)?;
+    let newest = tables.len() - 1;
+    let table = &mut tables[newest];
+    let added = replay_onto(alloc, store, table, number, from, last, extractor);
+    drop_empty(tables);
+    added
+}
+
+/// Adds to a table what log files have after its last batch, or leaves it as it is, as by `append_logs`.
+fn replay_onto<S: Store, E: PrefixExtractor>(
+    alloc: Global,
+    store: &mut S,
+    table: &mut IndexedTable,
+    number: u64,
+    from: u64,
+    last: u64,
+    extractor: Option<&E>,
+) -> Result<Added, SlateError>
+    requires numbered { (floor : ℕ) × AreNumberedFrom floor table.old × (number ≡ floor + length table.old) }
+    ensures grew { IfOk result (λ added. Grew number from last (S.objects store.old) table.old table.new added.replayed) }
+    ensures count { IfOk result (λ added. added.count ≡ length (added_to table.old table.new)) }
+    ensures prefixes { (x : Option Extractor) → IsExtractor E.may_name E.may_extract (option_copied extractor.entry) x → IfOk result (λ added.
+        added.prefixes.items ≡ segments_of x (added_to table.old table.new)) }
+    ensures err { OnErr result (table.new ≡ table.old) }
+    ensures lacks { (x : Option Extractor) (key : List ℕ) → IsExtractor E.may_name E.may_extract (option_copied extractor.entry) x →
+        result ≡ Err (SlateError.EmptySegmentPrefix key) → IfSome (S.objects store.old) (GivesRefused x number from last (SlateError.EmptySegmentPrefix key)) }
+    ensures refusals { IfErr result IsOfRebuilding }
+    ensures faults { CountsFaults (S.faults store.old) (S.faults store.new) result }
+    ensures calls { S.calls store.new ≤ S.calls store.old + (last - from) }
+    ensures kept { S.objects store.new ≡ S.objects store.old }
+{
+    let count = table.batches().len();
+    match replay_more(alloc, store, table, number, from, last, extractor) {
+        Ok(added) => Ok(added),
+        Err(error) => {
+            table.truncate(count);
+            Err(error)
+        }
     }
+}
+
+/// Adds to a table what log files have after its last batch. Where that fails, the table has some of it.
+fn replay_more<S: Store, E: PrefixExtractor>(
+    alloc: Global,
+    store: &mut S,
+    table: &mut IndexedTable,
+    number: u64,
+    from: u64,
+    last: u64,
+    extractor: Option<&E>,
+) -> Result<Added, SlateError>
+    requires numbered { (floor : ℕ) × AreNumberedFrom floor table.old × (number ≡ floor + length table.old) }
+    ensures grows { (added : List AnyBatch) × (table.new ≡ table.old ++ added) }
+    ensures grew { IfOk result (λ added. Grew number from last (S.objects store.old) table.old table.new added.replayed) }
+    ensures count { IfOk result (λ added. added.count ≡ length (added_to table.old table.new)) }
+    ensures prefixes { (x : Option Extractor) → IsExtractor E.may_name E.may_extract (option_copied extractor.entry) x → IfOk result (λ added.
+        added.prefixes.items ≡ segments_of x (added_to table.old table.new)) }
+    ensures lacks { (x : Option Extractor) (key : List ℕ) → IsExtractor E.may_name E.may_extract (option_copied extractor.entry) x →
+        result ≡ Err (SlateError.EmptySegmentPrefix key) → IfSome (S.objects store.old) (GivesRefused x number from last (SlateError.EmptySegmentPrefix key)) }
+    ensures refusals { IfErr result IsOfRebuilding }
+    ensures faults { CountsFaults (S.faults store.old) (S.faults store.new) result }
+    ensures calls { S.calls store.new ≤ S.calls store.old + (last - from) }
+    ensures kept { S.objects store.new ≡ S.objects store.old }
+{
+    let before = table.batches().len();
+    let floor = number - before as u64;
+    let replayed = replay(alloc, store, table, floor, from, last)?;
+    let batches = &table.batches()[before..];
+    let prefixes = replayed_segments(alloc, extractor, batches)?;
+    Ok(Added {
+        count: batches.len() as u64,
+        prefixes,
+        replayed,
+    })
 }
 
 /// Drops the batches at or below a number, and the tables that have none then.
@@ -104,66 +176,31 @@ fn drop_from_each(tables: &mut [IndexedTable], number: u64)
     }
 }
 
+/// Takes the last batches back, so that at most `count` are left, and drops the tables that have none then.
+pub(crate) fn truncate(tables: &mut Vec<IndexedTable>, count: usize)
+    ensures same { joined tables.new.items ≡ take count (joined tables.old.items) }
+    ensures filled { AreFilled tables.new.items }
+{
+    truncate_each(tables.as_mut_slice(), count);
+    drop_empty(tables);
+}
+
+/// Takes the last batches back, so that at most `count` are left in all tables together.
+fn truncate_each(tables: &mut [IndexedTable], count: usize)
+    ensures { joined tables.new ≡ take count (joined tables.old) }
+{
+    let mut left = count;
+    for table in tables.iter_mut() {
+        let had = table.batches().len();
+        table.truncate(left);
+        left = left.saturating_sub(had);
+    }
+}
+
 /// Drops the tables without a batch.
 fn drop_empty(tables: &mut Vec<IndexedTable>)
     ensures same { joined tables.new.items ≡ joined tables.old.items }
     ensures filled { AreFilled tables.new.items }
 {
     tables.retain(|table| !table.batches().is_empty());
-}
-
-/// Joins the last two tables while the last one has at least half the bytes of the one before it and both together have
-/// less than `limit`, so that there are few tables. Where memory runs out for that, those that are there stay.
-pub(crate) fn merge_small(alloc: Global, tables: &mut Vec<IndexedTable>, limit: u64)
-    ensures same { joined tables.new.items ≡ joined tables.old.items }
-    ensures filled { AreFilled tables.old.items → AreFilled tables.new.items }
-{
-    for _ in 0..tables.len() {
-        let Some(merged) = merge_last(alloc, tables.as_slice(), limit) else {
-            return;
-        };
-        replace_last_two(tables, merged);
-    }
-}
-
-/// Puts a table in place of the last two.
-fn replace_last_two(tables: &mut Vec<IndexedTable>, table: IndexedTable)
-    requires { 2 ≤ length tables.old.items }
-    ensures { tables.new.items ≡ take (length tables.old.items - 2) tables.old.items ++ table ∷ [] }
-{
-    let last = tables.len() - 1;
-    tables[last - 1] = table;
-    tables.truncate(last);
-}
-
-/// The last two tables joined, where the last one has at least half the bytes of the one before it, both together have
-/// less than `limit`, and memory serves.
-fn merge_last(alloc: Global, tables: &[IndexedTable], limit: u64) -> Option<IndexedTable>
-    ensures { IfSome result (λ merged. (earlier : List (List AnyBatch)) × (before last : List AnyBatch)
-        × (tables.now ≡ earlier ++ before ∷ last ∷ []) × (merged ≡ before ++ last) × (size_of before + size_of last < limit)) }
-{
-    let (last, earlier) = tables.split_last()?;
-    let (before, _) = earlier.split_last()?;
-    let size = before.size().saturating_add(last.size());
-    if size >= limit || last.size() < before.size() / 2 {
-        return None;
-    }
-    let mut merged = IndexedTable::new(alloc);
-    append_copies(&mut merged, before.batches())?;
-    append_copies(&mut merged, last.batches())?;
-    Some(merged)
-}
-
-/// Appends copies of batches, which share their keys and values, where memory serves, and each has a number above the
-/// one before it.
-fn append_copies(table: &mut IndexedTable, batches: &[Batch]) -> Option<()>
-    ensures { IfSome result (λ _. table.new ≡ table.old ++ batches.now) }
-{
-    for batch in batches {
-        if !table.is_above_last(batch.number) {
-            return None;
-        }
-        push_copy(table, batch).ok()?;
-    }
-    Some(())
 }

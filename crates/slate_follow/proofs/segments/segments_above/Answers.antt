@@ -9,7 +9,6 @@ use Rattle.slate_model.specs.Segments.{Extractor, IsExtractor, ops_of, prefixes_
 use Rattle.slate_segments.specs.Prefixes.{HaveSame}
 use Rattle.slate_segments.proofs.Taking.{segments-replayed}
 use Rattle.slate_follow.specs.Joined.{joined}
-use Rattle.slate_follow.proofs.Above.{above-append}
 use Rattle.slate_follow.proofs.Segmented.{none-more, same-append, some-first, some-later, tables-more, tables-split}
 use Rattle.slate_follow.proofs.segments.segments_above.Goals as goal
 
@@ -33,59 +32,34 @@ returns-in_err-take_above-clause-err g c x lawful =
     let p = err_from_is_err_and c.from_residual.result c.from_residual.ensures.1 in
     rw (p.1, p.2) (by x (subst (λ e. IsExtractor g.E.PrefixExtractor.may_name g.E.PrefixExtractor.may_extract (option_copied e) x) c.in-Some.is lawful)) where
       by : (x : Option Extractor) → IsExtractor g.E.PrefixExtractor.may_name g.E.PrefixExtractor.may_extract (Some c.in-Some.extractor.now) x →
-          (c.in_err-take_above.field-0.0 ≡ NoMemory) ⊎ (unsegmented_refusal x (ops_of (batches_above c.args.number (joined c.args.tables.now ++ c.args.added.now))) ≡ Some c.in_err-take_above.field-0.0)
+          (c.in_err-take_above.field-0.0 ≡ NoMemory) ⊎ (unsegmented_refusal x (ops_of (batches_above c.args.number (joined c.args.tables.now))) ≡ Some c.in_err-take_above.field-0.0)
       by None lacks = absurd lacks
       by (Some y) holds =
           let n = c.args.number in
           let ts = c.args.tables.now in
-          let added = c.args.added.now in
           let e = c.in_err-take_above.field-0.0 in
           let l = c.loop-table in
           let i = l.invariant y holds in
           let t = c.table-item.result in
           let front = batches_above n (joined (take l.table-index ts)) in
-          let rest = batches_above n (joined (drop (l.table-index + 1) ts) ++ added) in
-          let parts = tables-split n ts l.table-index t c.loop-table-test.true c.table-item.is added in
+          let rest = batches_above n (joined (drop (l.table-index + 1) ts)) in
+          let parts = tables-split n ts l.table-index t c.loop-table-test.true c.table-item.is in
           elim (subst (λ bs. (e ≡ NoMemory) ⊎ (unsegmented_refusal (Some y) (ops_of (batches_above n bs)) ≡ Some e)) c.batches.ensures.value (c.in_err-take_above.ensures.err y holds)) [
             | inl memory ↦ inl memory
             | inr cause ↦ inr (ap (λ bs. unsegmented_refusal (Some y) (ops_of bs)) parts ∙ some-later y front (batches_above n t ++ rest) e i.0 (some-first y (batches_above n t) rest e cause))
-          ]
-
-pub returns-in_err-take_above-2-clause-err : goal.returns-in_err-take_above-2-clause-err
-returns-in_err-take_above-2-clause-err g c x lawful =
-    let p = err_from_is_err_and c.from_residual-in_err-take_above-2.result c.from_residual-in_err-take_above-2.ensures.1 in
-    rw (p.1, p.2) (by x (subst (λ e. IsExtractor g.E.PrefixExtractor.may_name g.E.PrefixExtractor.may_extract (option_copied e) x) c.in-Some.is lawful)) where
-      by : (x : Option Extractor) → IsExtractor g.E.PrefixExtractor.may_name g.E.PrefixExtractor.may_extract (Some c.in-Some.extractor.now) x →
-          (c.in_err-take_above-2.field-0.0 ≡ NoMemory) ⊎ (unsegmented_refusal x (ops_of (batches_above c.args.number (joined c.args.tables.now ++ c.args.added.now))) ≡ Some c.in_err-take_above-2.field-0.0)
-      by None lacks = absurd lacks
-      by (Some y) holds =
-          let n = c.args.number in
-          let ts = c.args.tables.now in
-          let added = c.args.added.now in
-          let e = c.in_err-take_above-2.field-0.0 in
-          let i = c.loop-table.invariant y holds in
-          let all = take_all c.loop-table.table-index ts c.loop-table-test.false in
-          let front = subst (λ xs. unsegmented_refusal (Some y) (ops_of (batches_above n (joined xs))) ≡ None) all i.0 in
-          elim (c.in_err-take_above-2.ensures.err y holds) [
-            | inl memory ↦ inl memory
-            | inr cause ↦ inr (ap (λ bs. unsegmented_refusal (Some y) (ops_of bs)) (above-append n (joined ts) added) ∙ some-later y (batches_above n (joined ts)) (batches_above n added) e front cause)
           ]
 
 pub returns-clause-ok : goal.returns-clause-ok
 returns-clause-ok g c x lawful =
     by x (subst (λ e. IsExtractor g.E.PrefixExtractor.may_name g.E.PrefixExtractor.may_extract (option_copied e) x) c.in-Some.is lawful) where
       by : (x : Option Extractor) → IsExtractor g.E.PrefixExtractor.may_name g.E.PrefixExtractor.may_extract (Some c.in-Some.extractor.now) x →
-          c.in_ok-listed.field-0.items ≡ segments_of x (batches_above c.args.number (joined c.args.tables.now ++ c.args.added.now))
+          c.in_ok-listed.field-0.items ≡ segments_of x (batches_above c.args.number (joined c.args.tables.now))
       by None lacks = absurd lacks
       by (Some y) holds =
           let n = c.args.number in
           let ts = c.args.tables.now in
-          let added = c.args.added.now in
-          let old = c.loop-table.taken.keys in
-          let new = c.take_above-2.new.taken.keys in
+          let keys = c.loop-table.taken.keys in
           let all = take_all c.loop-table.table-index ts c.loop-table-test.false in
-          let had = subst (λ xs. HaveSame old (prefixes_of y (ops_of (batches_above n (joined xs))))) all (c.loop-table.invariant y holds).1 in
-          let took = same-append y [] old new (batches_above n (joined ts)) (batches_above n added) had (c.in_ok-take_above-2.ensures.ok y holds).1 in
-          let both = subst (λ bs. HaveSame new (prefixes_of y (ops_of bs))) (sym (above-append n (joined ts) added)) took in
+          let had = subst (λ xs. HaveSame keys (prefixes_of y (ops_of (batches_above n (joined xs))))) all (c.loop-table.invariant y holds).1 in
           let listed = c.in_ok-listed.ensures.listed in
-          listed ∙ segments-replayed y new (batches_above n (joined ts ++ added)) (subst AreRising listed c.in_ok-listed.ensures.rising) both
+          listed ∙ segments-replayed y keys (batches_above n (joined ts)) (subst AreRising listed c.in_ok-listed.ensures.rising) had

@@ -8,5 +8,5 @@ loop-table-preserved c =
     let within : l.table-index < length l.tables = omega (arith, l.auto.tables) in
     record {
       so_far = dropped-next c.args.number l.table-index c.args.tables.now l.tables c.table-item.result _ within l.auto.tables l.invariant.rest c.table-item.is c.drop_through.ensures l.invariant.so_far;
-      rest = rest-next c.args.number l.table-index c.args.tables.now l.tables c.table-item.result _ within l.auto.tables l.invariant.rest c.table-item.is c.drop_through.ensures;
+      rest = rest-next l.table-index c.args.tables.now l.tables _ l.invariant.rest;
     }

@@ -1,45 +1,74 @@
-use Rattle.std.proofs.Common.{◌≡◌, ◌∙◌, ◌++◌, max, Err, inl, inr, ap, subst, sym}
+use Rattle.std.proofs.Common.{◌≡◌, ◌∙◌, ◌++◌, ◌+◌, ◌≤◌, max, Err, None, ap, arith, length, length-append, rules, subst, sym}
 use Rattle.std.proofs.lemmas.Result.{err_from_is_err_and}
 use Rattle.slate_types.specs.Line.{batches_above}
-use Rattle.slate_errors.specs.declared.errors.SlateError.TheVariants.{EmptySegmentPrefix}
-use Rattle.slate_model.specs.Follower.{Follower, HasSegments}
+use Rattle.slate_model.specs.Follow.{AnswersAt}
+use Rattle.slate_model.specs.Follower.{Follower, HasSegments, follower_tasks, number}
 use Rattle.slate_model.specs.Segments.{segments_of}
+use Rattle.slate_errors.specs.declared.errors.SlateError.TheVariants.{EmptySegmentPrefix}
 use Rattle.slate_model.specs.declared.answers.PollAnswer.{PollAnswer}
-use Rattle.slate_follow.specs.Rebuilding.{Lacks}
-use Rattle.slate_follow.proofs.Continued.{going-lacks, gone-on}
+use Rattle.slate_follow.specs.Growing.{added_to}
+use Rattle.slate_follow.proofs.Continued.{followed-new, going-lacks, gone-on}
 use Rattle.slate_follow.proofs.Refusing.{err-same}
 use Rattle.slate_follow.proofs.Segmented.{followed-segments}
 use Rattle.slate_follow.proofs.states.FollowerState.go_on.Goals as goal
 
+pub go_by-requires : goal.go_by-requires
+go_by-requires g c =
+    let e = c.in_ok-replayed.ensures in
+    let old = c.args.self.now in
+    let mid = c.extend.new.self in
+    let view = ap (λ (f : Follower). f.view.manifest.last_l0_seq) e.same in
+    let floor = ap (λ (f : Follower). f.line.floor) e.same in
+    let lengths = ap length e.grew.parts ∙ length-append old.line.batches (added_to old.line.batches mid.line.batches) in
+    let r = c.requires.reaches in
+    let behind = r.0 in
+    let arrived = r.1 in
+    record { reaches = (omega (arith, view, behind), omega (arith, floor, lengths, arrived)) }
+
 pub returns-clause-gone : goal.returns-clause-gone
 returns-clause-gone g c =
-    let r = c.in_ok-replayed in
+    let e = c.in_ok-replayed.ensures in
     let view = c.args.view in
-    let from_is = c.max-from.ensures ∙ ap (λ (f : Follower). max f.mark view.manifest.replay_after_wal_id) c.self.view_is in
-    gone-on (g.S.Store.objects c.args.store.now) view c.args.last c.max-from.result c.number-number.result c.args.self.now c.new-added.result c.replay.new.memory r.replayed r.ensures.where_modelled from_is c.number-number.ensures c.new-added.ensures
-    c.take_more.new.self c.in_ok-segments.segments c.reached.result c.number.result c.answer_of.result c.requires.unleased c.reached.ensures c.in_ok-take_more.ensures.ok c.answer_of.ensures.value c.number.ensures
+    let old = c.args.self.now in
+    let mid = c.extend.new.self in
+    let new = c.go_by.new.self in
+    let tasks : old.tasks ≡ follower_tasks old.mode = subst (λ (f : Follower). f.result ≡ None → f.tasks ≡ follower_tasks f.mode) c.self.view_is c.self.invariant.running c.requires.open_ in
+    let from_is : c.max-from.result ≡ max old.mark view.manifest.replay_after_wal_id = c.max-from.ensures ∙ ap (λ (f : Follower). max f.mark view.manifest.replay_after_wal_id) c.self.view_is in
+    let becomes = followed-new view old mid new c.reached.result tasks c.requires.open_ e.same e.grew.parts c.go_by.ensures in
+    gone-on (g.S.Store.objects c.args.store.now) view c.args.last c.max-from.result old from_is (added_to old.line.batches mid.line.batches) c.in_ok-replayed.replayed e.grew.logs new mid.segments c.reached.result c.number.result c.answer_of.result
+    c.requires.unleased c.reached.ensures becomes c.answer_of.ensures.value c.number.ensures
+
+pub returns-clause-asked : goal.returns-clause-asked
+returns-clause-asked g c =
+    let e = c.in_ok-replayed.ensures in
+    (ap (λ (f : Follower). f.mode) c.go_by.ensures ∙ ap (λ (f : Follower). f.mode) e.same, ap (λ (f : Follower). f.skips) c.go_by.ensures ∙ ap (λ (f : Follower). f.skips) e.same)
+
+pub returns-clause-answer : goal.returns-clause-answer
+returns-clause-answer g c =
+    let e = c.in_ok-replayed.ensures in (
+      ap (λ (f : Follower). f.lease) c.go_by.ensures ∙ (ap (λ (f : Follower). f.lease) e.same ∙ c.requires.unleased),
+      ap (λ (f : Follower). f.result) c.go_by.ensures ∙ (ap (λ (f : Follower). f.result) e.same ∙ c.requires.open_),
+      subst (λ n. AnswersAt n c.answer_of.result) c.number.ensures c.answer_of.ensures.number,
+    )
 
 pub returns-clause-segments : goal.returns-clause-segments
 returns-clause-segments g c x lawful has =
-    let old = c.args.self.now in
+    let e = c.in_ok-replayed.ensures in
     let view = c.args.view in
-    let added = c.replay.new.memory in
-    let tabled = view.manifest.last_l0_seq in
-    let are = c.in_ok-segments.ensures.ok x lawful has ∙ ap (λ bs. segments_of x (batches_above tabled (old.line.batches ++ bs))) c.batches.ensures.value in
-    subst (HasSegments x) (sym c.in_ok-take_more.ensures.ok) (followed-segments x old view added c.reached.result c.in_ok-segments.segments old.lease are)
+    let old = c.args.self.now in
+    let mid = c.extend.new.self in
+    let tasks : old.tasks ≡ follower_tasks old.mode = subst (λ (f : Follower). f.result ≡ None → f.tasks ≡ follower_tasks f.mode) c.self.view_is c.self.invariant.running c.requires.open_ in
+    let added = added_to old.line.batches mid.line.batches in
+    let becomes = followed-new view old mid c.go_by.new.self c.reached.result tasks c.requires.open_ e.same e.grew.parts c.go_by.ensures in
+    let are = e.segments x lawful has ∙ ap (λ bs. segments_of x (batches_above view.manifest.last_l0_seq bs)) e.grew.parts in
+    subst (HasSegments x) (sym becomes) (followed-segments x old view added c.reached.result mid.segments old.lease are)
 
-pub returns-in_err-segments-clause-lacks : goal.returns-in_err-segments-clause-lacks
-returns-in_err-segments-clause-lacks g c x key lawful is =
-    let p = err_from_is_err_and c.from_residual-in_err-segments.result c.from_residual-in_err-segments.ensures.1 in
-    let r = c.in_ok-replayed in
-    let view = c.args.view in
+pub returns-in_err-replayed-clause-lacks : goal.returns-in_err-replayed-clause-lacks
+returns-in_err-replayed-clause-lacks g c x key lawful is =
+    let p = err_from_is_err_and c.from_residual.result c.from_residual.ensures.1 in
+    let e = c.in_err-replayed.field-0.0 in
     let old = c.args.self.now in
-    let e = c.in_err-segments.field-0.0 in
+    let view = c.args.view in
     let named : e ≡ EmptySegmentPrefix key = err-same PollAnswer e (EmptySegmentPrefix key) (sym (p.1 ∙ ap Err p.2) ∙ is) in
-    let from_is = c.max-from.ensures ∙ ap (λ (f : Follower). max f.mark view.manifest.replay_after_wal_id) c.self.view_is in
-    elim (c.in_err-segments.ensures.lacks x lawful) [
-      | inl memory ↦ absurd (cc (memory, named))
-      | inr lacks ↦
-          let here = subst (λ bs. Lacks x (batches_above view.manifest.last_l0_seq (old.line.batches ++ bs)) lacks.0) c.batches.ensures.value lacks.1 in
-          going-lacks (g.S.Store.objects c.args.store.now) view c.args.last c.max-from.result c.number-number.result old c.new-added.result c.replay.new.memory r.replayed r.ensures.where_modelled from_is c.number-number.ensures c.new-added.ensures x (lacks.0, here)
-    ]
+    let from_is : c.max-from.result ≡ max old.mark view.manifest.replay_after_wal_id = c.max-from.ensures ∙ ap (λ (f : Follower). max f.mark view.manifest.replay_after_wal_id) c.self.view_is in
+    going-lacks (g.S.Store.objects c.args.store.now) view c.args.last c.max-from.result old from_is x (c.in_err-replayed.ensures.lacks x key lawful (ap Err named))

@@ -38,6 +38,7 @@ forgotten a n end unlogged memory bs segments rising kept end_is left same count
       rising = rising;
       stored = kept.stored;
       seated = kept.seated;
+      told = kept.told;
       counted = counted;
     }
 

@@ -98,7 +98,7 @@ returns-clause-opens g c x lawful =
     (λ o is sound. whole_modelled x view last found fits v.kept puts memory recovers (subst (λ bs. unsegmented_refusal x (ops_of bs) ≡ None) c.batches.ensures.value segments.0) o is sound)
     (λ o is sound. recovered_at x options.wal_enabled options.max_unflushed_bytes (tasks_of options) view memory c.batches-3.result.now _ _ _ _ c.batches-3.ensures.value
     (segments.1 ∙ ap (segments_of x) c.batches.ensures.value)
-    (search rules ∙ (c.latest_tick-tick.ensures ∙ (ap (latest_tick _) c.batches-4.ensures.value ∙ ap (λ t. latest_tick t memory) (search rules)))) tracked c.in_ok-tasks.ensures
+    (search rules ∙ (c.latest_tick-tick.ensures ∙ (ap (latest_tick _) c.batches-4.ensures.value ∙ ap (λ t. latest_tick t memory) (search rules)))) tracked (ap (λ t. t.names) c.in_ok-tasks.ensures)
     ∙ recovered_modelled x view last found fits v.kept puts options.wal_enabled options.max_unflushed_bytes (tasks_of options) memory recovers o is sound))
 
 pub returns-clause-replays : goal.returns-clause-replays
@@ -137,5 +137,6 @@ invariant_of-result g c =
       rising = c.in_ok-segments.ensures.rising;
       stored = search rules;
       seated = search rules;
+      told = rw c.in_ok-tasks.ensures tt;
       counted = counted-none c.in_ok-view.view.manifest.last_l0_seq c.in_ok-memory.memory c.batches-3.result.now c.in_ok-memory.ensures.numbered c.batches-3.ensures.value;
     })

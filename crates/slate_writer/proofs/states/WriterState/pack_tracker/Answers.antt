@@ -12,5 +12,6 @@ invariant_of-self c =
       rising = k.rising;
       stored = k.stored;
       seated = k.seated;
+      told = k.told;
       counted = k.counted;
     }

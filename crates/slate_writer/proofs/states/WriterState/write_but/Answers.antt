@@ -50,6 +50,7 @@ invariant_of-self-2 g c =
       rising = rw c.replace.ensures (subst (λ (h : Handle). AreRising (unwrap_or c.in-Ok.admitted.1 h.segments)) (sym c.self.view_is) rises);
       stored = c.self.invariant.stored;
       seated = search rules;
+      told = c.self.invariant.told;
       counted = counted-push c.durable-durable.result memory _ _ c.ops_size-size.result _ (omega (arith, durable, next, c.self.invariant.durable)) counted size c.saturating_add-unlogged.ensures;
     })
 

@@ -35,8 +35,10 @@ DidAll settings commands replies store store' =
 
 -- The commands lead from the world of these objects, by one step each with its reply and each to a valid world, to one
 -- that the store holds afterwards. What was stored before is stored afterwards, a write that is reported durable is confirmed for good, what a
--- snapshot gives stays, a reader that is polled in time keeps its checkpoint, the first close of a handle or a reader lists
--- the tasks that its opening registered, and a handle that is opened has the tracker of the one that flushed to a table before.
+-- snapshot gives stays, a reader whose polls are whole keeps its checkpoint while sweeps come in time, the first close of a handle
+-- or a reader lists the tasks that its opening registered, a close of a reader that an error closed answers that, a handle that is
+-- opened has the tracker of the one that flushed to a table before, a status names the segments above the view, and a poll finds no
+-- key without a segment.
 pub record LeadsTo (settings : Settings) (commands : List Command) (replies : List Reply) (before : Objects) (faults : ℕ) (store : Known (List Batch)) : Type 0 where
   pub steps : List Step
   pub commands_are : map (λ step. step.command) steps ≡ commands

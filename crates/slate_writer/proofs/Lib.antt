@@ -1,3 +1,4 @@
+pub mod Answering
 pub mod Committing
 pub mod Counted
 pub mod Ends

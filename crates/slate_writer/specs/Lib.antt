@@ -3,6 +3,7 @@ pub mod Opening
 pub mod Board
 pub mod Joined
 pub mod Kept
+pub mod Kinds
 pub mod Memories
 pub mod Reading
 pub mod Refusal

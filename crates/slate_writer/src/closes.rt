@@ -1,9 +1,11 @@
 // Closing a handle, with the flush that is asked for.
-ghost use Rattle.std.specs.Prelude.{◌≡◌, ◌+◌, ◌≤◌, ℕ, [], None, Some, IfSome};
+ghost use Rattle.std.specs.Prelude.{◌≡◌, ◌+◌, ◌≤◌, ◌⊎◌, ℕ, [], None, Some, IfSome};
 ghost use Rattle.slate_model.specs.Close.{Closes, closed, ended, without_tasks};
 ghost use Rattle.slate_model.specs.Flush.{CanFlush};
 ghost use Rattle.slate_model.specs.Known.{known};
 ghost use Rattle.slate_model.specs.Stores.{by_objects};
+ghost use Rattle.slate_errors.specs.declared.errors.SlateError.TheVariants.{WalDisabled};
+ghost use Rattle.slate_writer.specs.Kinds.{IsOfFlush};
 ghost use Rattle.slate_writer.specs.Puts.{flush_calls};
 
 use crate::WriterState;
@@ -27,6 +29,7 @@ impl WriterState {
     pub fn close<S: Store>(&mut self, alloc: Global, store: &mut S, options: &CloseOptions) -> Ended
         ensures does { (made : ℕ) × Closes (by_objects (S.objects store.old)) made options.now.flush_type self.old
             (known S.objects S.faults store.old) result self.new (known S.objects S.faults store.new) }
+        ensures kind { self.old.result ≡ None → IfSome result.fault (λ error. (error ≡ WalDisabled) ⊎ IsOfFlush error) }
         ensures tasks { result.tasks ≡ self.old.tasks }
         ensures ended { self.new.tasks ≡ [] }
         ensures count { S.faults store.old ≤ S.faults store.new }

@@ -1,11 +1,12 @@
 // Flushing a handle's batches, to the log and to tables.
-ghost use Rattle.std.specs.Prelude.{◌≡◌, ◌+◌, ◌≤◌, ℕ, None, IfSome};
+ghost use Rattle.std.specs.Prelude.{◌≡◌, ◌+◌, ◌≤◌, ℕ, None, IfErr, IfSome};
 ghost use Rattle.slate_store.specs.Calls.{WhereModelled};
 ghost use Rattle.slate_store.specs.Objects.{last_log};
 ghost use Rattle.slate_model.specs.Flush.{CanFlush, FindsCurrent, Flushes, has_log_for, has_log_id, log_changes, recorded};
 ghost use Rattle.slate_model.specs.Handle.{kept_handle};
 ghost use Rattle.slate_model.specs.Known.{CountsFaults, known};
 ghost use Rattle.slate_model.specs.Stores.{by_objects};
+ghost use Rattle.slate_writer.specs.Kinds.{IsOfFlush, IsOfLooking};
 ghost use Rattle.slate_writer.specs.Puts.{IsDecided, MakesPart, StoresBy, calls_of, flush_calls, log_calls};
 
 use crate::WriterState;
@@ -49,6 +50,7 @@ impl WriterState {
         flush_type: FlushType,
     ) -> Result<(), SlateError>
         ensures does { (made : ℕ) × Flushes (by_objects (S.objects store.old)) made flush_type self.old (known S.objects S.faults store.old) result self.new (known S.objects S.faults store.new) }
+        ensures kind { CanFlush flush_type self.old → IfErr result IsOfFlush }
         ensures count { S.faults store.old ≤ S.faults store.new }
         ensures calls { S.calls store.new ≤ S.calls store.old + flush_calls flush_type }
         ensures counted { S.calls store.new ≤ S.calls store.old + calls_of flush_type self.old }
@@ -98,6 +100,7 @@ impl WriterState {
         store: &mut S,
         flush_type: FlushType,
     ) -> Result<(), SlateError>
+        ensures kind { IfErr result IsOfFlush }
         ensures stored { (made : ℕ) × StoresBy kept_handle (by_objects (S.objects store.old)) flush_type self.old
             (known S.objects S.faults store.old) result self.new (known S.objects S.faults store.new) made }
         ensures calls { S.calls store.new ≤ S.calls store.old + flush_calls flush_type }
@@ -116,6 +119,7 @@ impl WriterState {
         store: &mut S,
         flush_type: FlushType,
     ) -> Result<(), SlateError>
+        ensures kind { IfErr result IsOfFlush }
         ensures stored { (made : ℕ) × StoresBy (λ handle. handle) (by_objects (S.objects store.old)) flush_type self.old
             (known S.objects S.faults store.old) result self.new (known S.objects S.faults store.new) made }
         ensures calls { S.calls store.new ≤ S.calls store.old + flush_calls flush_type }
@@ -130,6 +134,7 @@ impl WriterState {
 
     /// Puts the batches that aren't stored yet as one log file, where there are any.
     fn store_in_log<S: Store>(&mut self, alloc: Global, store: &mut S) -> Result<(), SlateError>
+        ensures kind { IfErr result IsOfFlush }
         ensures stored { (made : ℕ) × StoresBy (λ handle. handle) (by_objects (S.objects store.old)) FlushType.Wal self.old
             (known S.objects S.faults store.old) result self.new (known S.objects S.faults store.new) made }
         ensures calls { S.calls store.new ≤ S.calls store.old + 3 }
@@ -161,6 +166,7 @@ pub(crate) fn current_manifest<S: Store>(
     ensures calls { S.calls store.new ≤ S.calls store.old + 1 }
     ensures kept { S.objects store.new ≡ S.objects store.old }
     ensures where_modelled { IfSome (S.objects store.old) (λ o. FindsCurrent epoch o result) }
+    ensures kind { IfErr result IsOfLooking }
 {
     let Some(latest) = store.latest_manifest(alloc)? else {
         return Err(SlateError::LatestTransactionalObjectVersionMissing);
@@ -179,6 +185,7 @@ fn append_log<S: Store>(
     batches: &[Batch],
 ) -> Result<(), SlateError>
     ensures faults { CountsFaults (S.faults store.old) (S.faults store.new) result }
+    ensures kind { IfErr result IsOfFlush }
     ensures calls { S.calls store.new ≤ S.calls store.old + log_calls batches.now }
     ensures appended { (counter : ℕ) → WhereModelled (λ o o'. (made : ℕ) × MakesPart (has_log_id batches.now (last_log mark o))
         (log_changes (λ batches. batches) batches.now (last_log mark o)) result counter counter made o o')

@@ -4,7 +4,7 @@ ghost use Rattle.std.specs.Option.{option_copied};
 ghost use Rattle.slate_types.specs.Line.{AreNumberedFrom};
 ghost use Rattle.slate_store.specs.Calls.{IsCall, IsOfList, WhereModelled};
 ghost use Rattle.slate_store.specs.declared.objects.VersionedManifest.{VersionedManifest};
-ghost use Rattle.slate_store.specs.Objects.{latest_manifest};
+ghost use Rattle.slate_store.specs.Objects.{Objects, latest_manifest};
 ghost use Rattle.slate_model.specs.Handle.{latest_tick};
 ghost use Rattle.slate_model.specs.Tracked.{latest_tracker, stored_tracker};
 ghost use Rattle.slate_model.specs.Known.{CountsFaults, known};
@@ -13,6 +13,7 @@ ghost use Rattle.slate_model.specs.Segments.{Extractor, IsExtractor, extractor_n
 ghost use Rattle.slate_model.specs.Stores.{by_objects};
 ghost use Rattle.slate_model.specs.Write.{last_number};
 ghost use Rattle.slate_replay.specs.Replay.{calls_after};
+ghost use Rattle.slate_writer.specs.Kinds.{IsOfOpening};
 ghost use Rattle.slate_writer.specs.Tasks.{tasks_of};
 ghost use Rattle.slate_writer.specs.Opening.{CallsOpening, FindsLog, FindsNext, Fits, HasLogs, IsOfFinding, IsOfManifest, PutsOpening, Recovers, recovery_calls};
 
@@ -72,7 +73,7 @@ impl WriterState {
     /// their writes and gets go on until then. Then it replays the log files above the manifest's replay mark, and
     /// keeps their batches that aren't in the manifest's tables in memory. The handle sees all batches that are stored,
     /// and all of them are durable. It reads no table. It calls the store four times, and once for each log file that
-    /// it replays; once more where the replay ended early. It takes time linear in the operations of the log files, and
+    /// it replays; once more where the replay ended early, and once alone where the latest manifest decides. It takes time linear in the operations of the log files, and
     /// for each key a logarithm of the keys. It makes room for 8194 numbers and times, 16 bytes a pair: its tracker
     /// is that of the latest manifest, and the batches that are replayed are tracked in it, in their order. With an extractor it also takes a call of it for each segment of the
     /// manifest and each operation that it replays, and a logarithm of the prefixes for each operation. SlateDB's
@@ -104,6 +105,10 @@ impl WriterState {
         ensures floor { IfOk result (λ h. h.line.floor ≡ h.view.manifest.last_l0_seq) }
         ensures replays { IfOk result (λ h. IfSome (S.objects store.old) (λ o. HasLogs o h)) }
         ensures calls { IfSome (S.objects store.old) (λ o. CallsOpening o (S.calls store.old) (S.calls store.new) result) }
+        // What the latest manifest decides takes one call.
+        ensures first { (x : Option Extractor) (o : Objects) → IsExtractor E.may_name E.may_extract (option_copied extractor.entry) x →
+            S.objects store.old ≡ Some o → (manifest_refusal x (latest_manifest o) ≡ None → ⊥) → S.calls store.new ≤ S.calls store.old + 1 }
+        ensures kind { IfErr result IsOfOpening }
         ensures faults { S.faults store.old ≤ S.faults store.new }
     {
         let (board, mut lead) = new_board(alloc)?;
@@ -259,6 +264,8 @@ fn find_next<S: Store, E: PrefixExtractor>(
     ensures tracked { IfOk result (λ found. stored_tracker found.0.manifest ≡ Some found.2) }
     ensures fits { (x : Option Extractor) → IsExtractor E.may_name E.may_extract (option_copied extractor.entry) x → name ≡ extractor_name x →
         IfSome (S.objects store.old) (λ o. Fits x o result) }
+    ensures first { (x : Option Extractor) (o : Objects) → IsExtractor E.may_name E.may_extract (option_copied extractor.entry) x →
+        S.objects store.old ≡ Some o → (manifest_refusal x (latest_manifest o) ≡ None → ⊥) → S.calls store.new ≤ S.calls store.old + 1 }
     ensures kind { IfErr result IsOfFinding }
     ensures below { IfOk result (λ found. found.1 < last_number) }
 {
@@ -281,6 +288,7 @@ fn put_opening<S: Store>(
     ensures faults { CountsFaults (S.faults store.old) (S.faults store.new) result }
     ensures calls { S.calls store.new ≤ S.calls store.old + 2 }
     ensures counted { IfOk result (λ done. S.calls store.new ≡ calls_after 2 (S.calls store.old)) }
+    ensures kind { IfErr result IsOfOpening }
     ensures where_modelled { WhereModelled (PutsOpening view.now fence result) (S.objects store.old) (S.objects store.new) }
 {
     store.put_manifest(alloc, view.id, &view.manifest)?;
@@ -314,6 +322,7 @@ fn recover<S: Store>(
     ensures kept { S.objects store.new ≡ S.objects store.old }
     ensures numbered { IfOk result (λ batches. AreNumberedFrom view.now.manifest.last_l0_seq batches) }
     ensures fits { IfOk result (λ batches. view.now.manifest.last_l0_seq + length batches < 2 ^ 64) }
+    ensures kind { IfErr result IsOfOpening }
     ensures where_modelled { IfSome (S.objects store.old) (λ o. Recovers view.now last o result) }
 {
     let manifest = &view.manifest;

@@ -1,5 +1,5 @@
 // Refreshing a handle's view, and compacting the tables of its database.
-ghost use Rattle.std.specs.Prelude.{◌≡◌, ◌+◌, ◌≤◌, ℕ, None, IfOk, IfSome};
+ghost use Rattle.std.specs.Prelude.{◌≡◌, ◌+◌, ◌≤◌, ℕ, None, IfErr, IfOk, IfSome};
 ghost use Rattle.slate_model.specs.Handle.{kept_handle};
 ghost use Rattle.slate_model.specs.Known.{CountsFaults, FaultsRise, known};
 ghost use Rattle.slate_model.specs.Refresh.{Compacts, RefreshAnswer, Refreshes, fenced_result};
@@ -7,6 +7,7 @@ ghost use Rattle.slate_model.specs.Stores.{by_objects};
 ghost use Rattle.slate_store.specs.Calls.{WhereModelled};
 ghost use Rattle.slate_store.specs.Compaction.{HasTablesToJoin, compact_calls};
 ghost use Rattle.slate_writer.specs.Joined.{Joins};
+ghost use Rattle.slate_writer.specs.Kinds.{IsOfLooking};
 
 use crate::WriterState;
 use crate::flushes::current_manifest;
@@ -29,6 +30,7 @@ impl WriterState {
         store: &mut S,
     ) -> Result<(), SlateError>
         ensures does { Refreshes (by_objects (S.objects store.old)) self.old (known S.objects S.faults store.old) result self.new (known S.objects S.faults store.new) }
+        ensures kind { self.old.result ≡ None → IfErr result IsOfLooking }
         ensures count { S.faults store.old ≤ S.faults store.new }
         ensures calls { S.calls store.new ≤ S.calls store.old + 1 }
         ensures untouched { (self.old.result ≡ None → ⊥) → store.new ≡ store.old }
@@ -76,6 +78,7 @@ impl WriterState {
         ensures moved { self.new ≡ record self.old { view = self.new.view } }
         ensures faults { CountsFaults (S.faults store.old) (S.faults store.new) result }
         ensures calls { S.calls store.new ≤ S.calls store.old + 1 }
+        ensures kind { IfErr result IsOfLooking }
         ensures kept { S.objects store.new ≡ S.objects store.old }
         ensures answer { IfSome (S.objects store.old) (λ o. RefreshAnswer self.old o result self.new.view) }
     {

@@ -11,6 +11,7 @@ ghost use Rattle.slate_model.specs.Handle.{next_table, to_log};
 ghost use Rattle.slate_model.specs.Known.{CountsFaults, known};
 ghost use Rattle.slate_model.specs.Stores.{by_objects};
 ghost use Rattle.slate_model.specs.Write.{last_number};
+ghost use Rattle.slate_writer.specs.Kinds.{IsOfFlush};
 ghost use Rattle.slate_writer.specs.Puts.{DurableThen, IsDecided, MakesPart, PutsLog, StoresBy, all_changes, calls_of, durable_by, has_all_ids, logged_durable, plain, put_calls, table_puts};
 
 use crate::WriterState;
@@ -32,6 +33,7 @@ impl WriterState {
         alloc: Global,
         store: &mut S,
     ) -> Result<(), SlateError>
+        ensures kind { IfErr result IsOfFlush }
         ensures stored { (made : ℕ) × StoresBy (λ handle. handle) (by_objects (S.objects store.old)) MemTable self.old
             (known S.objects S.faults store.old) result self.new (known S.objects S.faults store.new) made }
         ensures calls { S.calls store.new ≤ S.calls store.old + 5 }
@@ -78,6 +80,7 @@ impl WriterState {
         ensures counter { (self.old.counter ≤ self.new.counter) × (self.new.counter ≤ self.old.counter + 1) }
         ensures faults { CountsFaults (S.faults store.old) (S.faults store.new) result }
         ensures calls { S.calls store.new ≤ S.calls store.old + 3 + put_calls (to_log self.old) }
+        ensures kind { IfErr result IsOfFlush }
         ensures commits { IfOk result (λ next. IfSome (S.objects store.old) (λ o. next ≡ next_flushed self.old latest.now (last_log latest.now.manifest.replay_after_wal_id o))) }
         ensures put { (made : ℕ) × DurableThen made self.old (plain result) self.new
             × WhereModelled (λ o o'. let last = last_log latest.now.manifest.replay_after_wal_id o in
@@ -214,6 +217,7 @@ impl WriterState {
         ensures moved { self.new ≡ record self.old { durable = self.new.durable; counter = self.new.counter } }
         ensures counter { (self.old.counter ≤ self.new.counter) × (self.new.counter ≤ self.old.counter + 1) }
         ensures faults { CountsFaults (S.faults store.old) (S.faults store.new) result }
+        ensures kind { IfErr result IsOfFlush }
         ensures calls { S.calls store.new ≤ S.calls store.old + 2 + put_calls (to_log self.old) }
         ensures put { (made : ℕ) × DurableThen made self.old result self.new
             × WhereModelled (MakesPart true (table_puts next.now.manifest.replay_after_wal_id (to_log self.old) (next_table self.old) table.now next.now)
@@ -236,6 +240,7 @@ impl WriterState {
     ) -> Result<(), SlateError>
         ensures moved { self.new ≡ record self.old { durable = durable_by (to_log self.old) self.old result } }
         ensures faults { CountsFaults (S.faults store.old) (S.faults store.new) result }
+        ensures kind { IfErr result IsOfFlush }
         ensures calls { S.calls store.new ≤ S.calls store.old + put_calls (to_log self.old) }
         ensures put { WhereModelled (PutsLog id (to_log self.old) result) (S.objects store.old) (S.objects store.new) }
     {

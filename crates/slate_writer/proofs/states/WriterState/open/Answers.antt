@@ -8,6 +8,7 @@ use Rattle.slate_model.specs.Segments.{extractor_name, ops_of, segments_of, unse
 use Rattle.slate_model.specs.Tracked.{tracked_all}
 use Rattle.slate_writer.specs.Opening.{FindsNext}
 use Rattle.slate_writer.specs.Tasks.{tasks_of}
+use Rattle.slate_writer.proofs.Answering.{finding-opening, segment-opening, unrefused}
 use Rattle.slate_writer.proofs.Counted.{counted-none}
 use Rattle.slate_writer.proofs.Openings.{calls-of, calls-of-ok, calls-of-puts, calls-of-segments, found_view, has_logs, none_modelled, opened-tracker, opened_modelled, opens_err, opens_ok, puts_modelled, recovered_at, recovered_modelled, recovery_modelled, segment-faults, segmented_finding, segmented_modelled, segmented_putting, segmented_recovering, segmented_refusing, segments_modelled, untracked_modelled, whole_modelled}
 use Rattle.slate_writer.proofs.Tracking.{ends-all, ends-stored}
@@ -140,3 +141,28 @@ invariant_of-result g c =
       told = rw c.in_ok-tasks.ensures tt;
       counted = counted-none c.in_ok-view.view.manifest.last_l0_seq c.in_ok-memory.memory c.batches-3.result.now c.in_ok-memory.ensures.numbered c.batches-3.ensures.value;
     })
+
+pub returns-in_err-view-clause-first : goal.returns-in_err-view-clause-first
+returns-in_err-view-clause-first g c x o lawful is decided = c.in_err-view.ensures.first x o lawful is decided
+
+pub returns-in_err-put_opening-clause-first : goal.returns-in_err-put_opening-clause-first
+returns-in_err-put_opening-clause-first g c x o lawful is decided = unrefused _ x (c.in_ok-view.ensures.fits x lawful (c.in_ok-name.ensures x lawful)) o is decided
+
+pub returns-in_err-memory-clause-first : goal.returns-in_err-memory-clause-first
+returns-in_err-memory-clause-first g c x o lawful is decided = unrefused _ x (c.in_ok-view.ensures.fits x lawful (c.in_ok-name.ensures x lawful)) o is decided
+
+pub returns-in_err-segments-clause-first : goal.returns-in_err-segments-clause-first
+returns-in_err-segments-clause-first g c x o lawful is decided = unrefused _ x (c.in_ok-view.ensures.fits x lawful (c.in_ok-name.ensures x lawful)) o is decided
+
+pub returns-clause-first : goal.returns-clause-first
+returns-clause-first g c x o lawful is decided = unrefused _ x (c.in_ok-view.ensures.fits x lawful (c.in_ok-name.ensures x lawful)) o is decided
+
+pub returns-in_err-view-clause-kind : goal.returns-in_err-view-clause-kind
+returns-in_err-view-clause-kind g c =
+    let p = err_from_is_err_and c.from_residual-in_err-view.result c.from_residual-in_err-view.ensures.1 in
+    rw (p.1, p.2) (finding-opening _ c.in_err-view.ensures.kind)
+
+pub returns-in_err-segments-clause-kind : goal.returns-in_err-segments-clause-kind
+returns-in_err-segments-clause-kind g c =
+    let p = err_from_is_err_and c.from_residual-in_err-segments.result c.from_residual-in_err-segments.ensures.1 in
+    rw (p.1, p.2) (segment-opening _ c.in_err-segments.ensures.kind)

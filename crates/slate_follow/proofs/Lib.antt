@@ -1,9 +1,11 @@
 pub mod Above
+pub mod Answering
 pub mod Closing
 pub mod Continued
 pub mod Counted
 pub mod Cutting
 pub mod Growing
+pub mod Handed
 pub mod Informed
 pub mod Joining
 pub mod Keeping

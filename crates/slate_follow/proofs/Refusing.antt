@@ -168,17 +168,13 @@ last-fails (Some o) x mode opening (errors.ObjectStoreError Unavailable) is = tt
 last-fails (Some o) x mode opening errors.NoMemory is = tt
 last-fails (Some o) x mode opening e is = absurd is
 
-pub view-unnamed : (e : SlateError) (key : List ℕ) → IsOfView e → e ≡ errors.EmptySegmentPrefix key → ⊥
-view-unnamed (errors.CheckpointMissing id) key is same = cc
-view-unnamed (errors.ObjectStoreError fault) key is same = cc
-view-unnamed errors.NoMemory key is same = cc
-view-unnamed e key is same = is
+pub view-unnamed : (mode : DbReaderMode) (e : SlateError) (key : List ℕ) → IsOfView mode e → e ≡ errors.EmptySegmentPrefix key → ⊥
+view-unnamed mode (errors.EmptySegmentPrefix other) key is same = is
+view-unnamed mode e key is same = cc
 
-pub view-valid : (e : SlateError) → IsOfView e → e ≡ errors.InvalidDBState → ⊥
-view-valid (errors.CheckpointMissing id) is same = cc
-view-valid (errors.ObjectStoreError fault) is same = cc
-view-valid errors.NoMemory is same = cc
-view-valid e is same = is
+pub view-valid : (mode : DbReaderMode) (e : SlateError) → IsOfView mode e → e ≡ errors.InvalidDBState → ⊥
+view-valid mode errors.InvalidDBState is same = is
+view-valid mode e is same = cc
 
 -- the calls for the manifest and the last log file
 pub two-calls : (pinned : Bool) (a b c d : ℕ) → b ≤ a + 1 → c ≤ b + cond pinned 1 0 → d ≤ c + cond pinned 0 1 → d ≤ a + 2

@@ -15,7 +15,7 @@ use Rattle.slate_errors.specs.declared.errors.SlateError.{SlateError}
 use Rattle.slate_errors.specs.declared.errors.SlateError.TheVariants as errors
 use Rattle.slate_model.specs.Follow.{FollowCause}
 use Rattle.slate_model.specs.Followed.{IsView, RefusesLatest, finds, followed_logs, last_read, view_under}
-use Rattle.slate_model.specs.Follower.{Follower, number, rebuilt, unsegmented}
+use Rattle.slate_model.specs.Follower.{Follower, is_pinned, number, rebuilt, unsegmented}
 use Rattle.slate_model.specs.Open.{replayed_logs}
 use Rattle.slate_model.specs.Segments.{Extractor, ops_of, unsegmented_refusal}
 use Rattle.slate_model.specs.Stores.{Unpinned}
@@ -108,11 +108,12 @@ GoesBy mode objects latest (Err errors.NoMemory) = Unit {0}
 GoesBy mode objects latest (Err error) = ⊥
 
 -- the errors of looking for it
-abbrev pub IsOfView : SlateError → Type 0
-IsOfView (errors.CheckpointMissing id) = Unit {0}
-IsOfView (errors.ObjectStoreError fault) = Unit {0}
-IsOfView errors.NoMemory = Unit {0}
-IsOfView error = ⊥
+abbrev pub IsOfView : DbReaderMode → SlateError → Type 0
+IsOfView mode (errors.CheckpointMissing id) = mode ≡ Checkpoint id
+IsOfView mode (errors.ObjectStoreError NotFound) = is_pinned mode ≡ true
+IsOfView mode (errors.ObjectStoreError Unavailable) = Unit {0}
+IsOfView mode errors.NoMemory = Unit {0}
+IsOfView mode error = ⊥
 
 -- the last log file that a follower reads, where none failed
 abbrev pub FindsLast : DbReaderMode → Bool → VersionedManifest → Objects → Result ℕ SlateError → Type 0

@@ -1,7 +1,7 @@
 // Closing a reader that follows a database.
 ghost use Rattle.std.specs.Prelude.{◌≡◌, ◌≢◌, ◌+◌, ◌≤◌, ℕ, None, IfSome, true, false};
 ghost use Rattle.slate_model.specs.Close.{closed_follower, ended, recorded_fault};
-ghost use Rattle.slate_model.specs.Follower.{is_managed};
+ghost use Rattle.slate_model.specs.Follower.{follower_tasks, is_managed};
 ghost use Rattle.slate_model.specs.Known.{known};
 ghost use Rattle.slate_model.specs.Managed.{ClosesManaged, EndsLease};
 ghost use Rattle.slate_model.specs.Stores.{by_objects};
@@ -29,6 +29,7 @@ impl FollowerState {
     pub fn close<S: Store>(&mut self, alloc: Global, store: &mut S) -> Ended
         ensures closed { self.new ≡ closed_follower self.old }
         ensures tasks { result.tasks ≡ self.old.tasks }
+        ensures running { self.old.result ≡ None → result.tasks ≡ follower_tasks self.old.mode }
         ensures answer { is_managed self.old.mode ≡ false → result ≡ ended self.old.tasks (recorded_fault self.old.result) }
         ensures store { is_managed self.old.mode ≡ false → store.new ≡ store.old }
         ensures managed { is_managed self.old.mode ≡ true → (made : ℕ) × ClosesManaged (by_objects (S.objects store.old)) made self.old (known S.objects S.faults store.old) result self.new (known S.objects S.faults store.new) }

@@ -1,5 +1,5 @@
 // Taking what log files have that a reader hasn't replayed yet.
-ghost use Rattle.std.specs.Prelude.{◌≡◌, ◌⊎◌, ◌+◌, ◌-◌, ◌<◌, ◌≤◌, ◌^◌, ◌++◌, ℕ, List, Option, None, Err, OnOk, OnErr, IsTrue, ◌↔◌, true, max, length, take, IfOk, IfErr, IfSome};
+ghost use Rattle.std.specs.Prelude.{◌≡◌, ◌⊎◌, ◌+◌, ◌-◌, ◌<◌, ◌≤◌, ◌^◌, ◌++◌, ℕ, List, Option, None, Err, OnOk, OnErr, IsTrue, ◌↔◌, true, max, length, take, IfOk, IfErr, IfSome, IsSome};
 ghost use Rattle.std.specs.Option.{option_copied};
 ghost use Rattle.slate_types.specs.declared.batches.Batch.{Batch};
 ghost use Rattle.slate_types.specs.Line.{batches_above};
@@ -58,6 +58,7 @@ impl FollowerState {
         ensures segments { (x : Option Extractor) → IsExtractor E.may_name E.may_extract (option_copied extractor.entry) x → HasSegments x self.old → HasSegments x self.new }
         ensures lacks { (x : Option Extractor) (key : List ℕ) → IsExtractor E.may_name E.may_extract (option_copied extractor.entry) x →
             result ≡ Err (SlateError.EmptySegmentPrefix key) → IfSome (S.objects store.old) (λ o. (first : List ℕ) × GoingLacks x o view last self.old first) }
+        ensures named { (x : Option Extractor) (key : List ℕ) → IsExtractor E.may_name E.may_extract (option_copied extractor.entry) x → result ≡ Err (SlateError.EmptySegmentPrefix key) → IsSome x }
         ensures refusals { IfErr result IsOfRebuilding }
     {
         let from = self.mark.max(view.manifest.replay_after_wal_id);
@@ -88,6 +89,7 @@ impl FollowerState {
         ensures err { OnErr result (self.new ≡ self.old) }
         ensures lacks { (x : Option Extractor) (key : List ℕ) → IsExtractor E.may_name E.may_extract (option_copied extractor.entry) x →
             result ≡ Err (SlateError.EmptySegmentPrefix key) → IfSome (S.objects store.old) (λ o. (first : List ℕ) × ExtendingLacks x from last tabled self.old o first) }
+        ensures named { (x : Option Extractor) (key : List ℕ) → IsExtractor E.may_name E.may_extract (option_copied extractor.entry) x → result ≡ Err (SlateError.EmptySegmentPrefix key) → IsSome x }
         ensures refusals { IfErr result IsOfRebuilding }
         ensures faults { CountsFaults (S.faults store.old) (S.faults store.new) result }
         ensures calls { S.calls store.new ≤ S.calls store.old + (last - from) }

@@ -242,6 +242,7 @@ impl FollowerState {
         ensures segments { (x : Option Extractor) → IsExtractor E.may_name E.may_extract (option_copied extractor.entry) x → IfOk result (λ _. self.old.skips ≡ false → HasSegments x self.old →
             self.new.segments ≡ segments_of x self.new.line.batches) }
         ensures lacks { (x : Option Extractor) → IsExtractor E.may_name E.may_extract (option_copied extractor.entry) x → result ≡ Err SlateError.InvalidDBState → IfSome (S.objects store.old) (λ o. NewsLacks x self.old latest.now o) }
+        ensures segmented { (x : Option Extractor) → IsExtractor E.may_name E.may_extract (option_copied extractor.entry) x → result ≡ Err SlateError.InvalidDBState → IsSome x }
         ensures refusals { IfErr result IsOfPolling }
         ensures calls { IfSome (S.objects store.old) (λ o. S.calls store.new ≤ S.calls store.old + (read_logs self.old.mode self.old.skips o (Some latest.now) + 1)) }
     {

@@ -1,16 +1,19 @@
 // Opening a reader that follows a database, and polling it.
-ghost use Rattle.std.specs.Prelude.{◌≡◌, ◌≢◌, ◌+◌, ◌*◌, ◌≤◌, ◌⊎◌, ℕ, true, false, Option, None, Err, IfErr, IfOk, IfSome, OnErr};
+ghost use Rattle.std.specs.Prelude.{◌≡◌, ◌≢◌, ◌+◌, ◌*◌, ◌≤◌, ◌⊎◌, ℕ, List, true, false, Option, None, Some, Err, IfErr, IfOk, IfSome, IsSome, OnErr};
 ghost use Rattle.std.specs.Option.{option_copied};
 ghost use Rattle.slate_errors.specs.Errors.{closed_error};
 ghost use Rattle.slate_store.specs.declared.reader_modes.DbReaderMode.TheVariants.{ManagedCheckpoint};
 ghost use Rattle.slate_model.specs.Follow.{Polls, Rebuilds, built, unseen};
 ghost use Rattle.slate_model.specs.Followed.{followed_logs};
 ghost use Rattle.slate_model.specs.Follower.{HasSegments, is_managed, is_pinned};
-ghost use Rattle.slate_model.specs.Known.{FaultsRise, known};
+ghost use Rattle.slate_model.specs.Known.{FaultsRise, IsContent, known};
+ghost use Rattle.slate_types.specs.Line.{Line};
+ghost use Rattle.slate_store.specs.Objects.{Objects};
 ghost use Rattle.slate_model.specs.Managed.{OpensManaged, PollsManaged, TakesLease, poll_result};
 ghost use Rattle.slate_model.specs.Segments.{Extractor, IsExtractor};
 ghost use Rattle.slate_model.specs.Open.{replayed_logs};
 ghost use Rattle.slate_model.specs.Stores.{by_objects, kept_seen};
+ghost use Rattle.slate_follow.specs.Answering.{IsOfLatest, IsOfOpening, IsOfPoll, IsOfTaking};
 ghost use Rattle.slate_follow.specs.Rebuilding.{CallsContinuing, CallsOpening, CallsRebuilding, Continues, ReplaysView, poll_error, polled};
 
 use crate::leases::{lease_refusal, take_lease};
@@ -73,6 +76,10 @@ impl FollowerState {
             options.now.skip_wal_replay moment (known S.objects S.faults store.old) result (known S.objects S.faults store.new) }
         ensures managed_calls { is_managed mode ≡ true → IfSome (S.objects store.old) (λ o. S.calls store.new ≤ S.calls store.old + (followed_logs mode options.now.skip_wal_replay o + 17)) }
         ensures faults { FaultsRise (S.faults store.old) (S.faults store.new) result }
+        ensures handed { (x : Option Extractor) → IsExtractor E.may_name E.may_extract (option_copied extractor.entry) x → is_managed mode ≡ false → is_pinned mode ≡ false →
+            IfOk result (λ p. (o : Objects) (line : Line) → S.objects store.old ≡ Some o → IsContent (S.objects store.old) line → kept_seen p.0 o line) }
+        ensures first { is_managed mode ≡ false → IfErr result (λ error. IsOfLatest error → S.calls store.new ≤ S.calls store.old + 1) }
+        ensures errors { is_managed mode ≡ false → IfErr result (IsOfOpening mode) }
     {
         if mode == DbReaderMode::ManagedCheckpoint {
             return FollowerState::open_managed(alloc, store, options, extractor, moment);
@@ -196,6 +203,11 @@ impl FollowerState {
         ensures left_managed { is_managed self.old.mode ≡ true → self.old.result ≡ None → IfErr result (λ error. self.new ≡ record self.old { lease = self.new.lease; result = poll_result error }) }
         ensures untouched { self.old.result ≢ None → (self.new ≡ self.old) × (store.new ≡ store.old) }
         ensures stays { is_pinned self.old.mode ≡ true → (self.new ≡ self.old) × (store.new ≡ store.old) }
+        ensures handed { (x : Option Extractor) → IsExtractor E.may_name E.may_extract (option_copied extractor.entry) x → is_managed self.old.mode ≡ false → is_pinned self.old.mode ≡ false → (o : Objects) (line : Line) →
+            S.objects store.old ≡ Some o → IsContent (S.objects store.old) line → kept_seen self.old o line → kept_seen self.new o line }
+        ensures errors { self.old.result ≡ None → is_managed self.old.mode ≡ false → IfErr result (IsOfPoll self.old.mode) }
+        ensures segmented { (x : Option Extractor) → IsExtractor E.may_name E.may_extract (option_copied extractor.entry) x → self.old.result ≡ None → is_managed self.old.mode ≡ false →
+            result ≡ Err SlateError.InvalidDBState → IsSome x }
     {
         if let Some(result) = self.closed() {
             return Err(SlateError::of_closed(result));
@@ -231,6 +243,8 @@ impl FollowerState {
         ensures replays { IfOk result (λ a. IfSome (S.objects store.old) (λ o. ReplaysView false o self.new a ⊎ Continues o self.old self.new a)) }
         ensures calls { IfSome (S.objects store.old) (λ o. CallsRebuilding o (S.calls store.old) (S.calls store.new)) }
         ensures costs { IfOk result (λ _. self.new.view ≡ self.old.view → IfSome (S.objects store.old) (λ o. CallsContinuing o self.old (S.calls store.old) (S.calls store.new))) }
+        ensures kind { IfErr result IsOfTaking }
+        ensures named { (x : Option Extractor) (key : List ℕ) → IsExtractor E.may_name E.may_extract (option_copied extractor.entry) x → result ≡ Err (SlateError.EmptySegmentPrefix key) → IsSome x }
     {
         let (view, last) = find_view(alloc, store, self.following, false, extractor)?;
         if !self.following.skips && self.reaches(&view) {

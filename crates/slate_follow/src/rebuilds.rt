@@ -1,5 +1,5 @@
 // Finding the manifest that a reader goes by and the last log file, and building it anew from the log files above its mark.
-ghost use Rattle.std.specs.Prelude.{◌≡◌, ◌+◌, ◌-◌, ◌<◌, ◌≤◌, ℕ, List, true, false, cond, Err, Option, Some, None, IfOk, IfErr, IfSome};
+ghost use Rattle.std.specs.Prelude.{◌≡◌, ◌+◌, ◌-◌, ◌<◌, ◌≤◌, ℕ, List, true, false, cond, Err, Option, Some, None, IfOk, IfErr, IfSome, IsSome};
 ghost use Rattle.std.specs.Option.{option_copied};
 ghost use Rattle.slate_types.specs.declared.store_errors.StoreFault.TheVariants.{NotFound};
 ghost use Rattle.slate_store.specs.Checkpoints.{found, has_id};
@@ -8,6 +8,7 @@ ghost use Rattle.slate_model.specs.Followed.{can_follow, follow_refusal};
 ghost use Rattle.slate_model.specs.Follower.{HasSegments, is_pinned, number};
 ghost use Rattle.slate_model.specs.Known.{CountsFaults, FaultsRise};
 ghost use Rattle.slate_model.specs.Segments.{Extractor, IsExtractor, ops_of, unsegmented_refusal};
+ghost use Rattle.slate_follow.specs.Answering.{IsOfFinding, IsOfLatest};
 ghost use Rattle.slate_follow.specs.Rebuilding.{BuildLacks, Builds, FindsLast, FindsView, Follows, GoesBy, IsOfFollowing, IsOfRebuilding, IsOfReplay, IsOfView, answer_of, reached};
 
 use crate::PollAnswer;
@@ -72,6 +73,8 @@ pub(crate) fn find_view<S: Store, E: PrefixExtractor>(
         IfSome (S.objects store.old) (λ o. Follows x following.mode opening o result) }
     ensures whole { (key : List ℕ) → result ≡ Err (SlateError.EmptySegmentPrefix key) → ⊥ }
     ensures valid { opening ≡ false → result ≡ Err SlateError.InvalidDBState → ⊥ }
+    ensures kind { IfErr result (IsOfFinding following.mode opening) }
+    ensures first { IfErr result (λ error. IsOfLatest error → S.calls store.new ≤ S.calls store.old + 1) }
 {
     let Some(latest) = store.latest_manifest(alloc)? else {
         return Err(SlateError::LatestTransactionalObjectVersionMissing);
@@ -118,7 +121,8 @@ fn view_under<S: Store>(
     ensures calls { S.calls store.new ≤ S.calls store.old + cond (is_pinned mode) 1 0 }
     ensures kept { S.objects store.new ≡ S.objects store.old }
     ensures where_modelled { IfSome (S.objects store.old) (λ o. GoesBy mode o latest result) }
-    ensures kind { IfErr result IsOfView }
+    ensures kind { IfErr result (IsOfView mode) }
+    ensures first { IfErr result (λ error. IsOfLatest error → S.calls store.new ≡ S.calls store.old) }
 {
     let DbReaderMode::Checkpoint(id) = mode else {
         return Ok(latest);
@@ -194,6 +198,7 @@ pub(crate) fn rebuild<S: Store, E: PrefixExtractor>(
         HasSegments x p.0 × (unsegmented_refusal x (ops_of p.0.line.batches) ≡ None)) }
     ensures lacks { (x : Option Extractor) (key : List ℕ) → IsExtractor E.may_name E.may_extract (option_copied extractor.entry) x →
         result ≡ Err (SlateError.EmptySegmentPrefix key) → IfSome (S.objects store.old) (λ o. BuildLacks x o view last key) }
+    ensures named { (x : Option Extractor) (key : List ℕ) → IsExtractor E.may_name E.may_extract (option_copied extractor.entry) x → result ≡ Err (SlateError.EmptySegmentPrefix key) → IsSome x }
     ensures refusals { IfErr result IsOfRebuilding }
 {
     let (memory, replayed) = recover(alloc, store, &view.manifest, last)?;

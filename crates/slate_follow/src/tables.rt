@@ -1,5 +1,5 @@
 // The tables in memory of a reader, oldest first: a poll adds to the newest one what it found, until that has enough.
-ghost use Rattle.std.specs.Prelude.{◌≡◌, ◌+◌, ◌-◌, ◌<◌, ◌≤◌, ◌^◌, ◌++◌, ◌∷◌, [], ℕ, List, length, take, IfOk, IfErr, IfSome, OnOk, OnErr, Option, Err, Some, None};
+ghost use Rattle.std.specs.Prelude.{◌≡◌, ◌+◌, ◌-◌, ◌<◌, ◌≤◌, ◌^◌, ◌++◌, ◌∷◌, [], ℕ, List, length, take, IfOk, IfErr, IfSome, IsSome, OnOk, OnErr, Option, Err, Some, None};
 ghost use Rattle.std.specs.Option.{option_copied};
 ghost use Rattle.slate_types.specs.declared.batches.Batch.{Batch as AnyBatch};
 ghost use Rattle.slate_types.specs.Line.{AreNumberedFrom, batches_above};
@@ -77,6 +77,7 @@ pub(crate) fn append_logs<S: Store, E: PrefixExtractor>(
     ensures filled { AreFilled tables.old.items → AreFilled tables.new.items }
     ensures lacks { (x : Option Extractor) (key : List ℕ) → IsExtractor E.may_name E.may_extract (option_copied extractor.entry) x →
         result ≡ Err (SlateError.EmptySegmentPrefix key) → IfSome (S.objects store.old) (GivesRefused x number from last (SlateError.EmptySegmentPrefix key)) }
+    ensures named { (x : Option Extractor) (key : List ℕ) → IsExtractor E.may_name E.may_extract (option_copied extractor.entry) x → result ≡ Err (SlateError.EmptySegmentPrefix key) → IsSome x }
     ensures refusals { IfErr result IsOfRebuilding }
     ensures faults { CountsFaults (S.faults store.old) (S.faults store.new) result }
     ensures calls { S.calls store.new ≤ S.calls store.old + (last - from) }
@@ -108,6 +109,7 @@ fn replay_onto<S: Store, E: PrefixExtractor>(
     ensures err { OnErr result (table.new ≡ table.old) }
     ensures lacks { (x : Option Extractor) (key : List ℕ) → IsExtractor E.may_name E.may_extract (option_copied extractor.entry) x →
         result ≡ Err (SlateError.EmptySegmentPrefix key) → IfSome (S.objects store.old) (GivesRefused x number from last (SlateError.EmptySegmentPrefix key)) }
+    ensures named { (x : Option Extractor) (key : List ℕ) → IsExtractor E.may_name E.may_extract (option_copied extractor.entry) x → result ≡ Err (SlateError.EmptySegmentPrefix key) → IsSome x }
     ensures refusals { IfErr result IsOfRebuilding }
     ensures faults { CountsFaults (S.faults store.old) (S.faults store.new) result }
     ensures calls { S.calls store.new ≤ S.calls store.old + (last - from) }
@@ -141,6 +143,7 @@ fn replay_more<S: Store, E: PrefixExtractor>(
         added.prefixes.items ≡ segments_of x (added_to table.old table.new)) }
     ensures lacks { (x : Option Extractor) (key : List ℕ) → IsExtractor E.may_name E.may_extract (option_copied extractor.entry) x →
         result ≡ Err (SlateError.EmptySegmentPrefix key) → IfSome (S.objects store.old) (GivesRefused x number from last (SlateError.EmptySegmentPrefix key)) }
+    ensures named { (x : Option Extractor) (key : List ℕ) → IsExtractor E.may_name E.may_extract (option_copied extractor.entry) x → result ≡ Err (SlateError.EmptySegmentPrefix key) → IsSome x }
     ensures refusals { IfErr result IsOfRebuilding }
     ensures faults { CountsFaults (S.faults store.old) (S.faults store.new) result }
     ensures calls { S.calls store.new ≤ S.calls store.old + (last - from) }

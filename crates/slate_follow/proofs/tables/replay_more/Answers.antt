@@ -8,6 +8,7 @@ use Rattle.slate_types.specs.Line.{AreNumberedFrom}
 use Rattle.slate_replay.specs.Replay.{Replays}
 use Rattle.slate_follow.specs.Growing.{Grew, added_to}
 use Rattle.slate_follow.specs.declared.tables.Added.{Added}
+use Rattle.slate_follow.proofs.Answering.{refused-some}
 use Rattle.slate_follow.proofs.Growing.{gives-refused, table-grew}
 use Rattle.slate_follow.proofs.Refusing.{err-same}
 use Rattle.slate_follow.proofs.tables.replay_more.Goals as goal
@@ -48,4 +49,14 @@ returns-in_err-prefixes-clause-lacks g c x key lawful is =
       | inl memory ↦ absurd (cc (memory, named))
       | inr refused ↦ gives-refused x c.args.number c.args.from c.args.last t c.args.table.now c.replay.new.memory c.in_ok-replayed.replayed grew (EmptySegmentPrefix key)
           (subst (λ bs. unsegmented_refusal x (ops_of bs) ≡ Some (EmptySegmentPrefix key)) slice (refused ∙ ap Some named))
+    ]
+
+pub returns-in_err-prefixes-clause-named : goal.returns-in_err-prefixes-clause-named
+returns-in_err-prefixes-clause-named g c x key lawful is =
+    let p = err_from_is_err_and c.from_residual-in_err-prefixes.result c.from_residual-in_err-prefixes.ensures.1 in
+    let e = c.in_err-prefixes.field-0.0 in
+    let named : e ≡ EmptySegmentPrefix key = err-same Added e (EmptySegmentPrefix key) (sym (p.1 ∙ ap Err p.2) ∙ is) in
+    elim (c.in_err-prefixes.ensures.err x lawful) [
+      | inl memory ↦ absurd (cc (memory, named))
+      | inr refused ↦ refused-some x _ e refused
     ]

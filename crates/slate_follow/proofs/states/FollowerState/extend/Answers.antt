@@ -9,7 +9,7 @@ use Rattle.slate_follow.specs.Growing.{Grew, added_to}
 use Rattle.slate_follow.specs.Joined.{joined}
 use Rattle.slate_follow.specs.Kept.{follower_of}
 use Rattle.slate_follow.proofs.Growing.{extended-back, grown-lacks, grown-numbered, refused-lacks}
-use Rattle.slate_follow.proofs.Refusing.{err-same}
+use Rattle.slate_follow.proofs.Refusing.{err-same, lacks-some}
 use Rattle.slate_follow.proofs.states.FollowerState.extend.Goals as goal
 
 pub append_logs-requires : goal.append_logs-requires
@@ -105,4 +105,19 @@ returns-clause-lacks g c x key lawful is =
     elim (c.in-Err.ensures.err x lawful) [
       | inl memory ↦ absurd (cc (memory, named))
       | inr lacks ↦ grown-lacks x t c.args.self.now n c.args.from c.args.last c.args.tabled new found end_is grew lacks
+    ]
+
+pub returns-in_err-added-clause-named : goal.returns-in_err-added-clause-named
+returns-in_err-added-clause-named g c x key lawful is =
+    let p = err_from_is_err_and c.from_residual.result c.from_residual.ensures.1 in
+    let e = c.in_err-added.field-0.0 in
+    let named : e ≡ EmptySegmentPrefix key = err-same _ e (EmptySegmentPrefix key) (sym (p.1 ∙ ap Err p.2) ∙ is) in
+    c.in_err-added.ensures.named x key lawful (ap Err named)
+
+pub returns-clause-named : goal.returns-clause-named
+returns-clause-named g c x key lawful is =
+    let named : c.in-Err.error ≡ EmptySegmentPrefix key = err-same _ c.in-Err.error (EmptySegmentPrefix key) is in
+    elim (c.in-Err.ensures.err x lawful) [
+      | inl memory ↦ absurd (cc (memory, named))
+      | inr lacks ↦ lacks-some x (batches_above c.args.tabled (joined c.append_logs.new.tables.items)) lacks.0 lacks.1
     ]

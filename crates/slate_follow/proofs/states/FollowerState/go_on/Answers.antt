@@ -72,3 +72,10 @@ returns-in_err-replayed-clause-lacks g c x key lawful is =
     let named : e ≡ EmptySegmentPrefix key = err-same PollAnswer e (EmptySegmentPrefix key) (sym (p.1 ∙ ap Err p.2) ∙ is) in
     let from_is : c.max-from.result ≡ max old.mark view.manifest.replay_after_wal_id = c.max-from.ensures ∙ ap (λ (f : Follower). max f.mark view.manifest.replay_after_wal_id) c.self.view_is in
     going-lacks (g.S.Store.objects c.args.store.now) view c.args.last c.max-from.result old from_is x (c.in_err-replayed.ensures.lacks x key lawful (ap Err named))
+
+pub returns-in_err-replayed-clause-named : goal.returns-in_err-replayed-clause-named
+returns-in_err-replayed-clause-named g c x key lawful is =
+    let p = err_from_is_err_and c.from_residual.result c.from_residual.ensures.1 in
+    let e = c.in_err-replayed.field-0.0 in
+    let named : e ≡ EmptySegmentPrefix key = err-same PollAnswer e (EmptySegmentPrefix key) (sym (p.1 ∙ ap Err p.2) ∙ is) in
+    c.in_err-replayed.ensures.named x key lawful (ap Err named)

@@ -37,3 +37,9 @@ returns-in-Ok-clause-segments g c x lawful = λ reads has.
     let is : tabled ≡ c.self.inside.status.manifest.manifest.last_l0_seq = ap (λ (v : VersionedManifest). v.manifest.last_l0_seq) c.manifest.ensures in
     let all = all-kept c.self.inside old added tabled c.self.invariant c.self.view_is is e.grew.numbered in
     e.segments x lawful has ∙ ap (segments_of x) (ap (batches_above tabled) e.grew.parts ∙ (all ∙ sym e.grew.parts))
+
+pub returns-in-Err-clause-segmented : goal.returns-in-Err-clause-segmented
+returns-in-Err-clause-segmented g c x lawful is =
+    let e = c.in-Err.error in
+    let key = poll-key e c.in-Err.ensures.refusals (sym c.poll_error.ensures ∙ err-same News c.poll_error.result InvalidDBState is) in
+    c.in-Err.ensures.named x key.0 lawful (ap Err key.1)

@@ -11,6 +11,8 @@ use Rattle.slate_model.specs.Stores.{by_objects}
 use Rattle.slate_model.specs.declared.answers.PollAnswer.{PollAnswer}
 use Rattle.slate_follow.proofs.Rebuilt.{built-can, built-logs, built-sees, built-segmented, built-view, if_some, lacking-refuses, some_at}
 use Rattle.slate_follow.proofs.Refusing.{opening-fails, opening-lacks, opening-unnamed}
+use Rattle.slate_follow.proofs.Answering.{finding-opening, rebuilding-later, rebuilding-opening}
+use Rattle.slate_follow.proofs.Handed.{handed}
 use Rattle.slate_follow.proofs.states.FollowerState.open.Goals as goal
 
 pub returns-clause-rebuilds : goal.returns-clause-rebuilds
@@ -119,3 +121,31 @@ returns-then-eq-clause-managed g c x lawful = λ managed.
     let o = c.args.options.now in
     subst (λ m. (made : ℕ) × OpensManaged (by_objects (g.S.Store.objects c.args.store.now)) x made o.checkpoint_lifetime_ms o.manifest_poll_interval_ms o.skip_wal_replay m (known g.S.Store.objects g.S.Store.faults c.args.store.now) c.open_managed.result (known g.S.Store.objects g.S.Store.faults c.open_managed.new.store))
     (to_z-of_z {w = w64} (search rules)) (c.open_managed.ensures.opens x lawful)
+
+-- ---- what it hands over to the next poll
+pub returns-clause-handed : goal.returns-clause-handed
+returns-clause-handed g c x lawful = λ unmanaged free.
+    let v = c.in_ok-view in
+    let b = c.in_ok-rebuilt in
+    let mode = c.args.mode in
+    let skips = c.args.options.now.skip_wal_replay in
+    let t = g.S.Store.objects c.args.store.now in
+    rw (c.in_ok-new.ensures ∙ ap (λ l. record b.rebuilt { lease = l }) (sym b.ensures.answer.0))
+    (λ o line at stored. handed t o line mode skips true b.rebuilt b.answer at stored (built-can mode skips true v.view v.last b.rebuilt b.answer v.ensures.kept v.ensures.where_modelled b.ensures.built o at) free
+    (built-sees mode skips true v.view v.last b.rebuilt b.answer v.ensures.kept v.ensures.where_modelled b.ensures.built o line at stored))
+
+-- ---- which errors it answers, and which of them after one call
+pub returns-in_err-view-clause-errors : goal.returns-in_err-view-clause-errors
+returns-in_err-view-clause-errors g c = λ unmanaged.
+    let p = err_from_is_err_and c.from_residual.result c.from_residual.ensures.1 in
+    rw (p.1, p.2) (finding-opening c.args.mode c.in_err-view.field-0.0 c.in_err-view.ensures.kind)
+
+pub returns-in_err-rebuilt-clause-errors : goal.returns-in_err-rebuilt-clause-errors
+returns-in_err-rebuilt-clause-errors g c = λ unmanaged.
+    let p = err_from_is_err_and c.from_residual-in_err-rebuilt.result c.from_residual-in_err-rebuilt.ensures.1 in
+    rw (p.1, p.2) (rebuilding-opening c.args.mode c.in_err-rebuilt.field-0.0 c.in_err-rebuilt.ensures.refusals)
+
+pub returns-in_err-rebuilt-clause-first : goal.returns-in_err-rebuilt-clause-first
+returns-in_err-rebuilt-clause-first g c = λ unmanaged.
+    let p = err_from_is_err_and c.from_residual-in_err-rebuilt.result c.from_residual-in_err-rebuilt.ensures.1 in
+    rw (p.1, p.2) (λ first. absurd (rebuilding-later c.in_err-rebuilt.field-0.0 c.in_err-rebuilt.ensures.refusals first))

@@ -8,9 +8,13 @@ use Rattle.slate_model.proofs.Reduced.{some-same}
 use Rattle.slate_model.specs.Follower.{is_pinned}
 use Rattle.slate_model.specs.Known.{Untouched, known}
 use Rattle.slate_model.specs.Managed.{KeepsLease}
-use Rattle.slate_model.specs.Stores.{by_objects}
+use Rattle.slate_model.specs.Stores.{by_objects, kept_seen}
 use Rattle.slate_model.specs.declared.answers.PollAnswer.{PollAnswer}
 use Rattle.slate_follow.specs.Rebuilding.{poll_error}
+use Rattle.slate_errors.specs.declared.errors.SlateError.TheVariants.{InvalidDBState}
+use Rattle.slate_follow.proofs.Answering.{taking-key, taking-poll}
+use Rattle.slate_follow.proofs.Handed.{handed}
+use Rattle.slate_follow.proofs.Refusing.{err-same}
 use Rattle.slate_follow.proofs.states.FollowerState.poll.Goals as goal
 
 pub returns-in-Some-clause-managed : goal.returns-in-Some-clause-managed
@@ -76,3 +80,22 @@ returns-in-Err-clause-polls g c x lawful = λ unmanaged.
       rebuilds = λ open_ unpinned. t.rebuilds x lawful;
       segments = t.segments x lawful;
     })
+
+-- ---- what it hands over to the next poll
+pub returns-in-Ok-clause-handed : goal.returns-in-Ok-clause-handed
+returns-in-Ok-clause-handed g c x lawful = λ unmanaged free o line at stored seen.
+    let r = c.in-Ok.ensures.rebuilds x lawful in
+    let old = c.args.self.now in
+    handed (g.S.Store.objects c.args.store.now) o line old.mode old.skips false c.take_new.new.self c.in-Ok.answer at stored (r.can o at) free (r.sees o line at stored seen)
+
+pub returns-in-Err-clause-handed : goal.returns-in-Err-clause-handed
+returns-in-Err-clause-handed g c x lawful = λ unmanaged free o line at stored seen. subst (λ f. kept_seen f o line) (sym c.in-Err.ensures.failed) seen
+
+-- ---- which errors it answers
+pub returns-in-Err-clause-errors : goal.returns-in-Err-clause-errors
+returns-in-Err-clause-errors g c = λ open_ unmanaged. rw c.poll_error.ensures (taking-poll c.args.self.now.mode c.in-Err.error c.in-Err.ensures.kind)
+
+pub returns-in-Err-clause-segmented : goal.returns-in-Err-clause-segmented
+returns-in-Err-clause-segmented g c x lawful = λ open_ unmanaged is.
+    let key = taking-key c.in-Err.error c.in-Err.ensures.kind (sym c.poll_error.ensures ∙ err-same PollAnswer c.poll_error.result InvalidDBState is) in
+    c.in-Err.ensures.named x key.0 lawful (ap Err key.1)

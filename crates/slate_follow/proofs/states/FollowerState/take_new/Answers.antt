@@ -9,8 +9,10 @@ use Rattle.slate_errors.specs.declared.errors.SlateError.TheVariants.{EmptySegme
 use Rattle.slate_model.specs.declared.answers.PollAnswer.{PollAnswer}
 use Rattle.slate_follow.specs.Rebuilding.{BuildLacks, Builds, FindsView, GoingLacks}
 use Rattle.slate_follow.proofs.Rebuilt.{built-can, built-logs, built-sees, built-view, if_some, lacking-refuses, some_at}
-use Rattle.slate_follow.proofs.Refusing.{building-some, going-some, plain-error, poll-fails, poll-lacks, poll-present, poll-rises, poll-unnamed}
+use Rattle.slate_follow.proofs.Refusing.{building-some, err-same, going-some, plain-error, poll-fails, poll-lacks, poll-present, poll-rises, poll-unnamed}
 use Rattle.slate_follow.proofs.Continued.{gone-can, gone-continues, gone-logs, gone-refuses, gone-sees}
+use Rattle.slate_model.specs.Follower.{is_pinned}
+use Rattle.slate_follow.proofs.Answering.{finding-taking, rebuilding-taking}
 use Rattle.slate_follow.proofs.states.FollowerState.take_new.Goals as goal
 
 pub returns-then-reaches-clause-rebuilds : goal.returns-then-reaches-clause-rebuilds
@@ -152,3 +154,41 @@ returns-in_err-rebuilt-clause-rebuilds g c x lawful =
           (λ key is. (key, lacking-refuses x old.mode old.skips false v.view v.last key v.ensures.kept found (lacks key is) o line at stored));
       segments = tt;
     })
+
+-- ---- which errors it answers
+pub returns-in_err-view-clause-kind : goal.returns-in_err-view-clause-kind
+returns-in_err-view-clause-kind g c =
+    let p = err_from_is_err_and c.from_residual.result c.from_residual.ensures.1 in
+    let mode : c.self.inside.following.mode ≡ c.args.self.now.mode = search rules in
+    rw (p.1, p.2) (finding-taking c.self.inside.following.mode c.in_err-view.field-0.0 (ap is_pinned mode ∙ c.requires.free) c.in_err-view.ensures.kind)
+
+pub returns-in_err-answer-clause-kind : goal.returns-in_err-answer-clause-kind
+returns-in_err-answer-clause-kind g c =
+    let p = err_from_is_err_and c.from_residual-in_err-answer.result c.from_residual-in_err-answer.ensures.1 in
+    rw (p.1, p.2) (rebuilding-taking c.in_err-answer.field-0.0 c.in_err-answer.ensures.refusals)
+
+pub returns-in_err-rebuilt-clause-kind : goal.returns-in_err-rebuilt-clause-kind
+returns-in_err-rebuilt-clause-kind g c =
+    let p = err_from_is_err_and c.from_residual-in_err-rebuilt.result c.from_residual-in_err-rebuilt.ensures.1 in
+    rw (p.1, p.2) (rebuilding-taking c.in_err-rebuilt.field-0.0 c.in_err-rebuilt.ensures.refusals)
+
+pub returns-in_err-answer-clause-named : goal.returns-in_err-answer-clause-named
+returns-in_err-answer-clause-named g c x key lawful is =
+    let p = err_from_is_err_and c.from_residual-in_err-answer.result c.from_residual-in_err-answer.ensures.1 in
+    let e = c.in_err-answer.field-0.0 in
+    let named : e ≡ EmptySegmentPrefix key = err-same PollAnswer e (EmptySegmentPrefix key) (sym (p.1 ∙ ap Err p.2) ∙ is) in
+    c.in_err-answer.ensures.named x key lawful (ap Err named)
+
+pub returns-in_err-rebuilt-clause-named : goal.returns-in_err-rebuilt-clause-named
+returns-in_err-rebuilt-clause-named g c x key lawful is =
+    let p = err_from_is_err_and c.from_residual-in_err-rebuilt.result c.from_residual-in_err-rebuilt.ensures.1 in
+    let e = c.in_err-rebuilt.field-0.0 in
+    let named : e ≡ EmptySegmentPrefix key = err-same PollAnswer e (EmptySegmentPrefix key) (sym (p.1 ∙ ap Err p.2) ∙ is) in
+    c.in_err-rebuilt.ensures.named x key lawful (ap Err named)
+
+pub returns-in_err-view-clause-named : goal.returns-in_err-view-clause-named
+returns-in_err-view-clause-named g c x key lawful is =
+    let p = err_from_is_err_and c.from_residual.result c.from_residual.ensures.1 in
+    let e = c.in_err-view.field-0.0 in
+    let named : e ≡ EmptySegmentPrefix key = err-same PollAnswer e (EmptySegmentPrefix key) (sym (p.1 ∙ ap Err p.2) ∙ is) in
+    absurd (c.in_err-view.ensures.whole key (ap Err named))

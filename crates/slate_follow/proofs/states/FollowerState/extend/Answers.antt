@@ -41,6 +41,7 @@ invariant_of-self-2 g c =
       unsegmented = i.unsegmented;
       leased = i.leased;
       running = i.running;
+      told = i.told;
     }
 
 pub invariant_of-self-in-Ok : goal.invariant_of-self-in-Ok
@@ -61,6 +62,7 @@ invariant_of-self-in-Ok g c =
       unsegmented = i.unsegmented;
       leased = i.leased;
       running = i.running;
+      told = i.told;
     }
 
 pub invariant_of-self-in-Err : goal.invariant_of-self-in-Err
@@ -81,6 +83,7 @@ invariant_of-self-in-Err g c =
       unsegmented = i.unsegmented;
       leased = i.leased;
       running = i.running;
+      told = i.told;
     }
 
 pub returns-in-Ok-clause-segments : goal.returns-in-Ok-clause-segments

@@ -28,6 +28,7 @@ invariant_of-self-2 g c =
       number = i.number;
       unsegmented = i.unsegmented;
       running = i.running;
+      told = i.told;
       leased = ap is_some (sym held) ∙ i.leased;
     }
 

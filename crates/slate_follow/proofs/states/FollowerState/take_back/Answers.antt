@@ -25,4 +25,5 @@ invariant_of-self c =
       unsegmented = i.unsegmented;
       leased = i.leased;
       running = i.running;
+      told = i.told;
     }

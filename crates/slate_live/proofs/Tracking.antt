@@ -39,7 +39,7 @@ use Rattle.slate_model.specs.Handle.{Handle, accepted, has_untabled, next_table,
 use Rattle.slate_model.specs.Knowledge.{Knowledge}
 use Rattle.slate_model.specs.Lease.{to_keep}
 use Rattle.slate_model.specs.Object.{Object, Handle as AHandle, Snapshot as ASnapshot, Follower as AFollower}
-use Rattle.slate_model.specs.Open.{OpensHandle, can_reopen, found_log, log_refusal, manifest_refusal, next_manifest, replayed}
+use Rattle.slate_model.specs.Open.{OpensHandle, found_log, has_next, is_ready, log_refusal, manifest_refusal, next_manifest, refusal_unless, replayed}
 use Rattle.slate_model.specs.Known.{Known}
 use Rattle.slate_model.specs.Segments.{Extractor, extractor_name, extractor_refusal}
 use Rattle.slate_model.specs.Write.{last_number}
@@ -193,16 +193,17 @@ first-none : (a b : Option SlateError) → option_or a b ≡ None → a ≡ None
 first-none None b is = refl
 first-none (Some e) b is = absurd (cc)
 
-second-holds : (a b c d : Bool) → (a && b && c && d) ≡ true → b ≡ true
-second-holds true true c d is = refl
-second-holds true false c d is = absurd (cc)
-second-holds false b c d is = absurd (cc)
+second-holds : (a b : Bool) → (a && b) ≡ true → b ≡ true
+second-holds true b is = is
+second-holds false b is = absurd (cc)
 
 has-tracker : (extractor : Option Extractor) (latest : VersionedManifest) → manifest_refusal extractor (Some latest) ≡ None → is_some (stored_tracker latest.manifest) ≡ true
-has-tracker extractor latest none = second-holds latest.manifest.initialized (is_some (stored_tracker latest.manifest)) (ltb latest.id last_number) (ltb latest.manifest.writer_epoch last_number) (by (can_reopen latest) (extractor_refusal extractor latest.manifest) none) where
-  by : (b : Bool) (refusal : Option SlateError) → cond b refusal (Some errors.InvalidDBState) ≡ None → b ≡ true
-  by true refusal is = refl
-  by false refusal is = absurd (cc)
+has-tracker extractor latest none =
+    second-holds latest.manifest.initialized (is_some (stored_tracker latest.manifest)) (by (is_ready latest) (option_or (extractor_refusal extractor latest.manifest) (refusal_unless (has_next latest))) none)
+  where
+    by : (b : Bool) (refusal : Option SlateError) → cond b refusal (Some errors.InvalidDBState) ≡ None → b ≡ true
+    by true refusal is = refl
+    by false refusal is = absurd (cc)
 
 -- ---- the flush
 -- what a handle stores ends where its line does

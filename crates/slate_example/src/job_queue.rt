@@ -40,7 +40,7 @@ impl Worker {
         Ok(Some(job))
     }
 
-    /// The first job. It is found in the time of one, however many there are.
+    /// The first job. The keys of those that were taken are passed, and no job after it is read.
     fn first_job<S: Store>(&self, alloc: Global, store: &mut S) -> Answer<Option<KeyValue>> {
         let (jobs, options) = (ByteRange::prefix(alloc, b"job:")?, ScanOptions::default());
         let mut found = self

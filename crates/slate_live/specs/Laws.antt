@@ -15,7 +15,7 @@ use Rattle.slate_live.specs.Settings.{Settings}
 use Rattle.slate_live.specs.State.{Live, running}
 use Rattle.slate_live.specs.World.{Next, World, start}
 
--- before an object is opened, none represents the world of the start
+-- before an object is opened, the store alone represents the world of the start
 abbrev pub NoneRepresentsTheStart : Type 0
 NoneRepresentsTheStart =
     (options : Options) (objects : Objects) (faults : ℕ) → IsSound objects →

@@ -9,7 +9,7 @@ use slate_check::{
 use slate_directory::{DirectoryBlobs, FileId, open_directory};
 use slate_live::Outcome;
 use slate_objects::{DecodeError, DecodeFault, decode_log, decode_manifest, decode_table};
-use slate_store::{Store, StoreError, StoreRefusal, TableId, to_sweep};
+use slate_store::{Store, StoreError, StoreFault, StoreRefusal, TableId, to_sweep};
 use slate_types::Seq;
 use std::alloc::Global;
 use std::{fs, io};
@@ -91,7 +91,7 @@ fn show_swept<S: Store>(
     match to_sweep(alloc, store, moment) {
         Ok(listing) => Ok(show_sweep(out, &listing)?),
         Err(StoreRefusal::NoMemory) => Err(StoreError::NoMemory),
-        Err(StoreRefusal::ObjectStoreError(_)) => Err(StoreError::Failed),
+        Err(StoreRefusal::ObjectStoreError(StoreFault::Unavailable)) => Err(StoreError::Failed),
         Err(_) => Ok(()),
     }
 }

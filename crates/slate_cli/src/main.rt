@@ -96,8 +96,7 @@ fn answer(rt: &HostRuntime, words: &[String]) -> u8 {
         [word, option, path, sweep, moment]
             if word.as_str() == "show"
                 && option.as_str() == "--store"
-                && sweep.as_str() == "--sweep" =>
-        {
+                && sweep.as_str() == "--sweep" => {
             match read_time(moment.as_bytes()) {
                 Some(moment) => show_directory(rt, path.as_str(), Some(moment)),
                 None => report(rt, Outcome::WordsRefused),

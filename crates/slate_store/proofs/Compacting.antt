@@ -16,8 +16,8 @@ use Rattle.slate_store.specs.Changes.{after_part}
 use Rattle.slate_store.specs.Compaction.{CompactCause, Compacts, compact_changes, compact_changes_by, tables_at, with_table}
 use Rattle.slate_store.specs.Content.{table_batches}
 use Rattle.slate_store.specs.Objects.{Change, Objects, PutManifest, PutTable, is_present, latest_manifest, table_at}
-use Rattle.slate_store.specs.Refusals.{KeepsContent, PartMade}
-use Rattle.slate_store.specs.Steps.{IsOfPuts, PlansJoin, PutsBoth, WasOpened}
+use Rattle.slate_store.specs.Refusals.{IsOfPuts, KeepsContent, PartMade}
+use Rattle.slate_store.specs.Steps.{PlansJoin, PutsBoth, WasOpened}
 use Rattle.slate_store.proofs.Compacted.{compacts-keep, joined-batches}
 use Rattle.slate_store.proofs.Tries.{none_made}
 

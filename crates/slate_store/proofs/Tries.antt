@@ -41,11 +41,11 @@ module _ {A : Type 0} (plan : VersionedManifest → Plan A) (o : Objects) where
   unread NoMemory h = tt
   unread e h = absurd h
 
-  unplanned : (e : StoreRefusal) (latest : VersionedManifest) → latest_manifest o ≡ Some latest → GivesPlan (plan latest) (Err e) → IsOfPlan e → CheckpointCause plan o e
-  unplanned (CheckpointMissing id) latest is gives of = (latest, is, gives)
-  unplanned InvalidDBState latest is gives of = (latest, is, gives)
-  unplanned NoMemory latest is gives of = tt
-  unplanned e latest is gives of = absurd of
+  unplanned : (asked : Option (List ℕ)) (e : StoreRefusal) (latest : VersionedManifest) → latest_manifest o ≡ Some latest → GivesPlan (plan latest) (Err e) → IsOfPlan asked e → CheckpointCause plan o e
+  unplanned asked (CheckpointMissing id) latest is gives of = (latest, is, gives)
+  unplanned asked InvalidDBState latest is gives of = (latest, is, gives)
+  unplanned asked NoMemory latest is gives of = tt
+  unplanned asked e latest is gives of = absurd of
 
   -- what a plan puts, and what the call answers by whether it was put
   module _ (latest : VersionedManifest) (answer : A) (is : latest_manifest o ≡ Some latest) where
@@ -99,10 +99,10 @@ module _ {A : Type 0} (plan : VersionedManifest → Plan A) {a b : Option Object
       modelled_as (Tries plan (Err e)) found (λ o o' h. subst (λ x. Tries plan (Err e) o x) (sym h.0) (refused plan o e (unread plan o e h.1)))
 
   module _ (latest : VersionedManifest) (found : WhereModelled (λ o o'. (o' ≡ o) × FindsLatest o (Ok latest)) a b) where
-    pub without_plan : (e : StoreRefusal) → GivesPlan (plan latest) (Err e) → IsOfPlan e → WhereModelled (Tries plan (Err e)) a b
-    without_plan e gives of =
+    pub without_plan : (asked : Option (List ℕ)) (e : StoreRefusal) → GivesPlan (plan latest) (Err e) → IsOfPlan asked e → WhereModelled (Tries plan (Err e)) a b
+    without_plan asked e gives of =
         modelled_as (Tries plan (Err e)) found
-        (λ o o' h. subst (λ x. Tries plan (Err e) o x) (sym h.0) (refused plan o e (unplanned plan o e latest h.1 gives of)))
+        (λ o o' h. subst (λ x. Tries plan (Err e) o x) (sym h.0) (refused plan o e (unplanned plan o asked e latest h.1 gives of)))
 
     pub with_plan : {c : Option Objects} (next : Option VersionedManifest) (answer : A) (r : Result Bool StoreRefusal) → plan latest ≡ Ok (next, answer) → WhereModelled (PutsNext next r) b c → WhereModelled (Tries plan (given answer r)) a c
     with_plan next answer r gives puts =

@@ -51,12 +51,12 @@ GivesPlan plan (Ok given) = plan ≡ Ok given
 GivesPlan plan (Err NoMemory) = Unit {0}
 GivesPlan plan (Err refusal) = plan ≡ Err refusal
 
--- the refusals of a plan
-abbrev pub IsOfPlan : StoreRefusal → Type 0
-IsOfPlan (CheckpointMissing id) = Unit {0}
-IsOfPlan InvalidDBState = Unit {0}
-IsOfPlan NoMemory = Unit {0}
-IsOfPlan refusal = ⊥
+-- the refusals of a plan, where `asked` is the id that it asks for
+abbrev pub IsOfPlan : (asked : Option (List ℕ)) → StoreRefusal → Type 0
+IsOfPlan asked (CheckpointMissing id) = asked ≡ Some id
+IsOfPlan asked InvalidDBState = Unit {0}
+IsOfPlan asked NoMemory = Unit {0}
+IsOfPlan asked refusal = ⊥
 
 -- as much of a call that always has a manifest to put
 abbrev pub GivesNext : {A : Type 0} → Plan A → Result (VersionedManifest × A) StoreRefusal → Type 0
@@ -156,10 +156,47 @@ abbrev pub Tries : {A : Type 0} → (VersionedManifest → Plan A) → Result (O
 Tries plan result objects objects' =
     ((made : ℕ) × FollowsPlan plan objects (tried result) made objects') × (result ≡ Ok None → objects' ≡ objects)
 
--- the refusals of one try
-abbrev pub IsOfTry : StoreRefusal → Type 0
-IsOfTry Fenced = ⊥
-IsOfTry (ObjectStoreError fault.NotFound) = ⊥
-IsOfTry TransactionalObjectVersionExists = ⊥
-IsOfTry (TransactionalObjectTimeout tries) = ⊥
-IsOfTry refusal = Unit {0}
+-- ---- over any store, the refusals of each call
+
+-- the faults and the want of memory that any call may answer
+abbrev pub IsOfStore : StoreRefusal → Type 0
+IsOfStore (ObjectStoreError fault.Unavailable) = Unit {0}
+IsOfStore NoMemory = Unit {0}
+IsOfStore refusal = ⊥
+
+-- those of a put
+abbrev pub IsOfPuts : StoreRefusal → Type 0
+IsOfPuts TransactionalObjectVersionExists = Unit {0}
+IsOfPuts refusal = IsOfStore refusal
+
+-- of a read of the latest manifest
+abbrev pub IsOfLatest : StoreRefusal → Type 0
+IsOfLatest LatestTransactionalObjectVersionMissing = Unit {0}
+IsOfLatest refusal = IsOfStore refusal
+
+-- of one try of a call on checkpoints, where `asked` is the id of the checkpoint that it asks for
+abbrev pub IsOfTry : (asked : Option (List ℕ)) → StoreRefusal → Type 0
+IsOfTry asked (CheckpointMissing id) = asked ≡ Some id
+IsOfTry asked InvalidDBState = Unit {0}
+IsOfTry asked refusal = IsOfLatest refusal
+
+-- and of all of them
+abbrev pub IsOfCommit : (asked : Option (List ℕ)) → StoreRefusal → Type 0
+IsOfCommit asked (TransactionalObjectTimeout tries) = tries ≡ 8
+IsOfCommit asked refusal = IsOfTry asked refusal
+
+-- of a look for what a sweep would remove
+abbrev pub IsOfToSweep : StoreRefusal → Type 0
+IsOfToSweep InvalidDBState = Unit {0}
+IsOfToSweep (ObjectStoreError fault) = Unit {0}
+IsOfToSweep refusal = IsOfLatest refusal
+
+-- of a sweep
+abbrev pub IsOfSweep : StoreRefusal → Type 0
+IsOfSweep TransactionalObjectVersionExists = Unit {0}
+IsOfSweep refusal = IsOfToSweep refusal
+
+-- and of a compaction
+abbrev pub IsOfCompaction : StoreRefusal → Type 0
+IsOfCompaction Fenced = Unit {0}
+IsOfCompaction refusal = IsOfSweep refusal

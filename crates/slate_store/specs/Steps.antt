@@ -3,7 +3,7 @@ use Rattle.std.specs.Prelude.{◌≡◌, ℕ, ℤ, ◌≤◌, ◌<◌, ◌⊎◌
 use Rattle.std.specs.List.{flat_map}
 use Rattle.std.specs.Option.{option_to_list}
 use Rattle.slate_types.specs.declared.batches.Batch.{Batch}
-use Rattle.slate_types.specs.declared.store_errors.StoreFault.TheVariants.{NotFound, Unavailable}
+use Rattle.slate_types.specs.declared.store_errors.StoreFault.TheVariants.{NotFound}
 use Rattle.slate_reads.specs.Index.{AreRising}
 use Rattle.slate_store.specs.declared.objects.Checkpoint.{Checkpoint}
 use Rattle.slate_store.specs.declared.objects.Listing.{Listing}
@@ -16,24 +16,13 @@ use Rattle.slate_store.specs.Changes.{PartMadeBy, after_part}
 use Rattle.slate_store.specs.Compaction.{CompactCause, MayCompact, with_table}
 use Rattle.slate_store.specs.Content.{table_batches}
 use Rattle.slate_store.specs.Objects.{Change, Objects, ObjectsOf, PutManifest, RemoveLog, RemoveManifest, RemoveTable, entry_at, is_present, latest_manifest, table_at}
-use Rattle.slate_store.specs.Refusals.{PartMade}
+use Rattle.slate_store.specs.Refusals.{IsOfStore, PartMade}
 use Rattle.slate_store.specs.Sweeps.{SweepCause, expiries, has_expired, removals, without_expired}
 
 -- Changes are made in their order: at Ok all of them, at any refusal some first ones.
 abbrev pub Makes : {A E : Type 0} → List Change → Result A E → Objects → Objects → Type 0
 Makes changes result objects objects' =
     (made : ℕ) × PartMadeBy (λ _. true) result (length changes) made × (objects' ≡ after_part made changes objects)
-
--- the faults and the want of memory that any call may answer
-abbrev pub IsOfStore : StoreRefusal → Type 0
-IsOfStore (ObjectStoreError Unavailable) = Unit {0}
-IsOfStore NoMemory = Unit {0}
-IsOfStore refusal = ⊥
-
--- and those of a put
-abbrev pub IsOfPuts : StoreRefusal → Type 0
-IsOfPuts TransactionalObjectVersionExists = Unit {0}
-IsOfPuts refusal = IsOfStore refusal
 
 -- Batches are added to others that rise. They are refused where the numbers don't rise from one to the next.
 abbrev pub Adds : (batches added : List Batch) → Result (Unit {0}) StoreRefusal → List Batch → Type 0

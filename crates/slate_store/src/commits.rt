@@ -4,7 +4,7 @@ ghost use Rattle.slate_types.specs.Counts.{one_more};
 ghost use Rattle.slate_store.specs.Calls.{WhereModelled};
 ghost use Rattle.slate_store.specs.Checkpoints.{to_delete, to_refresh, to_write};
 ghost use Rattle.slate_store.specs.Objects.{PutManifest, is_present};
-ghost use Rattle.slate_store.specs.Refusals.{CountsFaults, CountsTries, FindsLatest, FollowsPlan, IsDecided, IsOfTry, IsTaken, KeepsContent, PutsNext, Tries, tried};
+ghost use Rattle.slate_store.specs.Refusals.{CountsFaults, CountsTries, FindsLatest, FollowsPlan, IsDecided, IsOfCommit, IsOfLatest, IsOfStore, IsOfTry, IsTaken, KeepsContent, PutsNext, Tries, tried};
 
 use crate::checkpoints::{find, next_with_checkpoint, next_with_end, next_without_checkpoint};
 use crate::{Checkpoint, Store, StoreRefusal, VersionedManifest};
@@ -22,8 +22,8 @@ const TRIES: u32 = 8;
 /// has no end. It answers `LatestTransactionalObjectVersionMissing` where no manifest is stored, `InvalidDBState` where
 /// the latest one's id is the greatest `u64`, and `TransactionalObjectTimeout` where eight times another manifest was put
 /// first; then nothing was put. `ObjectStoreError` comes where a call of the store failed, and then the manifest may have
-/// been put. It calls the store at most twice for each try, makes one try where it answers Ok or one of the first two
-/// refusals, and takes time linear in the manifest.
+/// been put. Over any store it refuses by one of these, or by `NoMemory`. It calls the store at most twice for each try,
+/// makes one try where it answers Ok or one of the first two refusals, and takes time linear in the manifest.
 pub fn write_checkpoint<S: Store>(
     alloc: Global,
     store: &mut S,
@@ -35,6 +35,7 @@ pub fn write_checkpoint<S: Store>(
     ensures faults { CountsFaults (S.faults store.old) (S.faults store.new) result }
     ensures tries { CountsTries (S.calls store.old) (S.calls store.new) result }
     ensures decided { IfSome (S.objects store.old) (λ o. IsDecided result → S.calls store.new ≤ S.calls store.old + 2) }
+    ensures kind { IfErr result (IsOfCommit None) }
 {
     let creation = Creation {
         replaced: None,
@@ -58,6 +59,7 @@ pub fn replace_checkpoint<S: Store>(
     ensures faults { CountsFaults (S.faults store.old) (S.faults store.new) result }
     ensures tries { CountsTries (S.calls store.old) (S.calls store.new) result }
     ensures decided { IfSome (S.objects store.old) (λ o. IsDecided result → S.calls store.new ≤ S.calls store.old + 2) }
+    ensures kind { IfErr result (IsOfCommit None) }
 {
     let creation = Creation {
         replaced: Some(old),
@@ -70,8 +72,8 @@ pub fn replace_checkpoint<S: Store>(
 /// Lets the lease of a checkpoint end `lifetime` milliseconds after `moment`, at the greatest moment at most, and leaves
 /// all else of it. It answers the checkpoint as it is then. SlateDB's `refresh_checkpoint`.
 ///
-/// It answers `CheckpointMissing` where the latest manifest has no checkpoint with this id, after one try, and nothing was
-/// put then; else it answers, and costs, what `write_checkpoint` does.
+/// It answers `CheckpointMissing` of this id where the latest manifest has no checkpoint with it, after one try, and
+/// nothing was put then; else it answers, and costs, what `write_checkpoint` does.
 pub fn refresh_checkpoint<S: Store>(
     alloc: Global,
     store: &mut S,
@@ -84,6 +86,7 @@ pub fn refresh_checkpoint<S: Store>(
     ensures faults { CountsFaults (S.faults store.old) (S.faults store.new) result }
     ensures tries { CountsTries (S.calls store.old) (S.calls store.new) result }
     ensures decided { IfSome (S.objects store.old) (λ o. IsDecided result → S.calls store.new ≤ S.calls store.old + 2) }
+    ensures kind { IfErr result (IsOfCommit (Some id)) }
 {
     let renewal = Renewal {
         id,
@@ -105,6 +108,7 @@ pub fn delete_checkpoint<S: Store>(
     ensures faults { CountsFaults (S.faults store.old) (S.faults store.new) result }
     ensures tries { CountsTries (S.calls store.old) (S.calls store.new) result }
     ensures decided { IfSome (S.objects store.old) (λ o. IsDecided result → S.calls store.new ≤ S.calls store.old + 2) }
+    ensures kind { IfErr result (IsOfCommit None) }
 {
     commit(alloc, store, &Deletion { id })
 }
@@ -113,11 +117,15 @@ pub fn delete_checkpoint<S: Store>(
 trait Change {
     type Answer;
 
+    ghost use Rattle.std.specs.Prelude.{ℕ, List, Option};
     ghost use Rattle.slate_store.specs.declared.objects.VersionedManifest.{VersionedManifest as AnyManifest};
     ghost use Rattle.slate_store.specs.Checkpoints.{Plan};
     ghost use Rattle.slate_store.specs.Refusals.{GivesPlan, IsOfPlan};
 
     ghost plan: { Self → AnyManifest → Plan Self.Answer };
+
+    /// The id of the checkpoint without which it is refused, where there is one.
+    ghost asked: { Self → Option (List ℕ) };
 
     /// The manifest to be put after the latest one, where one is, and what the call answers then.
     fn next(
@@ -126,7 +134,7 @@ trait Change {
         latest: &VersionedManifest,
     ) -> Result<(Option<VersionedManifest>, Self::Answer), StoreRefusal>
         ensures plan { GivesPlan (plan self.now latest.now) result }
-        ensures refusals { IfErr result IsOfPlan };
+        ensures refusals { IfErr result (IsOfPlan (asked self.now)) };
 }
 
 /// A new checkpoint, in place of another or beside all.
@@ -141,6 +149,8 @@ impl Change for Creation {
     type Answer = Checkpoint;
 
     ghost plan = { λ c. to_write c.replaced c.lifetime c.moment };
+
+    ghost asked = { λ _. None };
 
     fn next(
         &self,
@@ -171,6 +181,8 @@ impl Change for Renewal {
 
     ghost plan = { λ r. to_refresh r.id r.lifetime r.moment };
 
+    ghost asked = { λ r. Some r.id };
+
     fn next(
         &self,
         alloc: Global,
@@ -192,6 +204,8 @@ impl Change for Deletion {
 
     ghost plan = { λ d. to_delete d.id };
 
+    ghost asked = { λ _. None };
+
     fn next(
         &self,
         alloc: Global,
@@ -212,7 +226,7 @@ pub(crate) fn latest_of<S: Store>(
     ensures found { WhereModelled (λ o o'. (o' ≡ o) × FindsLatest o result) (S.objects store.old) (S.objects store.new) }
     ensures faults { CountsFaults (S.faults store.old) (S.faults store.new) result }
     ensures calls { S.calls store.new ≡ one_more (S.calls store.old) }
-    ensures refusals { IfErr result IsOfTry }
+    ensures kind { IfErr result IsOfLatest }
 {
     match store.latest_manifest(alloc) {
         Ok(Some(latest)) => Ok(latest),
@@ -232,7 +246,7 @@ fn put_next<S: Store>(
     ensures calls { S.calls store.new ≤ S.calls store.old + 1 }
     ensures again { result ≡ Ok false → S.calls store.new ≡ one_more (S.calls store.old) }
     ensures free { result ≡ Ok true → IfSome next (λ next. IfSome (S.objects store.old) (λ o. is_present (PutManifest next.id next.manifest) o ≡ false)) }
-    ensures refusals { IfErr result IsOfTry }
+    ensures kind { IfErr result IsOfStore }
 {
     let Some(next) = next else {
         return Ok(true);
@@ -258,7 +272,7 @@ where
     ensures calls { S.calls store.new ≤ S.calls store.old + 2 }
     ensures again { result ≡ Ok None → S.calls store.new ≡ one_more (one_more (S.calls store.old)) }
     ensures undecided { IfSome (S.objects store.old) (λ o. IsTaken (C.plan change.now) o → IsDecided (tried result) → ⊥) }
-    ensures refusals { IfErr result IsOfTry }
+    ensures kind { IfErr result (IsOfTry (C.asked change.now)) }
 {
     let latest = latest_of(alloc, store)?;
     let (next, answer) = change.next(alloc, &latest)?;
@@ -281,6 +295,7 @@ where
     ensures faults { CountsFaults (S.faults store.old) (S.faults store.new) result }
     ensures tries { CountsTries (S.calls store.old) (S.calls store.new) result }
     ensures decided { IfSome (S.objects store.old) (λ o. IsDecided result → S.calls store.new ≤ S.calls store.old + 2) }
+    ensures kind { IfErr result (IsOfCommit (C.asked change.now)) }
 {
     for earlier in 0..TRIES {
         if let Some(answer) = attempt(alloc, store, change)? {

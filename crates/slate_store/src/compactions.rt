@@ -4,8 +4,8 @@ ghost use Rattle.slate_store.specs.Calls.{WhereModelled};
 ghost use Rattle.slate_store.specs.Compaction.{Compacts, HasTablesToJoin, compact_calls, with_table};
 ghost use Rattle.slate_store.specs.Content.{AreStored};
 ghost use Rattle.slate_store.specs.Objects.{PutManifest, PutTable};
-ghost use Rattle.slate_store.specs.Refusals.{CountsFaults, KeepsContent};
-ghost use Rattle.slate_store.specs.Steps.{Adds, IsOfPuts, Joins, PlansJoin, PutsBoth, WasOpened};
+ghost use Rattle.slate_store.specs.Refusals.{CountsFaults, IsOfCompaction, IsOfPuts, KeepsContent};
+ghost use Rattle.slate_store.specs.Steps.{Adds, Joins, PlansJoin, PutsBoth, WasOpened};
 
 use crate::commits::latest_of;
 use crate::{Manifest, Store, StoreRefusal, TableId, VersionedManifest};
@@ -23,7 +23,7 @@ use std::alloc::Global;
 /// greatest `u64`, or the batches of the tables don't come one after another; `ObjectStoreError` with `NotFound` where a
 /// table isn't stored; and `TransactionalObjectVersionExists` where a table or a manifest is stored under the new id.
 /// After a refusal nothing was put, but after the last one, a fault or want of memory, when the table may be stored, or
-/// it and the manifest.
+/// it and the manifest. Over any store it refuses by one of these.
 ///
 /// It calls the store at most three times and once for each table, and once where there is nothing to join or no manifest
 /// is stored. It takes time linear in the operations of the tables, with a logarithm of the keys for each key, and copies
@@ -40,6 +40,7 @@ pub fn compact_tables<S: Store>(
     ensures sound { WhereModelled (λ o o'. WasOpened epoch o → KeepsContent o o') (S.objects store.old) (S.objects store.new) }
     ensures faults { CountsFaults (S.faults store.old) (S.faults store.new) result }
     ensures calls { IfSome (S.objects store.old) (λ o. S.calls store.new ≤ S.calls store.old + compact_calls o) }
+    ensures kind { IfErr result IsOfCompaction }
 {
     compact(alloc, store, epoch, next_index)
 }
@@ -56,6 +57,7 @@ fn compact<S: Store>(
     ensures index { (next_index.old ≤ next_index.new) × (next_index.new ≤ next_index.old + 1) }
     ensures faults { CountsFaults (S.faults store.old) (S.faults store.new) result }
     ensures calls { IfSome (S.objects store.old) (λ o. S.calls store.new ≤ S.calls store.old + compact_calls o) }
+    ensures kind { IfErr result IsOfCompaction }
 {
     let id = TableId {
         epoch,
@@ -84,6 +86,7 @@ fn join<S: Store>(
     ensures faults { CountsFaults (S.faults store.old) (S.faults store.new) result }
     ensures calls { IfSome (S.objects store.old) (λ o. S.calls store.new ≤ S.calls store.old + compact_calls o) }
     ensures puts { IfOk result (λ plan. IsSome plan.1 → IfSome (S.objects store.old) (λ o. S.calls store.new + 2 ≤ S.calls store.old + compact_calls o)) }
+    ensures kind { IfErr result IsOfCompaction }
 {
     let latest = latest_of(alloc, store)?;
     if latest.manifest.writer_epoch > id.epoch {
@@ -110,6 +113,7 @@ fn join_tables<S: Store>(
     ensures read { IfOk result (λ _. IfSome (S.objects store.old) (λ o. AreStored o ids.now)) }
     ensures faults { CountsFaults (S.faults store.old) (S.faults store.new) result }
     ensures calls { S.calls store.new ≤ S.calls store.old + length ids.now }
+    ensures kind { IfErr result IsOfCompaction }
 {
     let mut joined = IndexedTable::new(alloc);
     for id in ids {
@@ -170,7 +174,7 @@ fn put_both<S: Store>(
     ensures puts { WhereModelled (λ o o'. (made : ℕ) × PutsBoth (PutTable id table.now) (PutManifest next.now.id next.now.manifest) result made o o') (S.objects store.old) (S.objects store.new) }
     ensures faults { CountsFaults (S.faults store.old) (S.faults store.new) result }
     ensures calls { S.calls store.new ≤ S.calls store.old + 2 }
-    ensures refusals { IfErr result IsOfPuts }
+    ensures kind { IfErr result IsOfPuts }
 {
     store.put_table(alloc, id, table)?;
     store.put_manifest(alloc, next.id, &next.manifest)?;

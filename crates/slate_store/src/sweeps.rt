@@ -6,8 +6,8 @@ ghost use Rattle.slate_types.specs.declared.batches.Batch.{Batch};
 ghost use Rattle.slate_store.specs.Calls.{WhereModelled};
 ghost use Rattle.slate_store.specs.Checkpoints.{is_expired};
 ghost use Rattle.slate_store.specs.Objects.{Objects, RemoveLog, RemoveManifest, RemoveTable, listing_of, table_cmp};
-ghost use Rattle.slate_store.specs.Refusals.{CountsFaults, KeepsContent};
-ghost use Rattle.slate_store.specs.Steps.{FindsUnprotected, GivesUnexpired, IsOfStore, Makes, ReadsKept, RemovesUnprotected, TakesOut, ToSweep, removals_of};
+ghost use Rattle.slate_store.specs.Refusals.{CountsFaults, IsOfStore, IsOfSweep, IsOfToSweep, KeepsContent};
+ghost use Rattle.slate_store.specs.Steps.{FindsUnprotected, GivesUnexpired, Makes, ReadsKept, RemovesUnprotected, TakesOut, ToSweep, removals_of};
 ghost use Rattle.slate_store.specs.Sweeps.{Sweeps, expiries, keeps_log, keeps_manifest, keeps_table, protecting, removals, sweep_calls};
 
 use crate::checkpoints::{next_id, with_checkpoints};
@@ -24,7 +24,8 @@ use std::alloc::{AllocError, Global};
 /// is expired and the latest id is the greatest `u64`; `TransactionalObjectVersionExists` where another manifest was put
 /// first; and `ObjectStoreError` with `NotFound` where the manifest of a checkpoint isn't stored. After the first three
 /// nothing was changed. After any other refusal some first ones of its changes may be made, in this order: the manifest,
-/// then the removals of tables, of log files and of manifests, each in the order of the store's list.
+/// then the removals of tables, of log files and of manifests, each in the order of the store's list. Over any store it
+/// refuses by one of these, by a fault or by `NoMemory`.
 ///
 /// It calls the store at most twice, once where a checkpoint is expired, once for each checkpoint that isn't, and once for
 /// each object that it removes; and once where no manifest is stored. It takes time linear in the objects, times the checkpoints and their tables.
@@ -33,6 +34,7 @@ pub fn sweep<S: Store>(alloc: Global, store: &mut S, moment: i64) -> Result<u64,
     ensures sound { WhereModelled KeepsContent (S.objects store.old) (S.objects store.new) }
     ensures faults { CountsFaults (S.faults store.old) (S.faults store.new) result }
     ensures calls { IfSome (S.objects store.old) (λ o. S.calls store.new ≤ S.calls store.old + sweep_calls moment o) }
+    ensures kind { IfErr result IsOfSweep }
 {
     let latest = latest_of(alloc, store)?;
     let latest = take_out_expired(alloc, store, &latest, moment)?.unwrap_or(latest);
@@ -44,8 +46,8 @@ pub fn sweep<S: Store>(alloc: Global, store: &mut S, moment: i64) -> Result<u64,
 ///
 /// It answers `LatestTransactionalObjectVersionMissing` where no manifest is stored; `InvalidDBState` where a checkpoint is
 /// expired and the latest id is the greatest `u64`; and `ObjectStoreError`, with `NotFound` where the manifest of a checkpoint
-/// isn't stored. It calls the store at most twice, and once for each checkpoint that isn't expired, and takes time linear in
-/// the objects, times the checkpoints and their tables.
+/// isn't stored. Over any store it refuses by one of these, or by `NoMemory`. It calls the store at most twice, and once for
+/// each checkpoint that isn't expired, and takes time linear in the objects, times the checkpoints and their tables.
 pub fn to_sweep<S: Store>(
     alloc: Global,
     store: &mut S,
@@ -55,6 +57,7 @@ pub fn to_sweep<S: Store>(
     ensures finds { IfSome (S.objects store.old) (λ o. ToSweep moment o result) }
     ensures faults { CountsFaults (S.faults store.old) (S.faults store.new) result }
     ensures calls { IfSome (S.objects store.old) (λ o. S.calls store.new ≤ S.calls store.old + sweep_calls moment o) }
+    ensures kind { IfErr result IsOfToSweep }
 {
     let latest = latest_of(alloc, store)?;
     let latest = without_expired(alloc, &latest, moment)?.unwrap_or(latest);
@@ -71,6 +74,7 @@ fn take_out_expired<S: Store>(
     ensures takes_out { WhereModelled (λ o o'. (made : ℕ) × TakesOut moment latest.now o result made o') (S.objects store.old) (S.objects store.new) }
     ensures faults { CountsFaults (S.faults store.old) (S.faults store.new) result }
     ensures calls { S.calls store.new ≤ S.calls store.old + length (expiries {L = List Batch} moment latest.now) }
+    ensures kind { IfErr result IsOfSweep }
 {
     let Some(next) = without_expired(alloc, latest, moment)? else {
         return Ok(None);
@@ -136,6 +140,7 @@ fn remove_unprotected<S: Store>(
     ensures removes { WhereModelled (RemovesUnprotected latest.now result) (S.objects store.old) (S.objects store.new) }
     ensures faults { CountsFaults (S.faults store.old) (S.faults store.new) result }
     ensures calls { IfSome (S.objects store.old) (λ o. S.calls store.new ≤ S.calls store.old + 1 + length latest.now.manifest.checkpoints + length (removals latest.now o)) }
+    ensures kind { IfErr result IsOfToSweep }
 {
     let unprotected = find_unprotected(alloc, store, latest)?;
     remove_all(alloc, store, &unprotected)?;
@@ -152,6 +157,7 @@ fn find_unprotected<S: Store>(
     ensures finds { IfSome (S.objects store.old) (λ o. FindsUnprotected latest.now o result) }
     ensures faults { CountsFaults (S.faults store.old) (S.faults store.new) result }
     ensures calls { S.calls store.new ≤ S.calls store.old + 1 + length latest.now.manifest.checkpoints }
+    ensures kind { IfErr result IsOfToSweep }
 {
     let kept = read_kept(alloc, store, latest.manifest.checkpoints.as_slice())?;
     let listing = store.list(alloc)?;
@@ -172,6 +178,7 @@ fn read_kept<S: Store>(
     ensures reads { IfSome (S.objects store.old) (λ o. ReadsKept checkpoints.now o result) }
     ensures faults { CountsFaults (S.faults store.old) (S.faults store.new) result }
     ensures calls { S.calls store.new ≤ S.calls store.old + length checkpoints.now }
+    ensures kind { IfErr result IsOfToSweep }
 {
     let mut kept = Vec::new(alloc);
     for checkpoint in checkpoints {
@@ -289,7 +296,7 @@ fn remove_all<S: Store>(alloc: Global, store: &mut S, listing: &Listing) -> Resu
     ensures made { WhereModelled (Makes (removals_of listing.now) result) (S.objects store.old) (S.objects store.new) }
     ensures faults { CountsFaults (S.faults store.old) (S.faults store.new) result }
     ensures calls { S.calls store.new ≤ S.calls store.old + length (removals_of listing.now) }
-    ensures refusals { IfErr result IsOfStore }
+    ensures kind { IfErr result IsOfStore }
 {
     remove_tables(alloc, store, listing.tables.as_slice())?;
     remove_logs(alloc, store, listing.logs.as_slice())?;
@@ -304,7 +311,7 @@ fn remove_tables<S: Store>(
     ensures made { WhereModelled (Makes (map (λ id. RemoveTable id) ids.now) result) (S.objects store.old) (S.objects store.new) }
     ensures faults { CountsFaults (S.faults store.old) (S.faults store.new) result }
     ensures calls { S.calls store.new ≤ S.calls store.old + length ids.now }
-    ensures refusals { IfErr result IsOfStore }
+    ensures kind { IfErr result IsOfStore }
 {
     for id in ids {
         store.remove_table(alloc, *id)?;
@@ -316,7 +323,7 @@ fn remove_logs<S: Store>(alloc: Global, store: &mut S, ids: &[u64]) -> Result<()
     ensures made { WhereModelled (Makes (map (λ id. RemoveLog id) ids.now) result) (S.objects store.old) (S.objects store.new) }
     ensures faults { CountsFaults (S.faults store.old) (S.faults store.new) result }
     ensures calls { S.calls store.new ≤ S.calls store.old + length ids.now }
-    ensures refusals { IfErr result IsOfStore }
+    ensures kind { IfErr result IsOfStore }
 {
     for id in ids {
         store.remove_log(alloc, *id)?;
@@ -328,7 +335,7 @@ fn remove_manifests<S: Store>(alloc: Global, store: &mut S, ids: &[u64]) -> Resu
     ensures made { WhereModelled (Makes (map (λ id. RemoveManifest id) ids.now) result) (S.objects store.old) (S.objects store.new) }
     ensures faults { CountsFaults (S.faults store.old) (S.faults store.new) result }
     ensures calls { S.calls store.new ≤ S.calls store.old + length ids.now }
-    ensures refusals { IfErr result IsOfStore }
+    ensures kind { IfErr result IsOfStore }
 {
     for id in ids {
         store.remove_manifest(alloc, *id)?;

@@ -7,7 +7,7 @@ returns-in_err-latest-clause-follows g c = search (rules, without_latest)
 
 pub returns-in_err-next-clause-follows : goal.returns-in_err-next-clause-follows
 returns-in_err-next-clause-follows g c =
-    let all = without_plan (g.C.Change.plan c.args.change.now) c.in_ok-latest.latest c.in_ok-latest.ensures.found c.in_err-next.field-0.0 c.in_err-next.ensures.plan c.in_err-next.ensures.refusals in
+    let all = without_plan (g.C.Change.plan c.args.change.now) c.in_ok-latest.latest c.in_ok-latest.ensures.found _ c.in_err-next.field-0.0 c.in_err-next.ensures.plan c.in_err-next.ensures.refusals in
     search (rules, all)
 
 pub returns-in_err-put_next-clause-follows : goal.returns-in_err-put_next-clause-follows
@@ -31,7 +31,7 @@ pub returns-in_err-next-clause-undecided : goal.returns-in_err-next-clause-undec
 returns-in_err-next-clause-undecided g c =
     let plan = g.C.Change.plan c.args.change.now in
     let e = c.in_err-next.field-0.0 in
-    let all = err-undecided plan e (without_plan plan c.in_ok-latest.latest c.in_ok-latest.ensures.found e c.in_err-next.ensures.plan c.in_err-next.ensures.refusals) in
+    let all = err-undecided plan e (without_plan plan c.in_ok-latest.latest c.in_ok-latest.ensures.found _ e c.in_err-next.ensures.plan c.in_err-next.ensures.refusals) in
     search (rules, all)
 
 pub returns-in_err-put_next-clause-undecided : goal.returns-in_err-put_next-clause-undecided

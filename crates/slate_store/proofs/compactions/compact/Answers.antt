@@ -21,7 +21,7 @@ returns-in_err-put_both-clause-compacts g c =
     let plans = subst (λ t. IfSome (g.S.Store.objects c.args.store.now) (λ o. PlansJoin id o (Ok (c.in_ok-manifest.manifest, t)))) c.in-Some.is join.plans in
     let put = c.in_err-put_both.ensures in
     let p = err_from_is_err_and c.from_residual-in_err-put_both.result c.from_residual-in_err-put_both.ensures.1 in
-    let all = all-joined id c.in_ok-manifest.manifest join.kept c.in-Some.table (Err c.in_err-put_both.field-0.0) plans put.refusals put.puts in
+    let all = all-joined id c.in_ok-manifest.manifest join.kept c.in-Some.table (Err c.in_err-put_both.field-0.0) plans put.kind put.puts in
     let same : c.from_residual-in_err-put_both.result ≡ Err c.in_err-put_both.field-0.0 = p.1 ∙ ap Err p.2 in
     rw same all
 

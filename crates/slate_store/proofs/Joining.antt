@@ -124,10 +124,6 @@ both-known None b same p q f = tt
 both-known {P} {Q} {R} (Some x) b same p q f = f x p (subst (λ c. IfSome c Q) same q)
 
 -- the tables of the latest manifest, all of which were read
-pub all-read : (a b : Option Objects) (latest : VersionedManifest) → WhereModelled (λ o o'. (o' ≡ o) × FindsLatest o (Ok latest)) a b → IfSome b (λ o. AreStored o latest.manifest.tables) → IfSome a HasTablesToJoin
-all-read None b latest found read = tt
-all-read (Some o) b latest found read =
-    let next = found.some o refl in
-    let there : IfSome (Some next.0) (λ x. AreStored x latest.manifest.tables) = subst (λ x. IfSome x (λ y. AreStored y latest.manifest.tables)) next.1 read in
-    let are : AreStored o latest.manifest.tables = subst (λ x. AreStored x latest.manifest.tables) next.2.0 there in
-    subst (λ l. IfSome l (λ v. 2 ≤ length v.manifest.tables → AreStored o v.manifest.tables)) (sym next.2.1) (λ many. are)
+pub all-read : (a b : Option Objects) (latest : VersionedManifest) → b ≡ a → IfSome a (λ o. FindsLatest o (Ok latest)) → IfSome b (λ o. AreStored o latest.manifest.tables) → IfSome a HasTablesToJoin
+all-read a b latest kept found read =
+    both-known a b kept found read (λ o is are. subst (λ l. IfSome l (λ v. 2 ≤ length v.manifest.tables → AreStored o v.manifest.tables)) (sym is) (λ many. are))

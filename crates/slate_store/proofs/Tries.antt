@@ -92,6 +92,11 @@ module _ {A : Type 0} (plan : VersionedManifest → Plan A) (o : Objects) where
     put_next None r o' gives h = subst (λ x. Tries plan (given answer x) o o') (sym h.0) (nothing_put None o' gives refl h.1)
     put_next (Some next) r o' gives h = put_or_not next gives r o' h
 
+-- what is read as the latest manifest is known of the objects before and after
+pub latest-known : {a b : Option Objects} (r : Result VersionedManifest StoreRefusal) → b ≡ a → IfSome a (λ o. FindsLatest o r) → WhereModelled (λ o o'. (o' ≡ o) × FindsLatest o r) a b
+latest-known r kept found =
+    record { none = λ h. kept ∙ h; some = λ o h. (o, kept ∙ h, (refl, subst (λ x. IfSome x (λ o. FindsLatest o r)) h found)) }
+
 -- the three ends of a try, over any store
 module _ {A : Type 0} (plan : VersionedManifest → Plan A) {a b : Option Objects} where
   pub without_latest : (e : StoreRefusal) → WhereModelled (λ o o'. (o' ≡ o) × FindsLatest o (Err e)) a b → WhereModelled (Tries plan (Err e)) a b

@@ -54,7 +54,7 @@ pub fn next_with_end(
 ) -> Result<(VersionedManifest, Checkpoint), StoreRefusal>
     ensures { GivesNext (to_refresh id lifetime moment latest.now) result }
 {
-    let Some(checkpoint) = find(latest, id) else {
+    let Some(checkpoint) = find_checkpoint(latest, id) else {
         return Err(StoreRefusal::CheckpointMissing(id));
     };
     let next = next_id(latest)?;
@@ -87,8 +87,8 @@ pub fn next_without_checkpoint(
     with_checkpoints(latest, next, checkpoints)
 }
 
-/// The checkpoint of a manifest that has this id.
-pub(crate) fn find(latest: &VersionedManifest, id: Uuid) -> Option<Checkpoint>
+/// The first checkpoint of a manifest with this id, or None where none has it. It takes time linear in the checkpoints.
+pub fn find_checkpoint(latest: &VersionedManifest, id: Uuid) -> Option<Checkpoint>
     ensures { result ≡ found id latest.now }
 {
     latest

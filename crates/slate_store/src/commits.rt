@@ -4,16 +4,19 @@ ghost use Rattle.slate_types.specs.Counts.{one_more};
 ghost use Rattle.slate_store.specs.Calls.{WhereModelled};
 ghost use Rattle.slate_store.specs.Checkpoints.{to_delete, to_refresh, to_write};
 ghost use Rattle.slate_store.specs.Objects.{PutManifest, is_present};
-ghost use Rattle.slate_store.specs.Refusals.{CountsFaults, CountsTries, FindsLatest, FollowsPlan, IsDecided, IsOfCommit, IsOfLatest, IsOfStore, IsOfTry, IsTaken, KeepsContent, PutsNext, Tries, tried};
+ghost use Rattle.slate_store.specs.Refusals.{CountsFaults, CountsTries, FindsLatest, FollowsPlan, IsDecided, IsOfCommit, IsOfLatest, IsOfStore, IsOfTry, IsTaken, KeepsContent, PutsManifest, PutsNext, Tries, tried};
 
-use crate::checkpoints::{find, next_with_checkpoint, next_with_end, next_without_checkpoint};
-use crate::{Checkpoint, Store, StoreRefusal, VersionedManifest};
+use crate::{
+    Checkpoint, Store, StoreRefusal, VersionedManifest, find_checkpoint, next_with_checkpoint,
+    next_with_end, next_without_checkpoint,
+};
 use slate_types::StoreError;
 use std::alloc::Global;
 use uuid::Uuid;
 
-// How often a call reads the latest manifest and puts the next one, where others put theirs first.
-const TRIES: u32 = 8;
+/// How often a call on checkpoints tries: it reads the latest manifest and puts the next one, and again where another was
+/// put first. After so many tries it answers `TransactionalObjectTimeout`.
+pub const COMMIT_TRIES: u32 = 8;
 
 /// Commits a new checkpoint of what is stored: a manifest that keeps itself, with its tables and its log files, until the
 /// lease ends. It answers the checkpoint. SlateDB's `create_checkpoint`.
@@ -211,19 +214,23 @@ impl Change for Deletion {
         alloc: Global,
         latest: &VersionedManifest,
     ) -> Result<(Option<VersionedManifest>, ()), StoreRefusal> {
-        if find(latest, self.id).is_none() {
+        if find_checkpoint(latest, self.id).is_none() {
             return Ok((None, ()));
         }
         Ok((Some(next_without_checkpoint(alloc, latest, self.id)?), ()))
     }
 }
 
-/// The latest manifest.
-pub(crate) fn latest_of<S: Store>(
+/// Reads the latest manifest, the one with the greatest id.
+///
+/// It answers `LatestTransactionalObjectVersionMissing` where no manifest is stored, `ObjectStoreError` of `Unavailable`
+/// where the read failed, and `NoMemory`. It calls the store once, and takes the time of that call.
+pub fn read_latest<S: Store>(
     alloc: Global,
     store: &mut S,
 ) -> Result<VersionedManifest, StoreRefusal>
-    ensures found { WhereModelled (λ o o'. (o' ≡ o) × FindsLatest o result) (S.objects store.old) (S.objects store.new) }
+    ensures kept { S.objects store.new ≡ S.objects store.old }
+    ensures found { IfSome (S.objects store.old) (λ o. FindsLatest o result) }
     ensures faults { CountsFaults (S.faults store.old) (S.faults store.new) result }
     ensures calls { S.calls store.new ≡ one_more (S.calls store.old) }
     ensures kind { IfErr result IsOfLatest }
@@ -235,26 +242,45 @@ pub(crate) fn latest_of<S: Store>(
     }
 }
 
-/// Puts a manifest, where there is one, and answers whether it did: where one is stored under its id, it didn't.
-fn put_next<S: Store>(
+/// Puts a manifest under its id, and answers whether it did: where one is stored under it already, it answers false, and
+/// nothing is changed.
+///
+/// It answers `ObjectStoreError` of `Unavailable` where the put failed, and then the manifest may have been put, and
+/// `NoMemory`, and then it wasn't. It calls the store once, and takes the time of that call.
+pub fn put_next<S: Store>(
+    alloc: Global,
+    store: &mut S,
+    next: &VersionedManifest,
+) -> Result<bool, StoreRefusal>
+    ensures puts { WhereModelled (PutsManifest next.now result) (S.objects store.old) (S.objects store.new) }
+    ensures free { result ≡ Ok true → IfSome (S.objects store.old) (λ o. is_present (PutManifest next.now.id next.now.manifest) o ≡ false) }
+    ensures faults { CountsFaults (S.faults store.old) (S.faults store.new) result }
+    ensures calls { S.calls store.new ≡ one_more (S.calls store.old) }
+    ensures kind { IfErr result IsOfStore }
+{
+    match store.put_manifest(alloc, next.id, &next.manifest) {
+        Ok(()) => Ok(true),
+        Err(StoreError::Exists) => Ok(false),
+        Err(error) => Err(StoreRefusal::from(error)),
+    }
+}
+
+/// Puts a manifest as `put_next` does, where there is one. Where there is none, it answers true.
+fn put_planned<S: Store>(
     alloc: Global,
     store: &mut S,
     next: Option<VersionedManifest>,
 ) -> Result<bool, StoreRefusal>
     ensures puts { WhereModelled (PutsNext next result) (S.objects store.old) (S.objects store.new) }
+    ensures free { result ≡ Ok true → IfSome next (λ next. IfSome (S.objects store.old) (λ o. is_present (PutManifest next.id next.manifest) o ≡ false)) }
     ensures faults { CountsFaults (S.faults store.old) (S.faults store.new) result }
     ensures calls { S.calls store.new ≤ S.calls store.old + 1 }
     ensures again { result ≡ Ok false → S.calls store.new ≡ one_more (S.calls store.old) }
-    ensures free { result ≡ Ok true → IfSome next (λ next. IfSome (S.objects store.old) (λ o. is_present (PutManifest next.id next.manifest) o ≡ false)) }
     ensures kind { IfErr result IsOfStore }
 {
-    let Some(next) = next else {
-        return Ok(true);
-    };
-    match store.put_manifest(alloc, next.id, &next.manifest) {
-        Ok(()) => Ok(true),
-        Err(StoreError::Exists) => Ok(false),
-        Err(error) => Err(StoreRefusal::from(error)),
+    match next {
+        Some(next) => put_next(alloc, store, &next),
+        None => Ok(true),
     }
 }
 
@@ -274,9 +300,9 @@ where
     ensures undecided { IfSome (S.objects store.old) (λ o. IsTaken (C.plan change.now) o → IsDecided (tried result) → ⊥) }
     ensures kind { IfErr result (IsOfTry (C.asked change.now)) }
 {
-    let latest = latest_of(alloc, store)?;
+    let latest = read_latest(alloc, store)?;
     let (next, answer) = change.next(alloc, &latest)?;
-    if put_next(alloc, store, next)? {
+    if put_planned(alloc, store, next)? {
         Ok(Some(answer))
     } else {
         Ok(None)
@@ -297,10 +323,12 @@ where
     ensures decided { IfSome (S.objects store.old) (λ o. IsDecided result → S.calls store.new ≤ S.calls store.old + 2) }
     ensures kind { IfErr result (IsOfCommit (C.asked change.now)) }
 {
-    for earlier in 0..TRIES {
+    for earlier in 0..COMMIT_TRIES {
         if let Some(answer) = attempt(alloc, store, change)? {
             return Ok(answer);
         }
     }
-    Err(StoreRefusal::TransactionalObjectTimeout { tries: TRIES })
+    Err(StoreRefusal::TransactionalObjectTimeout {
+        tries: COMMIT_TRIES,
+    })
 }

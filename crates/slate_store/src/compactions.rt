@@ -7,8 +7,7 @@ ghost use Rattle.slate_store.specs.Objects.{PutManifest, PutTable};
 ghost use Rattle.slate_store.specs.Refusals.{CountsFaults, IsOfCompaction, IsOfPuts, KeepsContent};
 ghost use Rattle.slate_store.specs.Steps.{Adds, Joins, PlansJoin, PutsBoth, WasOpened};
 
-use crate::commits::latest_of;
-use crate::{Manifest, Store, StoreRefusal, TableId, VersionedManifest};
+use crate::{Manifest, Store, StoreRefusal, TableId, VersionedManifest, read_latest};
 use slate_reads::{IndexedTable, Table};
 use slate_types::{Batch, NoMemory, Seq};
 use std::alloc::Global;
@@ -88,7 +87,7 @@ fn join<S: Store>(
     ensures puts { IfOk result (λ plan. IsSome plan.1 → IfSome (S.objects store.old) (λ o. S.calls store.new + 2 ≤ S.calls store.old + compact_calls o)) }
     ensures kind { IfErr result IsOfCompaction }
 {
-    let latest = latest_of(alloc, store)?;
+    let latest = read_latest(alloc, store)?;
     if latest.manifest.writer_epoch > id.epoch {
         return Err(StoreRefusal::Fenced);
     }

@@ -13,8 +13,13 @@ mod refusals;
 mod stores;
 mod sweeps;
 
-pub use checkpoints::{next_with_checkpoint, next_with_end, next_without_checkpoint};
-pub use commits::{delete_checkpoint, refresh_checkpoint, replace_checkpoint, write_checkpoint};
+pub use checkpoints::{
+    find_checkpoint, next_with_checkpoint, next_with_end, next_without_checkpoint,
+};
+pub use commits::{
+    COMMIT_TRIES, delete_checkpoint, put_next, read_latest, refresh_checkpoint, replace_checkpoint,
+    write_checkpoint,
+};
 pub use compactions::compact_tables;
 pub use faulty_store::{FailingCall, FaultyStore};
 pub use log_files::LogFile;

@@ -11,8 +11,9 @@ ghost use Rattle.slate_store.specs.Steps.{FindsUnprotected, GivesUnexpired, Make
 ghost use Rattle.slate_store.specs.Sweeps.{Sweeps, expiries, keeps_log, keeps_manifest, keeps_table, protecting, removals, sweep_calls};
 
 use crate::checkpoints::{next_id, with_checkpoints};
-use crate::commits::latest_of;
-use crate::{Checkpoint, Listing, Manifest, Store, StoreRefusal, TableId, VersionedManifest};
+use crate::{
+    Checkpoint, Listing, Manifest, Store, StoreRefusal, TableId, VersionedManifest, read_latest,
+};
 use slate_types::{NoMemory, Seq};
 use std::alloc::{AllocError, Global};
 
@@ -36,7 +37,7 @@ pub fn sweep<S: Store>(alloc: Global, store: &mut S, moment: i64) -> Result<u64,
     ensures calls { IfSome (S.objects store.old) (λ o. S.calls store.new ≤ S.calls store.old + sweep_calls moment o) }
     ensures kind { IfErr result IsOfSweep }
 {
-    let latest = latest_of(alloc, store)?;
+    let latest = read_latest(alloc, store)?;
     let latest = take_out_expired(alloc, store, &latest, moment)?.unwrap_or(latest);
     remove_unprotected(alloc, store, &latest)
 }
@@ -59,7 +60,7 @@ pub fn to_sweep<S: Store>(
     ensures calls { IfSome (S.objects store.old) (λ o. S.calls store.new ≤ S.calls store.old + sweep_calls moment o) }
     ensures kind { IfErr result IsOfToSweep }
 {
-    let latest = latest_of(alloc, store)?;
+    let latest = read_latest(alloc, store)?;
     let latest = without_expired(alloc, &latest, moment)?.unwrap_or(latest);
     find_unprotected(alloc, store, &latest)
 }

@@ -7,5 +7,5 @@ mod replays;
 mod tables;
 
 pub use recoveries::recover;
-pub use replays::{Replayed, replay};
+pub use replays::{Replayed, replay, replay_next};
 pub use tables::read_tables;

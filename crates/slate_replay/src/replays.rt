@@ -1,10 +1,10 @@
 // Appending the batches of log files to those in memory.
 ghost use Rattle.std.specs.Prelude.{◌≡◌, ◌≢◌, ◌+◌, ◌-◌, ◌<◌, ◌≤◌, ◌^◌, ◌++◌, [], ◌∷◌, ℕ, List, Ok, Err, OnOk, OnErr, length, IfSome};
-ghost use Rattle.slate_types.specs.Counts.{HasRisen};
+ghost use Rattle.slate_types.specs.Counts.{HasRisen, one_more};
 ghost use Rattle.slate_types.specs.Line.{AreNumberedFrom};
 ghost use Rattle.slate_types.specs.declared.batches.Batch.{Batch};
 ghost use Rattle.slate_reads.specs.Index.{IsAboveLast};
-ghost use Rattle.slate_replay.specs.Replay.{Replays, AppendsNext, calls_after};
+ghost use Rattle.slate_replay.specs.Replay.{Replays, ReplaysNext, AppendsNext, calls_after};
 
 use slate_reads::IndexedTable;
 use slate_store::Store;
@@ -51,17 +51,53 @@ pub fn replay<S: Store>(
     ensures where_modelled { IfSome (S.objects store.old) (λ o. Replays mark last floor memory.old memory.new o result) }
 {
     for before in mark..last {
-        let id = before + 1;
-        let log = match store.read_log(alloc, id) {
-            Ok(log) => log,
-            Err(StoreError::NotFound) => return Ok(Replayed::Truncated(id)),
-            Err(error) => return Err(error),
-        };
-        if !append_next(memory, floor, log.batches())? {
+        if let Replayed::Truncated(id) = replay_next(alloc, store, memory, floor, before + 1)? {
             return Ok(Replayed::Truncated(id));
         }
     }
     Ok(Replayed::Whole)
+}
+
+/// Appends to `memory` the batches of one log file that come next, in order, and passes those that it has already.
+/// `floor` is the number before the first batch of `memory`. Called for each log file in turn, it does what `replay` does,
+/// and a caller can do other work between two of them.
+///
+/// It answers `Truncated` with this id where the log file isn't stored, and nothing is appended then, or where it has a
+/// batch past the next number, and those before it are appended. It answers `Failed`, where the read failed, and
+/// `NoMemory`; `memory` has the first of the batches then, and another call goes on after them. It calls the store once.
+/// It takes time linear in the operations that it reads, and for each new key a logarithm of the keys. It copies the lists
+/// of operations of the batches that it appends, and no key and no value.
+pub fn replay_next<S: Store>(
+    alloc: Global,
+    store: &mut S,
+    memory: &mut IndexedTable,
+    floor: u64,
+    id: u64,
+) -> Result<Replayed, StoreError>
+    requires numbered { AreNumberedFrom floor memory.old }
+    requires fits { floor + length memory.old < 2 ^ 64 }
+    ensures numbered { AreNumberedFrom floor memory.new }
+    ensures fits { floor + length memory.new < 2 ^ 64 }
+    ensures grows { (added : List Batch) × (memory.new ≡ memory.old ++ added) }
+    ensures kept { S.objects store.new ≡ S.objects store.old }
+    ensures count { S.faults store.old ≤ S.faults store.new }
+    ensures failed { result ≡ Err StoreError.Failed → HasRisen (S.faults store.old) (S.faults store.new) }
+    ensures none_missing { result ≢ Err StoreError.NotFound }
+    ensures none_exists { result ≢ Err StoreError.Exists }
+    ensures calls { S.calls store.new ≡ one_more (S.calls store.old) }
+    ensures cut { (n : ℕ) → result ≡ Ok (Replayed.Truncated n) → n ≡ id }
+    ensures where_modelled { IfSome (S.objects store.old) (λ o. ReplaysNext id floor memory.old memory.new o result) }
+{
+    let log = match store.read_log(alloc, id) {
+        Ok(log) => log,
+        Err(StoreError::NotFound) => return Ok(Replayed::Truncated(id)),
+        Err(error) => return Err(error),
+    };
+    if append_next(memory, floor, log.batches())? {
+        Ok(Replayed::Whole)
+    } else {
+        Ok(Replayed::Truncated(id))
+    }
 }
 
 /// Appends the batches of a log file that come next, in order, and passes those that are there already. It answers

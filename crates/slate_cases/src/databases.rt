@@ -1,11 +1,11 @@
 // The subject `database`: a store that fails as told, and what is opened over it, by script lines and by calls.
 use crate::object_calls::{call_checkpoints, call_objects};
 use crate::operators::{Cuts, Refusing, extractor_of, operator_of};
+use crate::polled::PolledReader;
 use crate::printing::{add_number, number_of, print_number, print_text, print_time, split_name};
 use crate::store_calls::{call_store, print_store_error};
 use crate::subjects::CallFailure;
 use crate::told_stores::ToldStore;
-use slate_follow::FollowerState;
 use slate_live::{LineAnswer, LiveState, Options, print_replies, read_line};
 use slate_reads::IndexedTable;
 use slate_replay::{Replayed, replay};
@@ -63,7 +63,7 @@ pub struct Database {
     pub watch: Option<BoardWatch>,
     /// The transactions of the handle in the order in which they began, but for those that ended.
     pub transactions: Vec<Option<Transaction>>,
-    pub reader: Option<FollowerState>,
+    pub reader: Option<PolledReader>,
     checkpoints: Vec<Uuid>,
 }
 

@@ -24,6 +24,7 @@ mod manifests;
 mod object_calls;
 mod objects;
 mod operators;
+mod polled;
 mod printing;
 mod ranges;
 mod readers;

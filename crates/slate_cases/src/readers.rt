@@ -3,6 +3,7 @@ use crate::databases::Database;
 use crate::handles::ops_of;
 use crate::object_calls::first_manifest;
 use crate::operators::Cuts;
+use crate::polled::PolledReader;
 use crate::printing::{
     bytes_of, number_of, print_error, print_number, print_text, split_name, time_of,
 };
@@ -12,6 +13,7 @@ use crate::store_calls::{print_done, print_store_error, push};
 use crate::subjects::CallFailure;
 use crate::told_stores::ToldStore;
 use bytes::Bytes;
+use slate_errors::SlateError;
 use slate_follow::{DbReaderMode, DbReaderOptions, FollowerState, PollAnswer};
 use slate_reads::{IndexedTable, Table};
 use slate_store::{LogFile, Manifest, Store, TableId};
@@ -21,7 +23,10 @@ use std::alloc::Global;
 #[derive(Clone, Copy)]
 enum Call {
     Open,
+    Managed,
     Poll,
+    Begin,
+    Step,
     Mark,
     Tables,
     First,
@@ -29,7 +34,10 @@ enum Call {
 
 const CALLS: &[(&[u8], Call)] = &[
     (b"open", Call::Open),
+    (b"managed", Call::Managed),
     (b"poll", Call::Poll),
+    (b"begin", Call::Begin),
+    (b"step", Call::Step),
     (b"mark", Call::Mark),
     (b"tables", Call::Tables),
     (b"first", Call::First),
@@ -63,20 +71,65 @@ impl Database {
         answer: &mut Vec<u8>,
     ) -> Result<(), CallFailure> {
         let (call, words) = split_name(CALLS, words)?;
-        if let (Call::Open, [size]) = (call, words) {
-            return self.open_reader(alloc, number_of(size)?, answer);
+        match (call, words) {
+            (Call::Open, [size]) => self.open_reader(alloc, number_of(size)?, answer),
+            (Call::Managed, [lifetime, interval]) => {
+                let options = DbReaderOptions {
+                    checkpoint_lifetime_ms: number_of(lifetime)?,
+                    manifest_poll_interval_ms: number_of(interval)?,
+                    ..DbReaderOptions::default()
+                };
+                self.follow(alloc, DbReaderMode::ManagedCheckpoint, &options, answer)
+            }
+            (Call::Poll | Call::Begin | Call::Step, words) => {
+                self.poll_reader(alloc, call, words, answer)
+            }
+            _ => self.ask_reader(alloc, call, words, answer),
         }
+    }
+
+    /// Polls the reader, whole or by single calls of the store.
+    fn poll_reader(
+        &mut self,
+        alloc: Global,
+        call: Call,
+        words: &[&[u8]],
+        answer: &mut Vec<u8>,
+    ) -> Result<(), CallFailure> {
         let Some(reader) = &mut self.reader else {
             return Err(CallFailure::Unread);
         };
+        let extractor = self.extractor.as_ref();
         match (call, words) {
             (Call::Poll, [moment]) => {
-                let (moment, extractor) = (time_of(moment)?, self.extractor.as_ref());
-                match reader.poll(alloc, &mut self.store, extractor, moment) {
-                    Ok(polled) => print_polled(answer, polled),
-                    Err(error) => print_error(answer, &error),
-                }
+                let polled = reader.poll(alloc, &mut self.store, extractor, time_of(moment)?);
+                print_stepped(answer, polled.map(Some))
             }
+            (Call::Begin, [moment]) => match reader.begin(alloc, time_of(moment)?) {
+                Ok(()) => print_text(answer, "begun"),
+                Err(error) => print_error(answer, &error),
+            },
+            (Call::Step, []) => match reader.step(alloc, &mut self.store, extractor) {
+                Some(stepped) => print_stepped(answer, stepped),
+                None => Err(CallFailure::Unread),
+            },
+            _ => Err(CallFailure::Unread),
+        }
+    }
+
+    /// Asks the reader what it has.
+    fn ask_reader(
+        &mut self,
+        alloc: Global,
+        call: Call,
+        words: &[&[u8]],
+        answer: &mut Vec<u8>,
+    ) -> Result<(), CallFailure> {
+        let Some(reader) = &self.reader else {
+            return Err(CallFailure::Unread);
+        };
+        let reader = reader.reader();
+        match (call, words) {
             (Call::Mark, []) => print_number(answer, reader.mark()),
             (Call::Tables, []) => print_number(answer, reader.tables_in_memory()),
             (Call::First, [low, high, order, limit]) => {
@@ -103,10 +156,21 @@ impl Database {
             max_memtable_bytes: size,
             ..DbReaderOptions::default()
         };
-        let (mode, extractor) = (DbReaderMode::FollowLatest, self.extractor.as_ref());
-        match FollowerState::open(alloc, &mut self.store, mode, &options, extractor, 0) {
+        self.follow(alloc, DbReaderMode::FollowLatest, &options, answer)
+    }
+
+    /// Opens a reader in a mode.
+    fn follow(
+        &mut self,
+        alloc: Global,
+        mode: DbReaderMode,
+        options: &DbReaderOptions,
+        answer: &mut Vec<u8>,
+    ) -> Result<(), CallFailure> {
+        let extractor = self.extractor.as_ref();
+        match FollowerState::open(alloc, &mut self.store, mode, options, extractor, 0) {
             Ok((reader, polled)) => {
-                self.reader = Some(reader);
+                self.reader = Some(PolledReader::new(reader));
                 print_polled(answer, polled)
             }
             Err(error) => print_error(answer, &error),
@@ -165,6 +229,18 @@ fn put_first(
         manifest.extractor_name = Some(Name::of(name));
     }
     print_done(answer, store.put_manifest(alloc, 1, &manifest))
+}
+
+/// What a poll answered, or that it has another call to make.
+fn print_stepped(
+    answer: &mut Vec<u8>,
+    stepped: Result<Option<PollAnswer>, SlateError>,
+) -> Result<(), CallFailure> {
+    match stepped {
+        Ok(Some(polled)) => print_polled(answer, polled),
+        Ok(None) => print_text(answer, "stepped"),
+        Err(error) => print_error(answer, &error),
+    }
 }
 
 fn print_polled(answer: &mut Vec<u8>, polled: PollAnswer) -> Result<(), CallFailure> {

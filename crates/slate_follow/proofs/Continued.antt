@@ -32,7 +32,7 @@ use Rattle.slate_model.specs.Segments.{Extractor, ops_of, unsegmented_refusal}
 use Rattle.slate_model.specs.Stores.{by_objects, kept_seen}
 use Rattle.slate_model.specs.declared.answers.PollAnswer.{PollAnswer}
 use Rattle.slate_follow.specs.Growing.{ExtendingLacks, added_to}
-use Rattle.slate_follow.specs.Rebuilding.{Continues, FindsView, GoesOn, GoingLacks, Lacks, Reaches, answer_of, followed, reached}
+use Rattle.slate_follow.specs.Rebuilding.{Continues, FindsView, GoesOn, GoingLacks, Reaches, answer_of, followed, reached}
 use Rattle.slate_follow.proofs.Above.{above-append, above-fewer, above-twice, none-between}
 use Rattle.slate_follow.proofs.Rebuilt.{has-all, if_some, kept-end, kept-line, refuses_stored, sees-kept, sees_stored, some_at, unpinned-last, unpinned-owed}
 

@@ -1,13 +1,13 @@
 -- Batches that came after others: by what log files give, in a table and in all of them.
-use Rattle.std.proofs.Common.{◌≡◌, ℕ, suc, zero, ◌+◌, ◌-◌, ◌<◌, ◌≤◌, ◌^◌, List, [], ◌∷◌, ◌++◌, length, take, drop, Option, Some, Result, Ok, refl, sym, ap, subst, ◌∙◌, arith, append_assoc, length-append}
+use Rattle.std.proofs.Common.{◌≡◌, ℕ, suc, ◌+◌, ◌-◌, ◌<◌, ◌≤◌, ◌^◌, List, [], ◌∷◌, ◌++◌, length, take, drop, Option, Some, Result, Ok, refl, sym, ap, subst, ◌∙◌, arith, append_assoc, length-append}
 use Rattle.std.proofs.Math.Seq.{drop-append-add, drop-append_seam, take-append_seam}
 use Rattle.std.proofs.lemmas.List.{append-nil}
 use Rattle.std.proofs.lemmas.List.Elements.{All-weaker}
-use Rattle.std.specs.List.{All, slice_get}
+use Rattle.std.specs.List.{slice_get}
 use Rattle.std.specs.Option.{IfSome}
 use Rattle.slate_types.specs.declared.batches.Batch.{Batch}
 use Rattle.slate_types.specs.declared.store_errors.StoreError.{StoreError}
-use Rattle.slate_types.specs.Line.{AreNumberedFrom, Line, IsPrefix, batches_above, extended}
+use Rattle.slate_types.specs.Line.{AreNumberedFrom, Line, IsPrefix, batches_above}
 use Rattle.slate_store.specs.Logs.{BelongTo, StandsIn, batches_between}
 use Rattle.slate_store.specs.Objects.{Objects}
 use Rattle.slate_replay.specs.Replay.{Ends, Replays, line_of}

@@ -1,5 +1,5 @@
 -- What a reader sees that an opening or a poll gave is what its next poll needs.
-use Rattle.std.proofs.Common.{◌≡◌, List, ℕ, Option, Some, None, Bool, false, refl, sym, ap, subst, ◌∙◌}
+use Rattle.std.proofs.Common.{◌≡◌, List, ℕ, Option, Some, Bool, false, refl, sym, ap, subst, ◌∙◌}
 use Rattle.slate_types.specs.Line.{Line}
 use Rattle.slate_store.specs.Content.{IsSound, content}
 use Rattle.slate_store.specs.Objects.{Objects}

@@ -17,3 +17,6 @@ pub mod Refusing
 pub mod Segmented
 pub mod Taken
 pub mod Trying
+pub mod Stepped
+pub mod Called
+pub mod Arriving

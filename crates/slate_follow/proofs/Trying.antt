@@ -1,5 +1,5 @@
 -- A try of a poll of a reader that keeps a checkpoint, by its steps, over a store that may be modelled.
-use Rattle.std.proofs.Common.{◌≡◌, ℕ, inl, inr, List, [], ◌++◌, length, Option, Some, None, Bool, true, false, cond, Result, Ok, Err, refl, sym, ap, subst, ◌∙◌, arith}
+use Rattle.std.proofs.Common.{◌≡◌, ℕ, inl, inr, List, [], ◌++◌, Option, Some, None, Bool, true, false, cond, Result, Ok, Err, refl, sym, ap, subst, ◌∙◌}
 use Rattle.std.proofs.Math.Logic.{⊎_map}
 use Rattle.std.specs.Option.{IfSome}
 use Rattle.std.specs.Prelude.{ℤ, ◌⊎◌, nat_lt}
@@ -11,7 +11,7 @@ use Rattle.slate_follow.specs.Growing.{IsPushed, added_to, settled}
 use Rattle.slate_types.specs.declared.batches.Batch.{Batch}
 use Rattle.slate_store.specs.Checkpoints.{Plan, found, lease_end, to_end}
 use Rattle.slate_store.specs.Objects.{Objects}
-use Rattle.slate_store.specs.Refusals.{checkpoint_changes, planned}
+use Rattle.slate_store.specs.Refusals.{checkpoint_changes}
 use Rattle.slate_store.specs.declared.objects.Checkpoint.{Checkpoint as AnyCheckpoint}
 use Rattle.slate_store.specs.declared.objects.VersionedManifest.{VersionedManifest}
 use Rattle.slate_store.specs.declared.reader_modes.DbReaderMode.TheVariants.{ManagedCheckpoint}
@@ -19,7 +19,7 @@ use Rattle.slate_store.specs.declared.refusals.StoreRefusal.TheVariants as refus
 use Rattle.slate_replay.specs.declared.replays.Replayed.{Replayed}
 use Rattle.slate_replay.specs.declared.replays.Replayed.TheVariants as replays
 use Rattle.slate_errors.specs.declared.errors.SlateError.{SlateError}
-use Rattle.slate_errors.specs.declared.errors.SlateError.TheVariants.{NoMemory, TransactionalObjectTimeout}
+use Rattle.slate_errors.specs.declared.errors.SlateError.TheVariants.{TransactionalObjectTimeout}
 use Rattle.slate_model.specs.Follow.{AnswersAt}
 use Rattle.slate_model.proofs.Reopened.{segments-none}
 use Rattle.slate_model.specs.Follower.{Follower, HasSegments, follower_tasks, number, rebuilt, unsegmented}
@@ -34,7 +34,7 @@ use Rattle.slate_follow.specs.Rebuilding.{answer_of}
 use Rattle.slate_follow.proofs.Keeping.{PutsAndKeeps, puts-by, renewal, renewed-keeps, replaced-keeps, replacement, stays-keeps, to-renewal, to-stay}
 use Rattle.slate_follow.proofs.Planned.{modelled-kept, modelled-put, stays-put}
 use Rattle.slate_follow.proofs.Rebuilt.{some_at}
-use Rattle.slate_follow.proofs.Segmented.{all-above, followed-segments}
+use Rattle.slate_follow.proofs.Segmented.{all-above}
 
 -- ---- a reader that goes on by its view
 answers-at : (n : ℕ) (replayed : Replayed) → AnswersAt n (answer_of replayed n)

@@ -1,5 +1,5 @@
 -- The tables that a reader keeps in memory.
-use Rattle.std.specs.Prelude.{ℕ, ◌<◌, All, List, length}
+use Rattle.std.specs.Prelude.{◌<◌, All, List, length}
 use Rattle.std.specs.List.{flat_map}
 use Rattle.slate_types.specs.declared.batches.Batch.{Batch}
 

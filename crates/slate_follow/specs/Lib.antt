@@ -1,7 +1,10 @@
 pub mod Answering
+pub mod Arriving
+pub mod Begun
 pub mod Growing
 pub mod Joined
 pub mod Keeping
 pub mod Kept
 pub mod Rebuilding
 pub mod Scanned
+pub mod Stepping

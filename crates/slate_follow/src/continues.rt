@@ -118,7 +118,7 @@ impl FollowerState {
 
     /// The segments of its batches above a number, where its own are those of the batches before some with these prefixes. It looks at
     /// its batches only where the tables of its manifest don't end there.
-    fn segments_then<E: PrefixExtractor>(
+    pub(crate) fn segments_then<E: PrefixExtractor>(
         &self,
         alloc: Global,
         extractor: Option<&E>,
@@ -152,7 +152,7 @@ impl FollowerState {
     }
 
     /// Goes by a manifest, which its batches reach, and drops those that are in its tables.
-    fn go_by(&mut self, view: VersionedManifest, mark: u64)
+    pub(crate) fn go_by(&mut self, view: VersionedManifest, mark: u64)
         requires reaches { Reaches self.old view }
         ensures { self.new ≡ record self.old { view = view; line = line_of view.manifest.last_l0_seq (batches_above view.manifest.last_l0_seq self.old.line.batches); mark = mark } }
     {

@@ -17,15 +17,15 @@ ghost use Rattle.slate_follow.specs.Growing.{IsPushed, added_to, settled};
 ghost use Rattle.slate_follow.specs.Keeping.{BuildsLatest, IsNews, IsOfPolling, KeepLacks, MayLack, NewsLacks, PutsBy, ReplaceLacks, put_tried, tried};
 ghost use Rattle.slate_follow.specs.Rebuilding.{answer_of};
 
-use crate::leases::{TRIES, latest_of, put_next, with_new_lease, with_renewed_lease};
+use crate::leases::{latest_of, put_next, with_new_lease, with_renewed_lease};
 use crate::polls::poll_error;
-use crate::rebuilds::{answer_of, find_checkpoint, last_read, reached, rebuild};
+use crate::rebuilds::{answer_of, last_read, reached, rebuild};
 use crate::{FollowerState, PollAnswer};
 use bytes::Bytes;
 use slate_errors::{CloseFault, SlateError};
 use slate_model::Lease;
 use slate_replay::Replayed;
-use slate_store::{Store, VersionedManifest};
+use slate_store::{COMMIT_TRIES, Store, VersionedManifest, find_checkpoint};
 use slate_types::{PrefixExtractor, Seq};
 use std::alloc::Global;
 use std::mem;
@@ -68,7 +68,7 @@ impl FollowerState {
     }
 
     /// Records an error of a poll, but no want of memory.
-    fn close_by(&mut self, error: &SlateError)
+    pub(crate) fn close_by(&mut self, error: &SlateError)
         requires { self.old.result ≡ None }
         ensures { self.new ≡ record self.old { result = poll_result error.now } }
     {
@@ -98,12 +98,14 @@ impl FollowerState {
         ensures segments { (x : Option Extractor) → IsExtractor E.may_name E.may_extract (option_copied extractor.entry) x → HasSegments x self.old → HasSegments x self.new }
         ensures lacks { (x : Option Extractor) → IsExtractor E.may_name E.may_extract (option_copied extractor.entry) x → result ≡ Err SlateError.InvalidDBState → IfSome (S.objects store.old) (λ o. KeepLacks x lease.now moment self.old o) }
     {
-        for earlier in 0..TRIES {
+        for earlier in 0..COMMIT_TRIES {
             if let Some(answer) = self.try_to_keep(alloc, store, lease, extractor, moment)? {
                 return Ok(answer);
             }
         }
-        Err(SlateError::TransactionalObjectTimeout { tries: TRIES })
+        Err(SlateError::TransactionalObjectTimeout {
+            tries: COMMIT_TRIES,
+        })
     }
 
     /// One try. It answers None where a manifest is stored already under the id of the one that it puts.
@@ -295,7 +297,7 @@ impl FollowerState {
 }
 
 /// Whether a manifest has other tables than a view, another last number in them, or other segments.
-fn differs(view: &VersionedManifest, latest: &VersionedManifest) -> bool
+pub(crate) fn differs(view: &VersionedManifest, latest: &VersionedManifest) -> bool
     ensures { result ≡ differs view.now latest.now }
 {
     let old = &view.manifest;

@@ -1,7 +1,10 @@
 // The lease of a reader that keeps a checkpoint of its own: what options pass, and the manifests that take it and renew it.
-ghost use Rattle.std.specs.Prelude.{◌≡◌, ◌+◌, ◌≤◌, ℕ, List, Option, None, Some, Ok, Err, true, IfOk, IfErr, IfSome, IsSome};
+ghost use Rattle.std.specs.Prelude.{◌≡◌, ◌+◌, ◌≤◌, ℕ, List, Option, None, Some, Ok, Err, false, true, IfOk, IfErr, IfSome, IsSome};
 ghost use Rattle.std.specs.Option.{option_copied};
+ghost use Rattle.slate_types.specs.Counts.{one_more};
+ghost use Rattle.slate_store.specs.declared.reader_modes.DbReaderMode.{DbReaderMode as AnyMode};
 ghost use Rattle.slate_store.specs.Calls.{WhereModelled};
+ghost use Rattle.slate_store.specs.Objects.{PutManifest, is_present};
 ghost use Rattle.slate_store.specs.Checkpoints.{found, to_refresh, to_write};
 ghost use Rattle.slate_store.specs.Refusals.{PlanIs};
 ghost use Rattle.slate_model.specs.Known.{CountsFaults};
@@ -11,18 +14,18 @@ ghost use Rattle.slate_model.specs.Managed.{PutsPlanned, TakeRefusal};
 ghost use Rattle.slate_model.specs.Segments.{Extractor, IsExtractor};
 ghost use Rattle.slate_model.specs.Stores.{Stands};
 ghost use Rattle.slate_follow.specs.Keeping.{FindsLatest, GivesLease, MayMismatch, PutsManifest, tried};
+ghost use Rattle.slate_follow.specs.Stepping.{IsOfTurn};
 
 use crate::DbReaderOptions;
 use crate::rebuilds::follow_refusal;
 use slate_errors::SlateError;
 use slate_model::{Lease, error_of_refusal};
-use slate_store::{Store, StoreError, VersionedManifest, next_with_checkpoint, next_with_end};
+use slate_store::{
+    COMMIT_TRIES, Store, StoreError, VersionedManifest, next_with_checkpoint, next_with_end,
+};
 use slate_types::PrefixExtractor;
 use std::alloc::Global;
 use uuid::Uuid;
-
-/// How often an opening or a poll reads the latest manifest and puts the next one, where others put theirs first.
-pub(crate) const TRIES: u32 = 8;
 
 // The least lifetime of a checkpoint of a reader, in milliseconds.
 const LEAST_LIFETIME: u64 = 1000;
@@ -58,6 +61,8 @@ pub(crate) fn latest_of<S: Store>(
     ensures kept { S.objects store.new ≡ S.objects store.old }
     ensures found { IfSome (S.objects store.old) (λ o. FindsLatest o result) }
     ensures whole { (key : List ℕ) → result ≡ Err (SlateError.EmptySegmentPrefix key) → ⊥ }
+    ensures one { S.calls store.new ≡ one_more (S.calls store.old) }
+    ensures kind { IfErr result (λ error. (mode : AnyMode) → IsOfTurn mode error) }
 {
     match store.latest_manifest(alloc)? {
         Some(latest) => Ok(latest),
@@ -75,6 +80,9 @@ pub(crate) fn put_next<S: Store>(
     ensures calls { S.calls store.new ≤ S.calls store.old + 1 }
     ensures puts { WhereModelled (PutsManifest next.now result) (S.objects store.old) (S.objects store.new) }
     ensures whole { (key : List ℕ) → result ≡ Err (SlateError.EmptySegmentPrefix key) → ⊥ }
+    ensures one { S.calls store.new ≡ one_more (S.calls store.old) }
+    ensures kind { IfErr result (λ error. (mode : AnyMode) → IsOfTurn mode error) }
+    ensures free { result ≡ Ok true → IfSome (S.objects store.old) (λ o. is_present (PutManifest next.now.id next.now.manifest) o ≡ false) }
 {
     match store.put_manifest(alloc, next.id, &next.manifest) {
         Ok(()) => Ok(true),
@@ -162,10 +170,12 @@ pub(crate) fn take_lease<S: Store, E: PrefixExtractor>(
     ensures fits { (x : Option Extractor) → IsExtractor E.may_name E.may_extract (option_copied extractor.entry) x → IfOk result (λ p. IfSome (S.objects store.old) (λ o. RefusesLatest x true o None)) }
     ensures whole { (key : List ℕ) → result ≡ Err (SlateError.EmptySegmentPrefix key) → ⊥ }
 {
-    for earlier in 0..TRIES {
+    for earlier in 0..COMMIT_TRIES {
         if let Some(taken) = try_to_take(alloc, store, lifetime, extractor, moment)? {
             return Ok(taken);
         }
     }
-    Err(SlateError::TransactionalObjectTimeout { tries: TRIES })
+    Err(SlateError::TransactionalObjectTimeout {
+        tries: COMMIT_TRIES,
+    })
 }

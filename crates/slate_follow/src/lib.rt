@@ -4,20 +4,24 @@
 //! it goes by isn't removed while it polls.
 #![tactic(auto)]
 
+mod arrivals;
 mod closes;
 mod continues;
 mod keeps;
 mod leases;
+mod machines;
 mod options;
 mod polls;
 mod reads;
 mod rebuilds;
 mod scans;
 mod segments;
+mod stages;
 mod states;
 mod tables;
 mod tasks;
 
+pub use machines::PollMachine;
 pub use options::DbReaderOptions;
 pub use slate_model::PollAnswer;
 pub use slate_store::DbReaderMode;

@@ -2,7 +2,6 @@
 ghost use Rattle.std.specs.Prelude.{◌≡◌, ◌+◌, ◌-◌, ◌<◌, ◌≤◌, ℕ, List, true, false, cond, Err, Option, Some, None, IfOk, IfErr, IfSome, IsSome};
 ghost use Rattle.std.specs.Option.{option_copied};
 ghost use Rattle.slate_types.specs.declared.store_errors.StoreFault.TheVariants.{NotFound};
-ghost use Rattle.slate_store.specs.Checkpoints.{found, has_id};
 ghost use Rattle.slate_model.specs.Follow.{AnswersAt};
 ghost use Rattle.slate_model.specs.Followed.{can_follow, follow_refusal};
 ghost use Rattle.slate_model.specs.Follower.{HasSegments, is_pinned, number};
@@ -18,7 +17,7 @@ use slate_errors::SlateError;
 use slate_reads::IndexedTable;
 use slate_replay::{Replayed, recover};
 use slate_segments::{extractor_refusal, replayed_segments};
-use slate_store::{Checkpoint, DbReaderMode, Store, VersionedManifest};
+use slate_store::{DbReaderMode, Store, VersionedManifest, find_checkpoint};
 use slate_types::{NoMemory, PrefixExtractor, Seq};
 use std::alloc::Global;
 use std::marker::Model;
@@ -157,26 +156,6 @@ pub(crate) fn last_read<S: Store>(
         return Ok(view.manifest.next_wal_id.saturating_sub(1));
     }
     Ok(store.last_log(alloc, view.manifest.replay_after_wal_id)?)
-}
-
-/// The checkpoint of a manifest that has this id.
-pub(crate) fn find_checkpoint(latest: &VersionedManifest, id: Uuid) -> Option<Checkpoint>
-    ensures { result ≡ found id latest.now }
-{
-    latest
-        .manifest
-        .checkpoints
-        .as_slice()
-        .iter()
-        .copied()
-        .find(|checkpoint| has_id(checkpoint, id))
-}
-
-// Whether it is the checkpoint with this id.
-fn has_id(checkpoint: &Checkpoint, id: Uuid) -> bool
-    ensures { result ≡ has_id id checkpoint.now }
-{
-    checkpoint.id == id
 }
 
 /// What a reader has of a manifest that it goes by and its log files up to the last one, and whether these were whole.

@@ -3,6 +3,7 @@ ghost use Rattle.std.specs.Prelude.{◌≡◌, ◌+◌, ◌-◌, ◌<◌, ◌≤
 ghost use Rattle.std.specs.Option.{option_copied};
 ghost use Rattle.slate_types.specs.declared.batches.Batch.{Batch as AnyBatch};
 ghost use Rattle.slate_types.specs.Line.{AreNumberedFrom, batches_above};
+ghost use Rattle.slate_reads.specs.Index.{AreRising};
 ghost use Rattle.slate_model.specs.Known.{CountsFaults};
 ghost use Rattle.slate_model.specs.Segments.{Extractor, IsExtractor, ops_of, segments_of, unsegmented_refusal};
 ghost use Rattle.slate_follow.specs.Growing.{GivesRefused, Grew, added_to};
@@ -15,7 +16,7 @@ use slate_reads::IndexedTable;
 use slate_replay::{Replayed, replay};
 use slate_segments::replayed_segments;
 use slate_store::Store;
-use slate_types::{NoMemory, PrefixExtractor};
+use slate_types::{Batch, NoMemory, PrefixExtractor};
 use std::alloc::Global;
 
 /// What log files gave beside the batches that are in memory: how many batches, the prefixes of their keys, and how the replay
@@ -206,4 +207,51 @@ fn drop_empty(tables: &mut Vec<IndexedTable>)
     ensures filled { AreFilled tables.new.items }
 {
     tables.retain(|table| !table.batches().is_empty());
+}
+
+/// Adds a table after others: its batches to the newest one, unless that has `limit` bytes or more, and else the table itself.
+pub(crate) fn add_table(
+    alloc: Global,
+    tables: &mut Vec<IndexedTable>,
+    limit: u64,
+    table: IndexedTable,
+) -> Result<(), NoMemory>
+    requires { (floor : ℕ) × AreNumberedFrom floor (joined tables.old.items ++ table) }
+    ensures ok { OnOk result (joined tables.new.items ≡ joined tables.old.items ++ table) }
+    ensures err { OnErr result (joined tables.new.items ≡ joined tables.old.items) }
+    ensures filled { AreFilled tables.old.items → AreFilled tables.new.items }
+{
+    begin_table(alloc, tables, limit)?;
+    let newest = tables.len() - 1;
+    let added = add_copies(&mut tables[newest], table.batches());
+    drop_empty(tables);
+    added
+}
+
+/// Adds copies of batches to a table, which share their keys and values; or leaves it as it is.
+fn add_copies(table: &mut IndexedTable, batches: &[Batch]) -> Result<(), NoMemory>
+    requires { AreRising (table.old ++ batches.now) }
+    ensures ok { OnOk result (table.new ≡ table.old ++ batches.now) }
+    ensures err { OnErr result (table.new ≡ table.old) }
+{
+    let count = table.batches().len();
+    let added = push_copies(table, batches);
+    if added.is_err() {
+        table.truncate(count);
+    }
+    added
+}
+
+/// Adds copies of batches to a table. Where that fails, it has some of them.
+fn push_copies(table: &mut IndexedTable, batches: &[Batch]) -> Result<(), NoMemory>
+    requires { AreRising (table.old ++ batches.now) }
+    ensures ok { OnOk result (table.new ≡ table.old ++ batches.now) }
+    ensures grows { (added : List AnyBatch) × (table.new ≡ table.old ++ added) }
+{
+    for batch in batches {
+        if table.push(batch.clone()?).is_err() {
+            return Err(NoMemory);
+        }
+    }
+    Ok(())
 }

@@ -1,3 +1,4 @@
+pub mod Begun
 pub mod Catalogue
 pub mod Changes
 pub mod Close

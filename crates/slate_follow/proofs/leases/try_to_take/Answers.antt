@@ -1,7 +1,8 @@
-use Rattle.std.proofs.Common.{◌≡◌, ◌∙◌, ◌||◌, Bool, false, not, true, Option, None, Some, Ok, Err, ap, refl, rules, subst, sym}
+use Rattle.std.proofs.Common.{◌≡◌, ◌∙◌, ◌||◌, ℕ, ℤ, Bool, false, not, true, Option, None, Some, Ok, Err, ap, refl, rules, subst, sym}
 use Rattle.std.proofs.lemmas.Result.{err_from_is_err_and}
 use Rattle.slate_types.specs.Modelled.{WhereModelled}
-use Rattle.slate_store.specs.Checkpoints.{to_write}
+use Rattle.slate_store.specs.Checkpoints.{Plan, to_write}
+use Rattle.slate_store.specs.Refusals.{PlanIs}
 use Rattle.slate_store.specs.declared.objects.VersionedManifest.{VersionedManifest}
 use Rattle.slate_errors.specs.declared.errors.SlateError.TheVariants.{NoMemory}
 use Rattle.std.specs.Option.{IfSome}
@@ -12,6 +13,7 @@ use Rattle.slate_model.specs.Lease.{leased, to_take}
 use Rattle.slate_model.specs.declared.leases.Lease.{Lease}
 use Rattle.slate_follow.specs.Keeping.{FindsLatest, GivesLease, MayMismatch, PutsManifest}
 use Rattle.slate_follow.proofs.Planned.{all-put, failed-put, mismatched, planless, put-matches, taken, unfollowed, unput, unput-same}
+use Rattle.slate_follow.proofs.Taken.{counts-then}
 use Rattle.slate_follow.proofs.leases.try_to_take.Goals as goal
 
 initialised : (latest : VersionedManifest) → can_follow true latest ≡ true → latest.manifest.initialized ≡ true
@@ -103,3 +105,23 @@ pub returns-clause-fits : goal.returns-clause-fits
 returns-clause-fits g c x lawful =
     let v = c.in_ok-latest in
     followed x v.latest (sym (c.in_ok-refusal.ensures.refusal x lawful) ∙ c.in_default.is) (g.S.Store.objects c.args.store.now) v.ensures.found
+
+pub returns-in_err-is_put-clause-faults : goal.returns-in_err-is_put-clause-faults
+returns-in_err-is_put-clause-faults g c =
+    let e = c.in_err-is_put.field-0.0 in
+    let is : c.from_residual-in_err-is_put.result ≡ Err e = search rules in
+    rw is (counts-then _ _ _ e c.in_ok-latest.ensures.faults.count c.in_err-is_put.ensures.faults)
+
+-- the plan is that after the latest manifest
+planned-is : (lifetime : ℕ) (moment : ℤ) (latest : VersionedManifest) (given : Plan Lease) → to_take lifetime moment latest ≡ given → (a : Option Objects) → IfSome a (λ o. FindsLatest o (Ok latest)) → IfSome a (λ o. PlanIs (to_take lifetime moment) o given)
+planned-is lifetime moment latest given plan None found = tt
+planned-is lifetime moment latest given plan (Some o) is = (latest, is, plan)
+
+pub returns-clause-given : goal.returns-clause-given
+returns-clause-given g c =
+    let v = c.in_ok-latest in
+    let n = c.in_ok-next in
+    let there : v.latest.manifest.initialized ≡ true = initialised v.latest (search rules) in
+    let gives : leased c.args.lifetime (to_write None (Some c.args.lifetime) c.args.moment v.latest) ≡ Ok (Some n.next, n.lease) = search rules in
+    let plan = subst (λ p. p ≡ Ok (Some n.next, n.lease)) (sym (taken c.args.lifetime c.args.moment v.latest there)) gives in
+    planned-is c.args.lifetime c.args.moment v.latest (Ok (Some n.next, n.lease)) plan (g.S.Store.objects c.args.store.now) v.ensures.found

@@ -3,7 +3,7 @@ use Rattle.std.proofs.lemmas.Result.{err_from_is_err_and}
 use Rattle.slate_types.specs.Counts.{one_more}
 use Rattle.slate_model.specs.Follower.{is_pinned}
 use Rattle.slate_follow.proofs.Refusing.{err-same, last-fails, latest-refuses, view-fails, view-unnamed, view-valid}
-use Rattle.slate_follow.proofs.Answering.{following-finding, replay-finding, replay-later, view-finding}
+use Rattle.slate_follow.proofs.Answering.{replay-finding, replay-later, view-finding}
 use Rattle.slate_follow.proofs.rebuilds.find_view.Goals as goal
 
 pub returns-clause-follows : goal.returns-clause-follows

@@ -3,7 +3,6 @@ use Rattle.std.proofs.lemmas.Result.{IfOk-weaker}
 use Rattle.slate_types.specs.Line.{AreNumberedFrom}
 use Rattle.slate_model.proofs.Reopened.{numbered_rest}
 use Rattle.slate_model.specs.Segments.{segments_of}
-use Rattle.slate_follow.specs.Growing.{Grew, added_to}
 use Rattle.slate_follow.specs.Joined.{joined}
 use Rattle.slate_follow.specs.declared.tables.Added.{Added}
 use Rattle.slate_follow.proofs.Growing.{added-all, all-grew}

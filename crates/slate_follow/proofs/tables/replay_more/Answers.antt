@@ -6,7 +6,7 @@ use Rattle.slate_errors.specs.declared.errors.SlateError.TheVariants.{EmptySegme
 use Rattle.slate_model.specs.Segments.{ops_of, unsegmented_refusal}
 use Rattle.slate_types.specs.Line.{AreNumberedFrom}
 use Rattle.slate_replay.specs.Replay.{Replays}
-use Rattle.slate_follow.specs.Growing.{Grew, added_to}
+use Rattle.slate_follow.specs.Growing.{added_to}
 use Rattle.slate_follow.specs.declared.tables.Added.{Added}
 use Rattle.slate_follow.proofs.Answering.{refused-some}
 use Rattle.slate_follow.proofs.Growing.{gives-refused, table-grew}

@@ -1,4 +1,4 @@
-use Rattle.std.proofs.Common.{◌≡◌, length, take, ap, arith, ◌∙◌}
+use Rattle.std.proofs.Common.{length, take, ap, arith, ◌∙◌}
 use Rattle.slate_follow.proofs.Growing.{taken-back}
 use Rattle.slate_follow.proofs.tables.replay_onto.Goals as goal
 

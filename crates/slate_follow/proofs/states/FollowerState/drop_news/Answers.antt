@@ -1,4 +1,4 @@
-use Rattle.std.proofs.Common.{◌≡◌, ◌-◌, take, ap, ◌∙◌}
+use Rattle.std.proofs.Common.{ap, ◌∙◌}
 use Rattle.slate_model.specs.Follower.{Follower}
 use Rattle.slate_follow.proofs.Growing.{pushed-back}
 use Rattle.slate_follow.proofs.states.FollowerState.drop_news.Goals as goal

@@ -1,14 +1,13 @@
-use Rattle.std.proofs.Common.{◌≡◌, ◌+◌, ◌++◌, ◌≤◌, ℕ, length, Err, Ok, inl, inr, ap, arith, rules, subst, sym, ◌∙◌}
+use Rattle.std.proofs.Common.{◌≡◌, Err, inl, inr, ap, arith, subst, sym, ◌∙◌}
 use Rattle.std.proofs.lemmas.Result.{err_from_is_err_and}
-use Rattle.slate_types.specs.Line.{AreNumberedFrom, batches_above}
+use Rattle.slate_types.specs.Line.{batches_above}
 use Rattle.slate_types.proofs.Lines.{above-all}
-use Rattle.slate_errors.specs.declared.errors.SlateError.TheVariants.{EmptySegmentPrefix, NoMemory}
+use Rattle.slate_errors.specs.declared.errors.SlateError.TheVariants.{EmptySegmentPrefix}
 use Rattle.slate_model.specs.Follower.{Follower, HasSegments, number}
 use Rattle.slate_model.specs.Segments.{segments_of}
 use Rattle.slate_follow.specs.Growing.{Grew, added_to}
 use Rattle.slate_follow.specs.Joined.{joined}
-use Rattle.slate_follow.specs.Kept.{follower_of}
-use Rattle.slate_follow.proofs.Growing.{extended-back, grown-lacks, grown-numbered, refused-lacks}
+use Rattle.slate_follow.proofs.Growing.{grown-lacks, grown-numbered, refused-lacks}
 use Rattle.slate_follow.proofs.Refusing.{err-same, lacks-some}
 use Rattle.slate_follow.proofs.states.FollowerState.extend.Goals as goal
 

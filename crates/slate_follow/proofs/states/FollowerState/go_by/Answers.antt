@@ -1,6 +1,5 @@
-use Rattle.std.proofs.Common.{◌≡◌, ◌+◌, ◌<◌, ◌^◌, length, ap, arith, subst, sym, ◌∙◌}
-use Rattle.slate_types.specs.Line.{AreNumberedFrom, batches_above}
-use Rattle.slate_model.specs.Follower.{Follower, number}
+use Rattle.std.proofs.Common.{arith, subst, sym, ◌∙◌}
+use Rattle.slate_model.specs.Follower.{Follower}
 use Rattle.slate_follow.specs.Joined.{joined}
 use Rattle.slate_follow.specs.Rebuilding.{Reaches}
 use Rattle.slate_follow.proofs.Above.{numbered-above}

@@ -1,8 +1,8 @@
-use Rattle.std.proofs.Common.{◌≡◌, ◌∙◌, ◌++◌, ◌+◌, ◌≤◌, max, Err, None, ap, arith, length, length-append, rules, subst, sym}
+use Rattle.std.proofs.Common.{◌≡◌, ◌∙◌, max, Err, None, ap, arith, length, length-append, subst, sym}
 use Rattle.std.proofs.lemmas.Result.{err_from_is_err_and}
 use Rattle.slate_types.specs.Line.{batches_above}
 use Rattle.slate_model.specs.Follow.{AnswersAt}
-use Rattle.slate_model.specs.Follower.{Follower, HasSegments, follower_tasks, number}
+use Rattle.slate_model.specs.Follower.{Follower, HasSegments, follower_tasks}
 use Rattle.slate_model.specs.Segments.{segments_of}
 use Rattle.slate_errors.specs.declared.errors.SlateError.TheVariants.{EmptySegmentPrefix}
 use Rattle.slate_model.specs.declared.answers.PollAnswer.{PollAnswer}

@@ -1,4 +1,4 @@
-use Rattle.std.proofs.Common.{◌≡◌, ◌∙◌, ◌++◌, [], Some, Err, max, false, true, ap, rules, subst, sym}
+use Rattle.std.proofs.Common.{◌≡◌, ◌∙◌, Err, max, false, ap, rules, subst, sym}
 use Rattle.std.specs.Option.{IfSome}
 use Rattle.slate_errors.specs.declared.errors.SlateError.TheVariants.{InvalidDBState}
 use Rattle.slate_store.specs.declared.objects.VersionedManifest.{VersionedManifest}
@@ -9,9 +9,8 @@ use Rattle.slate_model.specs.Segments.{segments_of}
 use Rattle.slate_follow.specs.Growing.{added_to}
 use Rattle.slate_follow.proofs.Segmented.{all-kept}
 use Rattle.slate_follow.specs.declared.keeps.News.{News}
-use Rattle.slate_follow.proofs.Growing.{added-none}
 use Rattle.slate_follow.proofs.Lacking.{taken-lacks}
-use Rattle.slate_follow.proofs.Refusing.{err-same, poll-counts, poll-key, poll-polling}
+use Rattle.slate_follow.proofs.Refusing.{err-same, poll-key}
 use Rattle.slate_follow.proofs.states.FollowerState.news.Goals as goal
 
 pub returns-in-Err-clause-lacks : goal.returns-in-Err-clause-lacks

@@ -20,3 +20,4 @@ pub mod Trying
 pub mod Stepped
 pub mod Called
 pub mod Arriving
+pub mod Following

@@ -1,6 +1,7 @@
 pub mod Answering
 pub mod Arriving
 pub mod Begun
+pub mod Following
 pub mod Growing
 pub mod Joined
 pub mod Keeping

@@ -8,6 +8,7 @@ mod arrivals;
 mod closes;
 mod continues;
 mod keeps;
+mod laws;
 mod leases;
 mod machines;
 mod options;
@@ -21,6 +22,7 @@ mod states;
 mod tables;
 mod tasks;
 
+pub use laws::begun_polls_follow_the_line;
 pub use machines::PollMachine;
 pub use options::DbReaderOptions;
 pub use slate_model::PollAnswer;

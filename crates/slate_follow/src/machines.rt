@@ -3,13 +3,15 @@ ghost use Rattle.std.specs.Prelude.{◌≡◌, ◌≢◌, ◌+◌, ◌<◌, ◌�
 ghost use Rattle.std.specs.Option.{option_copied};
 ghost use Rattle.slate_errors.specs.Errors.{closed_error};
 ghost use Rattle.slate_types.specs.Counts.{one_more};
+ghost use Rattle.slate_types.specs.Line.{AreNumberedFrom, Line};
 ghost use Rattle.slate_store.specs.Calls.{WhereModelled};
 ghost use Rattle.slate_store.specs.Objects.{Objects};
 ghost use Rattle.slate_model.specs.Begun.{Begun, Ended, Goes, begun_at};
 ghost use Rattle.slate_model.specs.Follower.{HasSegments, is_managed, is_pinned, number};
-ghost use Rattle.slate_model.specs.Known.{CountsFaults};
+ghost use Rattle.slate_model.specs.Known.{CountsFaults, IsContent};
 ghost use Rattle.slate_model.specs.Segments.{Extractor, IsExtractor};
 ghost use Rattle.slate_follow.specs.Answering.{IsOfPoll};
+ghost use Rattle.slate_follow.specs.Following.{FollowsLine, FollowsOn};
 ghost use Rattle.slate_follow.specs.Stepping.{FitsReader, IsGoing, Steps, failed_by};
 
 use crate::polls::poll_error;
@@ -217,6 +219,9 @@ impl PollMachine {
         ensures segments { (x : Option Extractor) → IsExtractor E.may_name E.may_extract (option_copied extractor.entry) x → HasSegments x state.old → HasSegments x state.new }
         ensures faults { CountsFaults (S.faults store.old) (S.faults store.new) result }
         ensures errors { IfErr result (IsOfPoll state.old.mode) }
+        // Over an honest store, whatever others did since the call before.
+        ensures follows { (line : Line) → IsContent (S.objects store.old) line → ((o : Objects) → S.objects store.old ≡ Some o → FollowsLine o line state.old self.old) →
+            FollowsOn line (S.objects store.new) result state.new self.new }
     {
         if state.is_pinned() {
             self.stage = Stage::Ended;
@@ -251,6 +256,7 @@ impl PollMachine {
         ensures segments { (x : Option Extractor) → IsExtractor E.may_name E.may_extract (option_copied extractor.entry) x → HasSegments x state.old → HasSegments x state.new }
         ensures faults { CountsFaults (S.faults store.old) (S.faults store.new) result }
         ensures errors { IfErr result (IsOfPoll state.old.mode) }
+        ensures numbered { AreNumberedFrom self.old.floor self.old.fresh }
     {
         let turn = self.call(alloc, state, store)?;
         if turn == Turn::Goes {

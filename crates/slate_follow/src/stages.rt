@@ -1,6 +1,7 @@
 // The calls of a poll by single calls, and what each leads to.
 ghost use Rattle.std.specs.Prelude.{◌≡◌, ◌≢◌, ◌+◌, ◌<◌, ◌≤◌, ℕ, true, false, Option, None, Some, Ok, Err, IfOk, IfErr, IfSome, IsSome, IsTrue, ◌↔◌};
 ghost use Rattle.slate_types.specs.Counts.{one_more};
+ghost use Rattle.slate_types.specs.Line.{AreNumberedFrom};
 ghost use Rattle.slate_store.specs.declared.objects.VersionedManifest.{VersionedManifest as AnyManifest};
 ghost use Rattle.slate_store.specs.Checkpoints.{found, to_write};
 ghost use Rattle.slate_model.specs.Begun.{AsksLast, Begun, Ended, Puts, ReadsAgain, ReadsLatest, ReadsLog, committed, decided, emptied, kept_lease, leads_on, overtaken_by, put_by, reached_number, replayed, replaying, view_of};
@@ -32,6 +33,7 @@ impl PollMachine {
         requires begun { IsGoing self.old.stage }
         requires fits { FitsReader state.now self.old }
         ensures next { CallsNext self.old.stage state.now self.old result self.new (S.objects store.old) (S.objects store.new) }
+        ensures numbered { AreNumberedFrom self.old.floor self.old.fresh }
         ensures faults { CountsFaults (S.faults store.old) (S.faults store.new) result }
         ensures calls { S.calls store.new ≡ one_more (S.calls store.old) }
     {

@@ -20,21 +20,31 @@ pub const TABLE_BYTES: u64 = 64 * 1024 * 1024;
 /// the object, under its id.
 ///
 /// Its objects are what its blobs are, where the three folders are modelled. A blob that isn't decoded stands for an
-/// object with nothing in it that can't be read, and so does a table whose numbers don't rise: a call that reads it
-/// answers `Failed`, and the count of faults rises.
+/// object with nothing in it that can't be read, and so does a table whose numbers don't rise.
 ///
-/// A call is counted once, whatever it costs of blobs. A put is one put of a blob, which encodes the object first, and a
-/// removal one removal; a read is one get. `latest_manifest` is one listing and one get, `last_log` one listing, and
-/// `list` three. Besides, a call takes time linear in the bytes that it reads or writes and in the ids that it lists, and
-/// a table that is read takes that of as many pushes to an `IndexedTable`.
+/// Tables that were read or put are kept decoded, the newest of them, as many as a bound of bytes has room for. A removal
+/// forgets the table, also where it fails. Over folders that aren't modelled, as those of a directory, a table that is kept
+/// may be answered though another process has removed its blob. That is right: a table is put once under its id and never
+/// changed, so what is answered is what was put.
 ///
-/// Tables that were read or put are kept decoded, the newest of them, as many as a bound of bytes has room for. A read of
-/// one that is kept is no get: it shares the table, in time linear in the tables that are kept, as is what any call on
-/// tables takes for them. A removal forgets the table, also where it fails. Nothing else is kept from call to call.
+/// # Errors
 ///
-/// Over folders that aren't modelled, as those of a directory, a table that is kept may be answered though another
-/// process has removed its blob. That is right: a table is put once under its id and never changed, so what is answered
-/// is what was put, as by a read that came before the removal.
+/// A call that reads a blob which isn't decoded answers `Failed`, and the count of faults rises.
+///
+/// # Cost
+///
+/// A call is counted once. Besides, it takes time linear in the bytes that it reads or writes and in the ids that it lists.
+///
+/// call | of blobs
+/// ---|---
+/// a put | one put; the object is encoded first
+/// a read | one get; of a table that is kept none, and time linear in those; of another as many pushes to an `IndexedTable`
+/// a removal | one removal
+/// `latest_manifest`, `last_log`, `list` | one listing and one get; one listing; three listings
+///
+/// # What stands after
+///
+/// Nothing is kept from call to call but tables.
 pub struct BlobStore<N: Blobs<u64>, T: Blobs<TableId>> {
     manifests: N,
     logs: N,

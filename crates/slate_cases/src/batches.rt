@@ -1,25 +1,18 @@
 // Batches as calls spell them, and the subject `batch`, which writes one.
-use crate::printing::{
-    bytes_of, print_bytes, print_number, print_text, print_time, split_name, time_of,
-};
-use crate::subjects::CallFailure;
+use crate::answers::Answer;
+use crate::call_line::CallLine;
+use crate::subjects::Subject;
 use slate_types::{KeyOp, MergeOptions, Op, PutOptions, Seq, WriteBatch};
 use std::alloc::Global;
 
 #[derive(Clone, Copy)]
 enum Call {
-    Put,
-    Merge,
-    Delete,
     Bytes,
     Count,
     Ops,
 }
 
 const CALLS: &[(&[u8], Call)] = &[
-    (b"put", Call::Put),
-    (b"merge", Call::Merge),
-    (b"delete", Call::Delete),
     (b"bytes", Call::Bytes),
     (b"count", Call::Count),
     (b"ops", Call::Ops),
@@ -43,141 +36,139 @@ impl Batches {
             batch: WriteBatch::new(alloc),
         }
     }
+}
 
-    /// Makes one of the calls that `docs/FORMATS.md` lists.
-    pub fn call(
-        &mut self,
-        alloc: Global,
-        words: &[&[u8]],
-        answer: &mut Vec<u8>,
-    ) -> Result<(), CallFailure> {
-        let (call, others) = split_name(CALLS, words)?;
-        match call {
-            Call::Count => print_number(answer, self.batch.op_count() as u64),
-            Call::Ops => print_ops(answer, self.batch.ops.as_slice()),
-            Call::Bytes => add_bytes(alloc, &mut self.batch, others),
-            _ => add_op(alloc, &mut self.batch, words),
+impl Subject for Batches {
+    fn anew(&self, alloc: Global) -> Batches {
+        Batches::new(alloc)
+    }
+
+    fn call(&mut self, line: &mut CallLine<'_>) {
+        match line.find(CALLS) {
+            Some(Call::Bytes) => add_bytes(&mut self.batch, line),
+            Some(Call::Count) => line.print_number(self.batch.op_count() as u64),
+            Some(Call::Ops) => print_ops(self.batch.ops.as_slice(), line),
+            None => add_op(&mut self.batch, line),
         }
     }
 }
 
-/// The operations that words spell, with ` ; ` between each two.
-pub fn ops_of(alloc: Global, words: &[&[u8]]) -> Result<Seq<KeyOp>, CallFailure> {
-    let mut written = WriteBatch::new(alloc);
-    for op in words.split(|word| *word == b";".as_slice()) {
-        add_op(alloc, &mut written, op)?;
+/// The operations that the words that are left spell, with ` ; ` between each two.
+pub fn ops_of(line: &mut CallLine<'_>) -> Seq<KeyOp> {
+    let mut written = WriteBatch::new(line.alloc());
+    for _ in 0..line.left() {
+        if line.has_more() {
+            add_op(&mut written, line);
+        }
     }
-    Ok(written.ops)
+    written.ops
 }
+
+#[derive(Clone, Copy)]
+enum OpName {
+    Put,
+    Merge,
+    Delete,
+}
+
+const OPS: &[(&[u8], OpName)] = &[
+    (b"put", OpName::Put),
+    (b"merge", OpName::Merge),
+    (b"delete", OpName::Delete),
+];
 
 /// Adds the operation that words spell.
-fn add_op(alloc: Global, batch: &mut WriteBatch, words: &[&[u8]]) -> Result<(), CallFailure> {
-    let (call, words) = split_name(CALLS, words)?;
-    match (call, words) {
-        (Call::Delete, [key]) => {
-            let key = bytes_of(alloc, key)?;
-            Ok(batch.delete(alloc, key.as_slice())?)
-        }
-        (_, [key, value]) => {
-            let (key, value) = (bytes_of(alloc, key)?, bytes_of(alloc, value)?);
-            add_value(alloc, batch, call, key.as_slice(), value.as_slice())
-        }
-        (_, [key, value, end]) => {
-            let end = Some(time_of(end)?);
-            let (key, value) = (bytes_of(alloc, key)?, bytes_of(alloc, value)?);
-            add_expiring(alloc, batch, call, key.as_slice(), value.as_slice(), end)
-        }
-        _ => Err(CallFailure::Unread),
+fn add_op(batch: &mut WriteBatch, line: &mut CallLine<'_>) {
+    let name = line.name(OPS);
+    let key = line.bytes();
+    match name {
+        Some(OpName::Put) => put(batch, key.as_slice(), line),
+        Some(OpName::Merge) => merge(batch, key.as_slice(), line),
+        Some(OpName::Delete) => batch.delete(line.alloc(), key.as_slice()).print(line),
+        None => {}
     }
 }
 
-fn add_value(
-    alloc: Global,
-    batch: &mut WriteBatch,
-    call: Call,
-    key: &[u8],
-    value: &[u8],
-) -> Result<(), CallFailure> {
-    match call {
-        Call::Put => Ok(batch.put(alloc, key, value)?),
-        Call::Merge => Ok(batch.merge(alloc, key, value)?),
-        _ => Err(CallFailure::Unread),
+fn put(batch: &mut WriteBatch, key: &[u8], line: &mut CallLine<'_>) {
+    let value = line.bytes();
+    let alloc = line.alloc();
+    if line.is_read() || line.is_next(b";") {
+        batch.put(alloc, key, value.as_slice()).print(line);
+    } else {
+        let expire_ts = Some(line.time());
+        let options = PutOptions { expire_ts };
+        batch
+            .put_with_options(alloc, key, value.as_slice(), &options)
+            .print(line);
     }
 }
 
-fn add_expiring(
-    alloc: Global,
-    batch: &mut WriteBatch,
-    call: Call,
-    key: &[u8],
-    value: &[u8],
-    expire_ts: Option<i64>,
-) -> Result<(), CallFailure> {
-    match call {
-        Call::Put => Ok(batch.put_with_options(alloc, key, value, &PutOptions { expire_ts })?),
-        Call::Merge => {
-            Ok(batch.merge_with_options(alloc, key, value, &MergeOptions { expire_ts })?)
-        }
-        _ => Err(CallFailure::Unread),
+fn merge(batch: &mut WriteBatch, key: &[u8], line: &mut CallLine<'_>) {
+    let value = line.bytes();
+    let alloc = line.alloc();
+    if line.is_read() || line.is_next(b";") {
+        batch.merge(alloc, key, value.as_slice()).print(line);
+    } else {
+        let expire_ts = Some(line.time());
+        let options = MergeOptions { expire_ts };
+        batch
+            .merge_with_options(alloc, key, value.as_slice(), &options)
+            .print(line);
     }
 }
 
 /// Adds a put whose key and value aren't copied.
-fn add_bytes(alloc: Global, batch: &mut WriteBatch, words: &[&[u8]]) -> Result<(), CallFailure> {
-    let (call, words) = split_name(CALLS, words)?;
-    match (call, words) {
-        (Call::Put, [key, value]) => {
-            let (key, value) = (bytes_of(alloc, key)?, bytes_of(alloc, value)?);
-            Ok(batch.put_bytes(alloc, key, value)?)
-        }
-        (Call::Put, [key, value, end]) => {
-            let expire_ts = Some(time_of(end)?);
-            let (key, value) = (bytes_of(alloc, key)?, bytes_of(alloc, value)?);
-            Ok(batch.put_bytes_with_options(alloc, key, value, &PutOptions { expire_ts })?)
-        }
-        _ => Err(CallFailure::Unread),
+fn add_bytes(batch: &mut WriteBatch, line: &mut CallLine<'_>) {
+    let _put = line.name(&OPS[..1]);
+    let key = line.bytes();
+    let value = line.bytes();
+    let alloc = line.alloc();
+    if line.is_read() {
+        batch.put_bytes(alloc, key, value).print(line);
+    } else {
+        let expire_ts = Some(line.time());
+        let options = PutOptions { expire_ts };
+        batch
+            .put_bytes_with_options(alloc, key, value, &options)
+            .print(line);
     }
 }
 
 /// Prints operations as they are spelled, with ` ; ` between each two.
-pub fn print_ops(answer: &mut Vec<u8>, ops: &[KeyOp]) -> Result<(), CallFailure> {
+pub fn print_ops(ops: &[KeyOp], line: &mut CallLine<'_>) {
     let mut between = "";
     for key_op in ops {
-        print_text(answer, between)?;
-        print_op(answer, key_op)?;
+        line.print_text(between);
+        print_op(key_op, line);
         between = " ; ";
     }
-    Ok(())
 }
 
-fn print_op(answer: &mut Vec<u8>, key_op: &KeyOp) -> Result<(), CallFailure> {
+fn print_op(key_op: &KeyOp, line: &mut CallLine<'_>) {
     let key = key_op.key.as_slice();
     match &key_op.op {
-        Op::Put(value, end) => print_value(answer, "put ", key, value.as_slice(), *end),
-        Op::Merge(operand, end) => print_value(answer, "merge ", key, operand.as_slice(), *end),
+        Op::Put(value, end) => print_value("put ", key, value.as_slice(), *end, line),
+        Op::Merge(operand, end) => print_value("merge ", key, operand.as_slice(), *end, line),
         Op::Delete => {
-            print_text(answer, "delete ")?;
-            print_bytes(answer, key)
+            line.print_text("delete ");
+            line.print_bytes(key);
         }
     }
 }
 
 fn print_value(
-    answer: &mut Vec<u8>,
     call: &str,
     key: &[u8],
     value: &[u8],
     expire_ts: Option<i64>,
-) -> Result<(), CallFailure> {
-    print_text(answer, call)?;
-    print_bytes(answer, key)?;
-    print_text(answer, " ")?;
-    print_bytes(answer, value)?;
-    match expire_ts {
-        Some(end) => {
-            print_text(answer, " ")?;
-            print_time(answer, end)
-        }
-        None => Ok(()),
+    line: &mut CallLine<'_>,
+) {
+    line.print_text(call);
+    line.print_bytes(key);
+    line.print_text(" ");
+    line.print_bytes(value);
+    if let Some(end) = expire_ts {
+        line.print_text(" ");
+        line.print_time(end);
     }
 }

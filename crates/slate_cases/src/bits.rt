@@ -1,12 +1,9 @@
 // The subject `bits`: bits and signs, and blocks of numbers as bytes.
-ghost use Rattle.std.specs.Prelude.{◌≤◌, IfOk};
+ghost use Rattle.std.specs.Prelude.{◌≤◌};
 
-use crate::printing::{
-    bytes_of, number_of, print_blank, print_bytes, print_debug, print_text, short_of, split_name,
-    time_of,
-};
-use crate::subjects::CallFailure;
-use crate::trackers::print_done;
+use crate::answers::Answer;
+use crate::call_line::CallLine;
+use crate::subjects::Subject;
 use slate_seqtrack::{
     BitReader, BitWriter, decode_gorilla_i64_with_length, encode_gorilla_i64, sign_extend,
 };
@@ -31,81 +28,50 @@ const CALLS: &[(&[u8], Call)] = &[
     (b"again", Call::Again),
 ];
 
-/// Makes one of the calls that `docs/FORMATS.md` lists.
-pub fn call_bits(alloc: Global, words: &[&[u8]], answer: &mut Vec<u8>) -> Result<(), CallFailure> {
-    let (call, words) = split_name(CALLS, words)?;
-    match (call, words) {
-        (Call::Write, steps) => write(alloc, steps, answer),
-        (Call::Read, [bytes, steps @ ..]) => read_bytes(alloc, bytes, steps, answer),
-        (Call::Sign, [value, bits]) => print_sign(alloc, value, bits, answer),
-        (Call::Decode, [bytes]) => decode(alloc, bytes_of(alloc, bytes)?.as_slice(), answer),
-        (Call::Encode, values) | (Call::Again, values) => {
-            encode(alloc, matches!(call, Call::Again), values, answer)
-        }
-        _ => Err(CallFailure::Unread),
-    }
-}
+/// Calls that keep nothing.
+#[derive(Clone, Copy)]
+pub struct Bits;
 
-/// Reads bits of bytes.
-fn read_bytes(
-    alloc: Global,
-    bytes: &[u8],
-    steps: &[&[u8]],
-    answer: &mut Vec<u8>,
-) -> Result<(), CallFailure> {
-    let bytes = bytes_of(alloc, bytes)?;
-    let mut reader = BitReader::new(bytes.as_slice());
-    read(alloc, &mut reader, steps, answer)
+impl Subject for Bits {
+    fn anew(&self, _alloc: Global) -> Bits {
+        Bits
+    }
+
+    fn call(&mut self, line: &mut CallLine<'_>) {
+        match line.name(CALLS) {
+            Some(Call::Write) => write(line),
+            Some(Call::Read) => read(line),
+            Some(Call::Sign) => print_sign(line),
+            Some(Call::Encode) => encode(false, line),
+            Some(Call::Decode) => decode(line.bytes().as_slice(), line),
+            Some(Call::Again) => encode(true, line),
+            None => {}
+        }
+    }
 }
 
 /// Prints the number whose last bits these are, with their sign.
-fn print_sign(
-    alloc: Global,
-    value: &[u8],
-    bits: &[u8],
-    answer: &mut Vec<u8>,
-) -> Result<(), CallFailure> {
-    let (value, bits) = (short_of(value)?, width_of(bits, 32)?);
+fn print_sign(line: &mut CallLine<'_>) {
+    let value = line.short();
+    let bits = width_of(32, line);
     if bits == 0 {
-        return Err(CallFailure::Unread);
-    }
-    print_debug(alloc, answer, &sign_extend(value, bits))
-}
-
-/// Writes numbers as a block, and prints it, or what is read of it again.
-fn encode(
-    alloc: Global,
-    again: bool,
-    words: &[&[u8]],
-    answer: &mut Vec<u8>,
-) -> Result<(), CallFailure> {
-    let values = values_of(alloc, words)?;
-    if values.len() > 1000 {
-        return Err(CallFailure::Unread);
-    }
-    match encode_gorilla_i64(alloc, values.as_slice()) {
-        Ok(bytes) if again => decode_whole(alloc, bytes.as_slice(), answer),
-        Ok(bytes) => print_bytes(answer, bytes.as_slice()),
-        Err(fault) => print_done(alloc, answer, Err(fault)),
+        line.unread();
+    } else {
+        line.print_debug(&sign_extend(value, bits));
     }
 }
 
-/// How many bits a word says, at most so many.
-fn width_of(word: &[u8], most: u8) -> Result<u8, CallFailure>
-    ensures { IfOk result (λ bits. bits ≤ most) }
+/// How many bits the next word says, at most so many.
+fn width_of(most: u8, line: &mut CallLine<'_>) -> u8
+    ensures { result ≤ most }
 {
-    match u8::try_from(number_of(word)?) {
-        Ok(bits) if bits <= most => Ok(bits),
-        _ => Err(CallFailure::Unread),
+    match u8::try_from(line.number()) {
+        Ok(bits) if bits <= most => bits,
+        _ => {
+            line.unread();
+            0
+        }
     }
-}
-
-fn values_of(alloc: Global, words: &[&[u8]]) -> Result<Vec<i64>, CallFailure> {
-    let mut values = Vec::new(alloc);
-    for word in words {
-        values.push(time_of(word)?)?;
-    }
-    Ok(values)
 }
 
 /// What is done with bits.
@@ -126,74 +92,99 @@ const STEPS: &[(&[u8], Step)] = &[
     (b"read64", Step::Read64),
 ];
 
-/// Writes bits by steps, and prints the bytes.
-fn write(alloc: Global, steps: &[&[u8]], answer: &mut Vec<u8>) -> Result<(), CallFailure> {
-    let mut writer = BitWriter::new(alloc);
-    for step in steps.split(|word| *word == b";".as_slice()) {
-        write_step(&mut writer, step)?;
+/// Writes bits by steps, with `;` between each two, and prints the bytes.
+fn write(line: &mut CallLine<'_>) {
+    let mut writer = BitWriter::new(line.alloc());
+    for _ in 0..line.left() {
+        if line.has_more() {
+            write_step(&mut writer, line);
+        }
     }
-    print_bytes(answer, writer.finish()?.as_slice())
-}
-
-fn write_step(writer: &mut BitWriter, words: &[&[u8]]) -> Result<(), CallFailure> {
-    match split_name(STEPS, words)? {
-        (Step::Bit, [bit]) => Ok(writer.push(number_of(bit)? == 1)?),
-        (Step::Push32, [value, bits]) => Ok(writer.push32(short_of(value)?, width_of(bits, 32)?)?),
-        (Step::Push64, [value, bits]) => Ok(writer.push64(number_of(value)?, width_of(bits, 64)?)?),
-        _ => Err(CallFailure::Unread),
+    let written = writer.finish();
+    if let Some(bytes) = line.made(written) {
+        line.print_bytes(bytes.as_slice());
     }
 }
 
-/// Reads bits by steps, and prints what each gives.
-fn read(
-    alloc: Global,
-    reader: &mut BitReader<'_>,
-    steps: &[&[u8]],
-    answer: &mut Vec<u8>,
-) -> Result<(), CallFailure> {
-    for step in steps.split(|word| *word == b";".as_slice()) {
-        print_blank(answer)?;
-        read_step(alloc, reader, step, answer)?;
+fn write_step(writer: &mut BitWriter, line: &mut CallLine<'_>) {
+    match line.name(STEPS) {
+        Some(Step::Bit) => writer.push(line.number() == 1).print(line),
+        Some(Step::Push32) => {
+            let value = line.short();
+            writer.push32(value, width_of(32, line)).print(line);
+        }
+        Some(Step::Push64) => {
+            let value = line.number();
+            writer.push64(value, width_of(64, line)).print(line);
+        }
+        _ => line.unread(),
     }
-    Ok(())
 }
 
-fn read_step(
-    alloc: Global,
-    reader: &mut BitReader<'_>,
-    words: &[&[u8]],
-    answer: &mut Vec<u8>,
-) -> Result<(), CallFailure> {
-    match split_name(STEPS, words)? {
-        (Step::Bit, []) => print_debug(alloc, answer, &reader.read_bit()),
-        (Step::Read32, [bits]) => print_debug(alloc, answer, &reader.read32(width_of(bits, 32)?)),
-        (Step::Read64, [bits]) => print_debug(alloc, answer, &reader.read64(width_of(bits, 64)?)),
-        _ => Err(CallFailure::Unread),
+/// Reads bits of bytes by steps, with `;` between each two, and prints what each gives.
+fn read(line: &mut CallLine<'_>) {
+    let bytes = line.bytes();
+    let mut reader = BitReader::new(bytes.as_slice());
+    for _ in 0..line.left() {
+        if line.has_more() {
+            line.print_blank();
+            read_step(&mut reader, line);
+        }
     }
+}
+
+fn read_step(reader: &mut BitReader<'_>, line: &mut CallLine<'_>) {
+    match line.name(STEPS) {
+        Some(Step::Bit) => line.print_debug(&reader.read_bit()),
+        Some(Step::Read32) => {
+            let bits = width_of(32, line);
+            line.print_debug(&reader.read32(bits));
+        }
+        Some(Step::Read64) => {
+            let bits = width_of(64, line);
+            line.print_debug(&reader.read64(bits));
+        }
+        _ => line.unread(),
+    }
+}
+
+/// Writes numbers as a block, and prints it, or what is read of it again.
+fn encode(again: bool, line: &mut CallLine<'_>) {
+    let values = values_of(line);
+    if values.len() > 1000 {
+        line.unread();
+        return;
+    }
+    let encoded = encode_gorilla_i64(line.alloc(), values.as_slice());
+    match line.made(encoded) {
+        Some(bytes) if again => decode_whole(bytes.as_slice(), line),
+        Some(bytes) => line.print_bytes(bytes.as_slice()),
+        None => {}
+    }
+}
+
+fn values_of(line: &mut CallLine<'_>) -> Vec<i64> {
+    let mut values = Vec::new(line.alloc());
+    for _ in 0..line.left() {
+        values.push(line.time()).print(line);
+    }
+    values
 }
 
 /// Reads a block, and prints its numbers.
-fn decode(alloc: Global, bytes: &[u8], answer: &mut Vec<u8>) -> Result<(), CallFailure> {
-    match decode_gorilla_i64_with_length(alloc, bytes) {
-        Ok((_used, values)) => print_debug(alloc, answer, &values),
-        Err(fault) => print_done(alloc, answer, Err(fault)),
+fn decode(bytes: &[u8], line: &mut CallLine<'_>) {
+    let decoded = decode_gorilla_i64_with_length(line.alloc(), bytes);
+    if let Some((_used, values)) = line.made(decoded) {
+        line.print_debug(&values);
     }
 }
 
 /// Reads a block, and prints its numbers, and whether they took all of these bytes.
-fn decode_whole(alloc: Global, bytes: &[u8], answer: &mut Vec<u8>) -> Result<(), CallFailure> {
-    match decode_gorilla_i64_with_length(alloc, bytes) {
-        Ok((used, values)) => {
-            print_debug(alloc, answer, &values)?;
-            print_text(
-                answer,
-                if used == bytes.len() {
-                    " whole"
-                } else {
-                    " in part"
-                },
-            )
-        }
-        Err(fault) => print_done(alloc, answer, Err(fault)),
+fn decode_whole(bytes: &[u8], line: &mut CallLine<'_>) {
+    let decoded = decode_gorilla_i64_with_length(line.alloc(), bytes);
+    if let Some((used, values)) = line.made(decoded) {
+        line.print_debug(&values);
+        let is_whole = used == bytes.len();
+        line.print_text(if is_whole { " whole" } else { " in part" });
     }
 }

@@ -1,7 +1,9 @@
 // The subject `blobs`: a store over blobs in memory, which counts the gets of tables and whose folders may be out of reach.
-use crate::printing::{bytes_of, number_of, numbers_of, print_number, split_name};
-use crate::store_calls::{batches_of, call_store, print_done, table_id};
-use crate::subjects::CallFailure;
+use crate::answers::Answer;
+use crate::call_line::CallLine;
+use crate::objects::table_id;
+use crate::store_calls::{batches_of, call_store};
+use crate::subjects::Subject;
 use bytes::Bytes;
 use slate_blobs::{BlobStore, Blobs, MemoryBlobs};
 use slate_objects::{encode_log, encode_table};
@@ -138,62 +140,60 @@ impl BlobStores {
         }
     }
 
-    /// Makes one of the calls that `docs/FORMATS.md` lists.
-    pub fn call(
-        &mut self,
-        alloc: Global,
-        words: &[&[u8]],
-        answer: &mut Vec<u8>,
-    ) -> Result<(), CallFailure> {
-        let Ok((call, others)) = split_name(CALLS, words) else {
-            return match &mut self.store {
-                Some(store) => call_store(alloc, store, words, answer),
-                None => Err(CallFailure::Unread),
-            };
-        };
-        match (call, others) {
-            (Call::LogBlob, [id, blob @ ..]) => {
-                let (id, blob) = (number_of(id)?, blob_of(alloc, blob)?);
-                print_done(answer, self.logs.put_if_absent(alloc, id, blob.as_slice()))
-            }
-            (Call::TableBlob, [epoch, index, blob @ ..]) => {
-                let (id, blob) = (table_id(epoch, index)?, blob_of(alloc, blob)?);
-                print_done(
-                    answer,
-                    self.tables.put_if_absent(alloc, id, blob.as_slice()),
-                )
-            }
-            (Call::Open, []) => self.open(alloc, None, true),
-            (Call::Open, [bound]) => self.open(alloc, Some(number_of(bound)?), true),
-            (Call::OpenUnreached, []) => self.open(alloc, None, false),
-            (Call::Gets, []) => match &self.gets {
-                Some(gets) => print_number(answer, gets.get()),
-                None => Err(CallFailure::Unread),
-            },
-            _ => Err(CallFailure::Unread),
-        }
-    }
-
     /// Makes a store of the blobs. It keeps tables of so many bytes, where a bound is given. Of a store that isn't reached
     /// the tables alone are.
-    fn open(
-        &mut self,
-        alloc: Global,
-        bound: Option<u64>,
-        reached: bool,
-    ) -> Result<(), CallFailure> {
-        let gets = Rc::new(alloc, Cell::new(0))?;
+    fn open(&mut self, reached: bool, line: &mut CallLine<'_>) {
+        let alloc = line.alloc();
+        let gets = Rc::new(alloc, Cell::new(0));
+        self.gets = line.made(gets);
+        let gets = match &self.gets {
+            Some(gets) => line.made(gets.clone()),
+            None => None,
+        };
         let logs = mem::replace(&mut self.logs, MemoryBlobs::new(alloc));
         let tables = mem::replace(&mut self.tables, MemoryBlobs::new(alloc));
         let manifests = Folder::new(MemoryBlobs::new(alloc), None, reached);
         let logs = Folder::new(logs, None, reached);
-        let tables = Folder::new(tables, Some(gets.clone()?), true);
-        self.gets = Some(gets);
-        self.store = Some(match bound {
-            None => BlobStore::new(manifests, logs, tables),
-            Some(bound) => BlobStore::with_table_bytes(manifests, logs, tables, bound),
+        let tables = Folder::new(tables, gets, true);
+        self.store = Some(if line.is_read() {
+            BlobStore::new(manifests, logs, tables)
+        } else {
+            BlobStore::with_table_bytes(manifests, logs, tables, line.number())
         });
-        Ok(())
+    }
+
+    fn put_log(&mut self, line: &mut CallLine<'_>) {
+        let id = line.number();
+        let blob = blob_of(line);
+        self.logs
+            .put_if_absent(line.alloc(), id, blob.as_slice())
+            .print(line);
+    }
+
+    fn put_table(&mut self, line: &mut CallLine<'_>) {
+        let id = table_id(line);
+        let blob = blob_of(line);
+        self.tables
+            .put_if_absent(line.alloc(), id, blob.as_slice())
+            .print(line);
+    }
+}
+
+impl Subject for BlobStores {
+    fn anew(&self, alloc: Global) -> BlobStores {
+        BlobStores::new(alloc)
+    }
+
+    fn call(&mut self, line: &mut CallLine<'_>) {
+        match (line.find(CALLS), &self.gets, &mut self.store) {
+            (Some(Call::LogBlob), _, _) => self.put_log(line),
+            (Some(Call::TableBlob), _, _) => self.put_table(line),
+            (Some(Call::Open), _, _) => self.open(true, line),
+            (Some(Call::OpenUnreached), _, _) => self.open(false, line),
+            (Some(Call::Gets), Some(gets), _) => line.print_number(gets.get()),
+            (None, _, Some(store)) => call_store(store, line),
+            _ => line.unread(),
+        }
     }
 }
 
@@ -211,14 +211,15 @@ const CONTENTS: &[(&[u8], Content)] = &[
 ];
 
 /// The bytes of a blob: of a log file or of a table of batches without operations, or others.
-fn blob_of(alloc: Global, words: &[&[u8]]) -> Result<Vec<u8>, CallFailure> {
-    let (content, words) = split_name(CONTENTS, words)?;
-    if let (Content::Bytes, [bytes]) = (content, words) {
-        return Ok(Vec::from_slice(alloc, bytes_of(alloc, bytes)?.as_slice())?);
+fn blob_of(line: &mut CallLine<'_>) -> Vec<u8> {
+    let content = line.name(CONTENTS);
+    if let Some(Content::Bytes) = content {
+        return line.byte_list();
     }
-    let batches = batches_of(alloc, numbers_of(alloc, words)?.as_slice())?;
-    match content {
-        Content::Log => Ok(encode_log(alloc, batches.as_slice())?),
-        _ => Ok(encode_table(alloc, batches.as_slice())?),
-    }
+    let batches = batches_of(line.numbers().as_slice(), line);
+    let encoded = match content {
+        Some(Content::Log) => encode_log(line.alloc(), batches.as_slice()),
+        _ => encode_table(line.alloc(), batches.as_slice()),
+    };
+    line.made(encoded).unwrap_or(Vec::new(line.alloc()))
 }

@@ -1,13 +1,84 @@
 // Running a file of calls: each line is a call of one subject, with the answer that is wanted.
+use crate::batches::Batches;
+use crate::bits::Bits;
+use crate::blob_stores::BlobStores;
+use crate::call_line::{CallLine, look_up};
 use crate::cases::is_newline;
+use crate::databases::Database;
+use crate::directories::Directory;
+use crate::dispatchers::Dispatchers;
+use crate::errors::Errors;
+use crate::executors::Executors;
 use crate::failures::Failure;
+use crate::keys::Keys;
+use crate::lines::Lines;
+use crate::objects::Objects;
+use crate::replies::Replies;
+use crate::rows::Rows;
+use crate::statuses::Statuses;
+use crate::streams::Streams;
 use crate::subjects::{CallFailure, Subject};
+use crate::tasks::TaskCalls;
+use crate::texts::Texts;
+use crate::trackers::Trackers;
 use slate_text::read_number;
 use std::alloc::Global;
 use std::cell::Cell;
 use std::fs::Files;
 
 const ARROW: &[u8; 4] = b" -> ";
+
+/// The name of a subject.
+#[derive(Clone, Copy)]
+enum Name {
+    Batch,
+    Bits,
+    Blobs,
+    Database,
+    Directory,
+    Dispatcher,
+    Errors,
+    Executor,
+    Keys,
+    Lines,
+    Objects,
+    Replies,
+    Rows,
+    Status,
+    Streams,
+    Tasks,
+    Text,
+    Tracker,
+}
+
+const NAMES: &[(&[u8], Name)] = &[
+    (b"batch", Name::Batch),
+    (b"bits", Name::Bits),
+    (b"blobs", Name::Blobs),
+    (b"database", Name::Database),
+    (b"directory", Name::Directory),
+    (b"dispatcher", Name::Dispatcher),
+    (b"errors", Name::Errors),
+    (b"executor", Name::Executor),
+    (b"keys", Name::Keys),
+    (b"lines", Name::Lines),
+    (b"objects", Name::Objects),
+    (b"replies", Name::Replies),
+    (b"rows", Name::Rows),
+    (b"status", Name::Status),
+    (b"streams", Name::Streams),
+    (b"tasks", Name::Tasks),
+    (b"text", Name::Text),
+    (b"tracker", Name::Tracker),
+];
+
+/// What runs a file: its lines, and how many calls of the system on files are made before each fails.
+#[derive(Clone, Copy)]
+struct Run<'a> {
+    alloc: Global,
+    text: &'a [u8],
+    left: &'a Cell<u64>,
+}
 
 /// Makes the calls of a file one after the other, and answers the first that isn't answered as the file says. `left` is how
 /// many calls of the system on these files are made before each fails.
@@ -17,46 +88,69 @@ pub fn run_calls<F: Files + Copy>(
     left: &Cell<u64>,
     text: &[u8],
 ) -> Result<(), Failure> {
-    let mut lines = text.split(is_newline);
-    let name = match lines.next() {
+    let name = match text.split(is_newline).next() {
         Some(line) => line.strip_prefix(b"calls ").unwrap_or_default(),
         None => b"",
     };
     left.set(u64::MAX);
-    let mut subject = fresh(alloc, files, name)?;
-    let mut number = 1u64;
-    for line in lines {
-        number = number.saturating_add(1);
-        if line == b"anew".as_slice() {
-            left.set(u64::MAX);
-            subject = fresh(alloc, files, name)?;
-        } else if let Some(count) = line.strip_prefix(b"end_after ") {
-            left.set(read_number(count).ok_or(Failure::Call(number))?);
-        } else if !line.is_empty() && !line.starts_with(b"#") {
-            take_line(alloc, number, line, &mut subject)?;
-        }
+    let run = Run { alloc, text, left };
+    match look_up(NAMES, name) {
+        Some(Name::Batch) => run.over(Batches::new(alloc)),
+        Some(Name::Bits) => run.over(Bits),
+        Some(Name::Blobs) => run.over(BlobStores::new(alloc)),
+        Some(Name::Database) => run.over(Database::new(alloc)),
+        Some(Name::Directory) => run.over(Directory::new(alloc, files)),
+        Some(Name::Dispatcher) => run.over(Dispatchers::new()),
+        Some(Name::Errors) => run.over(Errors),
+        Some(Name::Executor) => run.over(Executors::new(alloc)),
+        Some(Name::Keys) => run.over(Keys),
+        Some(Name::Lines) => run.over(Lines),
+        Some(Name::Objects) => run.over(Objects::new(alloc)),
+        Some(Name::Replies) => run.over(Replies),
+        Some(Name::Rows) => run.over(Rows::new(alloc)),
+        Some(Name::Status) => run.over(Statuses::new()),
+        Some(Name::Streams) => run.over(Streams::new(alloc)),
+        Some(Name::Tasks) => run.over(TaskCalls::new()),
+        Some(Name::Text) => run.over(Texts),
+        Some(Name::Tracker) => run.over(Trackers::new(alloc)),
+        None => Err(Failure::SubjectMissing),
     }
-    Ok(())
 }
 
-fn fresh<F: Files + Copy>(alloc: Global, files: F, name: &[u8]) -> Result<Subject<F>, Failure> {
-    Subject::new(alloc, files, name).ok_or(Failure::SubjectMissing)
+impl Run<'_> {
+    /// Makes the calls over a fresh subject.
+    fn over<S: Subject>(self, mut subject: S) -> Result<(), Failure> {
+        let mut number = 0u64;
+        for line in self.text.split(is_newline) {
+            number = number.saturating_add(1);
+            if line == b"anew".as_slice() {
+                self.left.set(u64::MAX);
+                subject = subject.anew(self.alloc);
+            } else if let Some(count) = line.strip_prefix(b"end_after ") {
+                self.left
+                    .set(read_number(count).ok_or(Failure::Call(number))?);
+            } else if number > 1 && !line.is_empty() && !line.starts_with(b"#") {
+                take_line(self.alloc, number, line, &mut subject)?;
+            }
+        }
+        Ok(())
+    }
 }
 
 /// Makes the call of a line, and compares its answer.
-fn take_line<F: Files + Copy>(
+fn take_line<S: Subject>(
     alloc: Global,
     number: u64,
     line: &[u8],
-    subject: &mut Subject<F>,
+    subject: &mut S,
 ) -> Result<(), Failure> {
     let (call, wanted) = split_at_arrow(line);
-    let words: Vec<&[u8]> = call.split(|byte| *byte == b' ').collect(alloc)?;
-    let mut answer = Vec::new(alloc);
-    match subject.call(alloc, words.as_slice(), &mut answer) {
-        Err(CallFailure::Unread) => Err(Failure::Call(number)),
-        Err(CallFailure::Memory) => Err(Failure::NoMemory),
-        Ok(()) => compare(alloc, number, answer.as_slice(), wanted),
+    let mut line = CallLine::new(alloc, call)?;
+    subject.call(&mut line);
+    match line.failure() {
+        Some(CallFailure::Unread) => Err(Failure::Call(number)),
+        Some(CallFailure::Memory) => Err(Failure::NoMemory),
+        None => compare(alloc, number, line.answer(), wanted),
     }
 }
 

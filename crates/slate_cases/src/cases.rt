@@ -6,7 +6,7 @@ use std::alloc::{AllocError, Global};
 use std::str;
 
 /// A script, how it is run, and what comes of it.
-#[derive(Debug, Drop)]
+#[derive(Drop)]
 pub struct Case {
     /// The words of the command line.
     pub words: Vec<String>,

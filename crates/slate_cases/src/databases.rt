@@ -1,17 +1,17 @@
 // The subject `database`: a store that fails as told, and what is opened over it, by script lines and by calls.
+use crate::answers::Answer;
+use crate::call_line::CallLine;
 use crate::object_calls::{call_checkpoints, call_objects};
 use crate::operators::{Cuts, Refusing, extractor_of, operator_of};
 use crate::polled::PolledReader;
-use crate::printing::{add_number, number_of, print_number, print_text, print_time, split_name};
-use crate::store_calls::{call_store, print_store_error};
-use crate::subjects::CallFailure;
+use crate::store_calls::call_store;
+use crate::subjects::Subject;
 use crate::told_stores::ToldStore;
-use slate_live::{LineAnswer, LiveState, Options, print_replies, read_line};
+use slate_live::{Command, LineAnswer, LiveState, Options, print_replies, read_line};
 use slate_reads::IndexedTable;
 use slate_replay::{Replayed, replay};
-use slate_types::StoreError;
 use slate_writer::{BoardWatch, Transaction, WriterState};
-use std::alloc::{AllocError, Global};
+use std::alloc::Global;
 use uuid::Uuid;
 
 const OPTIONS: Options = Options {
@@ -99,133 +99,84 @@ impl Database {
         }
     }
 
-    /// Makes one of the calls that `docs/FORMATS.md` lists.
-    pub fn call(
-        &mut self,
-        alloc: Global,
-        words: &[&[u8]],
-        answer: &mut Vec<u8>,
-    ) -> Result<(), CallFailure> {
-        let Ok((call, others)) = split_name(CALLS, words) else {
-            return self.apply_line(alloc, words, answer);
-        };
-        match call {
-            Call::Store => call_store(alloc, &mut self.store, others, answer),
-            Call::Objects => call_objects(alloc, &mut self.store, others, answer),
-            Call::Checkpoint => {
-                let (store, ids) = (&mut self.store, &mut self.checkpoints);
-                call_checkpoints(alloc, store, ids, others, answer)
-            }
-            Call::Handle => self.call_handle(alloc, others, answer),
-            Call::Transaction => self.call_transaction(alloc, others, answer),
-            Call::Reader => self.call_reader(alloc, others, answer),
-            Call::Put => self.put(alloc, others, answer),
-            Call::Replay => replay_twice(alloc, &mut self.store, others, answer),
-            Call::Restart => {
-                self.live = LiveState::new(alloc, &OPTIONS);
-                Ok(())
-            }
-            Call::Operator => {
-                self.operator = Some(operator_of(alloc, others)?);
-                Ok(())
-            }
-            Call::Extractor => {
-                self.extractor = extractor_of(alloc, others)?;
-                Ok(())
-            }
-            Call::Watch => print_watch(self.watch.as_mut(), answer),
+    /// Does the command of a script line, and prints its reply.
+    fn apply_line(&mut self, line: &mut CallLine<'_>) {
+        let read = read_line(line.alloc(), line.joined().as_slice());
+        match line.made(read) {
+            Some(LineAnswer::Command(command)) => self.apply(&command, line),
+            _ => line.unread(),
         }
     }
 
-    /// Does the command of a script line, and prints its reply.
-    fn apply_line(
-        &mut self,
-        alloc: Global,
-        words: &[&[u8]],
-        answer: &mut Vec<u8>,
-    ) -> Result<(), CallFailure> {
-        let line = joined(alloc, words)?;
-        let LineAnswer::Command(command) = read_line(alloc, line.as_slice())? else {
-            return Err(CallFailure::Unread);
-        };
+    fn apply(&mut self, command: &Command, line: &mut CallLine<'_>) {
+        let alloc = line.alloc();
         let (operator, extractor) = (self.operator.as_ref(), self.extractor.as_ref());
         let reply = self
             .live
-            .apply(alloc, &mut self.store, operator, extractor, &command);
+            .apply(alloc, &mut self.store, operator, extractor, command);
         let mut text = Vec::new(alloc);
-        print_replies(&mut text, &[reply])?;
-        join_lines(answer, text.as_slice())
+        print_replies(&mut text, &[reply]).print(line);
+        line.print_lines(text.as_slice(), "; ");
     }
 }
 
-/// The words with a blank between each two.
-fn joined(alloc: Global, words: &[&[u8]]) -> Result<Vec<u8>, AllocError> {
-    let mut line = Vec::new(alloc);
-    for word in words {
-        if !line.is_empty() {
-            line.push(b' ')?;
-        }
-        line.extend_from_slice(word)?;
+impl Subject for Database {
+    fn anew(&self, alloc: Global) -> Database {
+        Database::new(alloc)
     }
-    Ok(line)
-}
 
-/// Appends lines as one, with `; ` between each two.
-fn join_lines(answer: &mut Vec<u8>, text: &[u8]) -> Result<(), CallFailure> {
-    for line in text
-        .strip_suffix(b"\n")
-        .unwrap_or(text)
-        .split(|byte| *byte == b'\n')
-    {
-        if !answer.is_empty() {
-            print_text(answer, "; ")?;
+    fn call(&mut self, line: &mut CallLine<'_>) {
+        match line.find(CALLS) {
+            Some(Call::Store) => call_store(&mut self.store, line),
+            Some(Call::Objects) => call_objects(&mut self.store, line),
+            Some(Call::Checkpoint) => {
+                call_checkpoints(&mut self.store, &mut self.checkpoints, line);
+            }
+            Some(Call::Handle) => self.call_handle(line),
+            Some(Call::Transaction) => self.call_transaction(line),
+            Some(Call::Reader) => self.call_reader(line),
+            Some(Call::Put) => self.put(line),
+            Some(Call::Replay) => replay_twice(&mut self.store, line),
+            Some(Call::Restart) => self.live = LiveState::new(line.alloc(), &OPTIONS),
+            Some(Call::Operator) => self.operator = Some(operator_of(line)),
+            Some(Call::Extractor) => self.extractor = extractor_of(line),
+            Some(Call::Watch) => print_watch(&mut self.watch, line),
+            None => self.apply_line(line),
         }
-        answer.extend_from_slice(line)?;
     }
-    Ok(())
 }
 
 /// Appends the tick, the durable number and the close code that a view loads.
-fn print_watch(watch: Option<&mut BoardWatch>, answer: &mut Vec<u8>) -> Result<(), CallFailure> {
-    let Some(watch) = watch else {
-        return Err(CallFailure::Unread);
-    };
-    let view = watch.load();
-    print_time(answer, view.tick)?;
-    add_number(answer, view.durable)?;
-    add_number(answer, view.close)
+fn print_watch(watch: &mut Option<BoardWatch>, line: &mut CallLine<'_>) {
+    match watch {
+        Some(watch) => {
+            let view = watch.load();
+            line.print_time(view.tick);
+            line.add_number(view.durable);
+            line.add_number(view.close);
+        }
+        None => line.unread(),
+    }
 }
 
 /// Replays the log files twice into one table, and appends how each replay ends, and how many batches the table has.
-fn replay_twice(
-    alloc: Global,
-    store: &mut ToldStore,
-    words: &[&[u8]],
-    answer: &mut Vec<u8>,
-) -> Result<(), CallFailure> {
-    let [floor, mark, last] = words else {
-        return Err(CallFailure::Unread);
-    };
-    let (floor, mark, last) = (number_of(floor)?, number_of(mark)?, number_of(last)?);
-    let mut memory = IndexedTable::new(alloc);
-    let first = replay(alloc, store, &mut memory, floor, mark, last);
-    print_replayed(answer, first)?;
-    let second = replay(alloc, store, &mut memory, floor, mark, last);
-    print_replayed(answer, second)?;
-    print_number(answer, memory.batches().len() as u64)
+fn replay_twice(store: &mut ToldStore, line: &mut CallLine<'_>) {
+    let (floor, mark, last) = (line.number(), line.number(), line.number());
+    let mut memory = IndexedTable::new(line.alloc());
+    replay(line.alloc(), store, &mut memory, floor, mark, last).print(line);
+    replay(line.alloc(), store, &mut memory, floor, mark, last).print(line);
+    line.print_number(memory.batches().len() as u64);
 }
 
-fn print_replayed(
-    answer: &mut Vec<u8>,
-    replayed: Result<Replayed, StoreError>,
-) -> Result<(), CallFailure> {
-    match replayed {
-        Ok(Replayed::Whole) => print_text(answer, "whole "),
-        Ok(Replayed::Truncated(id)) => {
-            print_text(answer, "truncated at ")?;
-            print_number(answer, id)?;
-            print_text(answer, " ")
+impl Answer for Replayed {
+    fn print(self, line: &mut CallLine<'_>) {
+        match self {
+            Replayed::Whole => line.print_text("whole "),
+            Replayed::Truncated(id) => {
+                line.print_text("truncated at ");
+                line.print_number(id);
+                line.print_text(" ");
+            }
         }
-        Err(error) => print_store_error(answer, error),
     }
 }

@@ -1,7 +1,8 @@
 // The subject `directory`: two stores over one directory.
-use crate::printing::{bytes_of, print_bytes, print_text, split_name, text_of};
+use crate::answers::Answer;
+use crate::call_line::CallLine;
 use crate::store_calls::call_store;
-use crate::subjects::CallFailure;
+use crate::subjects::Subject;
 use slate_directory::{DirectoryStore, open_directory};
 use std::alloc::Global;
 use std::fs::Files;
@@ -59,86 +60,70 @@ impl<F: Files + Copy> Directory<F> {
         }
     }
 
-    /// Makes one of the calls that `docs/FORMATS.md` lists.
-    pub fn call(
-        &mut self,
-        alloc: Global,
-        words: &[&[u8]],
-        answer: &mut Vec<u8>,
-    ) -> Result<(), CallFailure> {
-        let (call, words) = split_name(CALLS, words)?;
-        match (call, words) {
-            (Call::Open, [path]) => open(alloc, self.files, &mut self.store, path, answer),
-            (Call::OpenOther, [path]) => open(alloc, self.files, &mut self.other, path, answer),
-            (Call::Store, words) => call_of(alloc, &mut self.store, words, answer),
-            (Call::Other, words) => call_of(alloc, &mut self.other, words, answer),
-            (Call::Remove, []) => {
-                print_unless(answer, fs::remove_dir_all(&(self.files, alloc), FOLDER))
+    fn open(&self, line: &mut CallLine<'_>) -> Option<DirectoryStore<F>> {
+        let path = path_of(line)?;
+        let opened = open_directory(self.files, line.alloc(), path.as_str());
+        line.made(opened)
+    }
+
+    fn remove(&self, alloc: Global) -> io::Result<()> {
+        fs::remove_dir_all(&(self.files, alloc), FOLDER)
+    }
+
+    /// Prints the bytes of a file.
+    fn read(&self, line: &mut CallLine<'_>) {
+        if let Some(path) = path_of(line) {
+            match fs::read(&(self.files, line.alloc()), path.as_str()) {
+                Ok(bytes) => line.print_bytes(bytes.as_slice()),
+                Err(_) => line.print_text("absent"),
             }
-            (Call::File, [path]) => read_file(alloc, self.files, path, answer),
-            (Call::PutFile, [path, bytes]) => {
-                let (path, bytes) = (path_of(alloc, path)?, bytes_of(alloc, bytes)?);
-                let put = fs::write(&self.files, path.as_str(), bytes.as_slice());
-                print_unless(answer, put)
-            }
-            _ => Err(CallFailure::Unread),
+        }
+    }
+
+    /// Writes the bytes of a file.
+    fn write(&self, line: &mut CallLine<'_>) {
+        if let Some(path) = path_of(line) {
+            let bytes = line.bytes();
+            fs::write(&self.files, path.as_str(), bytes.as_slice()).print(line);
         }
     }
 }
 
-/// Opens a store, in place of the one before.
-fn open<F: Files + Copy>(
-    alloc: Global,
-    files: F,
-    store: &mut Option<DirectoryStore<F>>,
-    path: &[u8],
-    answer: &mut Vec<u8>,
-) -> Result<(), CallFailure> {
-    let path = path_of(alloc, path)?;
-    match open_directory(files, alloc, path.as_str()) {
-        Ok(opened) => {
-            *store = Some(opened);
-            Ok(())
+impl<F: Files + Copy> Subject for Directory<F> {
+    fn anew(&self, alloc: Global) -> Directory<F> {
+        Directory::new(alloc, self.files)
+    }
+
+    fn call(&mut self, line: &mut CallLine<'_>) {
+        match line.name(CALLS) {
+            Some(Call::Open) => self.store = self.open(line),
+            Some(Call::OpenOther) => self.other = self.open(line),
+            Some(Call::Store) => call_of(&mut self.store, line),
+            Some(Call::Other) => call_of(&mut self.other, line),
+            Some(Call::Remove) => self.remove(line.alloc()).print(line),
+            Some(Call::File) => self.read(line),
+            Some(Call::PutFile) => self.write(line),
+            None => {}
         }
-        Err(_) => print_text(answer, "failed"),
     }
 }
 
-fn call_of<F: Files + Copy>(
-    alloc: Global,
-    store: &mut Option<DirectoryStore<F>>,
-    words: &[&[u8]],
-    answer: &mut Vec<u8>,
-) -> Result<(), CallFailure> {
+fn call_of<F: Files + Copy>(store: &mut Option<DirectoryStore<F>>, line: &mut CallLine<'_>) {
     match store {
-        Some(store) => call_store(alloc, store, words, answer),
-        None => Err(CallFailure::Unread),
+        Some(store) => call_store(store, line),
+        None => line.unread(),
     }
 }
 
-fn read_file<F: Files + Copy>(
-    alloc: Global,
-    files: F,
-    path: &[u8],
-    answer: &mut Vec<u8>,
-) -> Result<(), CallFailure> {
-    let path = path_of(alloc, path)?;
-    match fs::read(&(files, alloc), path.as_str()) {
-        Ok(bytes) => print_bytes(answer, bytes.as_slice()),
-        Err(_) => print_text(answer, "absent"),
-    }
-}
-
-/// Appends nothing, or that it failed.
-fn print_unless(answer: &mut Vec<u8>, done: io::Result<()>) -> Result<(), CallFailure> {
-    match done {
-        Ok(()) => Ok(()),
-        Err(_) => print_text(answer, "failed"),
+impl Answer for io::Error {
+    fn print(self, line: &mut CallLine<'_>) {
+        line.print_text("failed");
     }
 }
 
 /// A path in the folder.
-fn path_of(alloc: Global, path: &[u8]) -> Result<String, CallFailure> {
-    let path = text_of(path)?;
-    Ok(format!(in alloc; "{FOLDER}/{path}")?)
+fn path_of(line: &mut CallLine<'_>) -> Option<String> {
+    let path = line.text();
+    let whole = format!(in line.alloc(); "{FOLDER}/{path}");
+    line.made(whole)
 }

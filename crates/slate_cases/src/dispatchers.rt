@@ -1,9 +1,11 @@
 // The subject `dispatcher`: a dispatcher whose handler fails with the numbers that it is sent.
-ghost use Rattle.std.specs.Prelude.{◌≡◌, All, IfOk, length};
+ghost use Rattle.std.specs.Prelude.{◌≡◌, All, length};
 ghost use Rattle.slate_dispatch.specs.Tickers.{IsTicker};
 
-use crate::printing::{number_of, outcome_of, print_debug, print_numbers, split_name, time_of};
-use crate::subjects::CallFailure;
+use crate::answers::Answer;
+use crate::call_line::CallLine;
+use crate::subjects::Subject;
+use crate::tasks::outcome_of;
 use slate_dispatch::{Dispatcher, MessageHandler, SendRefusal, Task, TickerDef, TurnAnswer};
 use slate_errors::{CloseCell, CloseFault};
 use std::alloc::Global;
@@ -129,128 +131,106 @@ impl Dispatchers {
         }
     }
 
-    /// Makes one of the calls that `docs/FORMATS.md` lists.
-    pub fn call(
-        &mut self,
-        alloc: Global,
-        words: &[&[u8]],
-        answer: &mut Vec<u8>,
-    ) -> Result<(), CallFailure> {
-        let (call, words) = split_name(CALLS, words)?;
-        match (call, words) {
-            (Call::Tickers, [moment, first, first_jitter, second, second_jitter]) => {
-                let first = ticker_of(first, first_jitter)?;
-                let second = ticker_of(second, second_jitter)?;
-                self.make(alloc, time_of(moment)?, first, second)
-            }
-            (Call::Close, [outcome]) => {
-                let first = self.cell.write(outcome_of(outcome)?);
-                print_debug(alloc, answer, &first)
-            }
-            (Call::Offered, []) => self.print_offered(answer),
-            _ => match &mut self.dispatcher {
-                Some(dispatcher) => {
-                    call_dispatcher(alloc, dispatcher, &self.cell, call, words, answer)
-                }
-                None => Err(CallFailure::Unread),
-            },
-        }
-    }
-
     /// Makes a dispatcher with two tickers at a moment. Notifier 1 of its handler has a message ready.
-    fn make(
-        &mut self,
-        alloc: Global,
-        moment: i64,
-        first: TickerDef,
-        second: TickerDef,
-    ) -> Result<(), CallFailure>
-        requires first { IsTicker first }
-        requires second { IsTicker second }
-    {
-        let offered = Rc::new(alloc, Cell::new([0, 0]))?;
-        self.offered = Some(offered.clone()?);
+    fn make(&mut self, line: &mut CallLine<'_>) {
+        let moment = line.time();
+        let tickers = [ticker_of(line), ticker_of(line)];
+        let made = Rc::new(line.alloc(), Cell::new([0, 0]));
+        let Some(offered) = line.made(made) else {
+            return;
+        };
+        let shared: Result<_, _> = offered.clone();
+        let Some(shared) = line.made(shared) else {
+            return;
+        };
+        self.offered = Some(shared);
         let teller = Teller {
-            tickers: [first, second],
+            tickers,
             ready: [false, true],
             reported: None,
             offered,
         };
-        self.dispatcher = Some(Dispatcher::new(alloc, teller, moment)?);
-        Ok(())
+        let made = Dispatcher::new(line.alloc(), teller, moment);
+        self.dispatcher = line.made(made);
     }
 
     /// Prints the first two numbers that were offered at the end, with 0 for none.
-    fn print_offered(&self, answer: &mut Vec<u8>) -> Result<(), CallFailure> {
-        let Some(offered) = &self.offered else {
-            return Err(CallFailure::Unread);
+    fn print_offered(&self, line: &mut CallLine<'_>) {
+        match &self.offered {
+            Some(offered) => line.print_numbers(&offered.get()),
+            None => line.unread(),
+        }
+    }
+
+    /// Makes a call of the dispatcher.
+    fn call_dispatcher(&mut self, call: Call, line: &mut CallLine<'_>) {
+        let Some(dispatcher) = &mut self.dispatcher else {
+            line.unread();
+            return;
         };
-        let [first, second] = offered.get();
-        print_numbers(answer, &[first, second])
+        match call {
+            Call::Send => dispatcher.send(line.number(), &self.cell).print(line),
+            Call::Turn => {
+                let moment = line.time();
+                let turn = dispatcher.turn(moment, line.number());
+                line.print_debug(&turn);
+            }
+            _ => end(dispatcher, line),
+        }
     }
 }
 
-/// A ticker by its interval and its jitter.
-fn ticker_of(interval: &[u8], jitter: &[u8]) -> Result<TickerDef, CallFailure>
-    ensures { IfOk result IsTicker }
+impl Subject for Dispatchers {
+    fn anew(&self, _alloc: Global) -> Dispatchers {
+        Dispatchers::new()
+    }
+
+    fn call(&mut self, line: &mut CallLine<'_>) {
+        match line.name(CALLS) {
+            Some(Call::Tickers) => self.make(line),
+            Some(Call::Close) => {
+                let first = self.cell.write(outcome_of(line));
+                line.print_debug(&first);
+            }
+            Some(Call::Offered) => self.print_offered(line),
+            Some(call) => self.call_dispatcher(call, line),
+            None => {}
+        }
+    }
+}
+
+/// A ticker by its interval and its jitter, which is at most 1000.
+fn ticker_of(line: &mut CallLine<'_>) -> TickerDef
+    ensures { IsTicker result }
 {
-    let jitter = number_of(jitter)?;
+    let interval_ms = line.number();
+    let jitter = line.short();
     if jitter > 1000 {
-        return Err(CallFailure::Unread);
+        line.unread();
     }
-    Ok(TickerDef {
-        interval_ms: number_of(interval)?,
-        jitter_thousandths: jitter as u32,
-    })
-}
-
-/// Makes a call of a dispatcher.
-fn call_dispatcher(
-    alloc: Global,
-    dispatcher: &mut Dispatcher<Teller>,
-    cell: &CloseCell,
-    call: Call,
-    words: &[&[u8]],
-    answer: &mut Vec<u8>,
-) -> Result<(), CallFailure> {
-    match (call, words) {
-        (Call::Send, [message]) => {
-            let sent = dispatcher.send(number_of(message)?, cell);
-            print_sent(alloc, answer, sent)
-        }
-        (Call::Turn, [moment, random]) => {
-            let turn = dispatcher.turn(time_of(moment)?, number_of(random)?);
-            print_debug(alloc, answer, &turn)
-        }
-        (Call::End, [outcome]) => end(alloc, dispatcher, outcome_of(outcome)?, answer),
-        _ => Err(CallFailure::Unread),
+    TickerDef {
+        interval_ms,
+        jitter_thousandths: jitter.min(1000),
     }
 }
 
 /// Cancels a dispatcher, prints the turn that ends it, and finishes it.
-fn end(
-    alloc: Global,
-    dispatcher: &mut Dispatcher<Teller>,
-    outcome: Result<(), CloseFault>,
-    answer: &mut Vec<u8>,
-) -> Result<(), CallFailure> {
+fn end(dispatcher: &mut Dispatcher<Teller>, line: &mut CallLine<'_>) {
+    let outcome = outcome_of(line);
     dispatcher.cancel();
     let turn = dispatcher.turn(0, 0);
     if matches!(turn, TurnAnswer::Cancelled | TurnAnswer::Failed(_)) {
         dispatcher.finish(outcome);
     }
-    print_debug(alloc, answer, &turn)
+    line.print_debug(&turn);
 }
 
-/// Prints why a number wasn't sent, where it wasn't, with the number that came back.
-fn print_sent(
-    alloc: Global,
-    answer: &mut Vec<u8>,
-    sent: Result<(), SendRefusal<u64>>,
-) -> Result<(), CallFailure> {
-    match sent {
-        Ok(()) => Ok(()),
-        Err(SendRefusal::NoMemory { .. }) => Err(CallFailure::Memory),
-        Err(refusal) => print_debug(alloc, answer, &refusal),
+impl Answer for SendRefusal<u64> {
+    /// Prints why a number wasn't sent, with the number that came back.
+    fn print(self, line: &mut CallLine<'_>) {
+        match self {
+            SendRefusal::NoMemory { .. } => line.no_memory(),
+            refusal => line.print_debug(&refusal),
+        }
     }
 }

@@ -1,11 +1,8 @@
 // The subject `errors`: the errors of the product, what they answer, and errors as a caller sees them.
-use crate::lines::string_of;
-use crate::printing::{
-    bytes_of, end_of, name_in, number_of, print_debug, print_text, short_of, split_name, time_of,
-};
+use crate::call_line::CallLine;
 use crate::ranges::range_of;
-use crate::subjects::CallFailure;
-use slate_errors::{CloseReason, Error, SlateError, write_error};
+use crate::subjects::Subject;
+use slate_errors::{CloseReason, Error, SlateError};
 use slate_types::{Name, StoreFault};
 use std::alloc::Global;
 use uuid::Uuid;
@@ -31,88 +28,80 @@ const CALLS: &[(&[u8], Call)] = &[
     (b"source", Call::Source),
 ];
 
-/// Makes one of the calls that `docs/FORMATS.md` lists.
-pub fn call_errors(
-    alloc: Global,
-    words: &[&[u8]],
-    answer: &mut Vec<u8>,
-) -> Result<(), CallFailure> {
-    let (call, words) = split_name(CALLS, words)?;
-    match (call, words) {
-        (Call::Invalid, [message, source @ ..]) => print_invalid(alloc, message, source, answer),
-        (Call::Source, [source, error @ ..]) => {
-            let source = name_of(alloc, source)?;
-            print_with_source(answer, Error::from(error_of(alloc, error)?), source)
+/// Calls that keep nothing.
+#[derive(Clone, Copy)]
+pub struct Errors;
+
+impl Subject for Errors {
+    fn anew(&self, _alloc: Global) -> Errors {
+        Errors
+    }
+
+    fn call(&mut self, line: &mut CallLine<'_>) {
+        match line.name(CALLS) {
+            Some(Call::Invalid) => print_invalid(line),
+            Some(Call::Source) => print_source(line),
+            Some(call) => {
+                let error = error_of(line);
+                print_of(call, &error, line);
+            }
+            None => {}
         }
-        _ => print_of(alloc, call, &error_of(alloc, words)?, answer),
     }
 }
 
 /// Prints what a call asks of an error.
-fn print_of(
-    alloc: Global,
-    call: Call,
-    error: &SlateError,
-    answer: &mut Vec<u8>,
-) -> Result<(), CallFailure> {
+fn print_of(call: Call, error: &SlateError, line: &mut CallLine<'_>) {
+    let kind = error.kind();
     match call {
-        Call::Text => Ok(write_error(answer, error)?),
-        Call::Asks => print_answers(alloc, error, answer),
-        Call::Kind => print_debug(alloc, answer, &error.kind()),
-        Call::Reason => print_debug(alloc, answer, &CloseReason::from(error.kind())),
-        Call::Words => print_text(answer, error.kind().to_string(alloc)?.as_str()),
-        _ => Err(CallFailure::Unread),
+        Call::Text => line.print_text_of(error),
+        Call::Asks => print_answers(error, line),
+        Call::Kind => line.print_debug(&kind),
+        Call::Reason => line.print_debug(&CloseReason::from(kind)),
+        _ => {
+            let words = kind.to_string(line.alloc());
+            if let Some(words) = line.made(words) {
+                line.print_text(words.as_str());
+            }
+        }
     }
 }
 
 /// Prints an error of a caller with a message, and with a source, where there is one.
-fn print_invalid(
-    alloc: Global,
-    message: &[u8],
-    source: &[&[u8]],
-    answer: &mut Vec<u8>,
-) -> Result<(), CallFailure> {
-    let message = name_of(alloc, message)?;
-    match source {
-        [] => print_message(answer, message),
-        [source] => {
-            let source = name_of(alloc, source)?;
-            print_with_source(answer, Error::invalid(message), source)
-        }
-        _ => Err(CallFailure::Unread),
-    }
-}
-
-fn print_message(answer: &mut Vec<u8>, message: Name) -> Result<(), CallFailure> {
-    Ok(Error::invalid(message).write_text(answer)?)
+fn print_invalid(line: &mut CallLine<'_>) {
+    let error = Error::invalid(name_of(line));
+    let error = if line.is_read() {
+        error
+    } else {
+        error.with_source(name_of(line))
+    };
+    line.print_public(&error);
 }
 
 /// Prints an error with a source of its own.
-fn print_with_source(answer: &mut Vec<u8>, error: Error, source: Name) -> Result<(), CallFailure> {
-    Ok(error.with_source(source).write_text(answer)?)
+fn print_source(line: &mut CallLine<'_>) {
+    let source = name_of(line);
+    let error = Error::from(error_of(line)).with_source(source);
+    line.print_public(&error);
 }
 
 /// Prints what each of the three questions answers of an error: whether an id was taken, whether an object is missing, and
 /// why reading again may help.
-fn print_answers(
-    alloc: Global,
-    error: &SlateError,
-    answer: &mut Vec<u8>,
-) -> Result<(), CallFailure> {
+fn print_answers(error: &SlateError, line: &mut CallLine<'_>) {
     let taken = error.is_sequenced_write_conflict();
     let missing = error.has_object_store_not_found();
     let retry = error.maybe_validation_retry_reason();
-    print_debug(alloc, answer, &(taken, missing, retry))
+    line.print_debug(&(taken, missing, retry));
 }
 
-/// The name that a word spells.
-fn name_of(alloc: Global, word: &[u8]) -> Result<Name, CallFailure> {
-    Ok(Name::of(string_of(alloc, word)?))
+/// The name that the next word spells.
+fn name_of(line: &mut CallLine<'_>) -> Name {
+    Name::of(line.string())
 }
 
-/// The name of an error.
+/// The name of an error that holds nothing.
 #[derive(Clone, Copy)]
-enum ErrorName {
+enum Plain {
     TransactionalObjectVersionExists,
     LatestTransactionalObjectVersionMissing,
     InvalidDBState,
@@ -132,147 +121,156 @@ enum ErrorName {
     BackgroundTaskExecutorStarted,
     SeekKeyLessThanLastReturnedKey,
     RecencyScanPrefixSpansMultipleSegments,
+}
+
+const PLAIN: &[(&[u8], Plain)] = &[
+    (
+        b"TransactionalObjectVersionExists",
+        Plain::TransactionalObjectVersionExists,
+    ),
+    (
+        b"LatestTransactionalObjectVersionMissing",
+        Plain::LatestTransactionalObjectVersionMissing,
+    ),
+    (b"InvalidDBState", Plain::InvalidDBState),
+    (b"ChecksumMismatch", Plain::ChecksumMismatch),
+    (b"EmptyBlock", Plain::EmptyBlock),
+    (b"EmptyBlockMeta", Plain::EmptyBlockMeta),
+    (b"InvalidFilterBlock", Plain::InvalidFilterBlock),
+    (b"EmptyKey", Plain::EmptyKey),
+    (b"EmptyBatch", Plain::EmptyBatch),
+    (b"Fenced", Plain::Fenced),
+    (b"Closed", Plain::Closed),
+    (b"WalDisabled", Plain::WalDisabled),
+    (b"TransactionConflict", Plain::TransactionConflict),
+    (b"MergeOperatorError", Plain::MergeOperatorError),
+    (b"MergeOperatorMissing", Plain::MergeOperatorMissing),
+    (b"NoMemory", Plain::NoMemory),
+    (
+        b"BackgroundTaskExecutorStarted",
+        Plain::BackgroundTaskExecutorStarted,
+    ),
+    (
+        b"SeekKeyLessThanLastReturnedKey",
+        Plain::SeekKeyLessThanLastReturnedKey,
+    ),
+    (
+        b"RecencyScanPrefixSpansMultipleSegments",
+        Plain::RecencyScanPrefixSpansMultipleSegments,
+    ),
+];
+
+/// The error that words name.
+pub fn error_of(line: &mut CallLine<'_>) -> SlateError {
+    if let Some(name) = line.find(PLAIN) {
+        return plain_error(name);
+    }
+    if let Some(name) = line.find(NUMBERED) {
+        return numbered_error(name, line);
+    }
+    error_with_fields(line)
+}
+
+/// The error with this name that holds nothing.
+fn plain_error(name: Plain) -> SlateError {
+    match name {
+        Plain::TransactionalObjectVersionExists => SlateError::TransactionalObjectVersionExists,
+        Plain::LatestTransactionalObjectVersionMissing =>
+            SlateError::LatestTransactionalObjectVersionMissing,
+        Plain::InvalidDBState => SlateError::InvalidDBState,
+        Plain::ChecksumMismatch => SlateError::ChecksumMismatch,
+        Plain::EmptyBlock => SlateError::EmptyBlock,
+        Plain::EmptyBlockMeta => SlateError::EmptyBlockMeta,
+        Plain::InvalidFilterBlock => SlateError::InvalidFilterBlock,
+        Plain::EmptyKey => SlateError::EmptyKey,
+        Plain::EmptyBatch => SlateError::EmptyBatch,
+        Plain::Fenced => SlateError::Fenced,
+        Plain::Closed => SlateError::Closed,
+        Plain::WalDisabled => SlateError::WalDisabled,
+        Plain::TransactionConflict => SlateError::TransactionConflict,
+        Plain::MergeOperatorError => SlateError::MergeOperatorError,
+        Plain::MergeOperatorMissing => SlateError::MergeOperatorMissing,
+        Plain::NoMemory => SlateError::NoMemory,
+        Plain::BackgroundTaskExecutorStarted => SlateError::BackgroundTaskExecutorStarted,
+        Plain::SeekKeyLessThanLastReturnedKey => SlateError::SeekKeyLessThanLastReturnedKey,
+        Plain::RecencyScanPrefixSpansMultipleSegments =>
+            SlateError::RecencyScanPrefixSpansMultipleSegments,
+    }
+}
+
+/// The name of an error that holds numbers.
+#[derive(Clone, Copy)]
+enum Numbered {
     TransactionalObjectTimeout,
     WalTruncated,
     Custom,
     InvalidCheckpointLifetime,
     InvalidManifestPollInterval,
     CheckpointMissing,
-    ObjectStoreError,
-    EmptySegmentPrefix,
-    SegmentExtractorMismatch,
-    BackgroundTaskExists,
-    InvalidSegmentPrefix,
-    SegmentPrefixNotRecognized,
     InvalidClockTick,
     Backpressure,
     CheckpointLifetimeTooShort,
-    IncompatibleMergeTtls,
-    SeekKeyOutOfRange,
 }
 
-const NAMES: &[(&[u8], ErrorName)] = &[
-    (
-        b"TransactionalObjectVersionExists",
-        ErrorName::TransactionalObjectVersionExists,
-    ),
-    (
-        b"LatestTransactionalObjectVersionMissing",
-        ErrorName::LatestTransactionalObjectVersionMissing,
-    ),
-    (b"InvalidDBState", ErrorName::InvalidDBState),
-    (b"ChecksumMismatch", ErrorName::ChecksumMismatch),
-    (b"EmptyBlock", ErrorName::EmptyBlock),
-    (b"EmptyBlockMeta", ErrorName::EmptyBlockMeta),
-    (b"InvalidFilterBlock", ErrorName::InvalidFilterBlock),
-    (b"EmptyKey", ErrorName::EmptyKey),
-    (b"EmptyBatch", ErrorName::EmptyBatch),
-    (b"Fenced", ErrorName::Fenced),
-    (b"Closed", ErrorName::Closed),
-    (b"WalDisabled", ErrorName::WalDisabled),
-    (b"TransactionConflict", ErrorName::TransactionConflict),
-    (b"MergeOperatorError", ErrorName::MergeOperatorError),
-    (b"MergeOperatorMissing", ErrorName::MergeOperatorMissing),
-    (b"NoMemory", ErrorName::NoMemory),
-    (
-        b"BackgroundTaskExecutorStarted",
-        ErrorName::BackgroundTaskExecutorStarted,
-    ),
-    (
-        b"SeekKeyLessThanLastReturnedKey",
-        ErrorName::SeekKeyLessThanLastReturnedKey,
-    ),
-    (
-        b"RecencyScanPrefixSpansMultipleSegments",
-        ErrorName::RecencyScanPrefixSpansMultipleSegments,
-    ),
+const NUMBERED: &[(&[u8], Numbered)] = &[
     (
         b"TransactionalObjectTimeout",
-        ErrorName::TransactionalObjectTimeout,
+        Numbered::TransactionalObjectTimeout,
     ),
-    (b"WalTruncated", ErrorName::WalTruncated),
-    (b"Custom", ErrorName::Custom),
+    (b"WalTruncated", Numbered::WalTruncated),
+    (b"Custom", Numbered::Custom),
     (
         b"InvalidCheckpointLifetime",
-        ErrorName::InvalidCheckpointLifetime,
+        Numbered::InvalidCheckpointLifetime,
     ),
     (
         b"InvalidManifestPollInterval",
-        ErrorName::InvalidManifestPollInterval,
+        Numbered::InvalidManifestPollInterval,
     ),
-    (b"CheckpointMissing", ErrorName::CheckpointMissing),
-    (b"ObjectStoreError", ErrorName::ObjectStoreError),
-    (b"EmptySegmentPrefix", ErrorName::EmptySegmentPrefix),
-    (
-        b"SegmentExtractorMismatch",
-        ErrorName::SegmentExtractorMismatch,
-    ),
-    (b"BackgroundTaskExists", ErrorName::BackgroundTaskExists),
-    (b"InvalidSegmentPrefix", ErrorName::InvalidSegmentPrefix),
-    (
-        b"SegmentPrefixNotRecognized",
-        ErrorName::SegmentPrefixNotRecognized,
-    ),
-    (b"InvalidClockTick", ErrorName::InvalidClockTick),
-    (b"Backpressure", ErrorName::Backpressure),
+    (b"CheckpointMissing", Numbered::CheckpointMissing),
+    (b"InvalidClockTick", Numbered::InvalidClockTick),
+    (b"Backpressure", Numbered::Backpressure),
     (
         b"CheckpointLifetimeTooShort",
-        ErrorName::CheckpointLifetimeTooShort,
+        Numbered::CheckpointLifetimeTooShort,
     ),
-    (b"IncompatibleMergeTtls", ErrorName::IncompatibleMergeTtls),
-    (b"SeekKeyOutOfRange", ErrorName::SeekKeyOutOfRange),
 ];
 
-/// The error that words name.
-pub fn error_of(alloc: Global, words: &[&[u8]]) -> Result<SlateError, CallFailure> {
-    match split_name(NAMES, words)? {
-        (name, []) => plain_error(name),
-        (name, [first]) => error_with(alloc, name, first),
-        (name, [first, second]) => error_with_both(alloc, name, first, second),
-        (ErrorName::IncompatibleMergeTtls, [key, previous, current]) => {
-            let (previous_expire_ts, current_expire_ts) = (end_of(previous)?, end_of(current)?);
-            let key = bytes_of(alloc, key)?;
-            Ok(SlateError::IncompatibleMergeTtls {
-                key,
-                previous_expire_ts,
-                current_expire_ts,
-            })
+/// The error with this name and with the numbers that the next words spell.
+fn numbered_error(name: Numbered, line: &mut CallLine<'_>) -> SlateError {
+    match name {
+        Numbered::TransactionalObjectTimeout => {
+            let tries = line.short();
+            SlateError::TransactionalObjectTimeout { tries }
         }
-        (ErrorName::SeekKeyOutOfRange, [key, low, high]) => {
-            let range = range_of(alloc, low, high)?;
-            let key = bytes_of(alloc, key)?;
-            Ok(SlateError::SeekKeyOutOfRange { key, range })
+        Numbered::WalTruncated => SlateError::WalTruncated(line.number()),
+        Numbered::Custom => SlateError::Custom(line.number()),
+        Numbered::InvalidCheckpointLifetime => SlateError::InvalidCheckpointLifetime(line.number()),
+        Numbered::InvalidManifestPollInterval => SlateError::InvalidManifestPollInterval(
+            line.number(),
+        ),
+        Numbered::CheckpointMissing => {
+            SlateError::CheckpointMissing(Uuid::from_u128(u128::from(line.number())))
         }
-        _ => Err(CallFailure::Unread),
+        Numbered::InvalidClockTick => {
+            let last_tick = line.time();
+            let next_tick = line.time();
+            SlateError::InvalidClockTick {
+                last_tick,
+                next_tick,
+            }
+        }
+        Numbered::Backpressure => {
+            let unflushed = line.number();
+            let limit = line.number();
+            SlateError::Backpressure { unflushed, limit }
+        }
+        Numbered::CheckpointLifetimeTooShort => {
+            let lifetime = line.number();
+            let interval = line.number();
+            SlateError::CheckpointLifetimeTooShort { lifetime, interval }
+        }
     }
-}
-
-/// The error with this name that holds nothing.
-fn plain_error(name: ErrorName) -> Result<SlateError, CallFailure> {
-    Ok(match name {
-        ErrorName::TransactionalObjectVersionExists => SlateError::TransactionalObjectVersionExists,
-        ErrorName::LatestTransactionalObjectVersionMissing =>
-            SlateError::LatestTransactionalObjectVersionMissing,
-        ErrorName::InvalidDBState => SlateError::InvalidDBState,
-        ErrorName::ChecksumMismatch => SlateError::ChecksumMismatch,
-        ErrorName::EmptyBlock => SlateError::EmptyBlock,
-        ErrorName::EmptyBlockMeta => SlateError::EmptyBlockMeta,
-        ErrorName::InvalidFilterBlock => SlateError::InvalidFilterBlock,
-        ErrorName::EmptyKey => SlateError::EmptyKey,
-        ErrorName::EmptyBatch => SlateError::EmptyBatch,
-        ErrorName::Fenced => SlateError::Fenced,
-        ErrorName::Closed => SlateError::Closed,
-        ErrorName::WalDisabled => SlateError::WalDisabled,
-        ErrorName::TransactionConflict => SlateError::TransactionConflict,
-        ErrorName::MergeOperatorError => SlateError::MergeOperatorError,
-        ErrorName::MergeOperatorMissing => SlateError::MergeOperatorMissing,
-        ErrorName::NoMemory => SlateError::NoMemory,
-        ErrorName::BackgroundTaskExecutorStarted => SlateError::BackgroundTaskExecutorStarted,
-        ErrorName::SeekKeyLessThanLastReturnedKey => SlateError::SeekKeyLessThanLastReturnedKey,
-        ErrorName::RecencyScanPrefixSpansMultipleSegments =>
-            SlateError::RecencyScanPrefixSpansMultipleSegments,
-        _ => return Err(CallFailure::Unread),
-    })
 }
 
 const FAULTS: &[(&[u8], StoreFault)] = &[
@@ -280,74 +278,84 @@ const FAULTS: &[(&[u8], StoreFault)] = &[
     (b"Unavailable", StoreFault::Unavailable),
 ];
 
-/// The error with this name and field.
-fn error_with(alloc: Global, name: ErrorName, field: &[u8]) -> Result<SlateError, CallFailure> {
-    match name {
-        ErrorName::ObjectStoreError => Ok(SlateError::ObjectStoreError(name_in(FAULTS, field)?)),
-        ErrorName::EmptySegmentPrefix => {
-            let key = bytes_of(alloc, field)?;
-            Ok(SlateError::EmptySegmentPrefix { key })
+/// The name of an error that holds other things.
+#[derive(Clone, Copy)]
+enum Fielded {
+    ObjectStoreError,
+    EmptySegmentPrefix,
+    SegmentExtractorMismatch,
+    BackgroundTaskExists,
+    InvalidSegmentPrefix,
+    SegmentPrefixNotRecognized,
+    IncompatibleMergeTtls,
+    SeekKeyOutOfRange,
+}
+
+const FIELDED: &[(&[u8], Fielded)] = &[
+    (b"ObjectStoreError", Fielded::ObjectStoreError),
+    (b"EmptySegmentPrefix", Fielded::EmptySegmentPrefix),
+    (
+        b"SegmentExtractorMismatch",
+        Fielded::SegmentExtractorMismatch,
+    ),
+    (b"BackgroundTaskExists", Fielded::BackgroundTaskExists),
+    (b"InvalidSegmentPrefix", Fielded::InvalidSegmentPrefix),
+    (
+        b"SegmentPrefixNotRecognized",
+        Fielded::SegmentPrefixNotRecognized,
+    ),
+    (b"IncompatibleMergeTtls", Fielded::IncompatibleMergeTtls),
+    (b"SeekKeyOutOfRange", Fielded::SeekKeyOutOfRange),
+];
+
+/// The error that the next word names, with what the words behind it spell.
+fn error_with_fields(line: &mut CallLine<'_>) -> SlateError {
+    match line.name(FIELDED) {
+        Some(Fielded::ObjectStoreError) => {
+            let fault = line.name(FAULTS).unwrap_or(StoreFault::NotFound);
+            SlateError::ObjectStoreError(fault)
         }
-        ErrorName::SegmentExtractorMismatch => Ok(SlateError::SegmentExtractorMismatch {
+        Some(Fielded::SegmentExtractorMismatch) => SlateError::SegmentExtractorMismatch {
             persisted: None,
-            configured: Some(name_of(alloc, field)?),
-        }),
-        ErrorName::BackgroundTaskExists => {
-            Ok(SlateError::BackgroundTaskExists(name_of(alloc, field)?))
-        }
-        ErrorName::TransactionalObjectTimeout => {
-            let tries = short_of(field)?;
-            Ok(SlateError::TransactionalObjectTimeout { tries })
-        }
-        _ => numbered_error(name, number_of(field)?),
+            configured: Some(name_of(line)),
+        },
+        Some(Fielded::BackgroundTaskExists) => SlateError::BackgroundTaskExists(name_of(line)),
+        Some(name) => error_with_key(name, line),
+        None => SlateError::NoMemory,
     }
 }
 
-/// The error with this name and number.
-fn numbered_error(name: ErrorName, number: u64) -> Result<SlateError, CallFailure> {
-    Ok(match name {
-        ErrorName::WalTruncated => SlateError::WalTruncated(number),
-        ErrorName::Custom => SlateError::Custom(number),
-        ErrorName::InvalidCheckpointLifetime => SlateError::InvalidCheckpointLifetime(number),
-        ErrorName::InvalidManifestPollInterval => SlateError::InvalidManifestPollInterval(number),
-        ErrorName::CheckpointMissing => {
-            SlateError::CheckpointMissing(Uuid::from_u128(u128::from(number)))
-        }
-        _ => return Err(CallFailure::Unread),
-    })
-}
-
-/// The error with this name and two fields.
-fn error_with_both(
-    alloc: Global,
-    name: ErrorName,
-    first: &[u8],
-    second: &[u8],
-) -> Result<SlateError, CallFailure> {
+/// The error with this name, with a key or a prefix, and with what the words behind that spell.
+fn error_with_key(name: Fielded, line: &mut CallLine<'_>) -> SlateError {
+    let key = line.bytes();
     match name {
-        ErrorName::InvalidSegmentPrefix => {
-            let (prefix, conflict) = (bytes_of(alloc, first)?, bytes_of(alloc, second)?);
-            Ok(SlateError::InvalidSegmentPrefix { prefix, conflict })
+        Fielded::InvalidSegmentPrefix => {
+            let conflict = line.bytes();
+            SlateError::InvalidSegmentPrefix {
+                prefix: key,
+                conflict,
+            }
         }
-        ErrorName::SegmentPrefixNotRecognized => {
-            let (prefix, extractor) = (bytes_of(alloc, first)?, name_of(alloc, second)?);
-            Ok(SlateError::SegmentPrefixNotRecognized { prefix, extractor })
+        Fielded::SegmentPrefixNotRecognized => {
+            let extractor = name_of(line);
+            SlateError::SegmentPrefixNotRecognized {
+                prefix: key,
+                extractor,
+            }
         }
-        ErrorName::InvalidClockTick => {
-            let (last_tick, next_tick) = (time_of(first)?, time_of(second)?);
-            Ok(SlateError::InvalidClockTick {
-                last_tick,
-                next_tick,
-            })
+        Fielded::IncompatibleMergeTtls => {
+            let previous_expire_ts = line.end();
+            let current_expire_ts = line.end();
+            SlateError::IncompatibleMergeTtls {
+                key,
+                previous_expire_ts,
+                current_expire_ts,
+            }
         }
-        ErrorName::Backpressure => {
-            let (unflushed, limit) = (number_of(first)?, number_of(second)?);
-            Ok(SlateError::Backpressure { unflushed, limit })
+        Fielded::SeekKeyOutOfRange => {
+            let range = range_of(line);
+            SlateError::SeekKeyOutOfRange { key, range }
         }
-        ErrorName::CheckpointLifetimeTooShort => {
-            let (lifetime, interval) = (number_of(first)?, number_of(second)?);
-            Ok(SlateError::CheckpointLifetimeTooShort { lifetime, interval })
-        }
-        _ => Err(CallFailure::Unread),
+        _ => SlateError::EmptySegmentPrefix { key },
     }
 }

@@ -1,10 +1,10 @@
 // The subject `executor`: an executor of groups of tasks that work or fail, and a close cell.
 ghost use Rattle.std.specs.Prelude.{◌≡◌, IsTrue};
 
-use crate::printing::{
-    name_in, outcome_of, print_debug, print_error, print_number, print_text, split_name, text_of,
-};
-use crate::subjects::CallFailure;
+use crate::answers::Answer;
+use crate::call_line::CallLine;
+use crate::subjects::Subject;
+use crate::tasks::outcome_of;
 use slate_dispatch::{BoxedTask, Executor, ExecutorRefusal, Task, TurnAnswer};
 use slate_errors::{CloseCell, CloseFault};
 use slate_types::Name;
@@ -141,168 +141,145 @@ impl Executors {
         }
     }
 
-    /// Makes one of the calls that `docs/FORMATS.md` lists.
-    pub fn call(
-        &mut self,
-        alloc: Global,
-        words: &[&[u8]],
-        answer: &mut Vec<u8>,
-    ) -> Result<(), CallFailure> {
-        let (call, words) = split_name(CALLS, words)?;
-        match (call, words) {
-            (Call::Add, [name, tasks @ ..]) => self.add(alloc, text_of(name)?, tasks, answer),
-            (Call::Close, [outcome]) => {
-                let first = self.cell.write(outcome_of(outcome)?);
-                print_debug(alloc, answer, &first)
-            }
-            (_, [name]) => self.call_group(alloc, call, text_of(name)?, answer),
-            (_, []) => self.call_all(alloc, call, answer),
-            _ => Err(CallFailure::Unread),
-        }
-    }
-
-    /// Makes a call that names no group.
-    fn call_all(
-        &mut self,
-        alloc: Global,
-        call: Call,
-        answer: &mut Vec<u8>,
-    ) -> Result<(), CallFailure> {
-        match call {
-            Call::Start => match self.executor.start() {
-                Ok(()) => Ok(()),
-                Err(error) => print_error(answer, &error),
-            },
-            Call::Turn => {
-                let _started = self.executor.start();
-                self.executor.turn(&mut self.cell, 0, 0);
-                Ok(())
-            }
-            Call::Cell => print_debug(alloc, answer, &self.cell.read()),
-            Call::Told => match &self.told {
-                Some(told) => print_debug(alloc, answer, &told.get()),
-                None => Err(CallFailure::Unread),
-            },
-            Call::Pair => run_boxed(alloc, answer),
-            _ => Err(CallFailure::Unread),
-        }
+    /// Gives each task a turn.
+    fn turn(&mut self) {
+        let _started = self.executor.start();
+        self.executor.turn(&mut self.cell, 0, 0);
     }
 
     /// Makes a call of the group with a name.
-    fn call_group(
-        &mut self,
-        alloc: Global,
-        call: Call,
-        name: &str,
-        answer: &mut Vec<u8>,
-    ) -> Result<(), CallFailure> {
+    fn call_group(&mut self, call: Call, line: &mut CallLine<'_>) {
+        let name = line.text();
         let cell = &mut self.cell;
         match call {
-            Call::Join => print_debug(alloc, answer, &self.executor.join_task(name)),
-            Call::Shut => print_debug(alloc, answer, &self.executor.shutdown_task(cell, name)),
+            Call::Join => line.print_debug(&self.executor.join_task(name)),
+            Call::Shut => line.print_debug(&self.executor.shutdown_task(cell, name)),
             Call::Out => {
-                let outcome = self.executor.shutdown_or_deregister_task(cell, name);
-                print_debug(alloc, answer, &outcome)
+                line.print_debug(&self.executor.shutdown_or_deregister_task(cell, name));
             }
-            Call::Cancel => {
-                self.executor.cancel_task(name);
-                Ok(())
-            }
-            _ => Err(CallFailure::Unread),
+            _ => self.executor.cancel_task(name),
         }
     }
 
-    /// Registers a group of tasks, or prints why it wasn't registered and how many tasks came back.
-    fn add(
-        &mut self,
-        alloc: Global,
-        name: &str,
-        words: &[&[u8]],
-        answer: &mut Vec<u8>,
-    ) -> Result<(), CallFailure> {
-        let told = Rc::new(alloc, Cell::new(None))?;
-        let tasks = tasks_of(alloc, words, told.clone()?)?;
-        self.told = Some(told);
+    /// Prints the result with which the first task of the last group was finished.
+    fn print_told(&self, line: &mut CallLine<'_>) {
+        match &self.told {
+            Some(told) => line.print_debug(&told.get()),
+            None => line.unread(),
+        }
+    }
+
+    /// Registers a group of tasks, or prints why it wasn't registered and how many tasks came back. The first task tells with
+    /// which result it was finished.
+    fn add(&mut self, line: &mut CallLine<'_>) {
+        let made = Rc::new(line.alloc(), Cell::new(None));
+        let Some(told) = line.made(made) else {
+            return;
+        };
+        self.told = line.made(told.clone());
+        let name = Name::of(line.string());
+        let tasks = tasks_of(told, line);
         if tasks.is_empty() {
-            return Err(CallFailure::Unread);
+            line.unread();
+            return;
         }
-        let name = Name::of(String::from_str(alloc, name)?);
-        match self.executor.add_handlers(alloc, name, tasks) {
-            Ok(()) => Ok(()),
-            Err(refusal) => print_refusal(answer, &refusal),
+        self.executor
+            .add_handlers(line.alloc(), name, tasks)
+            .print(line);
+    }
+}
+
+impl Subject for Executors {
+    fn anew(&self, alloc: Global) -> Executors {
+        Executors::new(alloc)
+    }
+
+    fn call(&mut self, line: &mut CallLine<'_>) {
+        match line.name(CALLS) {
+            Some(Call::Add) => self.add(line),
+            Some(Call::Start) => self.executor.start().print(line),
+            Some(Call::Turn) => self.turn(),
+            Some(Call::Close) => {
+                let first = self.cell.write(outcome_of(line));
+                line.print_debug(&first);
+            }
+            Some(Call::Cell) => line.print_debug(&self.cell.read()),
+            Some(Call::Told) => self.print_told(line),
+            Some(Call::Pair) => run_boxed(line),
+            Some(call) => self.call_group(call, line),
+            None => {}
         }
     }
 }
 
-/// The tasks that words name. The first one tells with which result it was finished.
-fn tasks_of(
-    alloc: Global,
-    words: &[&[u8]],
-    told: Rc<Cell<Option<Outcome>>>,
-) -> Result<Vec<Scripted>, CallFailure> {
-    let mut tasks = Vec::new(alloc);
-    for word in words {
-        let fault = name_in(TASKS, word)?;
-        tasks.push(task_of(fault))?;
+/// The tasks that the words that are left name. The first one tells with which result it was finished.
+fn tasks_of(told: Rc<Cell<Option<Outcome>>>, line: &mut CallLine<'_>) -> Vec<Scripted> {
+    let mut told = Some(told);
+    let mut tasks = Vec::new(line.alloc());
+    for _ in 0..line.left() {
+        if let Some(fault) = line.name(TASKS) {
+            let mut task = task_of(fault);
+            task.told = told.take();
+            tasks.push(task).print(line);
+        }
     }
-    if let Some(first) = tasks.first_mut() {
-        first.told = Some(told);
-    }
-    Ok(tasks)
+    tasks
 }
 
-fn print_refusal(
-    answer: &mut Vec<u8>,
-    refusal: &ExecutorRefusal<Scripted>,
-) -> Result<(), CallFailure> {
-    print_error(answer, &refusal.error)?;
-    print_text(answer, "; back ")?;
-    print_number(answer, refusal.members.len() as u64)
+impl Answer for ExecutorRefusal<Scripted> {
+    fn print(self, line: &mut CallLine<'_>) {
+        line.print_error(&self.error);
+        line.print_text("; back ");
+        line.print_number(self.members.len() as u64);
+    }
 }
 
 /// Runs a task that works and one that fails as a group, in boxes.
-fn run_boxed(alloc: Global, answer: &mut Vec<u8>) -> Result<(), CallFailure> {
-    let works = BoxedTask(Box::new(alloc, task_of(None))?);
-    let fails = BoxedTask(Box::new(alloc, task_of(Some(CloseFault::Fenced)))?);
-    run_pair(alloc, works, fails, answer)
+fn run_boxed(line: &mut CallLine<'_>) {
+    let works = Box::new(line.alloc(), task_of(None));
+    let fails = Box::new(line.alloc(), task_of(Some(CloseFault::Fenced)));
+    if let (Ok(works), Ok(fails)) = (works, fails) {
+        run_pair(BoxedTask(works), BoxedTask(fails), line);
+    } else {
+        line.no_memory();
+    }
 }
 
 /// Runs two tasks as a group for two turns, and prints the result of the group after each, and then that of the cell.
-fn run_pair<T: Task>(
-    alloc: Global,
-    first: T,
-    second: T,
-    answer: &mut Vec<u8>,
-) -> Result<(), CallFailure> {
-    let mut executor = pair_of(alloc, first, second)?;
+fn run_pair<T: Task>(first: T, second: T, line: &mut CallLine<'_>) {
+    let Some(mut executor) = pair_of(first, second, line) else {
+        return;
+    };
     let mut cell = CloseCell::new();
-    print_turn(alloc, &mut executor, &mut cell, answer)?;
-    print_turn(alloc, &mut executor, &mut cell, answer)?;
-    print_debug(alloc, answer, &cell.read())
+    print_turn(&mut executor, &mut cell, line);
+    print_turn(&mut executor, &mut cell, line);
+    line.print_debug(&cell.read());
 }
 
 /// An executor of one group of two tasks.
-fn pair_of<T: Task>(alloc: Global, first: T, second: T) -> Result<Executor<T>, CallFailure> {
-    let name = Name::of(String::from_str(alloc, "pair")?);
+fn pair_of<T: Task>(first: T, second: T, line: &mut CallLine<'_>) -> Option<Executor<T>> {
+    let alloc = line.alloc();
+    let name = String::from_str(alloc, "pair");
+    let name = Name::of(line.made(name)?);
     let mut tasks = Vec::new(alloc);
-    tasks.push(first)?;
-    tasks.push(second)?;
+    if tasks.push(first).is_err() || tasks.push(second).is_err() {
+        line.no_memory();
+        return None;
+    }
     let mut executor = Executor::new(alloc);
     match executor.add_handlers(alloc, name, tasks) {
-        Ok(()) => Ok(executor),
-        Err(_refusal) => Err(CallFailure::Memory),
+        Ok(()) => Some(executor),
+        Err(_refusal) => {
+            line.no_memory();
+            None
+        }
     }
 }
 
 /// Gives each task a turn, and prints the result of the pair.
-fn print_turn<T: Task>(
-    alloc: Global,
-    executor: &mut Executor<T>,
-    cell: &mut CloseCell,
-    answer: &mut Vec<u8>,
-) -> Result<(), CallFailure> {
+fn print_turn<T: Task>(executor: &mut Executor<T>, cell: &mut CloseCell, line: &mut CallLine<'_>) {
     let _started = executor.start();
     executor.turn(cell, 0, 0);
-    print_debug(alloc, answer, &executor.join_task("pair"))?;
-    print_text(answer, " ")
+    line.print_debug(&executor.join_task("pair"));
+    line.print_text(" ");
 }

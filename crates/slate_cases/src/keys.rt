@@ -1,14 +1,14 @@
 // The subject `keys`: ranges, prefixes and index keys, varints, and the bounds and options of reads.
-use crate::printing::{
-    bytes_of, name_in, number_of, print_blank, print_bytes, print_debug, print_number, print_text,
-    short_of, split_name,
-};
-use crate::ranges::{bound_of, range_of};
-use crate::subjects::CallFailure;
+use crate::answers::Answer;
+use crate::call_line::CallLine;
+use crate::operators::fixed_of;
+use crate::ranges::range_of;
+use crate::subjects::Subject;
+use bytes::Bytes;
 use slate_rows::{
-    ByteRange, CloseOptions, DurabilityLevel, FixedPrefix, MergeOptions, PrefixExtractor,
-    PutOptions, ReadOptions, ScanOptions, WriteOptions, compute_index_key, decode_varint,
-    encode_varint, prepare_max_seq, varint_len,
+    ByteRange, CloseOptions, DurabilityLevel, MergeOptions, PrefixExtractor, PutOptions,
+    ReadOptions, ScanOptions, WriteOptions, compute_index_key, decode_varint, encode_varint,
+    prepare_max_seq, varint_len,
 };
 use std::alloc::Global;
 
@@ -35,132 +35,57 @@ const CALLS: &[(&[u8], Call)] = &[
     (b"read", Call::Read),
 ];
 
-/// Makes one of the calls that `docs/FORMATS.md` lists.
-pub fn call_keys(alloc: Global, words: &[&[u8]], answer: &mut Vec<u8>) -> Result<(), CallFailure> {
-    let (call, words) = split_name(CALLS, words)?;
-    match (call, words) {
-        (Call::Prefix, [prefix, keys @ ..]) => print_prefixed(alloc, prefix, keys, answer),
-        (Call::Subrange, [prefix, low, high, keys @ ..]) => {
-            print_subrange(alloc, prefix, (low, high), keys, answer)
+/// Calls that keep nothing.
+#[derive(Clone, Copy)]
+pub struct Keys;
+
+impl Subject for Keys {
+    fn anew(&self, _alloc: Global) -> Keys {
+        Keys
+    }
+
+    fn call(&mut self, line: &mut CallLine<'_>) {
+        match line.name(CALLS) {
+            Some(Call::Prefix) => print_prefixed(line),
+            Some(Call::Subrange) => print_subrange(line),
+            Some(Call::Index) => print_index_key(line),
+            Some(Call::Fixed) => print_fixed(line),
+            Some(Call::Default) => print_default(line),
+            Some(Call::Bound) => print_bound(line),
+            Some(Call::Varint) => print_varint(line),
+            Some(Call::Read) => print_number_in(line),
+            None => {}
         }
-        (Call::Index, [this]) => print_first_key(alloc, this, answer),
-        (Call::Index, [before, this]) => print_index_key(alloc, before, this, answer),
-        (Call::Fixed, [length, key]) => print_fixed(alloc, number_of(length)?, key, answer),
-        (Call::Default, [name]) => print_default(alloc, name_in(OPTIONS, name)?, answer),
-        (Call::Bound, [user, durable, committed, level, dirty]) => {
-            print_bound(alloc, user, (durable, committed), (level, dirty), answer)
-        }
-        (Call::Varint, [number]) => print_varint(alloc, short_of(number)?, answer),
-        (Call::Read, [text]) => print_number_in(alloc, text, answer),
-        _ => Err(CallFailure::Unread),
     }
 }
 
 /// Prints those of these keys that begin with a prefix.
-fn print_prefixed(
-    alloc: Global,
-    prefix: &[u8],
-    keys: &[&[u8]],
-    answer: &mut Vec<u8>,
-) -> Result<(), CallFailure> {
-    let prefix = bytes_of(alloc, prefix)?;
-    let range = ByteRange::prefix(alloc, prefix.as_slice())?;
-    print_within(alloc, &range, keys, answer)
+fn print_prefixed(line: &mut CallLine<'_>) {
+    let prefix = line.bytes();
+    let made = ByteRange::prefix(line.alloc(), prefix.as_slice());
+    if let Some(range) = line.made(made) {
+        print_within(&range, line);
+    }
 }
 
 /// Prints those of these keys that begin with a prefix and go on between two bounds.
-fn print_subrange(
-    alloc: Global,
-    prefix: &[u8],
-    (low, high): (&[u8], &[u8]),
-    keys: &[&[u8]],
-    answer: &mut Vec<u8>,
-) -> Result<(), CallFailure> {
-    let suffixes = range_of(alloc, low, high)?;
-    let prefix = bytes_of(alloc, prefix)?;
-    let range = ByteRange::prefix_and_subrange(alloc, prefix.as_slice(), &suffixes)?;
-    print_within(alloc, &range, keys, answer)
+fn print_subrange(line: &mut CallLine<'_>) {
+    let prefix = line.bytes();
+    let suffixes = range_of(line);
+    let made = ByteRange::prefix_and_subrange(line.alloc(), prefix.as_slice(), &suffixes);
+    if let Some(range) = line.made(made) {
+        print_within(&range, line);
+    }
 }
 
-/// Prints up to which number a read reads.
-fn print_bound(
-    alloc: Global,
-    user: &[u8],
-    (durable, committed): (&[u8], &[u8]),
-    (level, dirty): (&[u8], &[u8]),
-    answer: &mut Vec<u8>,
-) -> Result<(), CallFailure> {
-    let (durable, committed) = (number_of(durable)?, number_of(committed)?);
-    let (level, dirty) = (name_in(LEVELS, level)?, name_in(DIRTY, dirty)?);
-    let bound = prepare_max_seq(bound_of(user)?, durable, committed, level, dirty);
-    print_debug(alloc, answer, &bound)
-}
-
-/// Prints those of these keys that are in a range.
-fn print_within(
-    alloc: Global,
-    range: &ByteRange,
-    keys: &[&[u8]],
-    answer: &mut Vec<u8>,
-) -> Result<(), CallFailure> {
-    for key in keys {
-        if range.contains(bytes_of(alloc, key)?.as_slice()) {
-            print_blank(answer)?;
-            answer.extend_from_slice(key)?;
+/// Prints those of the keys that are left that are in a range.
+fn print_within(range: &ByteRange, line: &mut CallLine<'_>) {
+    for _ in 0..line.left() {
+        let key = line.bytes();
+        if range.contains(key.as_slice()) {
+            line.print_blank();
+            line.print_bytes(key.as_slice());
         }
-    }
-    Ok(())
-}
-
-/// Prints the index key of a block that begins with this key, where no key is before it.
-fn print_first_key(alloc: Global, this: &[u8], answer: &mut Vec<u8>) -> Result<(), CallFailure> {
-    let this = bytes_of(alloc, this)?;
-    if this.is_empty() {
-        return Err(CallFailure::Unread);
-    }
-    let key = compute_index_key(alloc, None, &this)?;
-    print_bytes(answer, key.as_slice())
-}
-
-/// Prints the index key of a block that begins with this key, after another one, and whether it has more than one owner.
-fn print_index_key(
-    alloc: Global,
-    before: &[u8],
-    this: &[u8],
-    answer: &mut Vec<u8>,
-) -> Result<(), CallFailure> {
-    let (before, this) = (bytes_of(alloc, before)?, bytes_of(alloc, this)?);
-    if before.is_empty() || this.is_empty() || before > this {
-        return Err(CallFailure::Unread);
-    }
-    let key = compute_index_key(alloc, Some(&before), &this)?;
-    print_bytes(answer, key.as_slice())?;
-    print_text(
-        answer,
-        if key.try_into_mut().is_err() {
-            " shared"
-        } else {
-            " owned"
-        },
-    )
-}
-
-/// Prints the name of an extractor of prefixes of a length, and the prefix of a key.
-fn print_fixed(
-    alloc: Global,
-    length: u64,
-    key: &[u8],
-    answer: &mut Vec<u8>,
-) -> Result<(), CallFailure> {
-    let Ok(length) = u8::try_from(length) else {
-        return Err(CallFailure::Unread);
-    };
-    let extractor = FixedPrefix::new(alloc, length)?;
-    print_text(answer, extractor.name())?;
-    print_text(answer, " ")?;
-    match extractor.prefix_of(key) {
-        Some(prefix) => print_bytes(answer, prefix),
-        None => print_text(answer, "none"),
     }
 }
 
@@ -169,7 +94,65 @@ const LEVELS: &[(&[u8], DurabilityLevel)] = &[
     (b"remote", DurabilityLevel::Remote),
 ];
 
+/// The level that a word names.
+pub fn level_of(line: &mut CallLine<'_>) -> DurabilityLevel {
+    line.name(LEVELS).unwrap_or(DurabilityLevel::Memory)
+}
+
 const DIRTY: &[(&[u8], bool)] = &[(b"dirty", true), (b"clean", false)];
+
+/// Prints up to which number a read reads.
+fn print_bound(line: &mut CallLine<'_>) {
+    let user = line.bound();
+    let durable = line.number();
+    let committed = line.number();
+    let level = level_of(line);
+    let dirty = line.name(DIRTY).unwrap_or(false);
+    line.print_debug(&prepare_max_seq(user, durable, committed, level, dirty));
+}
+
+/// Prints the index key of a block that begins with a key, where no key is before it, or after another one.
+fn print_index_key(line: &mut CallLine<'_>) {
+    let first = line.bytes();
+    if first.is_empty() {
+        line.unread();
+    } else if line.is_read() {
+        let key = compute_index_key(line.alloc(), None, &first);
+        if let Some(key) = line.made(key) {
+            line.print_bytes(key.as_slice());
+        }
+    } else {
+        print_between(&first, line);
+    }
+}
+
+/// Prints the index key of a block that begins with the next key, after another one, and whether it has more than one
+/// owner.
+fn print_between(before: &Bytes, line: &mut CallLine<'_>) {
+    let this = line.bytes();
+    if before.is_empty() || this.is_empty() || *before > this {
+        line.unread();
+        return;
+    }
+    let key = compute_index_key(line.alloc(), Some(before), &this);
+    if let Some(key) = line.made(key) {
+        line.print_bytes(key.as_slice());
+        let is_shared = key.try_into_mut().is_err();
+        line.print_text(if is_shared { " shared" } else { " owned" });
+    }
+}
+
+/// Prints the name of an extractor of prefixes of a length, and the prefix of a key.
+fn print_fixed(line: &mut CallLine<'_>) {
+    if let Some(extractor) = fixed_of(line) {
+        line.print_text(extractor.name());
+        line.print_text(" ");
+        match extractor.prefix_of(line.word()) {
+            Some(prefix) => line.print_bytes(prefix),
+            None => line.print_text("none"),
+        }
+    }
+}
 
 /// What has a default.
 #[derive(Clone, Copy)]
@@ -194,32 +177,34 @@ const OPTIONS: &[(&[u8], Options)] = &[
 ];
 
 /// Prints the options of a kind of call as they are by default.
-fn print_default(alloc: Global, name: Options, answer: &mut Vec<u8>) -> Result<(), CallFailure> {
-    match name {
-        Options::Level => print_debug(alloc, answer, &DurabilityLevel::default()),
-        Options::Read => print_debug(alloc, answer, &ReadOptions::default()),
-        Options::Scan => print_debug(alloc, answer, &ScanOptions::default()),
-        Options::Put => print_debug(alloc, answer, &PutOptions::default()),
-        Options::Merge => print_debug(alloc, answer, &MergeOptions::default()),
-        Options::Close => print_debug(alloc, answer, &CloseOptions::default()),
-        Options::Write => print_debug(alloc, answer, &WriteOptions::default()),
+fn print_default(line: &mut CallLine<'_>) {
+    match line.name(OPTIONS) {
+        Some(Options::Level) => line.print_debug(&DurabilityLevel::default()),
+        Some(Options::Read) => line.print_debug(&ReadOptions::default()),
+        Some(Options::Scan) => line.print_debug(&ScanOptions::default()),
+        Some(Options::Put) => line.print_debug(&PutOptions::default()),
+        Some(Options::Merge) => line.print_debug(&MergeOptions::default()),
+        Some(Options::Close) => line.print_debug(&CloseOptions::default()),
+        Some(Options::Write) => line.print_debug(&WriteOptions::default()),
+        None => {}
     }
 }
 
 /// Prints the bytes of a varint, and how many they are.
-fn print_varint(alloc: Global, number: u32, answer: &mut Vec<u8>) -> Result<(), CallFailure> {
-    let mut text = Vec::new(alloc);
-    encode_varint(alloc, &mut text, number)?;
-    print_bytes(answer, text.as_slice())?;
-    print_text(answer, " of ")?;
-    print_number(answer, varint_len(number) as u64)
+fn print_varint(line: &mut CallLine<'_>) {
+    let number = line.short();
+    let mut text = Vec::new(line.alloc());
+    encode_varint(line.alloc(), &mut text, number).print(line);
+    line.print_bytes(text.as_slice());
+    line.print_text(" of ");
+    line.print_number(varint_len(number) as u64);
 }
 
 /// Prints the number that begins a text, or why there is none, and what is left.
-fn print_number_in(alloc: Global, text: &[u8], answer: &mut Vec<u8>) -> Result<(), CallFailure> {
-    let bytes = bytes_of(alloc, text)?;
+fn print_number_in(line: &mut CallLine<'_>) {
+    let bytes = line.bytes();
     let mut rest = bytes.as_slice();
-    print_debug(alloc, answer, &decode_varint(&mut rest))?;
-    print_text(answer, " before ")?;
-    print_bytes(answer, rest)
+    line.print_debug(&decode_varint(&mut rest));
+    line.print_text(" before ");
+    line.print_bytes(rest);
 }

@@ -1,8 +1,7 @@
 // The subject `lines`: script lines, whole scripts, and the words of the command line.
-use crate::printing::{
-    bytes_of, print_blank, print_bytes, print_debug, print_text, split_name, text_of,
-};
-use crate::subjects::CallFailure;
+use crate::answers::Answer;
+use crate::call_line::CallLine;
+use crate::subjects::Subject;
 use slate_script::{
     Command, LineAnswer, ScriptFault, read_line, read_script, read_words, script_fields,
 };
@@ -23,82 +22,71 @@ const CALLS: &[(&[u8], Call)] = &[
     (b"words", Call::Words),
 ];
 
-/// Makes one of the calls that `docs/FORMATS.md` lists.
-pub fn call_lines(alloc: Global, words: &[&[u8]], answer: &mut Vec<u8>) -> Result<(), CallFailure> {
-    let (call, words) = split_name(CALLS, words)?;
-    match (call, words) {
-        (Call::Line, fields) => print_line(alloc, joined(alloc, fields)?.as_slice(), answer),
-        (Call::Script, [script]) => {
-            print_script(alloc, bytes_of(alloc, script)?.as_slice(), answer)
+/// Calls that keep nothing.
+#[derive(Clone, Copy)]
+pub struct Lines;
+
+impl Subject for Lines {
+    fn anew(&self, _alloc: Global) -> Lines {
+        Lines
+    }
+
+    fn call(&mut self, line: &mut CallLine<'_>) {
+        match line.name(CALLS) {
+            Some(Call::Line) => read_line(line.alloc(), line.joined().as_slice()).print(line),
+            Some(Call::Script) => print_script(line.bytes().as_slice(), line),
+            Some(Call::Fields) => print_fields(line.bytes().as_slice(), line),
+            Some(Call::Words) => print_options(line),
+            None => {}
         }
-        (Call::Fields, [line]) => print_fields(alloc, bytes_of(alloc, line)?.as_slice(), answer),
-        (Call::Words, words) => print_options(alloc, words, answer),
-        _ => Err(CallFailure::Unread),
     }
 }
 
-/// These words with a blank between each two.
-fn joined(alloc: Global, words: &[&[u8]]) -> Result<Vec<u8>, CallFailure> {
-    let mut text = Vec::new(alloc);
-    for word in words {
-        print_blank(&mut text)?;
-        text.extend_from_slice(word)?;
-    }
-    Ok(text)
-}
-
-/// Prints what the command of a line does, or that it is none.
-fn print_line(alloc: Global, line: &[u8], answer: &mut Vec<u8>) -> Result<(), CallFailure> {
-    match read_line(alloc, line)? {
-        LineAnswer::Command(command) => print_debug(alloc, answer, &command.action),
-        LineAnswer::Blank => print_text(answer, "blank"),
-        LineAnswer::Refused => print_text(answer, "refused"),
+impl Answer for LineAnswer {
+    /// Prints what the command of a line does, or that it is none.
+    fn print(self, line: &mut CallLine<'_>) {
+        match &self {
+            LineAnswer::Command(command) => line.print_debug(&command.action),
+            LineAnswer::Blank => line.print_text("blank"),
+            LineAnswer::Refused => line.print_text("refused"),
+        }
     }
 }
 
 /// Prints the commands of a script, or which line is none.
-fn print_script(alloc: Global, script: &[u8], answer: &mut Vec<u8>) -> Result<(), CallFailure> {
-    match read_script(alloc, script) {
-        Ok(commands) => print_commands(alloc, commands.as_slice(), answer),
-        Err(ScriptFault::NoMemory) => Err(CallFailure::Memory),
-        Err(fault) => print_debug(alloc, answer, &fault),
+fn print_script(script: &[u8], line: &mut CallLine<'_>) {
+    match read_script(line.alloc(), script) {
+        Ok(commands) => print_commands(commands.as_slice(), line),
+        Err(ScriptFault::NoMemory) => line.no_memory(),
+        Err(fault) => line.print_debug(&fault),
     }
 }
 
-fn print_commands(
-    alloc: Global,
-    commands: &[Command],
-    answer: &mut Vec<u8>,
-) -> Result<(), CallFailure> {
+fn print_commands(commands: &[Command], line: &mut CallLine<'_>) {
     for command in commands {
-        print_blank(answer)?;
-        print_debug(alloc, answer, command)?;
+        line.print_blank();
+        line.print_debug(command);
     }
-    Ok(())
 }
 
-fn print_fields(alloc: Global, line: &[u8], answer: &mut Vec<u8>) -> Result<(), CallFailure> {
-    for field in script_fields(alloc, line)?.as_slice() {
-        print_blank(answer)?;
-        print_bytes(answer, field)?;
+fn print_fields(text: &[u8], line: &mut CallLine<'_>) {
+    let fields = script_fields(line.alloc(), text);
+    if let Some(fields) = line.made(fields) {
+        for field in fields.as_slice() {
+            line.print_blank();
+            line.print_bytes(field);
+        }
     }
-    Ok(())
 }
 
 /// Prints what the words of a command line say, or that they are refused.
-fn print_options(alloc: Global, words: &[&[u8]], answer: &mut Vec<u8>) -> Result<(), CallFailure> {
-    let mut owned = Vec::new(alloc);
-    for word in words {
-        owned.push(string_of(alloc, word)?)?;
+fn print_options(line: &mut CallLine<'_>) {
+    let mut words = Vec::new(line.alloc());
+    for _ in 0..line.left() {
+        words.push(line.string()).print(line);
     }
-    match read_words(owned.as_slice()) {
-        Some(options) => print_debug(alloc, answer, &options),
-        None => print_text(answer, "refused"),
+    match read_words(words.as_slice()) {
+        Some(options) => line.print_debug(&options),
+        None => line.print_text("refused"),
     }
-}
-
-/// The text that a word spells.
-pub fn string_of(alloc: Global, word: &[u8]) -> Result<String, CallFailure> {
-    let bytes = bytes_of(alloc, word)?;
-    Ok(String::from_str(alloc, text_of(bytes.as_slice())?)?)
 }

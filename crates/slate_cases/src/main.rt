@@ -3,12 +3,13 @@
 //! forms of the files.
 #![tactic(auto)]
 
+mod answers;
 mod batches;
 mod bits;
 mod blob_stores;
+mod call_line;
 mod calls;
 mod cases;
-mod data_subjects;
 mod databases;
 mod directories;
 mod dispatchers;
@@ -25,7 +26,6 @@ mod object_calls;
 mod objects;
 mod operators;
 mod polled;
-mod printing;
 mod ranges;
 mod readers;
 mod replies;

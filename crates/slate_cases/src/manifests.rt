@@ -1,40 +1,44 @@
 // Manifests and prefixes of segments, as calls spell them.
-ghost use Rattle.std.specs.Prelude.{IfOk};
+ghost use Rattle.std.specs.Prelude.{IfSome};
 ghost use Rattle.slate_status.specs.Segments.{AreRising};
 
-use crate::printing::bytes_of;
-use crate::subjects::CallFailure;
+use crate::answers::Answer;
+use crate::call_line::CallLine;
 use bytes::Bytes;
 use slate_status::union;
 use slate_store::{Manifest, VersionedManifest};
 use slate_types::Seq;
 use std::alloc::Global;
 
-/// The prefixes that words spell.
-pub fn prefixes_of(alloc: Global, words: &[&[u8]]) -> Result<Vec<Bytes>, CallFailure> {
-    let mut prefixes = Vec::new(alloc);
-    for word in words {
-        prefixes.push(bytes_of(alloc, word)?)?;
+/// The prefixes that words spell, up to the next `;`.
+pub fn prefixes_of(line: &mut CallLine<'_>) -> Vec<Bytes> {
+    let mut prefixes = Vec::new(line.alloc());
+    for _ in 0..line.left() {
+        if !line.has_more() {
+            break;
+        }
+        prefixes.push(line.bytes()).print(line);
     }
-    Ok(prefixes)
+    prefixes
 }
 
 /// The same, rising, each once.
-pub fn rising(alloc: Global, words: &[&[u8]]) -> Result<Seq<Bytes>, CallFailure>
-    ensures { IfOk result AreRising }
+pub fn rising(line: &mut CallLine<'_>) -> Option<Seq<Bytes>>
+    ensures { IfSome result AreRising }
 {
-    let prefixes = prefixes_of(alloc, words)?;
-    Ok(Seq::of(union(alloc, prefixes.as_slice(), &[])?))
+    let prefixes = prefixes_of(line);
+    match union(line.alloc(), prefixes.as_slice(), &[]) {
+        Ok(rising) => Some(Seq::of(rising)),
+        Err(_) => {
+            line.no_memory();
+            None
+        }
+    }
 }
 
-/// The manifest with an id, and with these segments.
-pub fn manifest_of(
-    alloc: Global,
-    id: u64,
-    segments: &[&[u8]],
-) -> Result<VersionedManifest, CallFailure> {
-    let segments = Seq::of(prefixes_of(alloc, segments)?);
-    let manifest = Manifest {
+/// The manifest of a database without tables.
+pub fn first_manifest(alloc: Global) -> Manifest {
+    Manifest {
         writer_epoch: 1,
         initialized: true,
         tables: Seq::of(Vec::new(alloc)),
@@ -43,17 +47,15 @@ pub fn manifest_of(
         replay_after_wal_id: 0,
         next_wal_id: 1,
         checkpoints: Seq::of(Vec::new(alloc)),
-        segments,
+        segments: Seq::of(Vec::new(alloc)),
         extractor_name: None,
         sequence_tracker: None,
-    };
-    Ok(VersionedManifest { id, manifest })
+    }
 }
 
-/// Two lists of words, which stand on the two sides of a `;`.
-pub fn both_lists<'a>(words: &'a [&'a [u8]]) -> (&'a [&'a [u8]], &'a [&'a [u8]]) {
-    match words.iter().position(|word| *word == b";".as_slice()) {
-        Some(place) => (&words[..place], &words[place + 1..]),
-        None => (words, &[]),
-    }
+/// The manifest with an id, and with the segments that words spell up to the next `;`.
+pub fn manifest_of(id: u64, line: &mut CallLine<'_>) -> VersionedManifest {
+    let mut manifest = first_manifest(line.alloc());
+    manifest.segments = Seq::of(prefixes_of(line));
+    VersionedManifest { id, manifest }
 }

@@ -1,12 +1,9 @@
 // The subject `objects`: batches and a manifest as the bytes of objects, and bytes that are read as objects.
+use crate::answers::Answer;
 use crate::batches::ops_of;
-use crate::lines::string_of;
+use crate::call_line::CallLine;
 use crate::manifests::prefixes_of;
-use crate::printing::{
-    bytes_of, end_of, name_in, number_of, print_bytes, print_debug, print_fault, print_number,
-    print_text, size_of, split_name, text_of, time_of,
-};
-use crate::subjects::CallFailure;
+use crate::subjects::Subject;
 use crate::trackers::turn_bit;
 use bytes::Bytes;
 use slate_objects::{
@@ -82,199 +79,199 @@ impl Objects {
         }
     }
 
-    /// Makes one of the calls that `docs/FORMATS.md` lists.
-    pub fn call(
-        &mut self,
-        alloc: Global,
-        words: &[&[u8]],
-        answer: &mut Vec<u8>,
-    ) -> Result<(), CallFailure> {
-        let (call, words) = split_name(CALLS, words)?;
-        match (call, words) {
-            (Call::Crc, [bytes]) => {
-                let sum = crc32(bytes_of(alloc, bytes)?.as_slice());
-                print_number(answer, u64::from(sum))
-            }
-            (Call::Batch, [number, time, ops @ ..]) => {
-                let (number, create_ts) = (number_of(number)?, time_of(time)?);
-                let ops = ops_of(alloc, ops)?;
-                Ok(
-                    self.batches.push(Batch {
-                        number,
-                        create_ts,
-                        ops,
-                    })?,
-                )
-            }
-            (Call::Manifest, words) => {
-                self.manifest = Some(manifest_of(alloc, words)?);
-                Ok(())
-            }
-            (Call::Write, [kind]) => {
-                let bytes = self.encode(alloc, name_in(KINDS, kind)?)?;
-                print_bytes(answer, bytes.as_slice())
-            }
-            (Call::Bytes, [bytes]) => {
-                self.bytes = Vec::from_slice(alloc, bytes_of(alloc, bytes)?.as_slice())?;
-                Ok(())
-            }
-            (Call::Read, [kind]) => {
-                let end = self.bytes.len();
-                self.read_front(alloc, name_in(KINDS, kind)?, end, answer)
-            }
-            (Call::Front, [kind, end]) => {
-                let (kind, end) = (name_in(KINDS, kind)?, size_of(end)?);
-                self.read_front(alloc, kind, end, answer)
-            }
-            (Call::Turn, [bit]) => self.read_turned(alloc, number_of(bit)?, answer),
-            _ => Err(CallFailure::Unread),
-        }
-    }
-
-    /// Reads so many first bytes as the object of a kind.
-    fn read_front(
-        &mut self,
-        alloc: Global,
-        kind: Kind,
-        end: usize,
-        answer: &mut Vec<u8>,
-    ) -> Result<(), CallFailure> {
-        let Some(front) = self.bytes.get(..end) else {
-            return Err(CallFailure::Unread);
+    /// Adds a batch.
+    fn add_batch(&mut self, line: &mut CallLine<'_>) {
+        let number = line.number();
+        let create_ts = line.time();
+        let batch = Batch {
+            number,
+            create_ts,
+            ops: ops_of(line),
         };
-        let front = Bytes::copy_from_slice(alloc, front)?;
-        self.read(alloc, kind, front, answer)
+        self.batches.push(batch).print(line);
     }
 
-    /// The bytes of the object of a kind.
-    fn encode(&self, alloc: Global, kind: Kind) -> Result<Vec<u8>, CallFailure> {
-        match (kind, &self.manifest) {
-            (Kind::Log, _) => Ok(encode_log(alloc, self.batches.as_slice())?),
-            (Kind::Table, _) => Ok(encode_table(alloc, self.batches.as_slice())?),
-            (Kind::Manifest, Some(manifest)) => Ok(encode_manifest(alloc, manifest)?),
-            (Kind::Manifest, None) => Err(CallFailure::Unread),
+    /// Prints the bytes of the object of a kind.
+    fn write(&self, line: &mut CallLine<'_>) {
+        let alloc = line.alloc();
+        let batches = self.batches.as_slice();
+        match (line.name(KINDS), &self.manifest) {
+            (Some(Kind::Log), _) => encode_log(alloc, batches).print(line),
+            (Some(Kind::Table), _) => encode_table(alloc, batches).print(line),
+            (Some(Kind::Manifest), Some(manifest)) => encode_manifest(alloc, manifest).print(line),
+            _ => line.unread(),
         }
     }
 
-    /// Reads bytes as the object of a kind, and prints why they are refused. Batches that are read take the place of those
-    /// before; of a manifest it prints whether it is the same.
-    fn read(
-        &mut self,
-        alloc: Global,
-        kind: Kind,
-        bytes: Bytes,
-        answer: &mut Vec<u8>,
-    ) -> Result<(), CallFailure> {
+    /// Reads the bytes as the object of a kind, all or so many first ones, and prints why they are refused. Batches that are
+    /// read take the place of those before; of a manifest it prints whether it is the same.
+    fn read(&mut self, is_whole: bool, line: &mut CallLine<'_>) {
+        let kind = line.name(KINDS);
+        let end = if is_whole {
+            self.bytes.len()
+        } else {
+            line.size()
+        };
+        let Some(bytes) = copy_of(self.bytes.get(..end).unwrap_or_default(), line) else {
+            return;
+        };
+        let alloc = line.alloc();
         match kind {
-            Kind::Log => self.take_batches(alloc, decode_log(alloc, bytes), answer),
-            Kind::Table => self.take_batches(alloc, decode_table(alloc, bytes), answer),
-            Kind::Manifest => match decode_manifest(alloc, bytes) {
-                Ok(manifest) => print_debug(alloc, answer, &(self.manifest == Some(manifest))),
-                Err(error) => print_fault(alloc, answer, &error),
-            },
+            Some(Kind::Log) => self.take_batches(decode_log(alloc, bytes), line),
+            Some(Kind::Table) => self.take_batches(decode_table(alloc, bytes), line),
+            _ => self.compare_manifest(decode_manifest(alloc, bytes), line),
         }
     }
 
-    fn take_batches(
-        &mut self,
-        alloc: Global,
-        read: Result<Seq<Batch>, DecodeError>,
-        answer: &mut Vec<u8>,
-    ) -> Result<(), CallFailure> {
-        match read {
-            Ok(batches) => {
-                self.batches = batches.into_vec();
-                Ok(())
-            }
-            Err(error) => print_fault(alloc, answer, &error),
+    fn take_batches(&mut self, read: Result<Seq<Batch>, DecodeError>, line: &mut CallLine<'_>) {
+        if let Some(batches) = line.made(read) {
+            self.batches = batches.into_vec();
+        }
+    }
+
+    fn compare_manifest(&self, read: Result<Manifest, DecodeError>, line: &mut CallLine<'_>) {
+        let read = line.made(read);
+        if read.is_some() {
+            line.print_debug(&(self.manifest == read));
         }
     }
 
     /// Reads the bytes as a log file with one bit turned, and prints whether they are refused.
-    fn read_turned(
-        &mut self,
-        alloc: Global,
-        bit: u64,
-        answer: &mut Vec<u8>,
-    ) -> Result<(), CallFailure> {
-        turn_bit(&mut self.bytes, bit)?;
-        let turned = Bytes::copy_from_slice(alloc, self.bytes.as_slice())?;
-        let refused = decode_log(alloc, turned).is_err();
-        turn_bit(&mut self.bytes, bit)?;
-        print_text(answer, if refused { "refused" } else { "read" })
+    fn read_turned(&mut self, line: &mut CallLine<'_>) {
+        let bit = line.number();
+        turn_bit(&mut self.bytes, bit);
+        if let Some(turned) = copy_of(self.bytes.as_slice(), line) {
+            let is_refused = decode_log(line.alloc(), turned).is_err();
+            line.print_text(if is_refused { "refused" } else { "read" });
+        }
+        turn_bit(&mut self.bytes, bit);
     }
+}
+
+impl Subject for Objects {
+    fn anew(&self, alloc: Global) -> Objects {
+        Objects::new(alloc)
+    }
+
+    fn call(&mut self, line: &mut CallLine<'_>) {
+        match line.name(CALLS) {
+            Some(Call::Crc) => {
+                let sum = crc32(line.bytes().as_slice());
+                line.print_number(u64::from(sum));
+            }
+            Some(Call::Batch) => self.add_batch(line),
+            Some(Call::Manifest) => self.manifest = Some(manifest_of(line)),
+            Some(Call::Write) => self.write(line),
+            Some(Call::Bytes) => self.bytes = line.byte_list(),
+            Some(Call::Read) => self.read(true, line),
+            Some(Call::Front) => self.read(false, line),
+            Some(Call::Turn) => self.read_turned(line),
+            None => {}
+        }
+    }
+}
+
+impl Answer for Vec<u8> {
+    fn print(self, line: &mut CallLine<'_>) {
+        line.print_bytes(self.as_slice());
+    }
+}
+
+impl Answer for DecodeError {
+    fn print(self, line: &mut CallLine<'_>) {
+        line.print_fault(&self);
+    }
+}
+
+fn copy_of(bytes: &[u8], line: &mut CallLine<'_>) -> Option<Bytes> {
+    let copy = Bytes::copy_from_slice(line.alloc(), bytes);
+    line.made(copy)
 }
 
 /// The manifest that words spell in parts, with `;` between each two: its numbers and the name of its extractor, its
 /// segments, its tables, its checkpoints, and the bytes of its tracker, where it has one.
-fn manifest_of(alloc: Global, words: &[&[u8]]) -> Result<Manifest, CallFailure> {
-    let mut parts = words.split(|word| *word == b";".as_slice());
-    let numbers = parts.next().unwrap_or_default();
-    let segments = Seq::of(prefixes_of(alloc, parts.next().unwrap_or_default())?);
-    let tables = tables_of(alloc, parts.next().unwrap_or_default())?;
-    let checkpoints = checkpoints_of(alloc, parts.next().unwrap_or_default())?;
-    let sequence_tracker = match parts.next() {
-        Some([bytes]) => {
-            let bytes = bytes_of(alloc, bytes)?;
-            Some(Seq::of(Vec::from_slice(alloc, bytes.as_slice())?))
-        }
-        Some(_) => return Err(CallFailure::Unread),
-        None => None,
+fn manifest_of(line: &mut CallLine<'_>) -> Manifest {
+    let writer_epoch = line.number();
+    let last_l0_seq = line.number();
+    let last_tick = line.time();
+    let replay_after_wal_id = line.number();
+    let next_wal_id = line.number();
+    let extractor_name = Some(Name::of(line.string()));
+    let _end = line.has_more();
+    let segments = Seq::of(prefixes_of(line));
+    let tables = tables_of(line);
+    let checkpoints = checkpoints_of(line);
+    let sequence_tracker = if line.is_read() {
+        None
+    } else {
+        Some(Seq::of(line.byte_list()))
     };
-    let [epoch, last, tick, replay, next, name] = numbers else {
-        return Err(CallFailure::Unread);
-    };
-    Ok(Manifest {
-        writer_epoch: number_of(epoch)?,
+    Manifest {
+        writer_epoch,
         initialized: true,
         tables,
-        last_l0_seq: number_of(last)?,
-        last_tick: time_of(tick)?,
-        replay_after_wal_id: number_of(replay)?,
-        next_wal_id: number_of(next)?,
+        last_l0_seq,
+        last_tick,
+        replay_after_wal_id,
+        next_wal_id,
         checkpoints,
         segments,
-        extractor_name: Some(Name::of(string_of(alloc, name)?)),
+        extractor_name,
         sequence_tracker,
-    })
-}
-
-/// The ids of tables, each an epoch and an index.
-fn tables_of(alloc: Global, words: &[&[u8]]) -> Result<Seq<TableId>, CallFailure> {
-    let mut tables = Vec::new(alloc);
-    for id in words.chunks(2) {
-        let [epoch, index] = id else {
-            return Err(CallFailure::Unread);
-        };
-        tables.push(TableId {
-            epoch: number_of(epoch)?,
-            index: number_of(index)?,
-        })?;
     }
-    Ok(Seq::of(tables))
 }
 
-/// Checkpoints, each an id, the id of its manifest, when it was made, and when its lease ends, or `none`.
-fn checkpoints_of(alloc: Global, words: &[&[u8]]) -> Result<Seq<Checkpoint>, CallFailure> {
-    let mut checkpoints = Vec::new(alloc);
-    for checkpoint in words.chunks(4) {
-        let [id, manifest, made, end] = checkpoint else {
-            return Err(CallFailure::Unread);
-        };
-        checkpoints.push(Checkpoint {
-            id: id_of(id)?,
-            manifest_id: number_of(manifest)?,
-            create_ms: time_of(made)?,
-            expire_ms: end_of(end)?,
-        })?;
+/// The ids of tables up to the next `;`, each an epoch and an index.
+fn tables_of(line: &mut CallLine<'_>) -> Seq<TableId> {
+    let mut tables = Vec::new(line.alloc());
+    for _ in 0..line.left() {
+        if !line.has_more() {
+            break;
+        }
+        tables.push(table_id(line)).print(line);
     }
-    Ok(Seq::of(checkpoints))
+    Seq::of(tables)
 }
 
-/// The id that a word spells.
-fn id_of(word: &[u8]) -> Result<Uuid, CallFailure> {
-    match Uuid::parse_str(text_of(word)?) {
-        Ok(id) => Ok(id),
-        Err(_) => Err(CallFailure::Unread),
+/// The id of a table.
+pub fn table_id(line: &mut CallLine<'_>) -> TableId {
+    let epoch = line.number();
+    let index = line.number();
+    TableId { epoch, index }
+}
+
+/// Checkpoints up to the next `;`, each an id, the id of its manifest, when it was made, and when its lease ends, or `none`.
+fn checkpoints_of(line: &mut CallLine<'_>) -> Seq<Checkpoint> {
+    let mut checkpoints = Vec::new(line.alloc());
+    for _ in 0..line.left() {
+        if !line.has_more() {
+            break;
+        }
+        checkpoints.push(checkpoint_of(line)).print(line);
+    }
+    Seq::of(checkpoints)
+}
+
+fn checkpoint_of(line: &mut CallLine<'_>) -> Checkpoint {
+    let id = id_of(line);
+    let manifest_id = line.number();
+    let create_ms = line.time();
+    let expire_ms = line.end();
+    Checkpoint {
+        id,
+        manifest_id,
+        create_ms,
+        expire_ms,
+    }
+}
+
+/// The id that the next word spells.
+fn id_of(line: &mut CallLine<'_>) -> Uuid {
+    match Uuid::parse_str(line.text()) {
+        Ok(id) => id,
+        Err(_) => {
+            line.unread();
+            Uuid::nil()
+        }
     }
 }

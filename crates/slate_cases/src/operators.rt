@@ -1,6 +1,5 @@
 // Merge operators and prefix extractors that calls name.
-use crate::printing::{bytes_of, number_of, size_of, split_name, text_of};
-use crate::subjects::CallFailure;
+use crate::call_line::CallLine;
 use bytes::Bytes;
 use slate_types::{ConcatOperator, FixedPrefix, MergeFault, MergeOperator, Name, PrefixExtractor};
 use std::alloc::Global;
@@ -106,13 +105,12 @@ impl Letters {
 const OPERATORS: &[(&[u8], bool)] = &[(b"concat", false), (b"refusing", true)];
 
 /// The operator that words spell.
-pub fn operator_of(alloc: Global, words: &[&[u8]]) -> Result<Refusing, CallFailure> {
-    let refused = match split_name(OPERATORS, words)? {
-        (false, []) => None,
-        (true, [key]) => Some(bytes_of(alloc, key)?),
-        _ => return Err(CallFailure::Unread),
+pub fn operator_of(line: &mut CallLine<'_>) -> Refusing {
+    let refused = match line.name(OPERATORS) {
+        Some(true) => Some(line.bytes()),
+        _ => None,
     };
-    Ok(Refusing { refused })
+    Refusing { refused }
 }
 
 #[derive(Clone, Copy)]
@@ -131,31 +129,27 @@ const EXTRACTORS: &[(&[u8], CutsName)] = &[
 ];
 
 /// The extractor that words spell, where they spell one.
-pub fn extractor_of(alloc: Global, words: &[&[u8]]) -> Result<Option<Cuts>, CallFailure> {
-    match split_name(EXTRACTORS, words)? {
-        (CutsName::None, []) => Ok(None),
-        (CutsName::Fixed, [length]) => {
-            let Ok(length) = u8::try_from(number_of(length)?) else {
-                return Err(CallFailure::Unread);
-            };
-            Ok(Some(Cuts::Fixed(FixedPrefix::new(alloc, length)?)))
-        }
-        (CutsName::Letters, [name, most]) => letter_cuts(alloc, name, most, false),
-        (CutsName::LettersAndDashes, [name, most]) => letter_cuts(alloc, name, most, true),
-        _ => Err(CallFailure::Unread),
+pub fn extractor_of(line: &mut CallLine<'_>) -> Option<Cuts> {
+    match line.name(EXTRACTORS)? {
+        CutsName::None => None,
+        CutsName::Fixed => Some(Cuts::Fixed(fixed_of(line)?)),
+        CutsName::Letters => Some(Cuts::Letters(letters_of(line, false))),
+        CutsName::LettersAndDashes => Some(Cuts::Letters(letters_of(line, true))),
     }
 }
 
-fn letter_cuts(
-    alloc: Global,
-    name: &[u8],
-    most: &[u8],
-    dashes: bool,
-) -> Result<Option<Cuts>, CallFailure> {
-    let (name, most) = (text_of(name)?, size_of(most)?);
-    Ok(Some(Cuts::Letters(Letters {
-        name: Name::of(String::from_str(alloc, name)?),
-        most,
-        dashes,
-    })))
+/// The extractor of prefixes of one length, which is below 256.
+pub fn fixed_of(line: &mut CallLine<'_>) -> Option<FixedPrefix> {
+    let Ok(length) = u8::try_from(line.number()) else {
+        line.unread();
+        return None;
+    };
+    let made = FixedPrefix::new(line.alloc(), length);
+    line.made(made)
+}
+
+fn letters_of(line: &mut CallLine<'_>, dashes: bool) -> Letters {
+    let name = Name::of(line.string());
+    let most = line.size();
+    Letters { name, most, dashes }
 }

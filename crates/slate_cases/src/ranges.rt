@@ -1,36 +1,29 @@
-// Ranges of keys, bounds of reads and orders, as calls spell them.
-use crate::printing::{bytes_of, is_none, name_in, number_of};
-use crate::subjects::CallFailure;
+// Ranges of keys and orders, as calls spell them.
+use crate::call_line::CallLine;
 use slate_types::{ByteRange, IterationOrder, KeyBound};
-use std::alloc::Global;
 
 /// The range between two ends.
-pub fn range_of(alloc: Global, low: &[u8], high: &[u8]) -> Result<ByteRange, CallFailure> {
-    Ok(ByteRange {
-        low: bound_at(alloc, low)?,
-        high: bound_at(alloc, high)?,
-    })
+pub fn range_of(line: &mut CallLine<'_>) -> ByteRange {
+    let low = bound_at(line);
+    let high = bound_at(line);
+    ByteRange { low, high }
 }
 
 /// One end of a range: `*` for none, `[` and a key that is in the range, or `(` and one that isn't.
-fn bound_at(alloc: Global, word: &[u8]) -> Result<KeyBound, CallFailure> {
-    let Some((sign, key)) = word.split_first() else {
-        return Err(CallFailure::Unread);
-    };
-    match *sign {
-        b'[' => Ok(KeyBound::Included(bytes_of(alloc, key)?)),
-        b'(' => Ok(KeyBound::Excluded(bytes_of(alloc, key)?)),
-        b'*' if key.is_empty() => Ok(KeyBound::Unbounded),
-        _ => Err(CallFailure::Unread),
+fn bound_at(line: &mut CallLine<'_>) -> KeyBound {
+    if line.takes(b"*") {
+        return KeyBound::Unbounded;
     }
-}
-
-/// Up to which number is read: `none` where all is, or a number.
-pub fn bound_of(word: &[u8]) -> Result<Option<u64>, CallFailure> {
-    if is_none(word) {
-        return Ok(None);
+    let word = line.word();
+    let key = line.bytes_of(word.get(1..).unwrap_or_default());
+    match word.first() {
+        Some(b'[') => KeyBound::Included(key),
+        Some(b'(') => KeyBound::Excluded(key),
+        _ => {
+            line.unread();
+            KeyBound::Unbounded
+        }
     }
-    Ok(Some(number_of(word)?))
 }
 
 const ORDERS: &[(&[u8], IterationOrder)] = &[
@@ -39,6 +32,6 @@ const ORDERS: &[(&[u8], IterationOrder)] = &[
 ];
 
 /// In which order keys come: `up` or `down`.
-pub fn order_of(word: &[u8]) -> Result<IterationOrder, CallFailure> {
-    name_in(ORDERS, word)
+pub fn order_of(line: &mut CallLine<'_>) -> IterationOrder {
+    line.name(ORDERS).unwrap_or(IterationOrder::Ascending)
 }

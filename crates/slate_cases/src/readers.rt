@@ -1,24 +1,20 @@
 // Calls of a reader of a database beside those of script lines, and what others put for it.
+use crate::answers::Answer;
+use crate::call_line::CallLine;
 use crate::databases::Database;
 use crate::handles::ops_of;
-use crate::object_calls::first_manifest;
-use crate::operators::Cuts;
+use crate::manifests::{first_manifest, prefixes_of};
+use crate::object_calls::latest_of;
+use crate::operators::{Cuts, Refusing};
 use crate::polled::PolledReader;
-use crate::printing::{
-    bytes_of, number_of, print_error, print_number, print_text, split_name, time_of,
-};
 use crate::ranges::{order_of, range_of};
 use crate::rows::print_left;
-use crate::store_calls::{print_done, print_store_error, push};
-use crate::subjects::CallFailure;
+use crate::store_calls::{push, stored};
 use crate::told_stores::ToldStore;
-use bytes::Bytes;
-use slate_errors::SlateError;
 use slate_follow::{DbReaderMode, DbReaderOptions, FollowerState, PollAnswer};
-use slate_reads::{IndexedTable, Table};
+use slate_reads::IndexedTable;
 use slate_store::{LogFile, Manifest, Store, TableId};
 use slate_types::{Batch, Name, PrefixExtractor, Seq};
-use std::alloc::Global;
 
 #[derive(Clone, Copy)]
 enum Call {
@@ -64,205 +60,162 @@ const PUTS: &[(&[u8], Put)] = &[
 
 impl Database {
     /// Makes a call of the reader.
-    pub fn call_reader(
-        &mut self,
-        alloc: Global,
-        words: &[&[u8]],
-        answer: &mut Vec<u8>,
-    ) -> Result<(), CallFailure> {
-        let (call, words) = split_name(CALLS, words)?;
-        match (call, words) {
-            (Call::Open, [size]) => self.open_reader(alloc, number_of(size)?, answer),
-            (Call::Managed, [lifetime, interval]) => {
+    pub fn call_reader(&mut self, line: &mut CallLine<'_>) {
+        match line.name(CALLS) {
+            Some(Call::Open) => {
                 let options = DbReaderOptions {
-                    checkpoint_lifetime_ms: number_of(lifetime)?,
-                    manifest_poll_interval_ms: number_of(interval)?,
+                    max_memtable_bytes: line.number(),
                     ..DbReaderOptions::default()
                 };
-                self.follow(alloc, DbReaderMode::ManagedCheckpoint, &options, answer)
+                self.follow(DbReaderMode::FollowLatest, &options, line);
             }
-            (Call::Poll | Call::Begin | Call::Step, words) => {
-                self.poll_reader(alloc, call, words, answer)
+            Some(Call::Managed) => {
+                let options = DbReaderOptions {
+                    checkpoint_lifetime_ms: line.number(),
+                    manifest_poll_interval_ms: line.number(),
+                    ..DbReaderOptions::default()
+                };
+                self.follow(DbReaderMode::ManagedCheckpoint, &options, line);
             }
-            _ => self.ask_reader(alloc, call, words, answer),
+            Some(call @ (Call::Poll | Call::Begin | Call::Step)) => self.poll_reader(call, line),
+            Some(call) => self.ask_reader(call, line),
+            None => {}
         }
     }
 
     /// Polls the reader, whole or by single calls of the store.
-    fn poll_reader(
-        &mut self,
-        alloc: Global,
-        call: Call,
-        words: &[&[u8]],
-        answer: &mut Vec<u8>,
-    ) -> Result<(), CallFailure> {
+    fn poll_reader(&mut self, call: Call, line: &mut CallLine<'_>) {
         let Some(reader) = &mut self.reader else {
-            return Err(CallFailure::Unread);
+            line.unread();
+            return;
         };
+        let (alloc, store) = (line.alloc(), &mut self.store);
         let extractor = self.extractor.as_ref();
-        match (call, words) {
-            (Call::Poll, [moment]) => {
-                let polled = reader.poll(alloc, &mut self.store, extractor, time_of(moment)?);
-                print_stepped(answer, polled.map(Some))
+        match call {
+            Call::Poll => {
+                let moment = line.time();
+                reader.poll(alloc, store, extractor, moment).print(line);
             }
-            (Call::Begin, [moment]) => match reader.begin(alloc, time_of(moment)?) {
-                Ok(()) => print_text(answer, "begun"),
-                Err(error) => print_error(answer, &error),
+            Call::Begin => {
+                let begun = reader.begin(alloc, line.time());
+                if line.made(begun).is_some() {
+                    line.print_text("begun");
+                }
+            }
+            _ => match reader.step(alloc, store, extractor) {
+                Some(Ok(None)) => line.print_text("stepped"),
+                Some(stepped) => stepped.print(line),
+                None => line.unread(),
             },
-            (Call::Step, []) => match reader.step(alloc, &mut self.store, extractor) {
-                Some(stepped) => print_stepped(answer, stepped),
-                None => Err(CallFailure::Unread),
-            },
-            _ => Err(CallFailure::Unread),
         }
     }
 
     /// Asks the reader what it has.
-    fn ask_reader(
-        &mut self,
-        alloc: Global,
-        call: Call,
-        words: &[&[u8]],
-        answer: &mut Vec<u8>,
-    ) -> Result<(), CallFailure> {
+    fn ask_reader(&mut self, call: Call, line: &mut CallLine<'_>) {
         let Some(reader) = &self.reader else {
-            return Err(CallFailure::Unread);
+            line.unread();
+            return;
         };
         let reader = reader.reader();
-        match (call, words) {
-            (Call::Mark, []) => print_number(answer, reader.mark()),
-            (Call::Tables, []) => print_number(answer, reader.tables_in_memory()),
-            (Call::First, [low, high, order, limit]) => {
-                let (range, order) = (range_of(alloc, low, high)?, order_of(order)?);
-                let (limit, operator) = (number_of(limit)?, self.operator.as_ref());
-                let store = &mut self.store;
-                match reader.scan_first(alloc, store, &range, order, limit, operator) {
-                    Ok(mut rows) => print_left(alloc, &mut rows, answer),
-                    Err(error) => print_error(answer, &error),
-                }
-            }
-            _ => Err(CallFailure::Unread),
+        match call {
+            Call::Mark => line.print_number(reader.mark()),
+            Call::Tables => line.print_number(reader.tables_in_memory()),
+            _ => scan_first(reader, &mut self.store, self.operator.as_ref(), line),
         }
     }
 
-    /// Opens a reader of the latest manifest, whose tables in memory take no more batches once they have so many bytes.
-    fn open_reader(
-        &mut self,
-        alloc: Global,
-        size: u64,
-        answer: &mut Vec<u8>,
-    ) -> Result<(), CallFailure> {
-        let options = DbReaderOptions {
-            max_memtable_bytes: size,
-            ..DbReaderOptions::default()
-        };
-        self.follow(alloc, DbReaderMode::FollowLatest, &options, answer)
-    }
-
     /// Opens a reader in a mode.
-    fn follow(
-        &mut self,
-        alloc: Global,
-        mode: DbReaderMode,
-        options: &DbReaderOptions,
-        answer: &mut Vec<u8>,
-    ) -> Result<(), CallFailure> {
-        let extractor = self.extractor.as_ref();
-        match FollowerState::open(alloc, &mut self.store, mode, options, extractor, 0) {
-            Ok((reader, polled)) => {
-                self.reader = Some(PolledReader::new(reader));
-                print_polled(answer, polled)
-            }
-            Err(error) => print_error(answer, &error),
+    fn follow(&mut self, mode: DbReaderMode, options: &DbReaderOptions, line: &mut CallLine<'_>) {
+        let (store, extractor) = (&mut self.store, self.extractor.as_ref());
+        let opened = FollowerState::open(line.alloc(), store, mode, options, extractor, 0);
+        if let Some((reader, polled)) = line.made(opened) {
+            self.reader = Some(PolledReader::new(reader));
+            polled.print(line);
         }
     }
 
     /// Puts what another handle would put.
-    pub fn put(
-        &mut self,
-        alloc: Global,
-        words: &[&[u8]],
-        answer: &mut Vec<u8>,
-    ) -> Result<(), CallFailure> {
-        let (put, words) = split_name(PUTS, words)?;
+    pub fn put(&mut self, line: &mut CallLine<'_>) {
         let store = &mut self.store;
-        match (put, words) {
-            (Put::First, []) => put_first(alloc, store, self.extractor.as_ref(), answer),
-            (Put::Log, [number, ops @ ..]) => {
-                let batch = Batch {
-                    number: number_of(number)?,
-                    create_ts: 0,
-                    ops: ops_of(alloc, ops)?,
-                };
-                print_done(answer, store.put_log(alloc, batch.number, &[batch]))
+        match line.name(PUTS) {
+            Some(Put::First) => put_first(store, self.extractor.as_ref(), line),
+            Some(Put::Log) => put_log(store, line),
+            Some(Put::Table) => {
+                let last = line.number();
+                put_table(store, last, line);
+                put_changed(store, Change::Table(last), line);
             }
-            (Put::Table, [last]) => put_table(alloc, store, number_of(last)?, answer),
-            (Put::Last, [number]) => {
-                let number = number_of(number)?;
-                put_changed(alloc, store, Change::Last(number), answer)
+            Some(Put::Last) => put_changed(store, Change::Last(line.number()), line),
+            Some(Put::Segment) => put_changed(store, Change::Segment, line),
+            Some(Put::Tracker) => put_changed(store, Change::Tracker, line),
+            None => {}
+        }
+    }
+}
+
+/// Prints the first rows of a range, up to so many.
+fn scan_first(
+    reader: &FollowerState,
+    store: &mut ToldStore,
+    operator: Option<&Refusing>,
+    line: &mut CallLine<'_>,
+) {
+    let range = range_of(line);
+    let order = order_of(line);
+    let limit = line.number();
+    let rows = reader.scan_first(line.alloc(), store, &range, order, limit, operator);
+    if let Some(mut rows) = line.made(rows) {
+        print_left(&mut rows, line);
+    }
+}
+
+impl Answer for PollAnswer {
+    fn print(self, line: &mut CallLine<'_>) {
+        match self {
+            PollAnswer::Whole { at } => {
+                line.print_text("whole at ");
+                line.print_number(at);
             }
-            (Put::Segment, [prefix]) => {
-                let prefix = bytes_of(alloc, prefix)?;
-                let segments = Seq::of(vec![in alloc; prefix]?);
-                put_changed(alloc, store, Change::Segments(segments), answer)
+            PollAnswer::Truncated { at } => {
+                line.print_text("truncated at ");
+                line.print_number(at);
             }
-            (Put::Tracker, [bytes]) => {
-                let bytes = bytes_of(alloc, bytes)?;
-                let bytes = Seq::of(Vec::from_slice(alloc, bytes.as_slice())?);
-                put_changed(alloc, store, Change::Tracker(bytes), answer)
-            }
-            _ => Err(CallFailure::Unread),
         }
     }
 }
 
 /// Puts the first manifest, with the name of an extractor.
-fn put_first(
-    alloc: Global,
-    store: &mut ToldStore,
-    extractor: Option<&Cuts>,
-    answer: &mut Vec<u8>,
-) -> Result<(), CallFailure> {
-    let mut manifest = first_manifest(alloc);
+fn put_first(store: &mut ToldStore, extractor: Option<&Cuts>, line: &mut CallLine<'_>) {
+    let mut manifest = first_manifest(line.alloc());
     if let Some(extractor) = extractor {
-        let name = String::from_str(alloc, extractor.name())?;
-        manifest.extractor_name = Some(Name::of(name));
+        let name = String::from_str(line.alloc(), extractor.name());
+        manifest.extractor_name = line.made(name).map(Name::of);
     }
-    print_done(answer, store.put_manifest(alloc, 1, &manifest))
+    store.put_manifest(line.alloc(), 1, &manifest).print(line);
 }
 
-/// What a poll answered, or that it has another call to make.
-fn print_stepped(
-    answer: &mut Vec<u8>,
-    stepped: Result<Option<PollAnswer>, SlateError>,
-) -> Result<(), CallFailure> {
-    match stepped {
-        Ok(Some(polled)) => print_polled(answer, polled),
-        Ok(None) => print_text(answer, "stepped"),
-        Err(error) => print_error(answer, &error),
-    }
-}
-
-fn print_polled(answer: &mut Vec<u8>, polled: PollAnswer) -> Result<(), CallFailure> {
-    let (word, at) = match polled {
-        PollAnswer::Whole { at } => ("whole at ", at),
-        PollAnswer::Truncated { at } => ("truncated at ", at),
+/// Puts a log file whose one batch has its number.
+fn put_log(store: &mut ToldStore, line: &mut CallLine<'_>) {
+    let number = line.number();
+    let batch = Batch {
+        number,
+        create_ts: 0,
+        ops: ops_of(line),
     };
-    print_text(answer, word)?;
-    print_number(answer, at)
+    store.put_log(line.alloc(), number, &[batch]).print(line);
 }
 
 /// What a manifest has that is otherwise the one before.
-#[derive(Drop)]
+#[derive(Clone, Copy)]
 enum Change {
     /// Another last number in its tables.
     Last(u64),
-    /// Other segments.
-    Segments(Seq<Bytes>),
-    /// The bytes of another tracker.
-    Tracker(Seq<u8>),
+    /// The segment that the next word spells.
+    Segment,
+    /// The bytes of a tracker that the next word spells.
+    Tracker,
     /// The table of the log files up to this one, in place of all others.
-    Tabled(u64),
+    Table(u64),
 }
 
 /// The table that has the batches up to a number, each of the log file of its number.
@@ -273,63 +226,54 @@ fn table_up_to(last: u64) -> TableId {
     }
 }
 
-fn changed(alloc: Global, latest: &mut Manifest, change: Change) -> Result<(), CallFailure> {
+fn make_change(manifest: &mut Manifest, change: Change, line: &mut CallLine<'_>) {
     match change {
-        Change::Last(number) => latest.last_l0_seq = number,
-        Change::Segments(segments) => latest.segments = segments,
-        Change::Tracker(bytes) => latest.sequence_tracker = Some(bytes),
-        Change::Tabled(last) => {
-            latest.tables = Seq::of(vec![in alloc; table_up_to(last)]?);
-            latest.last_l0_seq = last;
-            latest.replay_after_wal_id = last;
-            latest.next_wal_id = last.saturating_add(1);
+        Change::Last(number) => manifest.last_l0_seq = number,
+        Change::Segment => manifest.segments = Seq::of(prefixes_of(line)),
+        Change::Tracker => manifest.sequence_tracker = Some(Seq::of(line.byte_list())),
+        Change::Table(last) => {
+            let mut tables = Vec::new(line.alloc());
+            tables.push(table_up_to(last)).print(line);
+            manifest.tables = Seq::of(tables);
+            manifest.last_l0_seq = last;
+            manifest.replay_after_wal_id = last;
+            manifest.next_wal_id = last.saturating_add(1);
         }
     }
-    Ok(())
 }
 
 /// Puts the latest manifest with a change under the next id.
-fn put_changed(
-    alloc: Global,
-    store: &mut ToldStore,
-    change: Change,
-    answer: &mut Vec<u8>,
-) -> Result<(), CallFailure> {
-    match store.latest_manifest(alloc) {
-        Ok(None) => Err(CallFailure::Unread),
-        Ok(Some(mut latest)) => {
-            changed(alloc, &mut latest.manifest, change)?;
-            let id = latest.id.saturating_add(1);
-            print_done(answer, store.put_manifest(alloc, id, &latest.manifest))
-        }
-        Err(error) => print_store_error(answer, error),
+fn put_changed(store: &mut ToldStore, change: Change, line: &mut CallLine<'_>) {
+    if let Some(mut latest) = latest_of(store, line) {
+        make_change(&mut latest.manifest, change, line);
+        let id = latest.id.saturating_add(1);
+        store
+            .put_manifest(line.alloc(), id, &latest.manifest)
+            .print(line);
     }
 }
 
-/// Puts the table of the log files up to one, and a manifest that names it in place of all others.
-fn put_table(
-    alloc: Global,
-    store: &mut ToldStore,
-    last: u64,
-    answer: &mut Vec<u8>,
-) -> Result<(), CallFailure> {
-    let mut table = IndexedTable::new(alloc);
+/// Puts the table of the log files up to one.
+fn put_table(store: &mut ToldStore, last: u64, line: &mut CallLine<'_>) {
+    let mut table = IndexedTable::new(line.alloc());
     for earlier in 0..last {
-        match store.read_log(alloc, earlier.saturating_add(1)) {
-            Ok(log) => add_log(&mut table, &log)?,
-            Err(error) => return print_store_error(answer, error),
+        let log = store.read_log(line.alloc(), earlier.saturating_add(1));
+        if let Some(log) = line.made(log) {
+            add_log(&mut table, &log, line);
         }
     }
-    let Ok(table) = Table::new(alloc, table) else {
-        return Err(CallFailure::Memory);
-    };
-    print_done(answer, store.put_table(alloc, table_up_to(last), &table))?;
-    put_changed(alloc, store, Change::Tabled(last), answer)
+    if let Some(table) = stored(table, line) {
+        store
+            .put_table(line.alloc(), table_up_to(last), &table)
+            .print(line);
+    }
 }
 
-fn add_log(table: &mut IndexedTable, log: &LogFile) -> Result<(), CallFailure> {
+fn add_log(table: &mut IndexedTable, log: &LogFile, line: &mut CallLine<'_>) {
     for batch in log.batches() {
-        push(table, batch.clone()?)?;
+        let copy: Result<_, _> = batch.clone();
+        if let Some(batch) = line.made(copy) {
+            push(table, batch).print(line);
+        }
     }
-    Ok(())
 }

@@ -1,17 +1,18 @@
 // The subject `replies`: the text of replies.
+use crate::answers::Answer;
+use crate::call_line::CallLine;
 use crate::errors::error_of;
-use crate::manifests::{both_lists, manifest_of, prefixes_of};
-use crate::printing::{bytes_of, name_in, number_of, print_text, split_name, time_of};
-use crate::subjects::CallFailure;
+use crate::manifests::{manifest_of, prefixes_of};
+use crate::subjects::Subject;
 use slate_errors::{CloseReason, Ending, TaskName};
-use slate_script::{Reply, print_replies};
+use slate_script::{Boxed, Reply, print_replies};
 use slate_status::DbStatus;
 use slate_types::{KeyValue, Seq};
 use std::alloc::Global;
 
-/// The name of a reply.
+/// The name of a reply that holds nothing.
 #[derive(Clone, Copy)]
-enum ReplyName {
+enum Plain {
     Absent,
     Flushed,
     Refreshed,
@@ -21,13 +22,23 @@ enum ReplyName {
     Pending,
     Unknown,
     Memory,
-    Time,
-    Number,
-    Ended,
-    Found,
-    Rows,
-    Refused,
-    Status,
+}
+
+const PLAIN: &[(&[u8], Plain)] = &[
+    (b"absent", Plain::Absent),
+    (b"flushed", Plain::Flushed),
+    (b"refreshed", Plain::Refreshed),
+    (b"compacted", Plain::Compacted),
+    (b"swept", Plain::Swept),
+    (b"durable", Plain::Durable),
+    (b"pending", Plain::Pending),
+    (b"unknown", Plain::Unknown),
+    (b"memory", Plain::Memory),
+];
+
+/// The name of a reply that holds numbers.
+#[derive(Clone, Copy)]
+enum Numbered {
     Handle,
     Checkpointed,
     Polled,
@@ -37,94 +48,104 @@ enum ReplyName {
     Follower,
 }
 
-const NAMES: &[(&[u8], ReplyName)] = &[
-    (b"absent", ReplyName::Absent),
-    (b"flushed", ReplyName::Flushed),
-    (b"refreshed", ReplyName::Refreshed),
-    (b"compacted", ReplyName::Compacted),
-    (b"swept", ReplyName::Swept),
-    (b"durable", ReplyName::Durable),
-    (b"pending", ReplyName::Pending),
-    (b"unknown", ReplyName::Unknown),
-    (b"memory", ReplyName::Memory),
-    (b"time", ReplyName::Time),
-    (b"number", ReplyName::Number),
-    (b"ended", ReplyName::Ended),
-    (b"found", ReplyName::Found),
-    (b"rows", ReplyName::Rows),
-    (b"refused", ReplyName::Refused),
-    (b"status", ReplyName::Status),
-    (b"handle", ReplyName::Handle),
-    (b"checkpointed", ReplyName::Checkpointed),
-    (b"polled", ReplyName::Polled),
-    (b"snapshot", ReplyName::Snapshot),
-    (b"written", ReplyName::Written),
-    (b"backpressure", ReplyName::Backpressure),
-    (b"follower", ReplyName::Follower),
+const NUMBERED: &[(&[u8], Numbered)] = &[
+    (b"handle", Numbered::Handle),
+    (b"checkpointed", Numbered::Checkpointed),
+    (b"polled", Numbered::Polled),
+    (b"snapshot", Numbered::Snapshot),
+    (b"written", Numbered::Written),
+    (b"backpressure", Numbered::Backpressure),
+    (b"follower", Numbered::Follower),
 ];
 
-/// Prints the reply that words spell, with ` | ` between each two of its lines.
-pub fn call_replies(
-    alloc: Global,
-    words: &[&[u8]],
-    answer: &mut Vec<u8>,
-) -> Result<(), CallFailure> {
-    let replies = [reply_of(alloc, words)?];
-    let mut text = Vec::new(alloc);
-    print_replies(&mut text, &replies)?;
-    let _newline = text.pop();
-    for byte in text.as_slice() {
-        if *byte == b'\n' {
-            print_text(answer, " | ")?;
-        } else {
-            answer.push(*byte)?;
-        }
-    }
-    Ok(())
+/// The name of a reply that holds other things.
+#[derive(Clone, Copy)]
+enum Fielded {
+    Time,
+    Number,
+    Ended,
+    Found,
+    Rows,
+    Refused,
+    Status,
 }
 
-fn reply_of(alloc: Global, words: &[&[u8]]) -> Result<Reply, CallFailure> {
-    let (name, words) = split_name(NAMES, words)?;
-    match (name, words) {
-        (ReplyName::Rows, rows) => rows_of(alloc, rows),
-        (_, []) => plain_reply(name),
-        (ReplyName::Found, row) => Ok(Reply::Found(row_of(alloc, row)?)),
-        (ReplyName::Refused, error) => Ok(Reply::Refused(error_of(alloc, error)?)),
-        (ReplyName::Ended, error) => Ok(Reply::Ended {
-            fault: Some(error_of(alloc, error)?),
-            tasks: Ending::new(),
-        }),
-        (ReplyName::Status, [durable, id, reason, segments @ ..]) => {
-            let (durable, id) = (number_of(durable)?, number_of(id)?);
-            status_of(alloc, durable, id, name_in(REASONS, reason)?, segments)
-        }
-        (ReplyName::Time, [seconds]) => Ok(Reply::Time(Some(time_of(seconds)?))),
-        (_, [first]) => numbered_reply(name, number_of(first)?),
-        (_, [first, second]) => reply_with_both(name, number_of(first)?, number_of(second)?),
-        _ => Err(CallFailure::Unread),
+const FIELDED: &[(&[u8], Fielded)] = &[
+    (b"time", Fielded::Time),
+    (b"number", Fielded::Number),
+    (b"ended", Fielded::Ended),
+    (b"found", Fielded::Found),
+    (b"rows", Fielded::Rows),
+    (b"refused", Fielded::Refused),
+    (b"status", Fielded::Status),
+];
+
+/// Replies are printed, and none is kept.
+#[derive(Clone, Copy)]
+pub struct Replies;
+
+impl Subject for Replies {
+    fn anew(&self, _alloc: Global) -> Replies {
+        Replies
+    }
+
+    /// Prints the reply that words spell, with ` | ` between each two of its lines.
+    fn call(&mut self, line: &mut CallLine<'_>) {
+        let replies = [reply_of(line)];
+        let mut text = Vec::new(line.alloc());
+        print_replies(&mut text, &replies).print(line);
+        line.print_lines(text.as_slice(), " | ");
     }
 }
 
-/// The reply with this name that holds nothing, or nothing that words spell.
-fn plain_reply(name: ReplyName) -> Result<Reply, CallFailure> {
-    Ok(match name {
-        ReplyName::Absent => Reply::Absent,
-        ReplyName::Flushed => Reply::Flushed,
-        ReplyName::Refreshed => Reply::Refreshed,
-        ReplyName::Compacted => Reply::Compacted,
-        ReplyName::Swept => Reply::Swept,
-        ReplyName::Durable => Reply::Durable,
-        ReplyName::Pending => Reply::Pending,
-        ReplyName::Unknown => Reply::Unknown,
-        ReplyName::Memory => Reply::NoMemory,
-        ReplyName::Time => Reply::Time(None),
-        ReplyName::Number => Reply::Number(None),
-        ReplyName::Ended => Reply::Ended {
+fn reply_of(line: &mut CallLine<'_>) -> Reply {
+    if let Some(name) = line.find(PLAIN) {
+        return plain_reply(name);
+    }
+    if let Some(name) = line.find(NUMBERED) {
+        return numbered_reply(name, line);
+    }
+    match line.name(FIELDED) {
+        Some(Fielded::Rows) => Reply::Rows(rows_of(line)),
+        Some(Fielded::Found) => Reply::Found(row_of(line)),
+        Some(Fielded::Refused) => Reply::Refused(error_of(line)),
+        Some(Fielded::Ended) => ended_of(line),
+        Some(Fielded::Status) => status_reply(line),
+        Some(Fielded::Time) if line.is_read() => Reply::Time(None),
+        Some(Fielded::Time) => Reply::Time(Some(line.time())),
+        Some(Fielded::Number) if line.is_read() => Reply::Number(None),
+        Some(Fielded::Number) => Reply::Number(Some(line.number())),
+        None => Reply::Unknown,
+    }
+}
+
+/// The reply with this name that holds nothing.
+fn plain_reply(name: Plain) -> Reply {
+    match name {
+        Plain::Absent => Reply::Absent,
+        Plain::Flushed => Reply::Flushed,
+        Plain::Refreshed => Reply::Refreshed,
+        Plain::Compacted => Reply::Compacted,
+        Plain::Swept => Reply::Swept,
+        Plain::Durable => Reply::Durable,
+        Plain::Pending => Reply::Pending,
+        Plain::Unknown => Reply::Unknown,
+        Plain::Memory => Reply::NoMemory,
+    }
+}
+
+/// What comes of a close: all tasks end, or there is an error.
+fn ended_of(line: &mut CallLine<'_>) -> Reply {
+    if line.is_read() {
+        return Reply::Ended {
             fault: None,
             tasks: all_tasks(),
-        },
-        _ => return Err(CallFailure::Unread),
-    })
+        };
+    }
+    Reply::Ended {
+        fault: Some(error_of(line)),
+        tasks: Ending::new(),
+    }
 }
 
 /// The names of the tasks of a handle.
@@ -138,74 +159,65 @@ fn all_tasks() -> Ending {
     tasks
 }
 
-/// The reply with this name and number.
-fn numbered_reply(name: ReplyName, number: u64) -> Result<Reply, CallFailure> {
-    Ok(match name {
-        ReplyName::Handle => Reply::Handle { object: number },
-        ReplyName::Checkpointed => Reply::Checkpointed { id: number },
-        ReplyName::Number => Reply::Number(Some(number)),
-        ReplyName::Polled => Reply::Polled {
+/// The reply with this name and with the numbers that the next words spell.
+fn numbered_reply(name: Numbered, line: &mut CallLine<'_>) -> Reply {
+    let first = line.number();
+    match name {
+        Numbered::Handle => Reply::Handle { object: first },
+        Numbered::Checkpointed => Reply::Checkpointed { id: first },
+        Numbered::Polled => Reply::Polled {
             whole: false,
-            at: number,
+            at: first,
         },
-        _ => return Err(CallFailure::Unread),
-    })
-}
-
-/// The reply with this name and two numbers.
-fn reply_with_both(name: ReplyName, first: u64, second: u64) -> Result<Reply, CallFailure> {
-    Ok(match name {
-        ReplyName::Snapshot => Reply::Snapshot {
+        Numbered::Snapshot => Reply::Snapshot {
             object: first,
-            at: second,
+            at: line.number(),
         },
-        ReplyName::Written => Reply::Written {
+        Numbered::Written => Reply::Written {
             write: first,
-            number: second,
+            number: line.number(),
         },
-        ReplyName::Backpressure => Reply::Backpressure {
+        Numbered::Backpressure => Reply::Backpressure {
             unflushed: first,
-            limit: second,
+            limit: line.number(),
         },
-        ReplyName::Follower => Reply::Follower {
+        Numbered::Follower => Reply::Follower {
             object: first,
             whole: true,
-            at: second,
+            at: line.number(),
         },
-        _ => return Err(CallFailure::Unread),
-    })
+    }
 }
 
 /// The rows that words spell, with `;` after each.
-fn rows_of(alloc: Global, words: &[&[u8]]) -> Result<Reply, CallFailure> {
-    let mut rows = Vec::new(alloc);
-    for row in words.split_inclusive(|word| *word == b";".as_slice()) {
-        if let [row @ .., _end] = row {
-            rows.push(row_of(alloc, row)?)?;
+fn rows_of(line: &mut CallLine<'_>) -> Seq<KeyValue> {
+    let mut rows = Vec::new(line.alloc());
+    for _ in 0..line.left() {
+        if line.has_more() {
+            rows.push(row_of(line)).print(line);
         }
     }
-    Ok(Reply::Rows(Seq::of(rows)))
+    Seq::of(rows)
 }
 
 /// The row with a key, a value, a number and a time, and with the time at which it expires, where it does.
-fn row_of(alloc: Global, words: &[&[u8]]) -> Result<KeyValue, CallFailure> {
-    let [key, value, number, time, end @ ..] = words else {
-        return Err(CallFailure::Unread);
+fn row_of(line: &mut CallLine<'_>) -> KeyValue {
+    let key = line.bytes();
+    let value = line.bytes();
+    let seq = line.number();
+    let create_ts = line.time();
+    let expire_ts = if line.is_read() || line.is_next(b";") {
+        None
+    } else {
+        Some(line.time())
     };
-    let expire_ts = match end {
-        [] => None,
-        [end] => Some(time_of(end)?),
-        _ => return Err(CallFailure::Unread),
-    };
-    let (seq, create_ts) = (number_of(number)?, time_of(time)?);
-    let (key, value) = (bytes_of(alloc, key)?, bytes_of(alloc, value)?);
-    Ok(KeyValue {
+    KeyValue {
         key,
         value,
         seq,
         create_ts,
         expire_ts,
-    })
+    }
 }
 
 const REASONS: &[(&[u8], Option<CloseReason>)] = &[
@@ -215,20 +227,26 @@ const REASONS: &[(&[u8], Option<CloseReason>)] = &[
     (b"panic", Some(CloseReason::Panic)),
 ];
 
+/// The reply that holds a status, or another one where memory ran out for its box, which is noted.
+fn status_reply(line: &mut CallLine<'_>) -> Reply {
+    let status = status_of(line);
+    if let Ok(boxed) = Boxed::new(line.alloc(), status) {
+        return Reply::Status(boxed);
+    }
+    line.no_memory();
+    Reply::Unknown
+}
+
 /// A status of a durable number and a manifest, with the segments of its tables and those outside of them.
-fn status_of(
-    alloc: Global,
-    durable_seq: u64,
-    id: u64,
-    close_reason: Option<CloseReason>,
-    segments: &[&[u8]],
-) -> Result<Reply, CallFailure> {
-    let (stored, memory) = both_lists(segments);
-    let memtable_segments = Seq::of(prefixes_of(alloc, memory)?);
-    Ok(Reply::Status(DbStatus {
+fn status_of(line: &mut CallLine<'_>) -> DbStatus {
+    let durable_seq = line.number();
+    let id = line.number();
+    let close_reason = line.name(REASONS).unwrap_or(None);
+    let current_manifest = manifest_of(id, line);
+    DbStatus {
         durable_seq,
-        current_manifest: manifest_of(alloc, id, stored)?,
-        memtable_segments,
+        current_manifest,
+        memtable_segments: Seq::of(prefixes_of(line)),
         close_reason,
-    }))
+    }
 }

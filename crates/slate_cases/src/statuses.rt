@@ -1,10 +1,9 @@
 // The subject `status`: the record of a status, to which reports are made.
-use crate::manifests::{both_lists, manifest_of, prefixes_of, rising};
-use crate::printing::{
-    number_of, outcome_of, print_bytes, print_debug, print_error, print_number, print_numbers,
-    print_text, split_name,
-};
-use crate::subjects::CallFailure;
+use crate::answers::Answer;
+use crate::call_line::CallLine;
+use crate::manifests::{manifest_of, prefixes_of, rising};
+use crate::subjects::Subject;
+use crate::tasks::outcome_of;
 use slate_status::{DbStatus, DurableAnswer, StatusRecord};
 use std::alloc::Global;
 
@@ -59,120 +58,133 @@ impl Statuses {
     pub fn new() -> Statuses {
         Statuses { record: None }
     }
+}
 
-    /// Makes one of the calls that `docs/FORMATS.md` lists.
-    pub fn call(
-        &mut self,
-        alloc: Global,
-        words: &[&[u8]],
-        answer: &mut Vec<u8>,
-    ) -> Result<(), CallFailure> {
-        let (call, words) = split_name(CALLS, words)?;
-        if let (Call::Record, [durable, id]) = (call, words) {
-            let (durable, id) = (number_of(durable)?, number_of(id)?);
-            let manifest = manifest_of(alloc, id, &[])?;
-            self.record = Some(StatusRecord::new(alloc, durable, manifest));
-            return Ok(());
-        }
-        match &mut self.record {
-            Some(record) => call_record(alloc, record, call, words, answer),
-            None => Err(CallFailure::Unread),
+impl Subject for Statuses {
+    fn anew(&self, _alloc: Global) -> Statuses {
+        Statuses::new()
+    }
+
+    fn call(&mut self, line: &mut CallLine<'_>) {
+        match (line.name(CALLS), &mut self.record) {
+            (Some(Call::Record), _) => self.record = Some(record_of(line)),
+            (Some(call), Some(record)) => call_record(record, call, line),
+            _ => line.unread(),
         }
     }
 }
 
+/// A record with a durable number and a manifest.
+fn record_of(line: &mut CallLine<'_>) -> StatusRecord {
+    let durable = line.number();
+    let id = line.number();
+    let manifest = manifest_of(id, line);
+    StatusRecord::new(line.alloc(), durable, manifest)
+}
+
 /// Makes a call of a record.
-fn call_record(
-    alloc: Global,
-    record: &mut StatusRecord,
-    call: Call,
-    words: &[&[u8]],
-    answer: &mut Vec<u8>,
-) -> Result<(), CallFailure> {
-    match (call, words) {
-        (Call::Version, []) => print_number(answer, record.version()),
-        (Call::Present, []) => print_numbers(answer, &[record.durable(), record.manifest().id]),
-        (Call::Status, []) => print_status(alloc, &record.status(alloc)?, answer),
-        (Call::Copy, []) => print_copy(alloc, &record.status(alloc)?, answer),
-        (Call::Wait, [number]) => print_wait(record.durable_answer(number_of(number)?), answer),
+fn call_record(record: &mut StatusRecord, call: Call, line: &mut CallLine<'_>) {
+    match call {
+        Call::Version => line.print_number(record.version()),
+        Call::Present => line.print_numbers(&[record.durable(), record.manifest().id]),
+        Call::Status => print_status(record, line),
+        Call::Copy => print_copy(record, line),
+        Call::Wait => record.durable_answer(line.number()).print(line),
         _ => {
-            let rose = report(alloc, record, call, words)?;
-            print_text(answer, if rose { "risen" } else { "same" })
+            let rose = report(record, call, line);
+            line.print_text(if rose { "risen" } else { "same" });
         }
     }
 }
 
 /// Makes a report, and answers whether the version rose.
-fn report(
-    alloc: Global,
-    record: &mut StatusRecord,
-    call: Call,
-    words: &[&[u8]],
-) -> Result<bool, CallFailure> {
-    match (call, words) {
-        (Call::Durable, [number]) => Ok(record.report_durable_seq(number_of(number)?)),
-        (Call::Close, [outcome]) => Ok(record.report_closed(outcome_of(outcome)?)),
-        (Call::Memory, segments) => Ok(record.report_memtable_segments(rising(alloc, segments)?)),
-        (Call::Add, segments) => {
-            let segments = prefixes_of(alloc, segments)?;
-            Ok(record.add_memtable_segments(alloc, segments.as_slice())?)
+fn report(record: &mut StatusRecord, call: Call, line: &mut CallLine<'_>) -> bool {
+    match call {
+        Call::Durable => record.report_durable_seq(line.number()),
+        Call::Close => record.report_closed(outcome_of(line)),
+        Call::Memory => match rising(line) {
+            Some(segments) => record.report_memtable_segments(segments),
+            None => false,
+        },
+        Call::Add => {
+            let segments = prefixes_of(line);
+            let added = record.add_memtable_segments(line.alloc(), segments.as_slice());
+            line.made(added).unwrap_or(false)
         }
-        (_, [id, rest @ ..]) => report_manifest(alloc, record, call, number_of(id)?, rest),
-        _ => Err(CallFailure::Unread),
+        _ => report_manifest(record, call, line),
     }
 }
 
 /// Reports a manifest with an id.
-fn report_manifest(
-    alloc: Global,
-    record: &mut StatusRecord,
-    call: Call,
-    id: u64,
-    rest: &[&[u8]],
-) -> Result<bool, CallFailure> {
-    match (call, rest) {
-        (Call::Stored, segments) => Ok(record.report_manifest(manifest_of(alloc, id, segments)?)),
-        (Call::View, [durable]) => {
-            let durable = number_of(durable)?;
-            Ok(record.report_view(durable, manifest_of(alloc, id, &[])?))
+fn report_manifest(record: &mut StatusRecord, call: Call, line: &mut CallLine<'_>) -> bool {
+    let id = line.number();
+    match call {
+        Call::Stored => record.report_manifest(manifest_of(id, line)),
+        Call::View => {
+            let durable = line.number();
+            record.report_view(durable, manifest_of(id, line))
         }
-        (Call::Opening, [durable]) => {
-            let durable = number_of(durable)?;
-            Ok(record.report_fence_manifest(durable, manifest_of(alloc, id, &[])?))
+        Call::Opening => {
+            let durable = line.number();
+            record.report_fence_manifest(durable, manifest_of(id, line))
         }
-        (Call::Both, lists) => {
-            let (stored, memory) = both_lists(lists);
-            let segments = rising(alloc, memory)?;
-            let manifest = manifest_of(alloc, id, stored)?;
-            Ok(record.report_manifest_and_memtable_segments(manifest, segments))
+        _ => {
+            let manifest = manifest_of(id, line);
+            match rising(line) {
+                Some(segments) => {
+                    record.report_manifest_and_memtable_segments(manifest, segments)
+                }
+                None => false,
+            }
         }
-        _ => Err(CallFailure::Unread),
     }
 }
 
 /// Prints the durable number and the id of the manifest of a status, and its segments.
-fn print_status(alloc: Global, status: &DbStatus, answer: &mut Vec<u8>) -> Result<(), CallFailure> {
-    print_numbers(answer, &[status.durable_seq, status.current_manifest.id])?;
-    for segment in status.list_segments(alloc)?.as_slice() {
-        print_text(answer, " ")?;
-        print_bytes(answer, segment.prefix.as_slice())?;
+fn print_status(record: &StatusRecord, line: &mut CallLine<'_>) {
+    let status = record.status(line.alloc());
+    if let Some(status) = line.made(status) {
+        line.print_numbers(&[status.durable_seq, status.current_manifest.id]);
+        print_segments(&status, line);
     }
-    Ok(())
+}
+
+fn print_segments(status: &DbStatus, line: &mut CallLine<'_>) {
+    let segments = status.list_segments(line.alloc());
+    if let Some(segments) = line.made(segments) {
+        for segment in segments.as_slice() {
+            line.print_text(" ");
+            line.print_bytes(segment.prefix.as_slice());
+        }
+    }
 }
 
 /// Prints whether a copy of a status is equal to it; and of a copy of its manifest the id, and how many segments it has.
-fn print_copy(alloc: Global, status: &DbStatus, answer: &mut Vec<u8>) -> Result<(), CallFailure> {
-    let same = status.clone()? == *status;
-    print_debug(alloc, answer, &same)?;
-    let copy = status.current_manifest.clone()?;
-    let count = copy.manifest.segments.as_slice().len();
-    print_numbers(answer, &[copy.id, count as u64])
+fn print_copy(record: &StatusRecord, line: &mut CallLine<'_>) {
+    let status = record.status(line.alloc());
+    if let Some(status) = line.made(status) {
+        let copy: Result<_, _> = status.clone();
+        if let Some(copy) = line.made(copy) {
+            line.print_debug(&(copy == status));
+        }
+        print_manifest_copy(&status, line);
+    }
 }
 
-fn print_wait(waited: DurableAnswer, answer: &mut Vec<u8>) -> Result<(), CallFailure> {
-    match waited {
-        DurableAnswer::Durable => print_text(answer, "durable"),
-        DurableAnswer::Pending => print_text(answer, "pending"),
-        DurableAnswer::Failed(error) => print_error(answer, &error),
+fn print_manifest_copy(status: &DbStatus, line: &mut CallLine<'_>) {
+    let copy: Result<_, _> = status.current_manifest.clone();
+    if let Some(copy) = line.made(copy) {
+        let count = copy.manifest.segments.as_slice().len();
+        line.print_numbers(&[copy.id, count as u64]);
+    }
+}
+
+impl Answer for DurableAnswer {
+    fn print(self, line: &mut CallLine<'_>) {
+        match self {
+            DurableAnswer::Durable => line.print_text("durable"),
+            DurableAnswer::Pending => line.print_text("pending"),
+            DurableAnswer::Failed(error) => error.print(line),
+        }
     }
 }

@@ -1,11 +1,10 @@
 // The subject `streams`: sources and sinks in memory that fail as told, and sessions over them.
-ghost use Rattle.std.specs.Prelude.{◌≤◌, IfOk};
+ghost use Rattle.std.specs.Prelude.{◌≤◌};
 
-use crate::printing::{
-    bytes_of, numbers_of, print_bytes, print_number, print_text, size_of, split_name,
-};
+use crate::answers::Answer;
+use crate::call_line::CallLine;
 use crate::store_calls::print_stored;
-use crate::subjects::CallFailure;
+use crate::subjects::Subject;
 use slate_live::{
     InputFault, ReadAnswer, SliceSource, Source, VecSink, read_whole, session, write_whole,
 };
@@ -64,54 +63,54 @@ impl Streams {
         }
     }
 
-    /// Makes one of the calls that `docs/FORMATS.md` lists.
-    pub fn call(
-        &mut self,
-        alloc: Global,
-        words: &[&[u8]],
-        answer: &mut Vec<u8>,
-    ) -> Result<(), CallFailure> {
-        let (call, words) = split_name(CALLS, words)?;
-        match (call, words) {
-            (Call::Source, [text, piece, failing @ ..]) => {
-                let text = Vec::from_slice(alloc, bytes_of(alloc, text)?.as_slice())?;
-                let failing = Seq::of(numbers_of(alloc, failing)?);
-                self.source = SliceSource::new(text, piece_of(piece)?, failing);
-                Ok(())
-            }
-            (Call::Sink, [piece, failing @ ..]) => {
-                let failing = Seq::of(numbers_of(alloc, failing)?);
-                self.sink = VecSink::new(alloc, piece_of(piece)?, failing);
-                Ok(())
-            }
-            (Call::Read, [limit]) => self.read(alloc, limit, answer),
-            (Call::Flow, [left, limit]) => flow(alloc, left, limit, answer),
-            (Call::Write, [text]) => {
-                let text = bytes_of(alloc, text)?;
-                let whole = write_whole(&mut self.sink, text.as_slice());
-                print_text(answer, if whole { "whole" } else { "failed" })
-            }
-            (Call::Written, []) => print_bytes(answer, self.sink.written()),
-            (Call::Session, []) => {
-                let (source, sink) = (&mut self.source, &mut self.sink);
-                let finished = session(alloc, &[], source, sink, &mut self.store);
-                print_number(answer, u64::from(finished.status))
-            }
-            (Call::Stored, []) => print_stored(alloc, &mut self.store, answer),
-            _ => Err(CallFailure::Unread),
-        }
+    /// Makes the source anew.
+    fn set_source(&mut self, line: &mut CallLine<'_>) {
+        let text = line.byte_list();
+        let piece = piece_of(line);
+        let failing = Seq::of(line.numbers());
+        self.source = SliceSource::new(text, piece, failing);
     }
 
-    /// Reads the source to its end, and prints the bytes.
-    fn read(
-        &mut self,
-        alloc: Global,
-        limit: &[u8],
-        answer: &mut Vec<u8>,
-    ) -> Result<(), CallFailure> {
-        match read_whole(alloc, &mut self.source, size_of(limit)?) {
-            Ok(bytes) => print_bytes(answer, bytes.as_slice()),
-            Err(fault) => print_fault(answer, fault),
+    /// Makes the sink anew.
+    fn set_sink(&mut self, line: &mut CallLine<'_>) {
+        let piece = piece_of(line);
+        let failing = Seq::of(line.numbers());
+        self.sink = VecSink::new(line.alloc(), piece, failing);
+    }
+
+    /// Writes to the sink, and prints whether all was taken.
+    fn write(&mut self, line: &mut CallLine<'_>) {
+        let text = line.bytes();
+        let is_whole = write_whole(&mut self.sink, text.as_slice());
+        line.print_text(if is_whole { "whole" } else { "failed" });
+    }
+
+    /// Runs the source as a script, and prints the exit status.
+    fn run(&mut self, line: &mut CallLine<'_>) {
+        let (source, sink) = (&mut self.source, &mut self.sink);
+        let finished = session(line.alloc(), &[], source, sink, &mut self.store);
+        line.print_number(u64::from(finished.status));
+    }
+}
+
+impl Subject for Streams {
+    fn anew(&self, alloc: Global) -> Streams {
+        Streams::new(alloc)
+    }
+
+    fn call(&mut self, line: &mut CallLine<'_>) {
+        match line.name(CALLS) {
+            Some(Call::Source) => self.set_source(line),
+            Some(Call::Sink) => self.set_sink(line),
+            Some(Call::Read) => {
+                read_whole(line.alloc(), &mut self.source, line.size()).print(line);
+            }
+            Some(Call::Flow) => flow(line),
+            Some(Call::Write) => self.write(line),
+            Some(Call::Written) => line.print_bytes(self.sink.written()),
+            Some(Call::Session) => self.run(line),
+            Some(Call::Stored) => print_stored(&mut self.store, line),
+            None => {}
         }
     }
 }
@@ -145,25 +144,28 @@ impl Source for Unheld {
 }
 
 /// Reads a source of so many bytes, and prints how many came.
-fn flow(alloc: Global, left: &[u8], limit: &[u8], answer: &mut Vec<u8>) -> Result<(), CallFailure> {
-    let left = size_of(left)?;
-    match read_whole(alloc, &mut Unheld { left }, size_of(limit)?) {
-        Ok(bytes) => print_number(answer, bytes.len() as u64),
-        Err(fault) => print_fault(answer, fault),
+fn flow(line: &mut CallLine<'_>) {
+    let left = line.size();
+    let limit = line.size();
+    let read = read_whole(line.alloc(), &mut Unheld { left }, limit);
+    if let Some(bytes) = line.made(read) {
+        line.print_number(bytes.len() as u64);
     }
 }
 
-fn print_fault(answer: &mut Vec<u8>, fault: InputFault) -> Result<(), CallFailure> {
-    match fault {
-        InputFault::Failed => print_text(answer, "failed"),
-        InputFault::TooLong => print_text(answer, "too long"),
-        InputFault::NoMemory => Err(CallFailure::Memory),
+impl Answer for InputFault {
+    fn print(self, line: &mut CallLine<'_>) {
+        match self {
+            InputFault::Failed => line.print_text("failed"),
+            InputFault::TooLong => line.print_text("too long"),
+            InputFault::NoMemory => line.no_memory(),
+        }
     }
 }
 
 /// How many bytes come or go at a time, which is at least one.
-fn piece_of(word: &[u8]) -> Result<usize, CallFailure>
-    ensures { IfOk result (λ piece. 1 ≤ piece) }
+fn piece_of(line: &mut CallLine<'_>) -> usize
+    ensures { 1 ≤ result }
 {
-    Ok(size_of(word)?.max(1))
+    line.size().max(1)
 }

@@ -1,7 +1,8 @@
 // The subject `tasks`: the tasks that a handle or a reader registers.
-use crate::printing::{name_in, outcome_of, print_blank, print_text, split_name};
-use crate::subjects::CallFailure;
-use slate_errors::TaskName;
+use crate::answers::Answer;
+use crate::call_line::CallLine;
+use crate::subjects::Subject;
+use slate_errors::{CloseFault, TaskName};
 use slate_tasks::Tasks;
 use std::alloc::Global;
 
@@ -39,44 +40,64 @@ impl TaskCalls {
         TaskCalls { tasks: None }
     }
 
-    /// Makes one of the calls that `docs/FORMATS.md` lists.
-    pub fn call(
-        &mut self,
-        alloc: Global,
-        words: &[&[u8]],
-        answer: &mut Vec<u8>,
-    ) -> Result<(), CallFailure> {
-        match (split_name(CALLS, words)?, &mut self.tasks) {
-            ((Call::Start, words), _) => {
-                let names = names_of(alloc, words)?;
-                if names.len() > 5 {
-                    return Err(CallFailure::Unread);
-                }
-                self.tasks = Some(Tasks::start(alloc, names.as_slice())?);
-                Ok(())
-            }
-            ((Call::End, [outcome]), Some(tasks)) => {
-                let ended = tasks.end(outcome_of(outcome)?);
-                print_names(answer, ended.names())
-            }
-            _ => Err(CallFailure::Unread),
+    fn start(&mut self, line: &mut CallLine<'_>) {
+        let names = names_of(line);
+        if names.len() > 5 {
+            line.unread();
+            return;
+        }
+        let started = Tasks::start(line.alloc(), names.as_slice());
+        self.tasks = line.made(started);
+    }
+
+    fn end(&mut self, line: &mut CallLine<'_>) {
+        let outcome = outcome_of(line);
+        match &mut self.tasks {
+            Some(tasks) => print_names(tasks.end(outcome).names(), line),
+            None => line.unread(),
         }
     }
 }
 
-/// The names that words are.
-fn names_of(alloc: Global, words: &[&[u8]]) -> Result<Vec<TaskName>, CallFailure> {
-    let mut names = Vec::new(alloc);
-    for word in words {
-        names.push(name_in(NAMES, word)?)?;
+impl Subject for TaskCalls {
+    fn anew(&self, _alloc: Global) -> TaskCalls {
+        TaskCalls::new()
     }
-    Ok(names)
+
+    fn call(&mut self, line: &mut CallLine<'_>) {
+        match line.name(CALLS) {
+            Some(Call::Start) => self.start(line),
+            Some(Call::End) => self.end(line),
+            None => {}
+        }
+    }
 }
 
-fn print_names(answer: &mut Vec<u8>, names: &[TaskName]) -> Result<(), CallFailure> {
-    for name in names {
-        print_blank(answer)?;
-        print_text(answer, name.as_str())?;
+const OUTCOMES: &[(&[u8], Result<(), CloseFault>)] = &[
+    (b"ok", Ok(())),
+    (b"fenced", Err(CloseFault::Fenced)),
+];
+
+/// The result with which something closes.
+pub fn outcome_of(line: &mut CallLine<'_>) -> Result<(), CloseFault> {
+    line.name(OUTCOMES).unwrap_or(Ok(()))
+}
+
+/// The names that the words that are left are.
+fn names_of(line: &mut CallLine<'_>) -> Vec<TaskName> {
+    let mut names = Vec::new(line.alloc());
+    for _ in 0..line.left() {
+        if let Some(name) = line.name(NAMES) {
+            names.push(name).print(line);
+        }
     }
-    Ok(())
+    names
+}
+
+/// Prints the names of tasks.
+pub fn print_names(names: &[TaskName], line: &mut CallLine<'_>) {
+    for name in names {
+        line.print_blank();
+        line.print_text(name.as_str());
+    }
 }

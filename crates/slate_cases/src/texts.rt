@@ -1,10 +1,7 @@
 // The subject `text`: byte words, numbers and moments, read and printed.
-use crate::printing::{
-    bytes_of, number_of, print_bytes, print_debug, print_number, print_text, print_time,
-    split_name, time_of,
-};
-use crate::subjects::CallFailure;
-use bytes::Bytes;
+use crate::answers::Answer;
+use crate::call_line::CallLine;
+use crate::subjects::Subject;
 use slate_text::{read_byte_word, read_moment, read_number, read_shared_word};
 use std::alloc::Global;
 
@@ -27,37 +24,48 @@ const CALLS: &[(&[u8], Call)] = &[
     (b"signed", Call::Signed),
 ];
 
-/// Makes one of the calls that `docs/FORMATS.md` lists. The word of each stands for the bytes that it spells.
-pub fn call_text(alloc: Global, words: &[&[u8]], answer: &mut Vec<u8>) -> Result<(), CallFailure> {
-    let (call, [word]) = split_name(CALLS, words)? else {
-        return Err(CallFailure::Unread);
-    };
-    let field = bytes_of(alloc, word)?;
-    match call {
-        Call::Print => print_bytes(answer, field.as_slice()),
-        Call::Read => print_read(alloc, field, answer),
-        Call::Number => print_debug(alloc, answer, &read_number(field.as_slice())),
-        Call::Moment => print_debug(alloc, answer, &read_moment(field.as_slice())),
-        Call::Unsigned => print_number(answer, number_of(field.as_slice())?),
-        Call::Signed => print_time(answer, time_of(field.as_slice())?),
+/// Calls that keep nothing.
+#[derive(Clone, Copy)]
+pub struct Texts;
+
+impl Subject for Texts {
+    fn anew(&self, _alloc: Global) -> Texts {
+        Texts
+    }
+
+    /// The word of each call stands for the bytes that it spells.
+    fn call(&mut self, line: &mut CallLine<'_>) {
+        match line.name(CALLS) {
+            Some(Call::Print) => {
+                let field = line.bytes();
+                line.print_bytes(field.as_slice());
+            }
+            Some(Call::Read) => print_read(line),
+            Some(Call::Number) => {
+                let number = read_number(line.bytes().as_slice());
+                line.print_debug(&number);
+            }
+            Some(Call::Moment) => {
+                let moment = read_moment(line.bytes().as_slice());
+                line.print_debug(&moment);
+            }
+            Some(Call::Unsigned) => line.number().print(line),
+            Some(Call::Signed) => line.time().print(line),
+            None => {}
+        }
     }
 }
 
 /// Prints the bytes that a field spells, as both readers of a word have it.
-fn print_read(alloc: Global, field: Bytes, answer: &mut Vec<u8>) -> Result<(), CallFailure> {
-    let read = read_byte_word(alloc, field.as_slice())?;
-    print_word(answer, &read)?;
-    let shared = read_shared_word(alloc, field)?;
-    if shared != read {
-        print_text(answer, " and shared ")?;
-        print_word(answer, &shared)?;
-    }
-    Ok(())
-}
-
-fn print_word(answer: &mut Vec<u8>, word: &Option<Bytes>) -> Result<(), CallFailure> {
-    match word {
-        Some(bytes) => print_bytes(answer, bytes.as_slice()),
-        None => print_text(answer, "none"),
+fn print_read(line: &mut CallLine<'_>) {
+    let field = line.bytes();
+    read_byte_word(line.alloc(), field.as_slice()).print(line);
+    let plain = line.take_answer();
+    read_shared_word(line.alloc(), field).print(line);
+    let shared = line.take_answer();
+    line.print_plain(plain.as_slice());
+    if shared != plain {
+        line.print_text(" and shared ");
+        line.print_plain(shared.as_slice());
     }
 }

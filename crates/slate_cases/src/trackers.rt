@@ -1,10 +1,8 @@
 // The subject `tracker`: a tracker of sequence numbers and times, another one beside it, and bytes of one.
-use crate::printing::{
-    bytes_of, name_in, number_of, print_bytes, print_debug, print_fault, short_of, size_of,
-    split_name, time_of,
-};
-use crate::subjects::CallFailure;
-use slate_seqtrack::{FindOption, SequenceTracker, TrackedSeq, TrackerFault};
+use crate::answers::Answer;
+use crate::call_line::CallLine;
+use crate::subjects::Subject;
+use slate_seqtrack::{FindOption, SequenceTracker, TrackedSeq};
 use std::alloc::Global;
 use std::mem;
 
@@ -50,6 +48,11 @@ const FINDS: &[(&[u8], FindOption)] = &[
     (b"down", FindOption::RoundDown),
 ];
 
+/// Which pair is taken between two, `up` or `down`.
+pub fn find_of(line: &mut CallLine<'_>) -> FindOption {
+    line.name(FINDS).unwrap_or(FindOption::RoundUp)
+}
+
 /// A tracker, another one, and bytes that are read as one.
 pub struct Trackers {
     tracker: Option<SequenceTracker>,
@@ -77,167 +80,116 @@ impl Trackers {
         }
     }
 
-    /// Makes one of the calls that `docs/FORMATS.md` lists.
-    pub fn call(
-        &mut self,
-        alloc: Global,
-        words: &[&[u8]],
-        answer: &mut Vec<u8>,
-    ) -> Result<(), CallFailure> {
-        let (call, words) = split_name(CALLS, words)?;
-        match (call, words) {
-            (Call::New, [capacity, interval]) => {
-                let (capacity, interval) = (short_of(capacity)?, number_of(interval)?);
-                self.tracker = Some(SequenceTracker::with_config(alloc, capacity, interval)?);
-                Ok(())
-            }
-            (Call::Bytes, [bytes]) => {
-                self.bytes = Vec::from_slice(alloc, bytes_of(alloc, bytes)?.as_slice())?;
-                Ok(())
-            }
-            (Call::Front, [end]) => self.read(alloc, size_of(end)?, answer),
-            (Call::Turn, [bit]) => self.read_turned(alloc, number_of(bit)?, answer),
-            (Call::Insert, [number, time]) => {
-                let (seq, ts) = (number_of(number)?, time_of(time)?);
-                self.insert(alloc, TrackedSeq { seq, ts }, answer)
-            }
-            (Call::Ts, [number, find]) => {
-                let (number, find) = (number_of(number)?, name_in(FINDS, find)?);
-                let time = tracker_in(&self.tracker)?.find_ts(number, find);
-                print_debug(alloc, answer, &time)
-            }
-            (Call::Seq, [time, find]) => {
-                let (time, find) = (time_of(time)?, name_in(FINDS, find)?);
-                let number = tracker_in(&self.tracker)?.find_seq(time, find);
-                print_debug(alloc, answer, &number)
-            }
-            (_, []) => self.call_both(alloc, call, answer),
-            _ => Err(CallFailure::Unread),
-        }
+    fn make(&mut self, line: &mut CallLine<'_>) {
+        let made = if line.is_read() {
+            SequenceTracker::new(line.alloc())
+        } else {
+            let capacity = line.short();
+            SequenceTracker::with_config(line.alloc(), capacity, line.number())
+        };
+        self.tracker = line.made(made);
     }
 
-    /// Makes a call without a word behind it.
-    fn call_both(
-        &mut self,
-        alloc: Global,
-        call: Call,
-        answer: &mut Vec<u8>,
-    ) -> Result<(), CallFailure> {
-        match call {
-            Call::New => {
-                self.tracker = Some(SequenceTracker::new(alloc)?);
-                Ok(())
-            }
-            Call::Read => {
-                let end = self.bytes.len();
-                self.read(alloc, end, answer)
-            }
-            Call::Swap => {
-                mem::swap(&mut self.tracker, &mut self.other);
-                Ok(())
-            }
-            Call::Extend => self.extend(alloc, answer),
-            Call::Copy => {
-                self.other = Some(tracker_in(&self.tracker)?.clone()?);
-                Ok(())
-            }
-            Call::Same => {
-                let same = tracker_in(&self.tracker)? == tracker_in(&self.other)?;
-                print_debug(alloc, answer, &same)
-            }
-            Call::Numbers => print_debug(alloc, answer, &tracker_in(&self.tracker)?.numbers()),
-            Call::Times => print_debug(alloc, answer, &tracker_in(&self.tracker)?.times()),
-            Call::Write => print_written(alloc, tracker_in(&self.tracker)?, answer),
-            _ => Err(CallFailure::Unread),
-        }
-    }
-
-    fn insert(
-        &mut self,
-        alloc: Global,
-        pair: TrackedSeq,
-        answer: &mut Vec<u8>,
-    ) -> Result<(), CallFailure> {
-        match &mut self.tracker {
-            Some(tracker) => print_done(alloc, answer, tracker.insert(pair)),
-            None => Err(CallFailure::Unread),
+    /// Copies the tracker to the other one.
+    fn copy(&mut self, line: &mut CallLine<'_>) {
+        match &self.tracker {
+            Some(tracker) => self.other = line.made(tracker.clone()),
+            None => line.unread(),
         }
     }
 
     /// Inserts the pairs of the other tracker.
-    fn extend(&mut self, alloc: Global, answer: &mut Vec<u8>) -> Result<(), CallFailure> {
-        let Some(tracker) = &mut self.tracker else {
-            return Err(CallFailure::Unread);
-        };
-        let extended = tracker.extend_from(tracker_in(&self.other)?);
-        print_done(alloc, answer, extended)
+    fn extend(&mut self, line: &mut CallLine<'_>) {
+        match (&mut self.tracker, &self.other) {
+            (Some(tracker), Some(other)) => tracker.extend_from(other).print(line),
+            _ => line.unread(),
+        }
     }
 
     /// Reads so many first bytes as a tracker, which takes the place of the first one.
-    fn read(&mut self, alloc: Global, end: usize, answer: &mut Vec<u8>) -> Result<(), CallFailure> {
-        let Some(bytes) = self.bytes.get(..end) else {
-            return Err(CallFailure::Unread);
-        };
-        match SequenceTracker::from_bytes(alloc, bytes) {
-            Ok(tracker) => {
-                self.tracker = Some(tracker);
-                Ok(())
-            }
-            Err(fault) => print_done(alloc, answer, Err(fault)),
+    fn read(&mut self, end: usize, line: &mut CallLine<'_>) {
+        let front = self.bytes.get(..end).unwrap_or_default();
+        let read = SequenceTracker::from_bytes(line.alloc(), front);
+        if let Some(tracker) = line.made(read) {
+            self.tracker = Some(tracker);
         }
     }
 
     /// Reads the bytes with one bit turned, which is counted from the first byte's most significant one.
-    fn read_turned(
-        &mut self,
-        alloc: Global,
-        bit: u64,
-        answer: &mut Vec<u8>,
-    ) -> Result<(), CallFailure> {
-        turn_bit(&mut self.bytes, bit)?;
+    fn read_turned(&mut self, line: &mut CallLine<'_>) {
+        let bit = line.number();
+        turn_bit(&mut self.bytes, bit);
         let end = self.bytes.len();
-        self.read(alloc, end, answer)?;
-        turn_bit(&mut self.bytes, bit)
+        self.read(end, line);
+        turn_bit(&mut self.bytes, bit);
+    }
+
+    /// Asks the tracker, or inserts a pair.
+    fn ask(&mut self, call: Call, line: &mut CallLine<'_>) {
+        let Some(tracker) = &mut self.tracker else {
+            line.unread();
+            return;
+        };
+        match call {
+            Call::Insert => {
+                let seq = line.number();
+                let ts = line.time();
+                tracker.insert(TrackedSeq { seq, ts }).print(line);
+            }
+            Call::Ts => {
+                let number = line.number();
+                let time = tracker.find_ts(number, find_of(line));
+                line.print_debug(&time);
+            }
+            Call::Seq => {
+                let time = line.time();
+                let number = tracker.find_seq(time, find_of(line));
+                line.print_debug(&number);
+            }
+            Call::Numbers => line.print_debug(&tracker.numbers()),
+            Call::Times => line.print_debug(&tracker.times()),
+            Call::Write => print_written(tracker, line),
+            _ => line.unread(),
+        }
     }
 }
 
-/// Turns one bit of bytes, which is counted from the first byte's most significant one.
-pub fn turn_bit(bytes: &mut [u8], bit: u64) -> Result<(), CallFailure> {
-    let Some(byte) = bytes.get_mut((bit / 8) as usize) else {
-        return Err(CallFailure::Unread);
-    };
-    *byte ^= 128 >> (bit % 8);
-    Ok(())
+impl Subject for Trackers {
+    fn anew(&self, alloc: Global) -> Trackers {
+        Trackers::new(alloc)
+    }
+
+    fn call(&mut self, line: &mut CallLine<'_>) {
+        match line.name(CALLS) {
+            Some(Call::New) => self.make(line),
+            Some(Call::Bytes) => self.bytes = line.byte_list(),
+            Some(Call::Read) => {
+                let end = self.bytes.len();
+                self.read(end, line);
+            }
+            Some(Call::Front) => self.read(line.size(), line),
+            Some(Call::Turn) => self.read_turned(line),
+            Some(Call::Swap) => mem::swap(&mut self.tracker, &mut self.other),
+            Some(Call::Extend) => self.extend(line),
+            Some(Call::Copy) => self.copy(line),
+            Some(Call::Same) => line.print_debug(&(self.tracker == self.other)),
+            Some(call) => self.ask(call, line),
+            None => {}
+        }
+    }
 }
 
-fn tracker_in(tracker: &Option<SequenceTracker>) -> Result<&SequenceTracker, CallFailure> {
-    match tracker {
-        Some(tracker) => Ok(tracker),
-        None => Err(CallFailure::Unread),
+/// Turns one bit of bytes, where they have it. It is counted from the first byte's most significant one.
+pub fn turn_bit(bytes: &mut [u8], bit: u64) {
+    if let Some(byte) = bytes.get_mut((bit / 8) as usize) {
+        *byte ^= 128 >> (bit % 8);
     }
 }
 
 /// Prints the bytes of a tracker.
-fn print_written(
-    alloc: Global,
-    tracker: &SequenceTracker,
-    answer: &mut Vec<u8>,
-) -> Result<(), CallFailure> {
-    match tracker.to_bytes(alloc) {
-        Ok(bytes) => print_bytes(answer, bytes.as_slice()),
-        Err(fault) => print_done(alloc, answer, Err(fault)),
-    }
-}
-
-/// Prints why something was refused, where it was.
-pub fn print_done(
-    alloc: Global,
-    answer: &mut Vec<u8>,
-    done: Result<(), TrackerFault>,
-) -> Result<(), CallFailure> {
-    match done {
-        Ok(()) => Ok(()),
-        Err(TrackerFault::NoMemory) => Err(CallFailure::Memory),
-        Err(fault) => print_fault(alloc, answer, &fault),
+fn print_written(tracker: &SequenceTracker, line: &mut CallLine<'_>) {
+    let written = tracker.to_bytes(line.alloc());
+    if let Some(bytes) = line.made(written) {
+        line.print_bytes(bytes.as_slice());
     }
 }

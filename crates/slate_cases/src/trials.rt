@@ -2,7 +2,7 @@
 use crate::cases::Case;
 use crate::failures::Failure;
 use slate_live::{SliceSource, VecSink, session};
-use slate_store::{FaultyStore, MemoryStore};
+use slate_store::{FailingCall, FaultyStore, MemoryStore};
 use slate_types::Seq;
 use std::alloc::{AllocError, Global};
 
@@ -18,16 +18,33 @@ pub fn run_case(alloc: Global, case: Case) -> Result<(), Failure> {
         script,
         replies,
     } = case;
-    let mut source = SliceSource::new(script, PIECE, Seq::of(Vec::new(alloc)));
     let mut sink = VecSink::new(alloc, PIECE, Seq::of(Vec::new(alloc)));
-    let mut store = FaultyStore::new(MemoryStore::new(alloc), Seq::of(failing));
-    let finished = session(alloc, words.as_slice(), &mut source, &mut sink, &mut store);
-    compare_replies(alloc, sink.written(), replies.as_slice())?;
-    if finished.status != status {
-        return Err(Failure::Status {
-            found: finished.status,
-            wanted: status,
-        });
+    let found = run_script(alloc, words.as_slice(), Seq::of(failing), script, &mut sink);
+    compare(alloc, (found, sink.written()), (status, replies.as_slice()))
+}
+
+/// Runs a script over a fresh store, some of whose calls fail. It answers the exit status.
+fn run_script(
+    alloc: Global,
+    words: &[String],
+    failing: Seq<FailingCall>,
+    script: Vec<u8>,
+    sink: &mut VecSink,
+) -> u8 {
+    let mut source = SliceSource::new(script, PIECE, Seq::of(Vec::new(alloc)));
+    let mut store = FaultyStore::new(MemoryStore::new(alloc), failing);
+    session(alloc, words, &mut source, sink, &mut store).status
+}
+
+/// Compares the replies and the status that were found with those that are wanted.
+fn compare(
+    alloc: Global,
+    (found, replies): (u8, &[u8]),
+    (wanted, wanted_replies): (u8, &[u8]),
+) -> Result<(), Failure> {
+    compare_replies(alloc, replies, wanted_replies)?;
+    if found != wanted {
+        return Err(Failure::Status { found, wanted });
     }
     Ok(())
 }

@@ -6,11 +6,10 @@ use slate_check::{
     Soundness, check_soundness, print_soundness, show_checkpoints, show_logs, show_manifests,
     show_sweep, show_tables,
 };
-use slate_directory::{DirectoryBlobs, FileId, open_directory};
+use slate_directory::{DirectoryBlobs, DirectoryStore, FileId, open_directory};
 use slate_live::Outcome;
 use slate_objects::{DecodeError, DecodeFault, decode_log, decode_manifest, decode_table};
 use slate_store::{Store, StoreError, StoreFault, StoreRefusal, TableId, to_sweep};
-use slate_types::Seq;
 use std::alloc::Global;
 use std::{fs, io};
 
@@ -18,6 +17,7 @@ use std::{fs, io};
 const NOT_SOUND: u8 = 1;
 
 /// What came of looking at the files of a directory.
+#[derive(Clone, Copy)]
 enum Damage {
     /// A file isn't an object. It was named.
     Found,
@@ -28,17 +28,9 @@ enum Damage {
 /// Prints whether the objects in the files of a directory are sound, or names the first file that isn't an object. No
 /// file and no folder is made or changed. It answers the exit status.
 pub(crate) fn check_directory(rt: &HostRuntime, path: &str) -> u8 {
-    if let Err(error) = find_folders(rt, path) {
-        return refuse(rt, path, &error);
-    }
-    let mut store = match open_directory(*rt, rt.alloc(), path) {
-        Ok(store) => store,
-        Err(error) => return refuse(rt, path, &error),
-    };
-    match check_soundness(rt.alloc(), &mut store) {
-        Ok(soundness) => print_judged(rt, &soundness),
-        Err(StoreError::NoMemory) => report(rt, Outcome::NoMemory),
-        Err(_) => name_damage(rt, path),
+    match open_there(rt, path) {
+        Ok(mut store) => check_store(rt, path, &mut store),
+        Err(error) => refuse(rt, path, &error),
     }
 }
 
@@ -46,23 +38,38 @@ pub(crate) fn check_directory(rt: &HostRuntime, path: &str) -> u8 {
 /// what a sweep at a moment would remove, where one is given; or names the first file that isn't an object. No file and no
 /// folder is made or changed. It answers the exit status.
 pub(crate) fn show_directory(rt: &HostRuntime, path: &str, moment: Option<i64>) -> u8 {
-    if let Err(error) = find_folders(rt, path) {
-        return refuse(rt, path, &error);
+    match open_there(rt, path) {
+        Ok(mut store) => show_store(rt, path, &mut store, moment),
+        Err(error) => refuse(rt, path, &error),
     }
-    let mut store = match open_directory(*rt, rt.alloc(), path) {
-        Ok(store) => store,
-        Err(error) => return refuse(rt, path, &error),
-    };
+}
+
+/// The store over a directory whose folders are there.
+fn open_there(rt: &HostRuntime, path: &str) -> io::Result<DirectoryStore<HostRuntime>> {
+    find_folders(rt, path)?;
+    open_directory(*rt, rt.alloc(), path)
+}
+
+/// Prints whether a store is sound, or names the first file that isn't an object. It answers the exit status.
+fn check_store<S: Store>(rt: &HostRuntime, path: &str, store: &mut S) -> u8 {
+    match check_soundness(rt.alloc(), store) {
+        Ok(soundness) => print_judged(rt, &soundness),
+        Err(error) => name_cause(rt, path, error),
+    }
+}
+
+/// Prints the objects of a store, and what a sweep at a moment would remove, where one is given, or names the first file
+/// that isn't an object. It answers the exit status.
+fn show_store<S: Store>(rt: &HostRuntime, path: &str, store: &mut S, moment: Option<i64>) -> u8 {
     let mut text = Vec::new(rt.alloc());
-    match show_store(rt.alloc(), &mut store, moment, &mut text) {
+    match write_store(rt.alloc(), store, moment, &mut text) {
         Ok(()) => print_bytes(rt, text.as_slice(), 0),
-        Err(StoreError::NoMemory) => report(rt, Outcome::NoMemory),
-        Err(_) => name_damage(rt, path),
+        Err(error) => name_cause(rt, path, error),
     }
 }
 
 /// Writes the objects of a store, a line each, and what a sweep at a moment would remove, where one is given.
-fn show_store<S: Store>(
+fn write_store<S: Store>(
     alloc: Global,
     store: &mut S,
     moment: Option<i64>,
@@ -70,13 +77,23 @@ fn show_store<S: Store>(
 ) -> Result<(), StoreError> {
     let listing = store.list(alloc)?;
     show_manifests(alloc, store, listing.manifests.as_slice(), out)?;
-    if let Some(latest) = store.latest_manifest(alloc)? {
-        show_checkpoints(out, latest.manifest.checkpoints.as_slice())?;
-    }
+    write_checkpoints(alloc, store, out)?;
     show_logs(alloc, store, listing.logs.as_slice(), out)?;
     show_tables(alloc, store, listing.tables.as_slice(), out)?;
     match moment {
         Some(moment) => show_swept(alloc, store, moment, out),
+        None => Ok(()),
+    }
+}
+
+/// Writes the checkpoints of the latest manifest.
+fn write_checkpoints<S: Store>(
+    alloc: Global,
+    store: &mut S,
+    out: &mut Vec<u8>,
+) -> Result<(), StoreError> {
+    match store.latest_manifest(alloc)? {
+        Some(latest) => Ok(show_checkpoints(out, latest.manifest.checkpoints.as_slice())?),
         None => Ok(()),
     }
 }
@@ -139,8 +156,12 @@ fn refuse(rt: &HostRuntime, path: &str, error: &io::Error) -> u8 {
     NO_DIRECTORY
 }
 
-/// Names the first file of a directory that isn't an object, where a store over it failed. It answers the exit status.
-fn name_damage(rt: &HostRuntime, path: &str) -> u8 {
+/// Names the first file of a directory that isn't an object, where a store over it failed, unless memory ran out. It
+/// answers the exit status.
+fn name_cause(rt: &HostRuntime, path: &str, error: StoreError) -> u8 {
+    if error == StoreError::NoMemory {
+        return report(rt, Outcome::NoMemory);
+    }
     match find_damage(rt, path) {
         Ok(Damage::Found) => NOT_SOUND,
         Ok(Damage::None) => refuse(rt, path, &io::Error::from(io::ErrorKind::Other)),
@@ -150,57 +171,68 @@ fn name_damage(rt: &HostRuntime, path: &str) -> u8 {
 
 /// Looks at each file of a directory, and names the first that isn't an object.
 fn find_damage(rt: &HostRuntime, path: &str) -> io::Result<Damage> {
+    if let Damage::Found = find_in::<u64>(rt, path, Kind::Manifest)? {
+        return Ok(Damage::Found);
+    }
+    if let Damage::Found = find_in::<u64>(rt, path, Kind::Log)? {
+        return Ok(Damage::Found);
+    }
+    find_in::<TableId>(rt, path, Kind::Table)
+}
+
+/// What the files of a folder are.
+#[derive(Clone, Copy)]
+enum Kind {
+    Manifest,
+    Log,
+    Table,
+}
+
+impl Kind {
+    fn folder(self) -> &'static str {
+        match self {
+            Kind::Manifest => "manifest",
+            Kind::Log => "wal",
+            Kind::Table => "compacted",
+        }
+    }
+
+    fn extension(self) -> &'static str {
+        match self {
+            Kind::Manifest => ".manifest",
+            Kind::Log | Kind::Table => ".sst",
+        }
+    }
+
+    /// Why bytes aren't an object of this kind, where they aren't.
+    fn fault_of(self, alloc: Global, bytes: Bytes) -> io::Result<Option<DecodeFault>> {
+        match self {
+            Kind::Manifest => fault_of(decode_manifest(alloc, bytes)),
+            Kind::Log => fault_of(decode_log(alloc, bytes)),
+            Kind::Table => fault_of(decode_table(alloc, bytes)),
+        }
+    }
+}
+
+/// Looks at each file of a folder, and names the first that isn't an object.
+fn find_in<K: FileId + Copy + Ord + Drop>(
+    rt: &HostRuntime,
+    path: &str,
+    kind: Kind,
+) -> io::Result<Damage> {
     let alloc = rt.alloc();
-    let mut manifests: DirectoryBlobs<HostRuntime, u64> = DirectoryBlobs::open(
-        *rt,
-        alloc,
-        path,
-        "manifest",
-        ".manifest",
+    let (folder, extension) = (kind.folder(), kind.extension());
+    let mut blobs: DirectoryBlobs<HostRuntime, K> = DirectoryBlobs::open(
+        *rt, alloc, path, folder, extension,
     )?;
-    for id in ids_of(alloc, &mut manifests)?.as_slice() {
-        let bytes = bytes_of(alloc, &mut manifests, *id)?;
-        if let Some(fault) = fault_of(decode_manifest(alloc, bytes))? {
-            return name_file(rt, "manifest", *id, ".manifest", fault);
-        }
-    }
-    let mut logs: DirectoryBlobs<HostRuntime, u64> = DirectoryBlobs::open(
-        *rt, alloc, path, "wal", ".sst",
-    )?;
-    for id in ids_of(alloc, &mut logs)?.as_slice() {
-        let bytes = bytes_of(alloc, &mut logs, *id)?;
-        if let Some(fault) = fault_of(decode_log(alloc, bytes))? {
-            return name_file(rt, "wal", *id, ".sst", fault);
-        }
-    }
-    let mut tables: DirectoryBlobs<HostRuntime, TableId> = DirectoryBlobs::open(
-        *rt,
-        alloc,
-        path,
-        "compacted",
-        ".sst",
-    )?;
-    for id in ids_of(alloc, &mut tables)?.as_slice() {
-        let bytes = bytes_of(alloc, &mut tables, *id)?;
-        if let Some(fault) = fault_of(decode_table(alloc, bytes))? {
-            return name_file(rt, "compacted", *id, ".sst", fault);
+    let ids = blobs.list(alloc).map_err(error_of)?;
+    for id in ids.as_slice() {
+        let bytes = blobs.get(alloc, *id).map_err(error_of)?;
+        if let Some(fault) = kind.fault_of(alloc, bytes)? {
+            return name_file(rt, folder, *id, extension, fault);
         }
     }
     Ok(Damage::None)
-}
-
-/// The ids of a folder's blobs.
-fn ids_of<K: Copy + Ord + Drop, B: Blobs<K>>(alloc: Global, blobs: &mut B) -> io::Result<Seq<K>> {
-    blobs.list(alloc).map_err(error_of)
-}
-
-/// The bytes of a blob.
-fn bytes_of<K: Copy + Ord + Drop, B: Blobs<K>>(
-    alloc: Global,
-    blobs: &mut B,
-    id: K,
-) -> io::Result<Bytes> {
-    blobs.get(alloc, id).map_err(error_of)
 }
 
 /// The system's error that stands for a refusal by a folder.

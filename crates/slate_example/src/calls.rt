@@ -1,11 +1,14 @@
 // The calls that the three programs make: with the default options, no extractor and no operator.
-use crate::first::NO_EXTRACTOR;
 use slate_errors::SlateError;
 use slate_follow::{DbReaderMode, DbReaderOptions, FollowerState};
 use slate_store::Store;
-use slate_types::{KeyValue, NoMemory, WriteBatch};
+use slate_types::{ConcatOperator, FixedPrefix, KeyValue, NoMemory, WriteBatch};
 use slate_writer::{WriterOptions, WriterState};
 use std::alloc::Global;
+
+pub const NO_EXTRACTOR: Option<&FixedPrefix> = None;
+
+pub const NO_OPERATOR: Option<&ConcatOperator> = None;
 
 /// What a call answers.
 pub type Answer<T> = Result<T, SlateError>;

@@ -4,8 +4,7 @@
 // that wrote it. So the rows above the number up to which it handed out are those that changed, and none is left out. A
 // key that was written twice since then has one row, the latest one. A key that was deleted has none: a feed that is to
 // show deletes wants them written as values.
-use crate::calls::{Answer, open_reader, open_writer, poll, put};
-use crate::first::NO_OPERATOR;
+use crate::calls::{Answer, NO_OPERATOR, open_reader, open_writer, poll, put};
 use slate_follow::FollowerState;
 use slate_store::Store;
 use slate_types::{ByteRange, FlushType, IterationOrder, KeyValue};

@@ -1,39 +1,41 @@
-// The first example: a database is opened, written, flushed, and read by a reader that follows it.
-use slate_errors::SlateError;
-use slate_follow::{DbReaderMode, DbReaderOptions, FollowerState};
-use slate_store::Store;
-use slate_types::{ConcatOperator, FixedPrefix, FlushType, KeyValue, WriteBatch};
-use slate_writer::{WriterOptions, WriterState};
+// The first example: a database is opened, written, read and flushed, and a reader sees what was flushed.
+use bytes::Bytes;
+use slate_db::{
+    Db, DbReadOps, DbReader, DbReaderMode, DbReaderOptions, DbWriteOps, Error, MemoryStore,
+    SharedStore, WriterOptions,
+};
 use std::alloc::Global;
+use std::rt::Clock;
+use std::sync::Wait;
 
-pub const NO_EXTRACTOR: Option<&FixedPrefix> = None;
+/// Puts a few keys, deletes one, and answers what the database and then a reader find under two of them.
+pub fn put_and_get<R>(rt: R, alloc: Global) -> Result<[Option<Bytes>; 3], Error>
+where
+    R: Wait + Clock + Copy,
+{
+    // Setup: a store in memory, which the database and the reader share.
+    let object_store = SharedStore::new(alloc, rt, MemoryStore::new(alloc))?;
+    let kv_store = Db::open(alloc, rt, object_store.share()?, &WriterOptions::default())?;
 
-pub const NO_OPERATOR: Option<&ConcatOperator> = None;
+    // Put
+    kv_store.put(&rt, alloc, b"test_key", b"test_value")?;
 
-/// Writes two keys to a database, and answers what a reader finds under one of them.
-pub fn put_and_get<S: Store>(alloc: Global, store: &mut S) -> Result<Option<KeyValue>, SlateError> {
-    let mut db = WriterState::open(alloc, store, &WriterOptions::default(), NO_EXTRACTOR)?;
-    put_both(alloc, &mut db)?;
-    db.flush(alloc, store, FlushType::Wal)?;
-    follow(alloc, store)
-}
+    // Get
+    let value = kv_store.get(&rt, alloc, b"test_key")?;
 
-/// What a reader that is opened now finds under one of the keys.
-fn follow<S: Store>(alloc: Global, store: &mut S) -> Result<Option<KeyValue>, SlateError> {
+    // Delete
+    kv_store.delete(&rt, alloc, b"test_key")?;
+    kv_store.put(&rt, alloc, b"test_key1", b"test_value1")?;
+
+    // Flush: from then on it is durable, and a reader that is opened or polled sees it.
+    kv_store.flush(&rt, alloc)?;
     let (mode, options) = (DbReaderMode::FollowLatest, DbReaderOptions::default());
-    let (mut reader, _) = FollowerState::open(alloc, store, mode, &options, NO_EXTRACTOR, 1)?;
-    reader.poll(alloc, store, NO_EXTRACTOR, 2)?;
-    reader.get(alloc, store, b"color", NO_OPERATOR)
-}
+    let reader = DbReader::open(alloc, rt, object_store, mode, &options)?;
+    let deleted = reader.get(&rt, alloc, b"test_key")?;
+    let stored = reader.get(&rt, alloc, b"test_key1")?;
 
-/// Writes two keys as one batch at the moment 1. The handle reads them at once; they are durable once it is flushed.
-fn put_both(alloc: Global, db: &mut WriterState) -> Result<(), SlateError> {
-    let mut batch = WriteBatch::new(alloc);
-    batch.put(alloc, b"color", b"blue")?;
-    batch.put(alloc, b"size", b"7")?;
-    match db.write(alloc, batch, 1, None, NO_EXTRACTOR) {
-        Ok(_) => Ok(()),
-        // Nothing was written, and the batch comes back beside the error.
-        Err(refusal) => Err(refusal.error),
-    }
+    // Close
+    reader.close(&rt, alloc)?;
+    kv_store.close(&rt, alloc)?;
+    Ok([value, deleted, stored])
 }

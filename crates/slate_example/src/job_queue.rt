@@ -3,8 +3,7 @@
 // Each job is a key. A worker takes the first one by deleting it, and the job is taken once a flush has stored that. The
 // worker that opens the database last fences those before it: their flushes answer `Fenced` and store nothing, so that
 // what they took and hadn't stored is still there.
-use crate::calls::{Answer, delete, open_writer, put, text_of};
-use crate::first::NO_OPERATOR;
+use crate::calls::{Answer, NO_OPERATOR, delete, open_writer, put, text_of};
 use slate_errors::SlateError;
 use slate_store::Store;
 use slate_types::{ByteRange, FlushType, KeyValue, ScanOptions};

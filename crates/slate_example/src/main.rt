@@ -8,30 +8,39 @@ mod first;
 mod job_queue;
 mod read_service;
 
+use bytes::Bytes;
 use change_feed::HandedOut;
 use job_queue::Turn;
 use read_service::Served;
 use slate_store::MemoryStore;
 use std::alloc::Global;
 use std::io::{self, Print};
+use std::rt::Clock;
+use std::sync::Wait;
 
 fn main(rt: HostRuntime) -> io::Result<()> {
-    print_first(&rt, rt.alloc())?;
+    print_first(rt, rt.alloc())?;
     print_service(&rt, rt.alloc())?;
     print_feed(&rt, rt.alloc())?;
     print_queue(&rt, rt.alloc())
 }
 
-fn print_first(rt: &impl Print, alloc: Global) -> io::Result<()> {
-    let mut store = MemoryStore::new(alloc);
-    match first::put_and_get(alloc, &mut store) {
-        Ok(Some(row)) => println!(rt;
-            "a value of {} bytes, by batch {}",
-            row.value.len(),
-            row.seq
-        ),
-        Ok(None) => println!(rt; "no value"),
-        Err(error) => println!(rt; "{}", error.kind()),
+fn print_first<R: Print + Wait + Clock + Copy>(rt: R, alloc: Global) -> io::Result<()> {
+    match first::put_and_get(rt, alloc) {
+        Ok(found) => {
+            for value in &found {
+                print_value(&rt, value.as_ref())?;
+            }
+            Ok(())
+        }
+        Err(error) => println!(&rt; "{}", error.kind()),
+    }
+}
+
+fn print_value(rt: &impl Print, value: Option<&Bytes>) -> io::Result<()> {
+    match value {
+        Some(value) => println!(rt; "first: a value of {} bytes", value.len()),
+        None => println!(rt; "first: no value"),
     }
 }
 

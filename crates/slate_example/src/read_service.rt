@@ -1,8 +1,7 @@
 // A read service: all that it serves between two polls is of one state of the database, whatever a writer stores meanwhile.
 // Here the states are the balances of two accounts. Each transfer writes both as one batch, so that in every state they
 // come to 100. The service reads one balance before a transfer and one after it, and still they come to 100.
-use crate::calls::{Answer, open_reader, open_writer, poll, text_of, write};
-use crate::first::NO_OPERATOR;
+use crate::calls::{Answer, NO_OPERATOR, open_reader, open_writer, poll, text_of, write};
 use slate_follow::FollowerState;
 use slate_store::Store;
 use slate_types::{FlushType, WriteBatch};

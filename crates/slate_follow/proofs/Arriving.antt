@@ -1,6 +1,8 @@
 -- What a reader takes of a poll by single calls.
 use Rattle.std.proofs.Common.{◌≡◌, ◌∙◌, ◌+◌, ◌<◌, ◌≤◌, ◌^◌, ◌++◌, ℕ, Bool, List, [], Option, Result, Ok, Err, None, Some, unwrap_or, if◌then◌else◌, inl, inr, length, append_assoc, arith, refl, sym, ap, subst}
+use Rattle.std.specs.Option.{IfSome}
 use Rattle.std.specs.Prelude.{◌⊎◌}
+use Rattle.slate_types.specs.Modelled.{WhereModelled}
 use Rattle.std.specs.Result.{OnOk}
 use Rattle.slate_types.specs.Line.{AreNumberedFrom, batches_above}
 use Rattle.slate_types.specs.declared.batches.Batch.{Batch}
@@ -15,7 +17,7 @@ use Rattle.slate_model.specs.Begun.{AsksLast, Begun, Breaks, Ended, Ends, Puts, 
 use Rattle.slate_segments.specs.Refusals.{IsOfSegment}
 use Rattle.slate_follow.specs.Rebuilding.{poll_error}
 use Rattle.slate_follow.specs.Arriving.{taken_batches}
-use Rattle.slate_follow.specs.Stepping.{LeavesPut, Meets, MeetsAt, StepFails, came}
+use Rattle.slate_follow.specs.Stepping.{ArrivalLacks, FailsFrom, LeavesPut, Meets, MeetsAt, StepFails, StepLacks, came}
 use Rattle.slate_follow.specs.declared.machines.Turn.{Turn as Answered}
 use Rattle.slate_follow.specs.declared.machines.Turn.TheVariants as turns
 use Rattle.slate_model.specs.Follower.{Follower, HasSegments, unsegmented}
@@ -24,6 +26,7 @@ use Rattle.slate_model.proofs.Free.{numbered-rising}
 use Rattle.slate_model.proofs.Reopened.{numbered_rest}
 use Rattle.slate_follow.proofs.Above.{numbered-above}
 use Rattle.slate_follow.proofs.Above.{above-twice}
+use Rattle.slate_follow.proofs.Rebuilt.{if_some}
 
 pub on-ok : {A E : Type 0} {P Q : Type 0} (r : Result A E) → (P → Q) → OnOk r P → OnOk r Q
 on-ok (Ok x) f h = f h
@@ -121,3 +124,14 @@ arrival-failed reader begun last turns.Breaks (errors.EmptySegmentPrefix key) o 
 arrival-failed reader begun last turns.Ends errors.NoMemory o o' of ends m = meets-leaves begun.stage reader begun o o' (Ends last) m
 arrival-failed reader begun last turns.Breaks errors.NoMemory o o' of ends m = meets-leaves begun.stage reader begun o o' (Breaks last) m
 arrival-failed reader begun last answered e o o' of ends m = absurd of
+
+-- ---- why a step answers InvalidDBState
+-- its call leads to that
+pub call-lacks : (x : Option Extractor) (reader : Follower) (begun : Begun) {t t' : Option Objects} → WhereModelled (λ o o'. FailsFrom begun.stage reader begun o errors.InvalidDBState o') t t' → IfSome t (λ o. StepLacks x reader begun o)
+call-lacks x reader begun {t} fails = if_some t (λ o at. let h = fails.some o at in inl (h.0, h.2))
+
+-- or a key of what the poll came to has no segment
+pub arrival-lacks : (x : Option Extractor) (reader : Follower) (begun last : Begun) (answered : Answered) {t t' : Option Objects} → (answered ≡ turns.Goes → ⊥) → WhereModelled (λ o o'. MeetsAt begun.stage reader begun o (came answered last) o') t t' → ArrivalLacks x reader last → IfSome t (λ o. StepLacks x reader begun o)
+arrival-lacks x reader begun last turns.Goes {t} ends meets lacks = absurd (ends refl)
+arrival-lacks x reader begun last turns.Ends {t} ends meets lacks = if_some t (λ o at. let h = meets.some o at in inr (last, (h.0, inl h.2), lacks))
+arrival-lacks x reader begun last turns.Breaks {t} ends meets lacks = if_some t (λ o at. let h = meets.some o at in inr (last, (h.0, inr h.2), lacks))

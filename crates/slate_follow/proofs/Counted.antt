@@ -1,23 +1,35 @@
 -- How often a reader that keeps a checkpoint calls the store.
-use Rattle.std.proofs.Common.{◌≡◌, ℕ, ◌+◌, ◌-◌, ◌*◌, ◌<◌, ◌≤◌, Option, Some, None, Bool, true, false, cond, Ok, sym, ap, subst, ◌∙◌, arith}
+use Rattle.std.proofs.Common.{◌≡◌, ℕ, zero, suc, ◌+◌, ◌-◌, ◌*◌, ◌<◌, ◌≤◌, max, map, length, length-append, is_none, not, Option, Some, None, Bool, true, false, cond, Ok, refl, sym, ap, subst, ◌∙◌, arith}
+use Rattle.std.proofs.lemmas.Bool.{le-leb}
 use Rattle.std.proofs.Math.Nat.{add-mul, mul-le-mul_right}
 use Rattle.std.specs.Option.{IfSome}
-use Rattle.std.specs.Prelude.{ℤ, List}
+use Rattle.std.specs.Prelude.{ℤ, List, nat_le, ◌&&◌}
 use Rattle.slate_types.specs.Modelled.{WhereModelled}
-use Rattle.slate_store.specs.Checkpoints.{to_write}
-use Rattle.slate_store.specs.Objects.{Objects, PutManifest, changed, last_log, latest_manifest}
-use Rattle.slate_store.specs.Refusals.{PlanIs}
+use Rattle.slate_types.specs.declared.batches.Batch.{Batch}
+use Rattle.slate_store.proofs.LastLog.{at_least}
+use Rattle.slate_store.specs.Checkpoints.{Plan, found, to_write}
+use Rattle.slate_store.specs.Objects.{Objects, PutManifest, changed, greatest, last_log, latest_manifest}
+use Rattle.slate_store.specs.Refusals.{PlanIs, checkpoint_changes}
 use Rattle.slate_store.specs.declared.objects.VersionedManifest.{VersionedManifest}
 use Rattle.slate_store.specs.declared.reader_modes.DbReaderMode.{DbReaderMode}
-use Rattle.slate_store.specs.declared.reader_modes.DbReaderMode.TheVariants.{ManagedCheckpoint}
+use Rattle.slate_store.specs.declared.reader_modes.DbReaderMode.TheVariants.{Checkpoint, FollowLatest, ManagedCheckpoint}
+use Rattle.slate_replay.specs.declared.replays.Replayed.{Replayed}
+use Rattle.slate_replay.specs.declared.replays.Replayed.TheVariants.{Truncated, Whole}
 use Rattle.slate_errors.specs.declared.errors.SlateError.{SlateError}
+use Rattle.slate_errors.specs.declared.errors.SlateError.TheVariants.{TransactionalObjectTimeout}
+use Rattle.slate_model.proofs.Reduced.{some-same}
 use Rattle.slate_model.specs.Followed.{followed_logs, last_read, logs_under, read_logs}
-use Rattle.slate_model.specs.Lease.{leased, to_take}
-use Rattle.slate_model.specs.Managed.{PutsPlanned}
+use Rattle.slate_model.specs.Follower.{Follower, is_pinned, number}
+use Rattle.slate_model.specs.Lease.{differs, is_due, leased, to_take}
+use Rattle.slate_model.specs.Managed.{PlanCause, PutsPlanned}
 use Rattle.slate_model.specs.Open.{mark_of, replayed_logs}
 use Rattle.slate_model.specs.Stores.{Stands}
 use Rattle.slate_model.specs.declared.leases.Lease.{Lease}
-use Rattle.slate_follow.specs.Keeping.{FindsLatest, PutsManifest}
+use Rattle.slate_follow.specs.Keeping.{CallsKeeping, FindsLatest, IsNews, PutsManifest, calls_to_keep}
+use Rattle.slate_follow.specs.Rebuilding.{CallsContinuing, CallsRebuilding, goes_on, last_above, new_logs}
+use Rattle.slate_follow.proofs.Continued.{greatest-greater}
+use Rattle.slate_follow.specs.Growing.{IsPushed, added_to}
+use Rattle.slate_follow.proofs.Informed.{tabled-same}
 use Rattle.slate_follow.proofs.Leased.{HasCheckpoints, reads, written-form}
 use Rattle.slate_follow.proofs.Rebuilt.{if_some, some_at}
 use Rattle.slate_follow.proofs.Taken.{taken-after, taken-from}
@@ -26,17 +38,7 @@ pub at-most-one : (b : Bool) → cond b 0 1 ≤ 1
 at-most-one true = omega arith
 at-most-one false = omega arith
 
--- the log files under the latest manifest are those that an opening replays
-pub read-replayed : (o : Objects) (latest : VersionedManifest) → latest_manifest o ≡ Some latest → (skips : Bool) → read_logs ManagedCheckpoint skips o (Some latest) ≤ replayed_logs o
-read-replayed o latest is skips = by skips where
-  all : replayed_logs o ≡ last_log latest.manifest.replay_after_wal_id o - latest.manifest.replay_after_wal_id
-  all = ap (λ x. last_log (mark_of x) o - mark_of x) is
-
-  by : (skips : Bool) → read_logs ManagedCheckpoint skips o (Some latest) ≤ replayed_logs o
-  by true = omega arith
-  by false = (let same = all in omega (arith, same))
-
--- and those under a manifest with other checkpoints, which is put
+-- the log files under a manifest with other checkpoints, which is put, are those under the one before
 put-logs : (o o' : Objects) (latest next : VersionedManifest) → HasCheckpoints latest next → o' ≡ changed (PutManifest next.id next.manifest) o → (skips : Bool) →
     last_read ManagedCheckpoint skips next o' - next.manifest.replay_after_wal_id ≡ read_logs ManagedCheckpoint skips o (Some latest)
 put-logs o o' latest next form after skips =
@@ -61,47 +63,223 @@ module _ (refused : Objects → SlateError → Type 0) (lifetime : ℕ) (skips :
   taken-calls n n' most = if_some t (λ o at. (let same = logs-are o at in omega (arith, same, most)))
 
 -- ---- a poll
--- a new checkpoint
-pub replaced-calls : (replaced : Option (List ℕ)) (lifetime : ℕ) (moment : ℤ) (latest next : VersionedManifest) (given : Lease) → leased lifetime (to_write replaced (Some lifetime) moment latest) ≡ Ok (Some next, given) → (t t1 : Option Objects) → WhereModelled (PutsManifest next (Ok true)) t t1 →
-    (mode : DbReaderMode) (skips : Bool) → mode ≡ ManagedCheckpoint → (last : ℕ) → IfSome t1 (λ o. last ≡ last_read mode skips next o) → (n n' : ℕ) → n' ≤ n + 2 + (last - next.manifest.replay_after_wal_id) → IfSome t (λ o. n' ≤ n + (read_logs mode skips o (Some latest) + 2))
-replaced-calls replaced lifetime moment latest next given gives t t1 puts mode skips managed last reach n n' most =
-    let reach_in = subst (λ m. IfSome t1 (λ o. last ≡ last_read m skips next o)) managed reach in
-    subst (λ m. IfSome t (λ o. n' ≤ n + (read_logs m skips o (Some latest) + 2))) (sym managed)
-    (if_some t (λ o at.
-    let h = puts.some o at in
-    let last_is = some_at (λ o. last ≡ last_read ManagedCheckpoint skips next o) t1 h.0 h.1 reach_in in
-    let same = ap (λ n. n - next.manifest.replay_after_wal_id) last_is ∙ put-logs o h.0 latest next (written-form latest lifetime moment next given replaced gives) h.2 skips in
-    omega (arith, same, most)))
+-- the greatest of the greater of two numbers and others isn't further above that than the greatest of one of them is above it
+greater-fewer : (m n : ℕ) (xs : List ℕ) → greatest (max m n) xs - max m n ≤ greatest n xs - n
+greater-fewer m n xs =
+    let most = greatest-greater m n xs in
+    let least = at_least n xs in
+    omega (arith, most, least)
 
--- a try, which finds the latest manifest first
-module _ (latest : VersionedManifest) (t t1 : Option Objects) (kept : t1 ≡ t) (is : IfSome t (λ o. FindsLatest o (Ok latest))) (mode : DbReaderMode) (skips : Bool) (managed : mode ≡ ManagedCheckpoint) (n n1 : ℕ) (one : n1 ≤ n + 1) where
-  below : (o : Objects) → t ≡ Some o → read_logs mode skips o (Some latest) ≤ replayed_logs o
-  below o at = subst (λ m. read_logs m skips o (Some latest) ≤ replayed_logs o) (sym managed) (read-replayed o latest (some_at (λ o. FindsLatest o (Ok latest)) t o at is) skips)
+module _ (o : Objects) (latest : VersionedManifest) (is : latest_manifest o ≡ Some latest) where
+  abbrev mark : ℕ
+  mark = latest.manifest.replay_after_wal_id
 
-  -- it replaces the checkpoint then
-  pub replaced-first : (n' : ℕ) → IfSome t1 (λ o. n' ≤ n1 + (read_logs mode skips o (Some latest) + 2)) → IfSome t (λ o. n' ≤ n + 2 * (replayed_logs o + 2))
-  replaced-first n' more = if_some t (λ o at.
-      let a = some_at (λ o. n' ≤ n1 + (read_logs mode skips o (Some latest) + 2)) t1 o (kept ∙ at) more in
-      let b = below o at in
+  all-logs : replayed_logs o ≡ last_log mark o - mark
+  all-logs = ap (λ x. last_log (mark_of x) o - mark_of x) is
+
+  free-read : (mode : DbReaderMode) (skips : Bool) → is_pinned mode ≡ false → read_logs mode skips o (Some latest) ≤ replayed_logs o
+  free-read mode true free = omega arith
+  free-read (Checkpoint id) false free = absurd (cc)
+  free-read FollowLatest false free = (let same = all-logs in omega (arith, same))
+  free-read ManagedCheckpoint false free = (let same = all-logs in omega (arith, same))
+
+  -- a reader reads no more under the latest manifest than an opening does
+  pub new-below : (f : Follower) → is_pinned f.mode ≡ false → new_logs f latest o ≤ replayed_logs o
+  new-below f free = by (goes_on f latest) where
+    by : (b : Bool) → cond b (last_above f latest o - max f.mark mark) (read_logs f.mode f.skips o (Some latest)) ≤ replayed_logs o
+    by true = (let same = all-logs in let fewer = greater-fewer f.mark mark (map (λ log. log.0) o.logs) in omega (arith, same, fewer))
+    by false = free-read f.mode f.skips free
+
+-- nor does it under one with other checkpoints, which is put
+module _ (o o' : Objects) (latest next : VersionedManifest) (form : HasCheckpoints latest next) (after : o' ≡ changed (PutManifest next.id next.manifest) o) (f : Follower) (managed : f.mode ≡ ManagedCheckpoint) where
+  abbrev above : List (ℕ × List Batch) → ℕ → ℕ
+  above logs n = greatest (max f.mark n) (map (λ log. log.0) logs) - max f.mark n
+
+  pub put-new : new_logs f next o' ≡ new_logs f latest o
+  put-new =
+      let m : VersionedManifest → ℕ = λ v. v.manifest.replay_after_wal_id in
+      let marks : m next ≡ m latest = ap m form.1 in
+      let goes : goes_on f next ≡ goes_on f latest = ap (goes_on f) form.1 in
+      let over : above o'.logs (m next) ≡ above o.logs (m latest) = ap (λ (x : Objects). above x.logs (m next)) after ∙ ap (above o.logs) marks in
+      let reads : read_logs f.mode f.skips o' (Some next) ≡ read_logs f.mode f.skips o (Some latest) =
+      subst (λ k. read_logs k f.skips o' (Some next) ≡ read_logs k f.skips o (Some latest)) (sym managed) (put-logs o o' latest next form after f.skips) in
+      ap (λ b. cond b (above o'.logs (m next)) (read_logs f.mode f.skips o' (Some next))) goes
+      ∙ (ap (λ n. cond (goes_on f latest) n (read_logs f.mode f.skips o' (Some next))) over ∙ ap (λ n. cond (goes_on f latest) (above o.logs (m latest)) n) reads)
+
+-- a poll of a reader that follows the latest manifest
+module _ (latest : VersionedManifest) (t t1 : Option Objects) (kept : t1 ≡ t) (is : IfSome t (λ o. FindsLatest o (Ok latest))) (old : Follower) where
+  found-at : (o : Objects) → t ≡ Some o → latest_manifest o ≡ Some latest
+  found-at o at = some_at (λ o. FindsLatest o (Ok latest)) t o at is
+
+  pub follow-below : is_pinned old.mode ≡ false → (n n1 n' : ℕ) → n1 ≤ n + 1 → IfSome t1 (λ o. n' ≤ n1 + (new_logs old latest o + 1)) → IfSome t (λ o. CallsRebuilding o n n')
+  follow-below free n n1 n' one more = if_some t (λ o at.
+      let a = some_at (λ o. n' ≤ n1 + (new_logs old latest o + 1)) t1 o (kept ∙ at) more in
+      let b = new-below o latest (found-at o at) old free in
       omega (arith, one, a, b))
 
+  pub follow-costs : (n n1 n' : ℕ) → n1 ≤ n + 1 → IfSome t1 (λ o. n' ≤ n1 + (new_logs old latest o + 1)) → IfSome t (λ o. CallsContinuing o old n n')
+  follow-costs n n1 n' one more = if_some t (λ o at found found_is.
+      let same : latest ≡ found = some-same latest found (sym (found-at o at) ∙ found_is) in
+      let a = some_at (λ o. n' ≤ n1 + (new_logs old latest o + 1)) t1 o (kept ∙ at) more in
+      subst (λ v. n' ≤ n + 2 + new_logs old v o) same (omega (arith, one, a)))
+
+-- a new checkpoint
+pub replaced-calls : (replaced : Option (List ℕ)) (lifetime : ℕ) (moment : ℤ) (latest next : VersionedManifest) (given : Lease) → leased lifetime (to_write replaced (Some lifetime) moment latest) ≡ Ok (Some next, given) → (t t1 : Option Objects) → WhereModelled (PutsManifest next (Ok true)) t t1 →
+    (f : Follower) → f.mode ≡ ManagedCheckpoint → (n n1 n' : ℕ) → n1 ≤ n + 1 → IfSome t1 (λ o. n' ≤ n1 + (new_logs f next o + 1)) → IfSome t (λ o. n' ≤ n + (new_logs f latest o + 2))
+replaced-calls replaced lifetime moment latest next given gives t t1 puts f managed n n1 n' one then =
+    if_some t (λ o at.
+    let h = puts.some o at in
+    let most = some_at (λ o. n' ≤ n1 + (new_logs f next o + 1)) t1 h.0 h.1 then in
+    let same = put-new o h.0 latest next (written-form latest lifetime moment next given replaced gives) h.2 f managed in
+    omega (arith, same, one, most))
+
+-- a reader that took what is new under a manifest has no more to read under it
+module _ (o : Objects) (latest : VersionedManifest) (old mid : Follower) (managed : mid.mode ≡ ManagedCheckpoint) (skips : mid.skips ≡ old.skips) (view : mid.view ≡ old.view) (low : old.view.manifest.last_l0_seq ≤ latest.manifest.last_l0_seq)
+    (reached : latest.manifest.last_l0_seq ≤ number old) (further : number old ≤ number mid) where
+  goes-mid : (s : Bool) → old.skips ≡ s → goes_on mid latest ≡ not s
+  goes-mid true is = ap (λ s. not s && (nat_le mid.view.manifest.last_l0_seq latest.manifest.last_l0_seq && nat_le latest.manifest.last_l0_seq (number mid))) (skips ∙ is)
+  goes-mid false is =
+      let base = ap (λ (v : VersionedManifest). v.manifest.last_l0_seq) view in
+      let first = le-leb mid.view.manifest.last_l0_seq latest.manifest.last_l0_seq (omega (arith, base, low)) in
+      let second = le-leb latest.manifest.last_l0_seq (number mid) (omega (arith, reached, further)) in
+      rw (skips, is, first, second) refl
+
+  goes-old : (s : Bool) → old.skips ≡ s → goes_on old latest ≡ not s
+  goes-old true is = ap (λ s. not s && (nat_le old.view.manifest.last_l0_seq latest.manifest.last_l0_seq && nat_le latest.manifest.last_l0_seq (number old))) is
+  goes-old false is =
+      let first = le-leb old.view.manifest.last_l0_seq latest.manifest.last_l0_seq low in
+      let second = le-leb latest.manifest.last_l0_seq (number old) reached in
+      rw (is, first, second) refl
+
+  abbrev m : ℕ
+  m = latest.manifest.replay_after_wal_id
+
+  abbrev ids : List ℕ
+  ids = map (λ log. log.0) o.logs
+
+  -- how many it reads, where it skips them or not
+  logs-of : (f : Follower) (s : Bool) → goes_on f latest ≡ not s → f.skips ≡ s → new_logs f latest o ≡ cond s (m - m) (greatest (max f.mark m) ids - max f.mark m)
+  logs-of f true goes is = ap (λ b. cond b (last_above f latest o - max f.mark m) (read_logs f.mode f.skips o (Some latest))) goes ∙ ap (λ s. read_logs f.mode s o (Some latest)) is
+  logs-of f false goes is = ap (λ b. cond b (last_above f latest o - max f.mark m) (read_logs f.mode f.skips o (Some latest))) goes
+
+  pub mid-fewer : (old.skips ≡ false → max old.mark m ≤ mid.mark) → new_logs mid latest o ≤ new_logs old latest o
+  mid-fewer later = by old.skips refl where
+    by : (s : Bool) → old.skips ≡ s → new_logs mid latest o ≤ new_logs old latest o
+    by true is = (let a = logs-of mid true (goes-mid true is) (skips ∙ is) in omega (arith, a))
+    by false is = (let a = logs-of mid false (goes-mid false is) (skips ∙ is) in
+        let b = logs-of old false (goes-old false is) is in
+        let low_mark = later is in
+        let most = greatest-greater mid.mark m ids in
+        let first = greatest-greater old.mark m ids in
+        let least = at_least m ids in
+        omega (arith, a, b, low_mark, most, first, least))
+
+-- under the latest manifest it has read those above its mark
+pub news-later : (o : Objects) (latest : VersionedManifest) (old : Follower) (added : List Batch) (found : Replayed) (mark : ℕ) → IsNews o old latest false added found mark → max old.mark latest.manifest.replay_after_wal_id ≤ mark
+news-later o latest old added Whole mark news = (let is = news.1 in let least = at_least (max old.mark latest.manifest.replay_after_wal_id) (map (λ log. log.0) o.logs) in omega (arith, is, least))
+news-later o latest old added (Truncated id) mark news = (let is = news.1 in let over = news.0.ends.above in omega (arith, is, over))
+
+pub mid-fewer-at : (t : Option Objects) (latest : VersionedManifest) (old mid : Follower) (n m : ℕ) (had : Option (List (List ℕ))) → old.mode ≡ ManagedCheckpoint → differs old.view latest ≡ false → old.line.floor ≡ old.view.manifest.last_l0_seq → IsPushed old n m had mid → (found : Replayed) →
+    {t1 : Option Objects} → t1 ≡ t → IfSome t1 (λ o. IsNews o old latest old.skips (added_to old.line.batches mid.line.batches) found mid.mark) → IfSome t (λ o. new_logs mid latest o ≤ new_logs old latest o)
+mid-fewer-at t latest old mid n m had managed same floor pushed found {t1} kept news = if_some t (λ o at.
+    let added = added_to old.line.batches mid.line.batches in
+    let here = some_at (λ o. IsNews o old latest old.skips added found mid.mark) t1 o (kept ∙ at) news in
+    let tabled = tabled-same old.view latest same in
+    let lengths = ap length pushed.parts ∙ length-append old.line.batches added in
+    let base = ap (λ (f : Follower). f.line.floor) pushed.same in
+    mid-fewer o latest old mid (ap (λ (f : Follower). f.mode) pushed.same ∙ managed) (ap (λ (f : Follower). f.skips) pushed.same) (ap (λ (f : Follower). f.view) pushed.same)
+    (omega (arith, tabled)) (omega (arith, tabled, floor)) (omega (arith, lengths, base))
+    (λ reads. news-later o latest old added found mid.mark (subst (λ s. IsNews o old latest s added found mid.mark) reads here)))
+
+-- a try, which finds the latest manifest first
+module _ (latest : VersionedManifest) (t t1 : Option Objects) (kept : t1 ≡ t) (is : IfSome t (λ o. FindsLatest o (Ok latest))) (old : Follower) (managed : old.mode ≡ ManagedCheckpoint) (lease : Lease) (moment : ℤ) (n n1 : ℕ) (one : n1 ≤ n + 1) where
+  latest_is : (o : Objects) → t ≡ Some o → latest_manifest o ≡ Some latest
+  latest_is o at = some_at (λ o. FindsLatest o (Ok latest)) t o at is
+
+  below : (f : Follower) → f.mode ≡ ManagedCheckpoint → (o : Objects) → t ≡ Some o → new_logs f latest o ≤ replayed_logs o
+  below f f_managed o at = new-below o latest (latest_is o at) f (ap is_pinned f_managed)
+
+  abbrev keeping : ℕ → ℕ
+  keeping logs = calls_to_keep old.view lease moment latest logs
+
+  -- how many calls it made
+  keeping-at : (n' : ℕ) → ((o : Objects) → t ≡ Some o → n' ≤ n + keeping (new_logs old latest o)) → IfSome t (λ o. CallsKeeping o old lease moment n n')
+  keeping-at n' most = if_some t (λ o at found found_is.
+      let same : latest ≡ found = some-same latest found (sym (latest_is o at) ∙ found_is) in
+      subst (λ v. n' ≤ n + calls_to_keep old.view lease moment v (new_logs old v o)) same (most o at))
+
+  differing : differs old.view latest ≡ true → (logs : ℕ) → keeping logs ≡ logs + 3
+  differing d logs = ap (λ b. cond b (logs + 3) (cond (is_due moment lease) (cond (is_none (found lease.id latest)) (2 * logs + 4) (logs + 3)) (logs + 2))) d
+
+  same-then : differs old.view latest ≡ false → (logs : ℕ) → keeping logs ≡ cond (is_due moment lease) (cond (is_none (found lease.id latest)) (2 * logs + 4) (logs + 3)) (logs + 2)
+  same-then d logs = ap (λ b. cond b (logs + 3) (cond (is_due moment lease) (cond (is_none (found lease.id latest)) (2 * logs + 4) (logs + 3)) (logs + 2))) d
+
+  resting : differs old.view latest ≡ false → is_due moment lease ≡ false → (logs : ℕ) → keeping logs ≡ logs + 2
+  resting d due logs = same-then d logs ∙ ap (λ b. cond b (cond (is_none (found lease.id latest)) (2 * logs + 4) (logs + 3)) (logs + 2)) due
+
+  due-then : differs old.view latest ≡ false → is_due moment lease ≡ true → (logs : ℕ) → keeping logs ≡ cond (is_none (found lease.id latest)) (2 * logs + 4) (logs + 3)
+  due-then d due logs = same-then d logs ∙ ap (λ b. cond b (cond (is_none (found lease.id latest)) (2 * logs + 4) (logs + 3)) (logs + 2)) due
+
+  -- it replaces the checkpoint then
+  module _ (n' : ℕ) (more : IfSome t1 (λ o. n' ≤ n1 + (new_logs old latest o + 2))) where
+    then-at : (o : Objects) → t ≡ Some o → n' ≤ n1 + (new_logs old latest o + 2)
+    then-at o at = some_at (λ o. n' ≤ n1 + (new_logs old latest o + 2)) t1 o (kept ∙ at) more
+
+    pub replaced-first : IfSome t (λ o. n' ≤ n + 2 * (replayed_logs o + 2))
+    replaced-first = if_some t (λ o at. (let a = then-at o at in let b = below old managed o at in omega (arith, one, a, b)))
+
+    pub replaced-costs : differs old.view latest ≡ true → IfSome t (λ o. CallsKeeping o old lease moment n n')
+    replaced-costs d = keeping-at n' (λ o at. (let a = then-at o at in let k = differing d (new_logs old latest o) in omega (arith, one, a, k)))
+
   -- it takes what is new then
-  module _ (n2 : ℕ) (news : IfSome t1 (λ o. n2 ≤ n1 + (read_logs mode skips o (Some latest) + 1))) (n' : ℕ) where
+  module _ (same : differs old.view latest ≡ false) (n2 : ℕ) (news : IfSome t1 (λ o. differs old.view latest ≡ false → n2 ≤ n1 + (new_logs old latest o + 1))) (n' : ℕ) where
+    news-at : (o : Objects) → t ≡ Some o → n2 ≤ n1 + (new_logs old latest o + 1)
+    news-at o at = some_at (λ o. differs old.view latest ≡ false → n2 ≤ n1 + (new_logs old latest o + 1)) t1 o (kept ∙ at) news same
+
     pub news-then : n' ≤ n2 + 1 → IfSome t (λ o. n' ≤ n + (replayed_logs o + 3))
-    news-then more = if_some t (λ o at.
-        let a = some_at (λ o. n2 ≤ n1 + (read_logs mode skips o (Some latest) + 1)) t1 o (kept ∙ at) news in
-        let b = below o at in
-        omega (arith, one, more, a, b))
+    news-then more = if_some t (λ o at. (let a = news-at o at in let b = below old managed o at in omega (arith, one, more, a, b)))
 
     pub news-once : n' ≤ n2 + 1 → IfSome t (λ o. n' ≤ n + 2 * (replayed_logs o + 2))
     news-once more = if_some t (λ o at. (let a = some_at (λ o. n' ≤ n + (replayed_logs o + 3)) t o at (news-then more) in omega (arith, a)))
 
-    pub news-twice : (t2 : Option Objects) → t2 ≡ t → IfSome t2 (λ o. n' ≤ n2 + (read_logs mode skips o (Some latest) + 2)) → IfSome t (λ o. n' ≤ n + 2 * (replayed_logs o + 2))
-    news-twice t2 kept2 more = if_some t (λ o at.
-        let a = some_at (λ o. n2 ≤ n1 + (read_logs mode skips o (Some latest) + 1)) t1 o (kept ∙ at) news in
-        let d = some_at (λ o. n' ≤ n2 + (read_logs mode skips o (Some latest) + 2)) t2 o (kept2 ∙ at) more in
-        let b = below o at in
-        omega (arith, one, a, d, b))
+    pub rest-costs : is_due moment lease ≡ false → n' ≤ n2 → IfSome t (λ o. CallsKeeping o old lease moment n n')
+    rest-costs early more = keeping-at n' (λ o at. (let a = news-at o at in let k = resting same early (new_logs old latest o) in omega (arith, one, more, a, k)))
+
+    pub renew-costs : is_due moment lease ≡ true → is_none (found lease.id latest) ≡ false → n' ≤ n2 + 1 → IfSome t (λ o. CallsKeeping o old lease moment n n')
+    renew-costs due there more = keeping-at n' (λ o at.
+        let a = news-at o at in
+        let logs = new_logs old latest o in
+        let k : keeping logs ≡ logs + 3 = due-then same due logs ∙ ap (λ b. cond b (2 * logs + 4) (logs + 3)) there in
+        omega (arith, one, more, a, k))
+
+    -- and then takes a new checkpoint
+    module _ (mid : Follower) (t2 : Option Objects) (kept2 : t2 ≡ t) (fewer : IfSome t (λ o. new_logs mid latest o ≤ new_logs old latest o)) (more : IfSome t2 (λ o. n' ≤ n2 + (new_logs mid latest o + 2))) where
+      more-at : (o : Objects) → t ≡ Some o → n' ≤ n2 + (new_logs old latest o + 2)
+      more-at o at =
+          let a = some_at (λ o. n' ≤ n2 + (new_logs mid latest o + 2)) t2 o (kept2 ∙ at) more in
+          let b = some_at (λ o. new_logs mid latest o ≤ new_logs old latest o) t o at fewer in
+          omega (arith, a, b)
+
+      pub news-twice : IfSome t (λ o. n' ≤ n + 2 * (replayed_logs o + 2))
+      news-twice = if_some t (λ o at. (let a = news-at o at in let d = more-at o at in let b = below old managed o at in omega (arith, one, a, d, b)))
+
+      pub missing-costs : is_due moment lease ≡ true → is_none (found lease.id latest) ≡ true → IfSome t (λ o. CallsKeeping o old lease moment n n')
+      missing-costs due gone = keeping-at n' (λ o at.
+          let a = news-at o at in
+          let d = more-at o at in
+          let logs = new_logs old latest o in
+          let k : keeping logs ≡ 2 * logs + 4 = due-then same due logs ∙ ap (λ b. cond b (2 * logs + 4) (logs + 3)) gone in
+          omega (arith, one, a, d, k))
+
+-- the first try puts what its plan says, unless a manifest is there already, and then each one finds so
+pub first-costs : (plan : VersionedManifest → Plan Lease) (t t1 : Option Objects) (kept : t1 ≡ t) (earlier n n1 n' : ℕ) (old : Follower) (lease : Lease) (moment : ℤ) → IfSome t (λ o. n1 ≤ n + earlier * (replayed_logs o + 3)) →
+    (0 < earlier → IfSome t (λ o. PlanCause (Stands (checkpoint_changes plan o) o) plan o (TransactionalObjectTimeout 8))) → IfSome t1 (λ o. Stands (checkpoint_changes plan o) o → ⊥) → IfSome t1 (λ o. CallsKeeping o old lease moment n1 n') → IfSome t (λ o. CallsKeeping o old lease moment n n')
+first-costs plan t t1 kept zero n n1 n' old lease moment before met free costs = if_some t (λ o at latest is.
+    let a = some_at (λ o. n1 ≤ n + 0 * (replayed_logs o + 3)) t o at before in
+    let b = some_at (λ o. CallsKeeping o old lease moment n1 n') t1 o (kept ∙ at) costs latest is in
+    omega (arith, a, b))
+first-costs plan t t1 kept (suc earlier) n n1 n' old lease moment before met free costs = if_some t (λ o at.
+    absurd (some_at (λ o. Stands (checkpoint_changes plan o) o → ⊥) t1 o (kept ∙ at) free (some_at (λ o. PlanCause (Stands (checkpoint_changes plan o) o) plan o (TransactionalObjectTimeout 8)) t o at (met (omega arith))).1))
 
 -- tries that found another manifest first, and one more
 module _ (t t1 : Option Objects) (kept : t1 ≡ t) (earlier n n1 n' : ℕ) (before : IfSome t (λ o. n1 ≤ n + earlier * (replayed_logs o + 3))) where

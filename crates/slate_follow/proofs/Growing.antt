@@ -1,4 +1,5 @@
 -- Batches that came after others: by what log files give, in a table and in all of them.
+use Rattle.std.specs.Prelude.{unwrap_or}
 use Rattle.std.proofs.Common.{◌≡◌, ℕ, suc, ◌+◌, ◌-◌, ◌<◌, ◌≤◌, ◌^◌, List, [], ◌∷◌, ◌++◌, length, take, drop, Option, Some, Result, Ok, refl, sym, ap, subst, ◌∙◌, arith, append_assoc, length-append}
 use Rattle.std.proofs.Math.Seq.{drop-append-add, drop-append_seam, take-append_seam}
 use Rattle.std.proofs.lemmas.List.{append-nil}
@@ -141,17 +142,19 @@ extended-back old mid back n same parts end_is becomes =
     becomes ∙ (ap (λ bs. record mid { line = record mid.line { batches = bs } }) left ∙ ap (λ (f : Follower). record f { line = record f.line { batches = old.line.batches } }) same)
 
 -- so is one that has other segments and another lease, but for the lease
-pub pushed-back : (old mid back : Follower) (n : ℕ) (segments : List (List ℕ)) → IsPushed old n segments mid → back ≡ record mid { line = record mid.line { batches = take (n - mid.line.floor) mid.line.batches }; segments = segments } →
-    back ≡ record old { lease = mid.lease }
-pushed-back old mid back n segments pushed becomes =
+pub pushed-back : (old mid back : Follower) (n mark : ℕ) (segments : Option (List (List ℕ))) → IsPushed old n mark segments mid →
+    back ≡ record mid { line = record mid.line { batches = take (n - mid.line.floor) mid.line.batches }; mark = mark; segments = unwrap_or segments mid.segments } → back ≡ record old { lease = mid.lease }
+pushed-back old mid back n mark segments pushed becomes =
     let added = added_to old.line.batches mid.line.batches in
     let end_is = pushed.end_is in
     let floor : mid.line.floor ≡ old.line.floor = ap (λ (f : Follower). f.line.floor) pushed.same in
     let count : n - mid.line.floor ≡ length old.line.batches = omega (arith, end_is, floor) in
     let left : take (n - mid.line.floor) mid.line.batches ≡ old.line.batches = ap (take (n - mid.line.floor)) pushed.parts ∙ taken-back old.line.batches added (n - mid.line.floor) count in
-    becomes ∙ (ap (λ bs. record mid { line = record mid.line { batches = bs }; segments = segments }) left
-    ∙ (ap (λ (f : Follower). record f { line = record f.line { batches = old.line.batches }; segments = segments }) pushed.same
-    ∙ ap (λ s. record old { segments = s; lease = mid.lease }) pushed.segments_are))
+    let had = unwrap_or segments mid.segments in
+    becomes ∙ (ap (λ bs. record mid { line = record mid.line { batches = bs }; mark = mark; segments = had }) left
+    ∙ (ap (λ (f : Follower). record f { line = record f.line { batches = old.line.batches }; mark = mark; segments = had }) pushed.same
+    ∙ (ap (λ s. record old { segments = s; mark = mark; lease = mid.lease }) pushed.segments_are
+    ∙ ap (λ m. record old { mark = m; lease = mid.lease }) pushed.mark_is)))
 
 -- a key of them has no segment
 pub refused-lacks : (x : Option Extractor) (t : Option Objects) (old : Follower) (n from last tabled : ℕ) (e : SlateError) → n ≡ number old → tabled ≤ number old → IfSome t (GivesRefused x n from last e) →

@@ -1,13 +1,13 @@
 -- What a reader sees that takes what is new, and stays at the manifest that it goes by.
-use Rattle.std.proofs.Common.{◌≡◌, ℕ, ◌+◌, List, [], ◌++◌, Option, Some, Bool, true, false, Ok, refl, sym, ap, subst, ◌∙◌, arith}
+use Rattle.std.proofs.Common.{◌≡◌, ℕ, ◌+◌, ◌<◌, ◌≤◌, max, List, [], ◌++◌, Option, Some, Bool, true, false, Ok, refl, sym, ap, subst, ◌∙◌, arith}
 use Rattle.std.proofs.Math.Bool.{or-true}
 use Rattle.std.proofs.lemmas.Bool.{and_parts, eqb-true, not-false}
-use Rattle.slate_types.specs.Line.{batches_above}
+use Rattle.slate_types.specs.Line.{IsPrefix, Line, batches_above}
 use Rattle.slate_types.specs.declared.batches.Batch.{Batch}
 use Rattle.slate_store.proofs.Logs.{between-none}
 use Rattle.slate_store.specs.Content.{IsSound, content}
 use Rattle.slate_store.specs.Logs.{HaveNoGap}
-use Rattle.slate_store.specs.Objects.{Objects, latest_manifest}
+use Rattle.slate_store.specs.Objects.{Objects, PutManifest, changed, last_log, latest_manifest}
 use Rattle.slate_store.specs.declared.objects.VersionedManifest.{VersionedManifest}
 use Rattle.slate_store.specs.declared.reader_modes.DbReaderMode.{DbReaderMode}
 use Rattle.slate_store.specs.declared.reader_modes.DbReaderMode.TheVariants.{ManagedCheckpoint}
@@ -15,19 +15,23 @@ use Rattle.slate_replay.specs.Replay.{Replays, line_of}
 use Rattle.slate_replay.specs.declared.replays.Replayed.{Replayed}
 use Rattle.slate_replay.specs.declared.replays.Replayed.TheVariants.{Whole}
 use Rattle.slate_model.proofs.Reduced.{some-same}
-use Rattle.slate_model.specs.Follow.{HasAllLogs, SeesOwed}
-use Rattle.slate_model.specs.Followed.{IsView, last_read}
+use Rattle.slate_model.specs.Follow.{HasAllLogs, LacksSegment, SeesOwed}
+use Rattle.slate_model.specs.Segments.{Extractor}
+use Rattle.slate_model.specs.Followed.{IsView}
 use Rattle.slate_model.specs.Follower.{Follower, is_pinned, number, rebuilt, unsegmented}
+use Rattle.slate_model.specs.Handle.{line_above}
 use Rattle.slate_model.specs.Lease.{differs}
 use Rattle.slate_model.specs.Managed.{SeesLatest, follower_under}
 use Rattle.slate_model.specs.Stores.{by_objects, kept_seen}
 use Rattle.slate_model.specs.declared.answers.PollAnswer.{PollAnswer}
+use Rattle.slate_model.specs.declared.answers.PollAnswer.TheVariants as answers
 use Rattle.slate_model.specs.declared.leases.Lease.{Lease}
-use Rattle.slate_follow.specs.Keeping.{IsNews, informed}
-use Rattle.slate_follow.specs.Rebuilding.{Builds, GoesOn, Reaches, answer_of, followed}
-use Rattle.slate_follow.proofs.Continued.{goes-sees}
-use Rattle.slate_follow.proofs.Leased.{has-on, sees-on}
-use Rattle.slate_follow.proofs.Rebuilt.{builds-sees, has-all}
+use Rattle.slate_follow.specs.Keeping.{ComesFrom, IsNews, informed}
+use Rattle.slate_follow.specs.Rebuilding.{Builds, GoesOn, Reaches, TakesUnder, TakingLacks, answer_of, followed, last_above}
+use Rattle.slate_follow.proofs.Continued.{goes-sees, took-logs, took-refuses, took-sees}
+use Rattle.slate_follow.proofs.Leased.{PutsKept, has-on, put-is, sees-on}
+use Rattle.slate_follow.proofs.Handed.{sound-handed}
+use Rattle.slate_follow.proofs.Rebuilt.{builds-sees, has-above, latest-can}
 
 -- a manifest that doesn't differ from a view ends its tables where the view does
 pub tabled-same : (view latest : VersionedManifest) → differs view latest ≡ false → view.manifest.last_l0_seq ≡ latest.manifest.last_l0_seq
@@ -76,10 +80,7 @@ module _ (o : Objects) (latest : VersionedManifest) (is : latest_manifest o ≡ 
 
   -- one that reads them goes on
   module _ (reading : old.skips ≡ false) (news : IsNews o old latest false added found mark) (becomes : unsegmented new ≡ record (informed old false added mark) { lease = lease }) where
-    abbrev last : ℕ
-    last = last_read old.mode old.skips latest o
-
-    pub goes : GoesOn o latest last old (follower_under latest new) answer
+    goes : GoesOn o latest (last_above old latest o) old (follower_under latest new) answer
     goes = record {
       added = added;
       found = found;
@@ -94,11 +95,10 @@ module _ (o : Objects) (latest : VersionedManifest) (is : latest_manifest o ≡ 
     reading-sees t sound seen =
         subst (λ m. SeesOwed (by_objects t) m false o (content o) (follower_under latest new) answer) managed
         (subst (λ s. SeesOwed (by_objects t) old.mode s o (content o) (follower_under latest new) answer) reading
-        (goes-sees t o latest last old (follower_under latest new) answer reading free sound (can old.mode managed, refl) seen reaches goes))
+        (goes-sees t o latest old (follower_under latest new) answer reading free sound is seen reaches goes))
 
     pub reading-logs : HasAllLogs o new answer
-    reading-logs = has-all o old.mode old.skips latest found (number new) new answer free reading
-        (ap (λ (f : Follower). f.mark) becomes ∙ news.1) answers
+    reading-logs = has-above o (max old.mark latest.manifest.replay_after_wal_id) found (number new) new answer (ap (λ (f : Follower). f.mark) becomes ∙ news.1) answers
 
 -- what it sees after that, where a manifest with other checkpoints may be put
 module _ (o o' : Objects) (latest latest' : VersionedManifest) (is : latest_manifest o ≡ Some latest) (logs : o'.logs ≡ o.logs) (tables : latest'.manifest.last_l0_seq ≡ latest.manifest.last_l0_seq)
@@ -125,3 +125,79 @@ module _ (o o' : Objects) (latest latest' : VersionedManifest) (is : latest_mani
         (subst (λ l. SeesOwed (by_objects t) ManagedCheckpoint old.skips o l (follower_under latest new) answer) (sym line_is)
         (sees-by old.skips refl news becomes (subst IsSound whole content_is.2) (subst (kept_seen old o) line_is seen)));
   }
+
+-- ---- a reader that took what is new has seen it
+-- the manifest that it goes by is no matter of what it has seen, where the tables end as before
+pub under-seen : (o : Objects) (line : Line) (latest : VersionedManifest) (f : Follower) → f.view.manifest.last_l0_seq ≡ latest.manifest.last_l0_seq → kept_seen (follower_under latest f) o line → kept_seen f o line
+under-seen o line latest f tabled (w, is, begins, has) =
+    let view : w.view ≡ latest = sym (ap (λ (x : Follower). x.view) is) in
+    let tables : w.view.manifest.last_l0_seq ≡ f.view.manifest.last_l0_seq = ap (λ (v : VersionedManifest). v.manifest.last_l0_seq) view ∙ sym tabled in (
+      record w { view = f.view; lease = f.lease },
+      ap (λ (x : Follower). record x { view = f.view; lease = f.lease }) is ∙ ap (λ n. record w { view = f.view; lease = f.lease; line = line_above n w.line }) tables,
+      begins,
+      record { mark = has.mark; logs = has.logs },
+    )
+
+pub informed-seen : (o : Objects) (latest : VersionedManifest) → latest_manifest o ≡ Some latest → (old mid : Follower) → old.mode ≡ ManagedCheckpoint → mid.view ≡ old.view → differs old.view latest ≡ false → old.line.floor ≡ old.view.manifest.last_l0_seq → old.skips ≡ false →
+    (added : List Batch) (found : Replayed) (mark : ℕ) → IsNews o old latest false added found mark → unsegmented mid ≡ record (informed old false added mark) { lease = mid.lease } → IsSound o → kept_seen old o (content o) → kept_seen mid o (content o)
+informed-seen o latest is old mid managed view same floor reads added found mark news becomes sound seen =
+    let answer = answer_of found (number mid) in
+    let sees = reading-sees o latest is old managed same floor added found mark mid.lease mid answer refl reads news becomes (Some o) sound seen in
+    let tabled = ap (λ (v : VersionedManifest). v.manifest.last_l0_seq) view ∙ tabled-same old.view latest same in
+    under-seen o (content o) latest mid tabled
+    (sound-handed (Some o) o ManagedCheckpoint false false (follower_under latest mid) answer sound (latest-can o latest is ManagedCheckpoint refl) refl sees)
+
+-- ---- what a reader takes of a manifest that was put after the latest one
+had-under : (o : Objects) (view : VersionedManifest) (f : Follower) (answer : PollAnswer) → HasAllLogs o (follower_under view f) answer → HasAllLogs o f answer
+had-under o view f (answers.Whole at) all = all
+had-under o view f (answers.Truncated at) all = tt
+
+module _ (o : Objects) (latest next : VersionedManifest) (is : latest_manifest o ≡ Some latest) (put : PutsKept o latest next) (old from : Follower) (comes : ComesFrom old from o) where
+  abbrev after : Objects
+  after = changed (PutManifest next.id next.manifest) o
+
+  unpinned : is_pinned from.mode ≡ false
+  unpinned = ap is_pinned comes.mode
+
+  -- it has seen the log files as before
+  pub seen-after : IsSound o → kept_seen from o (content o) → kept_seen from after (content after)
+  seen-after sound (w, same, begins, has) =
+      let next_is = put-is o latest next sound is put.form in
+      let marks : (v : VersionedManifest) → latest_manifest after ≡ Some v → v.manifest.replay_after_wal_id ≡ latest.manifest.replay_after_wal_id =
+      λ v at. ap (λ (v : VersionedManifest). v.manifest.replay_after_wal_id) (some-same v next (sym at ∙ next_is) ∙ put.form.1) in (
+        w,
+        same,
+        subst (IsPrefix w.line) (sym (put.keeps sound).1) begins,
+        record {
+          mark = λ v at. subst (λ n. w.mark ≤ last_log n after) (sym (marks v at)) (has.mark latest is);
+          logs = λ v id bs at over within stored. has.logs latest id bs is (subst (λ n. n < id) (marks v at) over) within stored;
+        },
+      )
+
+  seen-from : IsSound o → kept_seen old o (content o) → from.skips ≡ false → kept_seen from after (content after)
+  seen-from sound seen reads = seen-after sound (comes.seen reads sound seen)
+
+  -- and sees what it is owed
+  module _ (new : Follower) (answer : PollAnswer) (takes : TakesUnder after next from (follower_under next new) answer) where
+    pub taken-latest : (t : Option Objects) → t ≡ Some o → SeesLatest (by_objects t) old.skips (kept_seen old o) next after new answer
+    taken-latest t at = record {
+      logs = λ reads. had-under after next new answer (took-logs after next from (follower_under next new) answer unpinned (comes.skips ∙ reads) takes);
+      sees = λ line stored before.
+          let same : stored.0 ≡ o = some-same stored.0 o (sym stored.1 ∙ at) in
+          let sound : IsSound o = subst IsSound same stored.2 in
+          let line_is : line ≡ content o = stored.3 ∙ ap content same in
+          let kept = put.keeps sound in
+          let seen = seen-from sound (subst (kept_seen old o) line_is before) in
+          let all = took-sees after next (put-is o latest next sound is put.form) from (follower_under next new) answer unpinned t kept.0 seen takes in
+          let in_mode = subst (λ m. SeesOwed (by_objects t) m from.skips after (content after) (follower_under next new) answer) comes.mode all in
+          let skipping = subst (λ s. SeesOwed (by_objects t) ManagedCheckpoint s after (content after) (follower_under next new) answer) comes.skips in_mode in
+          subst (λ l. SeesOwed (by_objects t) ManagedCheckpoint old.skips after l (follower_under next new) answer) (kept.1 ∙ sym line_is) skipping;
+    }
+
+  -- or a key that it takes has no segment
+  pub taken-lacking : (t : Option Objects) (x : Option Extractor) → IsSound o → kept_seen old o (content o) → TakingLacks x after next from → LacksSegment (by_objects t) x ManagedCheckpoint old.skips false after (content o)
+  taken-lacking t x sound seen lacks =
+      let kept = put.keeps sound in
+      let all = took-refuses after next (put-is o latest next sound is put.form) from from (answers.Whole 0) unpinned t x kept.0 (seen-from sound seen) lacks in
+      let in_mode = subst (λ m. LacksSegment (by_objects t) x m from.skips false after (content after)) comes.mode all in
+      subst (λ l. LacksSegment (by_objects t) x ManagedCheckpoint old.skips false after l) kept.1 (subst (λ s. LacksSegment (by_objects t) x ManagedCheckpoint s false after (content after)) comes.skips in_mode)

@@ -12,17 +12,16 @@ use Rattle.slate_store.specs.declared.reader_modes.DbReaderMode.TheVariants.{Man
 use Rattle.slate_replay.specs.declared.replays.Replayed.{Replayed}
 use Rattle.slate_errors.specs.declared.errors.SlateError.{SlateError}
 use Rattle.slate_model.specs.Changes.{after_part}
-use Rattle.slate_model.specs.Followed.{last_read}
 use Rattle.slate_model.specs.Follower.{Follower, number, unsegmented}
 use Rattle.slate_model.specs.Lease.{differs, is_due, leased, replaces, to_keep, to_renew}
 use Rattle.slate_model.specs.Managed.{Keeps, KeepsOrNot, PutsPlanned, SeesLatest, follower_under}
 use Rattle.slate_model.specs.Stores.{Stands, by_objects, kept_seen}
 use Rattle.slate_model.specs.declared.answers.PollAnswer.{PollAnswer}
 use Rattle.slate_model.specs.declared.leases.Lease.{Lease}
-use Rattle.slate_follow.specs.Keeping.{BuildsLatest, IsNews, MayLack, PutsBy, informed}
-use Rattle.slate_follow.specs.Rebuilding.{Builds, answer_of}
-use Rattle.slate_follow.proofs.Informed.{informed-sees}
-use Rattle.slate_follow.proofs.Leased.{built-latest, renewed, written}
+use Rattle.slate_follow.specs.Keeping.{ComesFrom, IsNews, MayLack, PutsBy, TakesLatest, informed}
+use Rattle.slate_follow.specs.Rebuilding.{TakesUnder, answer_of}
+use Rattle.slate_follow.proofs.Informed.{informed-sees, taken-latest}
+use Rattle.slate_follow.proofs.Leased.{renewed, written}
 use Rattle.slate_follow.proofs.Planned.{lease-kept, puts-planned}
 
 -- ---- the plan of a poll, by what it finds
@@ -83,12 +82,13 @@ given-lease refused p old lease o o' answer next given gives puts =
 
 module _ (refused : Objects → SlateError → Type 0) (t : Option Objects) (o o' : Objects) (at : t ≡ Some o) (latest : VersionedManifest) (is : latest_manifest o ≡ Some latest) (lease : Lease) (moment : ℤ) (old new : Follower) (answer : PollAnswer) where
   -- the checkpoint was replaced
-  pub replaced-keeps : replaces old.view lease moment latest ≡ true → PutsBy refused (replacement old.view latest lease moment) old.lease o (Ok answer) new.lease o' → BuildsLatest (replacement old.view latest lease moment) old.skips o' new answer → Keeps (by_objects t) lease moment old o new answer o'
-  replaced-keeps replaced puts b =
+  pub replaced-keeps : (from : Follower) → ComesFrom old from o → replaces old.view lease moment latest ≡ true → PutsBy refused (replacement old.view latest lease moment) old.lease o (Ok answer) new.lease o' → TakesLatest (replacement old.view latest lease moment) from o' new answer →
+      Keeps (by_objects t) lease moment old o new answer o'
+  replaced-keeps from comes replaced puts b =
       let p = replacement old.view latest lease moment in
       let after = put-all refused p old.lease new.lease o o' answer new.view b.given b.puts puts in
       let kept = written o latest is lease.lifetime moment new.view b.given (Some lease.id) b.puts in
-      let builds = subst (λ x. Builds x ManagedCheckpoint old.skips new.view (last_read ManagedCheckpoint old.skips new.view x) (follower_under new.view new) answer) after b.builds in
+      let takes = subst (λ x. TakesUnder x new.view from (follower_under new.view new) answer) after b.takes in
       record {
         latest = latest;
         is_latest = is;
@@ -97,7 +97,7 @@ module _ (refused : Objects → SlateError → Type 0) (t : Option Objects) (o o
         plan = to-replace old.view latest lease moment replaced ∙ b.puts;
         leased = given-lease refused p old.lease new.lease o o' answer (Some new.view) b.given b.puts puts;
         view = subst (λ r. MatchBool r (Some new.view ≡ Some new.view) (new.view ≡ old.view)) (sym replaced) refl;
-        sees = subst (λ x. SeesLatest (by_objects t) old.skips (kept_seen old o) new.view x new answer) (sym after) (built-latest o latest new.view is kept old.skips new answer builds t (kept_seen old o) at);
+        sees = subst (λ x. SeesLatest (by_objects t) old.skips (kept_seen old o) new.view x new answer) (sym after) (taken-latest o latest new.view is kept old from comes new answer takes t at);
       }
 
   -- it goes on by its view

@@ -1,17 +1,15 @@
 -- Keys without a segment under a manifest with other checkpoints, which is put, and of what a reader goes on with.
 use Rattle.std.proofs.Common.{◌≡◌, ◌++◌, ℕ, max, List, [], Bool, true, false, Option, Some, inl, inr, Ok, Err, refl, sym, ap, subst, ◌∙◌, arith}
-use Rattle.std.proofs.Math.Bool.{or-true}
 use Rattle.std.specs.Option.{IfSome}
 use Rattle.std.specs.Prelude.{ℤ, ◌⊎◌, IsSome}
 use Rattle.slate_types.specs.declared.batches.Batch.{Batch}
 use Rattle.slate_types.specs.Line.{Line, batches_above}
 use Rattle.slate_types.specs.Modelled.{WhereModelled}
 use Rattle.slate_store.specs.Checkpoints.{Plan}
-use Rattle.slate_store.specs.Content.{content}
-use Rattle.slate_store.specs.Objects.{Objects, PutManifest, changed, latest_manifest}
+use Rattle.slate_store.specs.Content.{IsSound, content}
+use Rattle.slate_store.specs.Objects.{Objects, PutManifest, changed, last_log, latest_manifest}
 use Rattle.slate_store.specs.Refusals.{PlanIs}
 use Rattle.slate_store.specs.declared.objects.VersionedManifest.{VersionedManifest}
-use Rattle.slate_store.specs.declared.reader_modes.DbReaderMode.{DbReaderMode}
 use Rattle.slate_store.specs.declared.reader_modes.DbReaderMode.TheVariants.{ManagedCheckpoint}
 use Rattle.slate_store.specs.declared.refusals.StoreRefusal.TheVariants as refusals
 use Rattle.slate_replay.specs.Replay.{Replays}
@@ -32,11 +30,11 @@ use Rattle.slate_model.specs.Segments.{Extractor, ops_of, unsegmented_refusal}
 use Rattle.slate_model.specs.Stores.{by_objects, kept_seen}
 use Rattle.slate_model.specs.declared.answers.PollAnswer.TheVariants.{Whole}
 use Rattle.slate_model.specs.declared.leases.Lease.{Lease}
-use Rattle.slate_follow.specs.Keeping.{FindsLatest, KeepLacks, NewsLacks, NextLacks, OnLacks, PutsBy, PutsManifest, ReplaceLacks}
+use Rattle.slate_follow.specs.Keeping.{ComesFrom, FindsLatest, KeepLacks, NewsLacks, NextLacks, OnLacks, PutsBy, PutsManifest, ReplaceLacks}
 use Rattle.slate_follow.specs.Growing.{ExtendingLacks}
-use Rattle.slate_follow.specs.Rebuilding.{BuildLacks, Lacks, Reaches}
-use Rattle.slate_follow.proofs.Continued.{goes-refuses}
-use Rattle.slate_follow.proofs.Informed.{tabled-same}
+use Rattle.slate_follow.specs.Rebuilding.{Lacks, Reaches, TakingLacks}
+use Rattle.slate_follow.proofs.Continued.{goes-refuses, taking-some}
+use Rattle.slate_follow.proofs.Informed.{tabled-same, taken-lacking}
 use Rattle.slate_follow.proofs.Keeping.{renewal, replacement, to-renewal, to-replace}
 use Rattle.slate_follow.proofs.Leased.{HasCheckpoints, PutsKept, put-is, written}
 use Rattle.slate_follow.proofs.Rebuilt.{builds-refuses, if_some, refuses_stored, some_at}
@@ -87,49 +85,52 @@ module _ (o : Objects) (latest next : VersionedManifest) (is : latest_manifest o
 -- ---- a poll
 module _ (t : Option Objects) (x : Option Extractor) (lease : Lease) (moment : ℤ) (old : Follower) (o : Objects) (stored : Line) (at : t ≡ Some o) (content_is : IsContent t stored) (latest : VersionedManifest) (is : latest_manifest o ≡ Some latest) where
   -- a key lacks a segment under the manifest that it puts
-  next-lacks : NextLacks x (replacement old.view latest lease moment) old.skips o → LacksSegment (by_objects t) x ManagedCheckpoint old.skips false o stored
-  next-lacks (next, given, key, gives, (batches, found, logs, lacks)) = (
-    key,
-    put-refuses o latest next is (written o latest is lease.lifetime moment next given (Some lease.id) gives) t x old.skips false (Some (errors.EmptySegmentPrefix key)) (or-true latest.manifest.initialized) batches found logs lacks stored at content_is,
-  )
+  next-lacks : (from : Follower) → ComesFrom old from o → kept_seen old o stored → NextLacks x (replacement old.view latest lease moment) from o → LacksSegment (by_objects t) x ManagedCheckpoint old.skips false o stored
+  next-lacks from comes seen (next, given, gives, taking) =
+      let put = written o latest is lease.lifetime moment next given (Some lease.id) gives in
+      let same : content_is.0 ≡ o = some-same content_is.0 o (sym content_is.1 ∙ at) in
+      let sound : IsSound o = subst IsSound same content_is.2 in
+      let line : stored ≡ content o = content_is.3 ∙ ap content same in
+      let lacks = taken-lacking o latest next is put old from comes t x sound (subst (kept_seen old o) line seen) taking in
+      let refusal = Some (errors.EmptySegmentPrefix lacks.0) in
+      let here = refuses-on t x false o (changed (PutManifest next.id next.manifest) o) latest next is (put-is o latest next sound is put.form) put.form (content o) refusal old.skips lacks.1 in
+      (lacks.0, subst (λ l. ReplayRefuses (by_objects t) x ManagedCheckpoint old.skips false o l refusal) (sym line) here)
 
   -- or as it goes on
   on-lacks : kept_seen old o stored → OnLacks x old latest o → LacksSegment (by_objects t) x ManagedCheckpoint old.skips false o stored
   on-lacks seen (managed, reads, reaches, (key, lacks)) =
-      let can : (mode : DbReaderMode) → mode ≡ ManagedCheckpoint → IsView mode false o latest =
-      λ mode is_managed. subst (λ m. IsView m false o latest) (sym is_managed) (latest, is, or-true latest.manifest.initialized, refl) in
       let refusal = Some (errors.EmptySegmentPrefix key) in (
         key,
         refuses_stored x ManagedCheckpoint old.skips false refusal o stored at content_is
             (λ sound line.
             subst (λ m. ReplayRefuses (by_objects t) x m old.skips false o (content o) refusal) managed
-            (goes-refuses t x o latest (last_read old.mode old.skips latest o) old key reads (ap is_pinned managed) sound (can old.mode managed, refl) (subst (kept_seen old o) line seen) reaches lacks)),
+            (goes-refuses t x o latest old key reads (ap is_pinned managed) sound is (subst (kept_seen old o) line seen) reaches lacks)),
       )
 
-  lacks-by : kept_seen old o stored → (to_keep old.view lease moment latest ≡ Err refusals.InvalidDBState) ⊎ (NextLacks x (replacement old.view latest lease moment) old.skips o ⊎ OnLacks x old latest o) →
+  lacks-by : kept_seen old o stored → (to_keep old.view lease moment latest ≡ Err refusals.InvalidDBState) ⊎ (((from : Follower) × ComesFrom old from o × NextLacks x (replacement old.view latest lease moment) from o) ⊎ OnLacks x old latest o) →
       PlanIs (to_keep old.view lease moment) o (Err refusals.InvalidDBState) ⊎ LacksSegment (by_objects t) x ManagedCheckpoint old.skips false o stored
   lacks-by seen (inl plan) = inl (latest, is, plan)
-  lacks-by seen (inr (inl next)) = inr (next-lacks next)
+  lacks-by seen (inr (inl (from, comes, next))) = inr (next-lacks from comes seen next)
   lacks-by seen (inr (inr news)) = inr (on-lacks seen news)
 
--- what is built lacks one of a manifest that was put
-pub built-lacks : (x : Option Extractor) (plan : Plan Lease) (skips : Bool) (next : VersionedManifest) (given : Lease) (key : List ℕ) → plan ≡ Ok (Some next, given) → (t t1 : Option Objects) → WhereModelled (PutsManifest next (Ok true)) t t1 →
-    IfSome t1 (λ o. BuildLacks x o next (last_read ManagedCheckpoint skips next o) key) → IfSome t (λ o. ReplaceLacks x plan skips o)
-built-lacks x plan skips next given key gives t t1 puts lacks =
+-- what it takes of a manifest that was put lacks one
+pub put-lacks : (x : Option Extractor) (plan : Plan Lease) (old : Follower) (next : VersionedManifest) (given : Lease) → plan ≡ Ok (Some next, given) → (t t1 : Option Objects) → WhereModelled (PutsManifest next (Ok true)) t t1 →
+    IfSome t1 (λ o. TakingLacks x o next old) → IfSome t (λ o. ReplaceLacks x plan old o)
+put-lacks x plan old next given gives t t1 puts lacks =
     if_some t
     (λ o at.
     let h = puts.some o at in
-    let l = some_at (λ o. BuildLacks x o next (last_read ManagedCheckpoint skips next o) key) t1 h.0 h.1 lacks in
-    inr (next, given, key, gives, subst (λ s. BuildLacks x s next (last_read ManagedCheckpoint skips next s) key) h.2 l))
+    let l = some_at (λ o. TakingLacks x o next old) t1 h.0 h.1 lacks in
+    inr (next, given, gives, subst (λ s. TakingLacks x s next old) h.2 l))
 
 -- what it takes lacks one, by the steps of that
 pub taken-lacks : (t t1 : Option Objects) (x : Option Extractor) (latest : VersionedManifest) (last from tabled : ℕ) (old : Follower) → t1 ≡ t → IfSome t1 (λ o. (key : List ℕ) × ExtendingLacks x from last tabled old o key) →
-    from ≡ max old.mark latest.manifest.replay_after_wal_id → tabled ≡ old.view.manifest.last_l0_seq → IfSome t (λ o. last ≡ last_read old.mode old.skips latest o) → old.skips ≡ false → IfSome t (λ o. NewsLacks x old latest o)
+    from ≡ max old.mark latest.manifest.replay_after_wal_id → tabled ≡ old.view.manifest.last_l0_seq → IfSome t (λ o. last ≡ last_log from o) → old.skips ≡ false → IfSome t (λ o. NewsLacks x old latest o)
 taken-lacks t t1 x latest last from tabled old kept lacks from_is tabled_is reach reads =
     if_some t
     (λ o is.
     let l = some_at (λ o. (key : List ℕ) × ExtendingLacks x from last tabled old o key) t1 o (kept ∙ is) lacks in
-    let last_is = some_at (λ o. last ≡ last_read old.mode old.skips latest o) t o is reach in
+    let last_is = some_at (λ o. last ≡ last_log from o) t o is reach ∙ ap (λ n. last_log n o) from_is in
     let bs = l.1.0 in
     let logs = subst (λ k. Replays (max old.mark latest.manifest.replay_after_wal_id) k (number old) [] bs o (Ok l.1.1)) last_is (subst (λ k. Replays k last (number old) [] bs o (Ok l.1.1)) from_is l.1.2) in
     (l.0, bs, l.1.1, reads, logs, subst (λ n. Lacks x (batches_above n (old.line.batches ++ bs)) l.0) tabled_is l.1.3))
@@ -139,10 +140,12 @@ module _ {t t1 : Option Objects} (x : Option Extractor) (latest : VersionedManif
   keep-by : {P : Objects → Type 0} → IfSome t1 P → ((o : Objects) → latest_manifest o ≡ Some latest → P o → KeepLacks x lease moment old o) → IfSome t (λ o. KeepLacks x lease moment old o)
   keep-by {P} all turn = if_some t (λ o at. turn o (some_at (λ o. FindsLatest o (Ok latest)) t o at found) (some_at P t1 o (kept ∙ at) all))
 
-  pub replace-keeps : replaces old.view lease moment latest ≡ true → IfSome t1 (λ o. ReplaceLacks x (replacement old.view latest lease moment) old.skips o) → IfSome t (λ o. KeepLacks x lease moment old o)
-  replace-keeps replaced lacks =
-      keep-by {P = λ o. ReplaceLacks x (replacement old.view latest lease moment) old.skips o} lacks
-      (λ o is why. elim why [ inl plan ↦ (latest, is, inl (to-replace old.view latest lease moment replaced ∙ plan)) | inr next ↦ (latest, is, inr (inl next)) ])
+  pub replace-keeps : (from : Follower) → IfSome t (ComesFrom old from) → replaces old.view lease moment latest ≡ true → IfSome t1 (λ o. ReplaceLacks x (replacement old.view latest lease moment) from o) → IfSome t (λ o. KeepLacks x lease moment old o)
+  replace-keeps from comes replaced lacks =
+      let both : IfSome t1 (λ o. ComesFrom old from o × ReplaceLacks x (replacement old.view latest lease moment) from o) =
+      if_some t1 (λ o at. (some_at (ComesFrom old from) t o (sym kept ∙ at) comes, some_at (λ o. ReplaceLacks x (replacement old.view latest lease moment) from o) t1 o at lacks)) in
+      keep-by {P = λ o. ComesFrom old from o × ReplaceLacks x (replacement old.view latest lease moment) from o} both
+      (λ o is why. elim why.1 [ inl plan ↦ (latest, is, inl (to-replace old.view latest lease moment replaced ∙ plan)) | inr next ↦ (latest, is, inr (inl (from, why.0, next))) ])
 
   pub news-keeps : old.mode ≡ ManagedCheckpoint → old.line.floor ≡ old.view.manifest.last_l0_seq → differs old.view latest ≡ false → IfSome t1 (λ o. NewsLacks x old latest o) → IfSome t (λ o. KeepLacks x lease moment old o)
   news-keeps managed floor same lacks =
@@ -168,5 +171,5 @@ keep-lacks t x lease moment old o stored at content_is seen lacks = lacks-by t x
 -- that is its plan, or there is an extractor
 pub keep-some : (x : Option Extractor) (lease : Lease) (moment : ℤ) (old : Follower) (o : Objects) → KeepLacks x lease moment old o → PlanIs (to_keep old.view lease moment) o (Err refusals.InvalidDBState) ⊎ IsSome x
 keep-some x lease moment old o (latest, is, inl plan) = inl (latest, is, plan)
-keep-some x lease moment old o (latest, is, inr (inl next)) = inr (lacks-some x next.4.0 next.2 next.4.3)
+keep-some x lease moment old o (latest, is, inr (inl (from, comes, (next, given, gives, taking)))) = inr (taking-some x (changed (PutManifest next.id next.manifest) o) next from taking)
 keep-some x lease moment old o (latest, is, inr (inr news)) = inr (lacks-some x (batches_above latest.manifest.last_l0_seq (old.line.batches ++ news.3.1.0)) news.3.0 news.3.1.3)

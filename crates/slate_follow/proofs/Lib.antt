@@ -6,6 +6,7 @@ pub mod Counted
 pub mod Cutting
 pub mod Growing
 pub mod Handed
+pub mod Handing
 pub mod Informed
 pub mod Joining
 pub mod Keeping

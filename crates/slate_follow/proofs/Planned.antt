@@ -1,5 +1,5 @@
 -- What a call with a plan for a lease puts, from what it reads and puts.
-use Rattle.std.proofs.Common.{◌≡◌, ℕ, zero, inl, inr, List, [], ◌∷◌, length, Option, Some, None, true, false, cond, Result, Ok, Err, refl, sym, ap, subst, ◌∙◌, arith}
+use Rattle.std.proofs.Common.{◌≡◌, ℕ, zero, suc, inl, inr, List, [], ◌∷◌, length, Option, Some, None, true, false, cond, Result, Ok, Err, refl, sym, ap, subst, ◌∙◌, arith}
 use Rattle.std.proofs.Math.Logic.{⊎_map}
 use Rattle.std.specs.Option.{IfSome}
 use Rattle.std.specs.Prelude.{ℤ, ◌⊎◌}
@@ -11,7 +11,7 @@ use Rattle.slate_types.specs.declared.store_errors.StoreFault.TheVariants.{Unava
 use Rattle.slate_store.specs.declared.objects.VersionedManifest.{VersionedManifest}
 use Rattle.slate_store.specs.declared.refusals.StoreRefusal.TheVariants as refusals
 use Rattle.slate_store.specs.Checkpoints.{Plan, to_write}
-use Rattle.slate_store.specs.Objects.{Change, Objects, PutManifest, changed, latest_manifest}
+use Rattle.slate_store.specs.Objects.{Change, Objects, PutManifest, changed, is_present, latest_manifest}
 use Rattle.slate_store.specs.Refusals.{checkpoint_changes, planned, planned_after}
 use Rattle.slate_errors.specs.declared.errors.SlateError.{SlateError}
 use Rattle.slate_errors.specs.declared.errors.SlateError.TheVariants as errors
@@ -145,6 +145,16 @@ module _ (refused : Objects → SlateError → Type 0) (plan : Plan Lease) (old 
         after = put_one o' h;
         leased = inr (refl, Some next, given, gives, refl);
       }
+
+-- where a plan puts a manifest under an id that is free, nothing stands there
+module _ (plan : Plan Lease) (next : VersionedManifest) (given : Lease) (gives : plan ≡ Ok (Some next, given)) where
+  free-one : (o : Objects) → is_present (PutManifest next.id next.manifest) o ≡ false → Stands (PutManifest next.id next.manifest ∷ []) o → ⊥
+  free-one o free (change, (zero, low, is), there) = let same = subst (λ x. is_present x o ≡ true) (sym is) there in cc
+  free-one o free (change, (suc k, low, is), there) = omega (arith, low)
+
+  pub unstanding : (t : Option Objects) → IfSome t (λ o. is_present (PutManifest next.id next.manifest) o ≡ false) → IfSome t (λ o. Stands (planned plan) o → ⊥)
+  unstanding t free = if_some t (λ o at stands.
+      free-one o (some_at (λ o. is_present (PutManifest next.id next.manifest) o ≡ false) t o at free) (subst (λ cs. Stands cs o) (ap planned gives) stands))
 
 -- nothing is to be put, and the lease stays
 pub stays-put : {A : Type 0} (refused : Objects → SlateError → Type 0) (plan : Plan Lease) (lease : Lease) (o : Objects) (answer : A) → plan ≡ Ok (None, lease) → PutsBy refused plan (Some lease) o (Ok answer) (Some lease) o

@@ -1,5 +1,6 @@
 -- What is built anew of a sound store sees all that it is owed.
 use Rattle.std.proofs.Common.{◌≡◌, ℕ, ◌+◌, ◌≤◌, length, map, Bool, true, false, List, [], ◌∷◌, Option, Some, None, Ok, refl, sym, subst, ap, ◌∙◌, arith}
+use Rattle.std.proofs.Math.Bool.{or-true}
 use Rattle.std.specs.Option.{IfSome}
 use Rattle.slate_types.specs.declared.batches.Batch.{Batch}
 use Rattle.slate_types.specs.Line.{Line, end}
@@ -78,14 +79,24 @@ greatest-least : (n : ℕ) (xs : List ℕ) → greatest 0 xs ≤ greatest n xs
 greatest-least n [] = omega arith
 greatest-least n (x ∷ xs) = let rest = greatest-least n xs in omega (arith, rest)
 
--- a follower that was replayed to the last log file of all, and answers so, has them all
+-- a follower that was replayed to the last log file above one, and answers so, has them all
+pub has-above : (o : Objects) (n : ℕ) (found : Replayed) (at : ℕ) (follower : Follower) (answer : PollAnswer) → follower.mark ≡ reached found (last_log n o) → answer ≡ answer_of found at → HasAllLogs o follower answer
+has-above o n (replays.Truncated id) at follower answer mark answers = subst (HasAllLogs o follower) (sym answers) tt
+has-above o n replays.Whole at follower answer mark answers =
+    let least = greatest-least n (map (λ log. log.0) o.logs) in
+    subst (HasAllLogs o follower) (sym answers) (omega (arith, mark, least))
+
+-- and so has one that was replayed to the last log file that it reads
 pub has-all : (o : Objects) (mode : DbReaderMode) (skips : Bool) (view : VersionedManifest) (found : Replayed) (at : ℕ) (follower : Follower) (answer : PollAnswer) → is_pinned mode ≡ false → skips ≡ false →
     follower.mark ≡ reached found (last_read mode skips view o) → answer ≡ answer_of found at → HasAllLogs o follower answer
-has-all o mode skips view (replays.Truncated id) at follower answer free reads mark answers = subst (HasAllLogs o follower) (sym answers) tt
-has-all o mode skips view replays.Whole at follower answer free reads mark answers =
-    let last = unpinned-last o view mode skips free reads in
-    let least = greatest-least view.manifest.replay_after_wal_id (map (λ log. log.0) o.logs) in
-    subst (HasAllLogs o follower) (sym answers) (omega (arith, mark, last, least))
+has-all o mode skips view found at follower answer free reads mark answers =
+    has-above o view.manifest.replay_after_wal_id found at follower answer (mark ∙ ap (reached found) (unpinned-last o view mode skips free reads)) answers
+
+-- a reader that doesn't stay at a checkpoint goes by the latest manifest
+pub latest-can : (o : Objects) (view : VersionedManifest) → latest_manifest o ≡ Some view → (mode : DbReaderMode) → is_pinned mode ≡ false → IsView mode false o view
+latest-can o view is (modes.Checkpoint id) free = absurd (cc)
+latest-can o view is modes.FollowLatest free = (view, is, or-true view.manifest.initialized, refl)
+latest-can o view is modes.ManagedCheckpoint free = (view, is, or-true view.manifest.initialized, refl)
 
 -- A follower that has the batches of a line that it is owed, those above the last number in tables, and that was replayed to the
 -- last log file that it reads, sees what it is owed.

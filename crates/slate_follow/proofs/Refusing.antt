@@ -1,10 +1,10 @@
 -- What openings and polls answer of keys without a segment.
-use Rattle.std.proofs.Common.{◌≡◌, ◌≤◌, ℕ, inl, inr, Bool, true, false, List, Option, Some, None, Result, Err, ◌++◌, ◌+◌, cond, refl, ap, sym, ◌∙◌, subst, arith}
+use Rattle.std.proofs.Common.{◌≡◌, ◌≤◌, ℕ, inl, inr, Bool, true, false, List, Option, Some, None, Result, Err, refl, ap, sym, ◌∙◌, subst, arith}
 use Rattle.std.specs.Option.{IfSome}
 use Rattle.std.specs.Prelude.{IsSome}
 use Rattle.slate_types.specs.Counts.{HasRisen}
 use Rattle.slate_types.specs.declared.batches.Batch.{Batch}
-use Rattle.slate_types.specs.Line.{Line, batches_above}
+use Rattle.slate_types.specs.Line.{Line}
 use Rattle.slate_types.specs.declared.store_errors.StoreFault.{StoreFault}
 use Rattle.slate_types.specs.declared.store_errors.StoreFault.TheVariants.{NotFound, Unavailable}
 use Rattle.slate_store.specs.declared.objects.VersionedManifest.{VersionedManifest}
@@ -17,28 +17,14 @@ use Rattle.slate_model.specs.Followed.{RefusesLatest, follow_refusal, last_read}
 use Rattle.slate_model.specs.Known.{CountsFaults, FaultsRise}
 use Rattle.slate_model.specs.Segments.{Extractor}
 use Rattle.slate_model.specs.Stores.{Unpinned, by_objects}
-use Rattle.slate_model.specs.Follower.{Follower}
 use Rattle.slate_segments.specs.Refusals.{IsOfSegment}
-use Rattle.slate_follow.specs.Keeping.{IsOfPolling}
-use Rattle.slate_follow.specs.Rebuilding.{BuildLacks, GoesBy, GoingLacks, IsOfRebuilding, IsOfReplay, IsOfView, Lacks, poll_error}
+use Rattle.slate_follow.specs.Keeping.{FindsLatest, IsOfPolling}
+use Rattle.slate_follow.specs.Rebuilding.{BuildLacks, GoesBy, IsOfRebuilding, IsOfReplay, IsOfView, Lacks, poll_error}
 
 -- where a key has no segment there is an extractor
 pub lacks-some : (x : Option Extractor) (batches : List Batch) (key : List ℕ) → Lacks x batches key → IsSome x
 lacks-some None batches key lacks = absurd (cc)
 lacks-some (Some x) batches key lacks = refl
-
--- there is one where a rebuilt reader lacks a segment, and where one goes on
-pub building-some : {t t1 : Option Objects} (x : Option Extractor) (view : VersionedManifest) (last : ℕ) (key : List ℕ) → t1 ≡ t → IfSome t1 (λ o. BuildLacks x o view last key) → IfSome t (λ _. IsSome x)
-building-some {t} {t1} x view last key kept lacks = subst (λ s. IfSome s (λ _. IsSome x)) kept (by t1 lacks) where
-  by : (s : Option Objects) → IfSome s (λ o. BuildLacks x o view last key) → IfSome s (λ _. IsSome x)
-  by None l = tt
-  by (Some o) l = lacks-some x l.0 key l.3
-
-pub going-some : {t t1 : Option Objects} (x : Option Extractor) (view : VersionedManifest) (last : ℕ) (old : Follower) → t1 ≡ t → IfSome t1 (λ o. (key : List ℕ) × GoingLacks x o view last old key) → IfSome t (λ _. IsSome x)
-going-some {t} {t1} x view last old kept lacks = subst (λ s. IfSome s (λ _. IsSome x)) kept (by t1 lacks) where
-  by : (s : Option Objects) → IfSome s (λ o. (key : List ℕ) × GoingLacks x o view last old key) → IfSome s (λ _. IsSome x)
-  by None l = tt
-  by (Some o) (key, l) = lacks-some x (batches_above view.manifest.last_l0_seq (old.line.batches ++ l.0)) key l.3
 
 -- one error of two
 pub err-same : (B : Type 0) (a b : SlateError) → ◌≡◌ {A = Result B SlateError} (Err a) (Err b) → a ≡ b
@@ -93,11 +79,29 @@ module _ (x : Option Extractor) (mode : DbReaderMode) (t : Option Objects) where
   poll-unnamed A skips errors.InvalidDBState whole valid o stored = absurd (valid refl)
   poll-unnamed A skips e whole valid o stored = tt
 
+-- why the latest manifest wasn't read
+pub latest-fails : (x : Option Extractor) (mode : DbReaderMode) (t : Option Objects) (e : SlateError) → IfSome t (λ o. FindsLatest o (Err e)) → IfSome t (λ o. FollowCause x mode false (Unpinned mode o) o e)
+latest-fails x mode t e found = by t found where
+  at : (o : Objects) (e : SlateError) → FindsLatest o (Err e) → FollowCause x mode false (Unpinned mode o) o e
+  at o errors.LatestTransactionalObjectVersionMissing found = found
+  at o (errors.ObjectStoreError Unavailable) found = tt
+  at o errors.NoMemory found = tt
+  at o e found = absurd found
+
+  by : (t : Option Objects) → IfSome t (λ o. FindsLatest o (Err e)) → IfSome t (λ o. FollowCause x mode false (Unpinned mode o) o e)
+  by None found = tt
+  by (Some o) found = at o e found
+
 pub plain-error : (e : SlateError) → ((key : List ℕ) → e ≡ errors.EmptySegmentPrefix key → ⊥) → poll_error e ≡ e
 plain-error (errors.EmptySegmentPrefix key) whole = absurd (whole key refl)
 plain-error e whole = refl
 
 -- what is answered as an invalid state is a key without a segment
+pub segment-key : (e : SlateError) → IsOfSegment e → poll_error e ≡ errors.InvalidDBState → (key : List ℕ) × (e ≡ errors.EmptySegmentPrefix key)
+segment-key (errors.EmptySegmentPrefix key) of invalid = (key, refl)
+segment-key errors.NoMemory of invalid = absurd (cc)
+segment-key e of invalid = absurd of
+
 pub poll-named : (e : SlateError) → IsOfSegment e → poll_error e ≡ errors.InvalidDBState → e ≡ errors.NoMemory → ⊥
 poll-named (errors.EmptySegmentPrefix key) of invalid memory = cc
 poll-named errors.NoMemory of invalid memory = cc
@@ -171,15 +175,6 @@ last-fails (Some o) x mode opening e is = absurd is
 pub view-unnamed : (mode : DbReaderMode) (e : SlateError) (key : List ℕ) → IsOfView mode e → e ≡ errors.EmptySegmentPrefix key → ⊥
 view-unnamed mode (errors.EmptySegmentPrefix other) key is same = is
 view-unnamed mode e key is same = cc
-
-pub view-valid : (mode : DbReaderMode) (e : SlateError) → IsOfView mode e → e ≡ errors.InvalidDBState → ⊥
-view-valid mode errors.InvalidDBState is same = is
-view-valid mode e is same = cc
-
--- the calls for the manifest and the last log file
-pub two-calls : (pinned : Bool) (a b c d : ℕ) → b ≤ a + 1 → c ≤ b + cond pinned 1 0 → d ≤ c + cond pinned 0 1 → d ≤ a + 2
-two-calls true a b c d first second third = omega (arith, first, second, third)
-two-calls false a b c d first second third = omega (arith, first, second, third)
 
 -- ---- errors that an opening answers after a put
 pub replay-rebuilding : (e : SlateError) → IsOfReplay e → IsOfRebuilding e

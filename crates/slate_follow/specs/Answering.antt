@@ -1,5 +1,5 @@
 -- Which errors a reader answers, over any store.
-use Rattle.std.specs.Prelude.{◌≡◌, Bool, true}
+use Rattle.std.specs.Prelude.{◌≡◌, true}
 use Rattle.slate_types.specs.declared.store_errors.StoreFault.TheVariants.{NotFound, Unavailable}
 use Rattle.slate_store.specs.declared.reader_modes.DbReaderMode.{DbReaderMode}
 use Rattle.slate_store.specs.declared.reader_modes.DbReaderMode.TheVariants.{Checkpoint}
@@ -16,17 +16,24 @@ IsOfLatest (errors.SegmentPrefixNotRecognized prefix name) = Unit {0}
 IsOfLatest (errors.CheckpointMissing id) = Unit {0}
 IsOfLatest error = ⊥
 
--- the errors of finding the manifest that a reader goes by, and its last log file
-abbrev pub IsOfFinding : DbReaderMode → (opening : Bool) → SlateError → Type 0
-IsOfFinding mode opening errors.LatestTransactionalObjectVersionMissing = Unit {0}
-IsOfFinding mode opening errors.InvalidDBState = opening ≡ true
-IsOfFinding mode opening (errors.SegmentExtractorMismatch persisted configured) = opening ≡ true
-IsOfFinding mode opening (errors.SegmentPrefixNotRecognized prefix name) = opening ≡ true
-IsOfFinding mode opening (errors.CheckpointMissing id) = mode ≡ Checkpoint id
-IsOfFinding mode opening (errors.ObjectStoreError NotFound) = is_pinned mode ≡ true
-IsOfFinding mode opening (errors.ObjectStoreError Unavailable) = Unit {0}
-IsOfFinding mode opening errors.NoMemory = Unit {0}
-IsOfFinding mode opening error = ⊥
+-- the errors of finding the manifest that a reader goes by that is opened, and its last log file
+abbrev pub IsOfFinding : DbReaderMode → SlateError → Type 0
+IsOfFinding mode errors.LatestTransactionalObjectVersionMissing = Unit {0}
+IsOfFinding mode errors.InvalidDBState = Unit {0}
+IsOfFinding mode (errors.SegmentExtractorMismatch persisted configured) = Unit {0}
+IsOfFinding mode (errors.SegmentPrefixNotRecognized prefix name) = Unit {0}
+IsOfFinding mode (errors.CheckpointMissing id) = mode ≡ Checkpoint id
+IsOfFinding mode (errors.ObjectStoreError NotFound) = is_pinned mode ≡ true
+IsOfFinding mode (errors.ObjectStoreError Unavailable) = Unit {0}
+IsOfFinding mode errors.NoMemory = Unit {0}
+IsOfFinding mode error = ⊥
+
+-- the refusals of options of a reader that is to keep a checkpoint
+abbrev pub IsOfOptions : SlateError → Type 0
+IsOfOptions (errors.InvalidCheckpointLifetime lifetime) = Unit {0}
+IsOfOptions (errors.InvalidManifestPollInterval interval) = Unit {0}
+IsOfOptions (errors.CheckpointLifetimeTooShort lifetime interval) = Unit {0}
+IsOfOptions error = ⊥
 
 -- the errors of an opening
 abbrev pub IsOfOpening : DbReaderMode → SlateError → Type 0
@@ -35,9 +42,9 @@ IsOfOpening mode (errors.TransactionalObjectTimeout tries) = (is_managed mode �
 IsOfOpening mode (errors.InvalidCheckpointLifetime lifetime) = is_managed mode ≡ true
 IsOfOpening mode (errors.InvalidManifestPollInterval interval) = is_managed mode ≡ true
 IsOfOpening mode (errors.CheckpointLifetimeTooShort lifetime interval) = is_managed mode ≡ true
-IsOfOpening mode error = IsOfFinding mode true error
+IsOfOpening mode error = IsOfFinding mode error
 
--- the errors of a poll of an open reader
+-- the errors of a poll of an open reader, and, of one that keeps a checkpoint, of a close
 abbrev pub IsOfPoll : DbReaderMode → SlateError → Type 0
 IsOfPoll mode errors.LatestTransactionalObjectVersionMissing = Unit {0}
 IsOfPoll mode errors.InvalidDBState = Unit {0}

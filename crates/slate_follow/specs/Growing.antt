@@ -1,5 +1,5 @@
 -- What a reader adds to its batches, and takes back.
-use Rattle.std.specs.Prelude.{◌≡◌, ℕ, ◌+◌, ◌<◌, ◌^◌, Bool, true, false, List, [], ◌++◌, drop, length, Option, Some, Ok, IfSome}
+use Rattle.std.specs.Prelude.{◌≡◌, ℕ, ◌+◌, ◌<◌, ◌^◌, Bool, true, false, List, [], ◌++◌, drop, length, Option, Some, unwrap_or, Ok, IfSome}
 use Rattle.slate_types.specs.declared.batches.Batch.{Batch}
 use Rattle.slate_types.specs.Line.{AreNumberedFrom, batches_above}
 use Rattle.slate_store.specs.Objects.{Objects}
@@ -35,15 +35,16 @@ ExtendingLacks extractor from last tabled old objects key =
     × Replays from last (number old) [] added objects (Ok found)
     × Lacks extractor (batches_above tabled (old.line.batches ++ added)) key
 
--- A reader has batches after its own now, and other segments and maybe another lease: by the number of its last batch and the segments
--- before that it is as it was.
-pub record IsPushed (old : Follower) (end : ℕ) (segments : List (List ℕ)) (new : Follower) : Type 0 where
-  pub same : new ≡ record old { line = record old.line { batches = new.line.batches }; segments = new.segments; lease = new.lease }
+-- A reader has batches after its own now, another mark, and maybe other segments and another lease: by the number of its last batch,
+-- the mark and, where they are others now, the segments before that it is as it was.
+pub record IsPushed (old : Follower) (end mark : ℕ) (segments : Option (List (List ℕ))) (new : Follower) : Type 0 where
+  pub same : new ≡ record old { line = record old.line { batches = new.line.batches }; segments = new.segments; mark = new.mark; lease = new.lease }
   pub parts : new.line.batches ≡ old.line.batches ++ added_to old.line.batches new.line.batches
   pub end_is : end ≡ number old
-  pub segments_are : segments ≡ old.segments
+  pub mark_is : mark ≡ old.mark
+  pub segments_are : unwrap_or segments new.segments ≡ old.segments
 
--- the follower that has what log files have up to a mark: one that skips them has the tables alone
-abbrev pub settled : (skips : Bool) → Follower → (mark : ℕ) → Follower
-settled true old mark = record old { line = record old.line { batches = [] }; segments = []; mark = mark }
-settled false old mark = record old { mark = mark }
+-- the follower that has what log files have: one that skips them has the tables alone
+abbrev pub settled : (skips : Bool) → Follower → Follower
+settled true old = record old { line = record old.line { batches = [] }; segments = [] }
+settled false old = old

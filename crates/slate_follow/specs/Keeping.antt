@@ -1,12 +1,13 @@
 -- What the steps of a reader that keeps a checkpoint of its own put and answer.
-use Rattle.std.specs.Prelude.{◌≡◌, ℕ, ℤ, ◌⊎◌, Bool, true, false, max, List, [], ◌++◌, length, Option, Some, None, Result, Ok, Err, IfErr}
+use Rattle.std.specs.Prelude.{◌≡◌, ℕ, ℤ, ◌+◌, ◌*◌, ◌≤◌, ◌⊎◌, is_none, if◌then◌else◌, Bool, true, false, max, List, [], ◌++◌, length, Option, Some, None, Result, Ok, Err, IfErr}
 use Rattle.slate_types.specs.declared.batches.Batch.{Batch}
 use Rattle.slate_types.specs.Line.{batches_above}
 use Rattle.slate_types.specs.declared.store_errors.StoreFault.TheVariants.{Unavailable}
 use Rattle.slate_store.specs.declared.objects.VersionedManifest.{VersionedManifest}
 use Rattle.slate_store.specs.declared.reader_modes.DbReaderMode.TheVariants.{ManagedCheckpoint}
 use Rattle.slate_store.specs.declared.refusals.StoreRefusal.TheVariants as refusals
-use Rattle.slate_store.specs.Checkpoints.{Plan, to_write}
+use Rattle.slate_store.specs.Checkpoints.{Plan, found, to_write}
+use Rattle.slate_store.specs.Content.{IsSound, content}
 use Rattle.slate_store.specs.Objects.{Objects, PutManifest, changed, is_present, latest_manifest}
 use Rattle.slate_store.specs.Refusals.{planned}
 use Rattle.slate_replay.specs.Replay.{Replays, line_of}
@@ -17,13 +18,13 @@ use Rattle.slate_errors.specs.declared.errors.SlateError.TheVariants as errors
 use Rattle.slate_model.specs.Changes.{PartMade, after_part}
 use Rattle.slate_model.specs.Follower.{Follower, number, rebuilt}
 use Rattle.slate_model.specs.Followed.{last_read}
-use Rattle.slate_model.specs.Lease.{leased, to_keep}
+use Rattle.slate_model.specs.Lease.{differs, is_due, leased, to_keep}
 use Rattle.slate_model.specs.Managed.{follower_under}
 use Rattle.slate_model.specs.Segments.{Extractor}
-use Rattle.slate_model.specs.Stores.{Stands}
+use Rattle.slate_model.specs.Stores.{Stands, kept_seen}
 use Rattle.slate_model.specs.declared.answers.PollAnswer.{PollAnswer}
 use Rattle.slate_model.specs.declared.leases.Lease.{Lease}
-use Rattle.slate_follow.specs.Rebuilding.{BuildLacks, Builds, GoingLacks, Lacks, Reaches, followed, reached}
+use Rattle.slate_follow.specs.Rebuilding.{Builds, GoingLacks, Lacks, Reaches, TakesUnder, TakingLacks, followed, last_above, new_logs, reached}
 
 -- the latest manifest, or why it wasn't read
 abbrev pub FindsLatest : Objects → Result VersionedManifest SlateError → Type 0
@@ -100,12 +101,18 @@ pub record BuildsLatest (plan : Plan Lease) (skips : Bool) (objects : Objects) (
   pub puts : plan ≡ Ok (Some follower.view, given)
   pub builds : Builds objects ManagedCheckpoint skips follower.view (last_read ManagedCheckpoint skips follower.view objects) (follower_under follower.view follower) answer
 
+-- or takes what log files have under it
+pub record TakesLatest (plan : Plan Lease) (old : Follower) (objects : Objects) (follower : Follower) (answer : PollAnswer) : Type 0 where
+  pub given : Lease
+  pub puts : plan ≡ Ok (Some follower.view, given)
+  pub takes : TakesUnder objects follower.view old (follower_under follower.view follower) answer
+
 -- What log files have that a reader hasn't replayed yet, under the latest manifest: nothing, for one that skips them.
 abbrev pub IsNews : Objects → Follower → (latest : VersionedManifest) → (skips : Bool) → List Batch → Replayed → (mark : ℕ) → Type 0
 IsNews objects follower latest true added found mark =
     (added ≡ []) × (found ≡ Whole) × (mark ≡ latest.manifest.replay_after_wal_id)
 IsNews objects follower latest false added found mark =
-    let last = last_read follower.mode follower.skips latest objects in
+    let last = last_above follower latest objects in
     Replays (max follower.mark latest.manifest.replay_after_wal_id) last (number follower) [] added objects (Ok found) × (mark ≡ reached found last)
 
 -- the follower that has these, and goes by its view: one that skips log files has the tables alone
@@ -124,29 +131,49 @@ IsOfPolling error = ⊥
 abbrev pub NewsLacks : Option Extractor → Follower → (latest : VersionedManifest) → Objects → Type 0
 NewsLacks extractor follower latest objects =
     (key : List ℕ) × (added : List Batch) × (found : Replayed) × (follower.skips ≡ false)
-    × Replays (max follower.mark latest.manifest.replay_after_wal_id) (last_read follower.mode follower.skips latest objects) (number follower) [] added objects (Ok found)
+    × Replays (max follower.mark latest.manifest.replay_after_wal_id) (last_above follower latest objects) (number follower) [] added objects (Ok found)
     × Lacks extractor (batches_above follower.view.manifest.last_l0_seq (follower.line.batches ++ added)) key
+
+-- A reader has come on from what it was: in the mode that keeps a checkpoint, and where it reads log files it has seen them up to its
+-- mark, as it had before.
+pub record ComesFrom (old from : Follower) (objects : Objects) : Type 0 where
+  pub mode : from.mode ≡ ManagedCheckpoint
+  pub skips : from.skips ≡ old.skips
+  pub seen : from.skips ≡ false → IsSound objects → kept_seen old objects (content objects) → kept_seen from objects (content objects)
 
 -- so has what it takes that goes on by the latest manifest
 abbrev pub OnLacks : Option Extractor → Follower → (latest : VersionedManifest) → Objects → Type 0
 OnLacks extractor follower latest objects =
     (follower.mode ≡ ManagedCheckpoint) × (follower.skips ≡ false) × Reaches follower latest
-    × ((key : List ℕ) × GoingLacks extractor objects latest (last_read follower.mode follower.skips latest objects) follower key)
+    × ((key : List ℕ) × GoingLacks extractor objects latest (last_above follower latest objects) follower key)
 
--- a key that is replayed has no segment under the manifest that a plan puts
-abbrev pub NextLacks : Option Extractor → Plan Lease → (skips : Bool) → Objects → Type 0
-NextLacks extractor plan skips objects =
-    (next : VersionedManifest) × (given : Lease) × (key : List ℕ) × (plan ≡ Ok (Some next, given))
-    × (let after = changed (PutManifest next.id next.manifest) objects in BuildLacks extractor after next (last_read ManagedCheckpoint skips next after) key)
+-- a key of what a reader takes under the manifest that a plan puts has no segment
+abbrev pub NextLacks : Option Extractor → Plan Lease → Follower → Objects → Type 0
+NextLacks extractor plan follower objects =
+    (next : VersionedManifest) × (given : Lease) × (plan ≡ Ok (Some next, given))
+    × TakingLacks extractor (changed (PutManifest next.id next.manifest) objects) next follower
 
--- why a call with a plan for a new checkpoint answers InvalidDBState: its plan does, or a key that is replayed has no segment
-abbrev pub ReplaceLacks : Option Extractor → Plan Lease → (skips : Bool) → Objects → Type 0
-ReplaceLacks extractor plan skips objects = (plan ≡ Err refusals.InvalidDBState) ⊎ NextLacks extractor plan skips objects
+-- why a call with a plan for a new checkpoint answers InvalidDBState: its plan does, or a key of what it takes has no segment
+abbrev pub ReplaceLacks : Option Extractor → Plan Lease → Follower → Objects → Type 0
+ReplaceLacks extractor plan follower objects = (plan ≡ Err refusals.InvalidDBState) ⊎ NextLacks extractor plan follower objects
 
 -- and why a poll does
 abbrev pub KeepLacks : Option Extractor → Lease → (moment : ℤ) → Follower → Objects → Type 0
 KeepLacks extractor lease moment follower objects =
     (latest : VersionedManifest) × (latest_manifest objects ≡ Some latest)
     × ((to_keep follower.view lease moment latest ≡ Err refusals.InvalidDBState)
-    ⊎ (NextLacks extractor (leased lease.lifetime (to_write (Some lease.id) (Some lease.lifetime) moment latest)) follower.skips objects
+    ⊎ (((from : Follower) × ComesFrom follower from objects × NextLacks extractor (leased lease.lifetime (to_write (Some lease.id) (Some lease.lifetime) moment latest)) from objects)
     ⊎ OnLacks extractor follower latest objects))
+
+-- How often a poll of a reader that keeps a checkpoint calls a store, where log files are to be read so often: it reads the latest
+-- manifest and asks for the last log file, and puts a manifest where its view differs or its lease is due; where its checkpoint isn't
+-- there then, it asks for the last log file again, and may read those again that are left after a missing one.
+abbrev pub calls_to_keep : (view : VersionedManifest) → Lease → (moment : ℤ) → (latest : VersionedManifest) → (logs : ℕ) → ℕ
+calls_to_keep view lease moment latest logs =
+    if differs view latest then logs + 3
+    else (if is_due moment lease then (if is_none (found lease.id latest) then 2 * logs + 4 else logs + 3) else logs + 2)
+
+-- at most so often, where it answers Ok
+abbrev pub CallsKeeping : Objects → Follower → Lease → (moment : ℤ) → (calls calls' : ℕ) → Type 0
+CallsKeeping objects old lease moment calls calls' =
+    (latest : VersionedManifest) → latest_manifest objects ≡ Some latest → calls' ≤ calls + calls_to_keep old.view lease moment latest (new_logs old latest objects)

@@ -1,5 +1,5 @@
 -- What a follower finds of the latest manifest and its log files.
-use Rattle.std.specs.Prelude.{◌≡◌, ℕ, ◌+◌, ◌-◌, ◌≤◌, max, Bool, List, [], ◌++◌, true, false, Option, None, Some, Result, Ok, Err, IfOk}
+use Rattle.std.specs.Prelude.{◌≡◌, ℕ, ◌+◌, ◌-◌, ◌≤◌, ◌⊎◌, ◌&&◌, max, nat_le, not, if◌then◌else◌, Bool, List, [], ◌++◌, true, false, Option, None, Some, Result, Ok, Err, IfOk}
 use Rattle.slate_types.specs.declared.batches.Batch.{Batch}
 use Rattle.slate_types.specs.Line.{batches_above}
 use Rattle.slate_store.specs.declared.objects.VersionedManifest.{VersionedManifest}
@@ -7,14 +7,15 @@ use Rattle.slate_types.specs.declared.store_errors.StoreFault.TheVariants.{NotFo
 use Rattle.slate_store.specs.declared.reader_modes.DbReaderMode.{DbReaderMode}
 use Rattle.slate_store.specs.declared.reader_modes.DbReaderMode.TheVariants.{Checkpoint}
 use Rattle.slate_store.specs.Checkpoints.{found}
-use Rattle.slate_store.specs.Objects.{Objects, last_log}
+use Rattle.slate_store.specs.Logs.{AreTruncatedAt}
+use Rattle.slate_store.specs.Objects.{Objects, last_log, latest_manifest}
 use Rattle.slate_replay.specs.Replay.{Replays, line_of}
 use Rattle.slate_replay.specs.declared.replays.Replayed.{Replayed}
 use Rattle.slate_replay.specs.declared.replays.Replayed.TheVariants as replays
 use Rattle.slate_errors.specs.declared.errors.SlateError.{SlateError}
 use Rattle.slate_errors.specs.declared.errors.SlateError.TheVariants as errors
 use Rattle.slate_model.specs.Follow.{FollowCause}
-use Rattle.slate_model.specs.Followed.{IsView, RefusesLatest, finds, followed_logs, last_read, view_under}
+use Rattle.slate_model.specs.Followed.{IsView, RefusesLatest, finds, followed_logs, last_read, read_logs, view_under}
 use Rattle.slate_model.specs.Follower.{Follower, is_pinned, number, rebuilt, unsegmented}
 use Rattle.slate_model.specs.Open.{replayed_logs}
 use Rattle.slate_model.specs.Segments.{Extractor, ops_of, unsegmented_refusal}
@@ -59,6 +60,26 @@ abbrev pub Reaches : Follower → VersionedManifest → Type 0
 Reaches follower view =
     (follower.view.manifest.last_l0_seq ≤ view.manifest.last_l0_seq) × (view.manifest.last_l0_seq ≤ number follower)
 
+-- whether a follower goes on by a manifest: it reads log files, and its batches lead up to the tables
+abbrev pub goes_on : Follower → VersionedManifest → Bool
+goes_on follower view =
+    let tabled = view.manifest.last_l0_seq in
+    not follower.skips && (nat_le follower.view.manifest.last_l0_seq tabled && nat_le tabled (number follower))
+
+-- the last log file that it reads then: the last one of all, or the one up to which it has what they have
+abbrev pub last_above : Follower → VersionedManifest → Objects → ℕ
+last_above follower view objects = last_log (max follower.mark view.manifest.replay_after_wal_id) objects
+
+-- how many log files a follower reads at most under a manifest: those that it hasn't replayed yet, where it goes on by it
+abbrev pub new_logs : Follower → VersionedManifest → Objects → ℕ
+new_logs follower view objects =
+    if goes_on follower view then last_above follower view objects - max follower.mark view.manifest.replay_after_wal_id
+    else read_logs follower.mode follower.skips objects (Some view)
+
+-- a follower without its lease
+abbrev pub unleased : Follower → Follower
+unleased follower = record follower { lease = None }
+
 -- the follower that goes on by a manifest, with these batches after its own, and without those that are in tables
 abbrev pub followed : Follower → VersionedManifest → List Batch → (mark : ℕ) → Follower
 followed old view added mark = let tabled = view.manifest.last_l0_seq in
@@ -78,7 +99,7 @@ pub record GoesOn (objects : Objects) (view : VersionedManifest) (last : ℕ) (o
 pub record Continues (objects : Objects) (old follower : Follower) (answer : PollAnswer) : Type 0 where
   pub view : IsView old.mode false objects follower.view
   pub reaches : Reaches old follower.view
-  pub goes : GoesOn objects follower.view (last_read old.mode old.skips follower.view objects) old follower answer
+  pub goes : GoesOn objects follower.view (last_above old follower.view objects) old follower answer
 
 -- the log files of a manifest up to the last one make this follower, in the mode that was asked for
 pub record Builds (objects : Objects) (mode : DbReaderMode) (skips : Bool) (view : VersionedManifest) (last : ℕ) (follower : Follower) (answer : PollAnswer) : Type 0 where
@@ -87,6 +108,13 @@ pub record Builds (objects : Objects) (mode : DbReaderMode) (skips : Bool) (view
   pub logs : Replays view.manifest.replay_after_wal_id last view.manifest.last_l0_seq [] batches objects (Ok found)
   pub becomes : unsegmented follower ≡ rebuilt mode skips view (line_of view.manifest.last_l0_seq batches) (reached found last)
   pub answers : answer ≡ answer_of found (number follower)
+
+-- A follower takes what log files have under a manifest: it goes on by that where its batches lead up to the tables, and else it is
+-- built anew.
+abbrev pub TakesUnder : Objects → VersionedManifest → (old follower : Follower) → PollAnswer → Type 0
+TakesUnder objects view old follower answer =
+    ((old.skips ≡ false) × Reaches old view × GoesOn objects view (last_above old view objects) old follower answer)
+    ⊎ Builds objects old.mode old.skips view (last_read old.mode old.skips view objects) follower answer
 
 -- the manifest that a follower goes by, and the last log file that it reads, where it finds these
 abbrev pub FindsView : DbReaderMode → Bool → (opening : Bool) → Objects → Result (VersionedManifest × ℕ) SlateError → Type 0
@@ -136,6 +164,27 @@ GoingLacks extractor objects view last old key =
     × Replays (max old.mark view.manifest.replay_after_wal_id) last (number old) [] added objects (Ok found)
     × Lacks extractor (batches_above view.manifest.last_l0_seq (old.line.batches ++ added)) key
 
+-- and what takes that under a manifest
+abbrev pub TakingLacks : Option Extractor → Objects → (view : VersionedManifest) → Follower → Type 0
+TakingLacks extractor objects view old =
+    ((old.skips ≡ false) × Reaches old view × ((key : List ℕ) × GoingLacks extractor objects view (last_above old view objects) old key))
+    ⊎ ((key : List ℕ) × BuildLacks extractor objects view (last_read old.mode old.skips view objects) key)
+
+-- log files are truncated at one of them, and a mark is before that
+pub record BreakOff (objects : Objects) (mark : ℕ) : Type 0 where
+  pub id : ℕ
+  pub from : ℕ
+  pub last : ℕ
+  pub number : ℕ
+  pub end : ℕ
+  pub truncated : AreTruncatedAt id from last number end objects
+  pub before : mark ≡ id - 1
+
+-- where an answer says that log files weren't whole, they are truncated, and the follower has those before
+abbrev pub Truncates : Objects → Follower → PollAnswer → Type 0
+Truncates objects follower (Whole at) = Unit {0}
+Truncates objects follower (Truncated at) = BreakOff objects follower.mark
+
 -- a poll answers so for a key without a segment, since what it records has no key
 abbrev pub poll_error : SlateError → SlateError
 poll_error (errors.EmptySegmentPrefix key) = errors.InvalidDBState
@@ -174,7 +223,8 @@ CallsOpening mode skips objects calls calls' = calls' ≤ calls + 2 + followed_l
 abbrev pub CallsRebuilding : Objects → (calls calls' : ℕ) → Type 0
 CallsRebuilding objects calls calls' = calls' ≤ calls + 2 + replayed_logs objects
 
--- how often a poll calls a store at most that goes on by the same manifest: it reads the log files above its mark alone
+-- How often a poll that follows the latest manifest calls a store at most, where it answers Ok: it reads that and asks for the last
+-- log file, and reads those alone that it doesn't have, while its batches lead up to the manifest's tables.
 abbrev pub CallsContinuing : Objects → Follower → (calls calls' : ℕ) → Type 0
 CallsContinuing objects old calls calls' =
-    calls' ≤ calls + 2 + (last_log old.view.manifest.replay_after_wal_id objects - old.mark)
+    (latest : VersionedManifest) → latest_manifest objects ≡ Some latest → calls' ≤ calls + 2 + new_logs old latest objects

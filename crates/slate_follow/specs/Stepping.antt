@@ -154,6 +154,12 @@ pub record CallsNext (stage : Stage) (reader : Follower) (begun : Begun) (result
 abbrev pub ArrivalLacks : Option Extractor → Follower → Begun → Type 0
 ArrivalLacks extractor reader begun = (key : List ℕ) × (Lacks extractor begun.fresh key ⊎ Lacks extractor (kept_batches reader begun) key)
 
+-- Why a step answers InvalidDBState: what its call leads to does, or a key of what the poll came to has no segment.
+abbrev pub StepLacks : Option Extractor → Follower → Begun → Objects → Type 0
+StepLacks extractor reader begun objects =
+    ((objects' : Objects) × Meets reader begun objects (Fails errors.InvalidDBState) objects')
+    ⊎ ((last : Begun) × ((objects' : Objects) × (Meets reader begun objects (Ends last) objects' ⊎ Meets reader begun objects (Breaks last) objects')) × ArrivalLacks extractor reader last)
+
 -- the reader after a step that answers an error: as it was, or, where it keeps a checkpoint, closed by that
 abbrev pub failed_by : SlateError → Follower → Follower
 failed_by error reader = if is_managed reader.mode then record reader { result = poll_result error } else reader

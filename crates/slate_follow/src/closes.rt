@@ -5,6 +5,7 @@ ghost use Rattle.slate_model.specs.Follower.{follower_tasks, is_managed};
 ghost use Rattle.slate_model.specs.Known.{known};
 ghost use Rattle.slate_model.specs.Managed.{ClosesManaged, EndsLease};
 ghost use Rattle.slate_model.specs.Stores.{by_objects};
+ghost use Rattle.slate_follow.specs.Answering.{IsOfPoll};
 
 use crate::FollowerState;
 use slate_errors::{Ended, SlateError};
@@ -34,6 +35,7 @@ impl FollowerState {
         ensures store { is_managed self.old.mode ≡ false → store.new ≡ store.old }
         ensures managed { is_managed self.old.mode ≡ true → (made : ℕ) × ClosesManaged (by_objects (S.objects store.old)) made self.old (known S.objects S.faults store.old) result self.new (known S.objects S.faults store.new) }
         ensures untouched { self.old.result ≢ None → store.new ≡ store.old }
+        ensures kind { self.old.result ≡ None → IfSome result.fault (IsOfPoll self.old.mode) }
         ensures faults { S.faults store.old ≤ S.faults store.new }
         ensures calls { S.calls store.new ≤ S.calls store.old + 16 }
     {
@@ -54,6 +56,7 @@ impl FollowerState {
     fn end_lease<S: Store>(&self, alloc: Global, store: &mut S) -> Option<SlateError>
         ensures unleased { self.now.lease ≡ None → (result ≡ None) × (store.new ≡ store.old) }
         ensures ends { IfSome self.now.lease (λ lease. (made : ℕ) × EndsLease (by_objects (S.objects store.old)) made lease (known S.objects S.faults store.old) (ended self.now.tasks result) (known S.objects S.faults store.new)) }
+        ensures kind { IfSome result (IsOfPoll self.now.mode) }
         ensures faults { S.faults store.old ≤ S.faults store.new }
         ensures calls { S.calls store.new ≤ S.calls store.old + 16 }
     {

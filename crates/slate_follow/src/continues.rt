@@ -1,18 +1,18 @@
 // Taking what log files have that a reader hasn't replayed yet.
-ghost use Rattle.std.specs.Prelude.{◌≡◌, ◌⊎◌, ◌+◌, ◌-◌, ◌<◌, ◌≤◌, ◌^◌, ◌++◌, ℕ, List, Option, None, Err, OnOk, OnErr, IsTrue, ◌↔◌, true, max, length, take, IfOk, IfErr, IfSome, IsSome};
+ghost use Rattle.std.specs.Prelude.{◌≡◌, ◌⊎◌, ◌+◌, ◌-◌, ◌<◌, ◌≤◌, ◌^◌, ◌++◌, ℕ, List, Option, None, Err, OnOk, OnErr, false, true, max, length, take, IfOk, IfErr, IfSome, IsSome};
 ghost use Rattle.std.specs.Option.{option_copied};
 ghost use Rattle.slate_types.specs.declared.batches.Batch.{Batch};
 ghost use Rattle.slate_types.specs.Line.{batches_above};
 ghost use Rattle.slate_model.specs.Follow.{AnswersAt};
-ghost use Rattle.slate_model.specs.Follower.{HasSegments, number};
+ghost use Rattle.slate_model.specs.Follower.{HasSegments, is_pinned, number};
 ghost use Rattle.slate_model.specs.Known.{CountsFaults};
 ghost use Rattle.slate_model.specs.Segments.{Extractor, IsExtractor, segments_of};
 ghost use Rattle.slate_segments.specs.Refusals.{IsOfSegment};
 ghost use Rattle.slate_replay.specs.Replay.{line_of};
 ghost use Rattle.slate_follow.specs.Growing.{ExtendingLacks, Grew};
-ghost use Rattle.slate_follow.specs.Rebuilding.{GoesOn, GoingLacks, IsOfRebuilding, Lacks, Reaches};
+ghost use Rattle.slate_follow.specs.Rebuilding.{GoesOn, GoingLacks, IsOfRebuilding, Lacks, Reaches, TakesUnder, TakingLacks, goes_on, last_above, new_logs, unleased};
 
-use crate::rebuilds::{answer_of, reached};
+use crate::rebuilds::{answer_of, last_above, last_read, reached, rebuild};
 use crate::segments::segments_above;
 use crate::tables::{append_logs, drop_through, truncate};
 use crate::{FollowerState, PollAnswer};
@@ -26,43 +26,77 @@ use std::alloc::Global;
 use std::mem;
 
 impl FollowerState {
-    /// Whether its batches lead up to the tables of a manifest, so that it can go on from them.
-    pub(crate) fn reaches(&self, view: &VersionedManifest) -> bool
-        ensures reaches { IsTrue result ↔ Reaches self.now view.now }
-        ensures same { view.now ≡ self.now.view → result ≡ true }
+    /// Whether it goes on by a manifest: it reads log files, and its batches lead up to the tables.
+    fn goes_on(&self, view: &VersionedManifest) -> bool
+        ensures goes { result ≡ goes_on self.now view.now }
+        ensures reads { result ≡ true → self.now.skips ≡ false }
+        ensures reaches { result ≡ true → Reaches self.now view.now }
     {
         let floor = self.status.manifest().manifest.last_l0_seq;
         let tabled = view.manifest.last_l0_seq;
-        floor <= tabled && tabled <= self.number()
+        !self.following.skips && floor <= tabled && tabled <= self.number()
     }
 
-    /// Goes by a manifest, and takes what the log files up to the last one have that it hasn't replayed yet.
-    pub(crate) fn go_on<S: Store, E: PrefixExtractor>(
+    /// Goes by a manifest, and takes what log files have: what comes after its batches, where these lead up to the tables of the
+    /// manifest, and else all that isn't in the tables. Where it fails, it is as before.
+    pub(crate) fn follow<S: Store, E: PrefixExtractor>(
         &mut self,
         alloc: Global,
         store: &mut S,
         view: VersionedManifest,
-        last: u64,
         extractor: Option<&E>,
     ) -> Result<PollAnswer, SlateError>
         requires open_ { self.old.result ≡ None }
-        requires unleased { self.old.lease ≡ None }
-        requires reaches { Reaches self.old view }
+        requires free { is_pinned self.old.mode ≡ false }
         ensures faults { CountsFaults (S.faults store.old) (S.faults store.new) result }
-        ensures calls { S.calls store.new ≤ S.calls store.old + (last - max self.old.mark view.manifest.replay_after_wal_id) }
         ensures kept { S.objects store.new ≡ S.objects store.old }
-        ensures gone { IfOk result (λ answer. IfSome (S.objects store.old) (λ o. GoesOn o view last self.old self.new answer)) }
-        ensures asked { IfOk result (λ _. (self.new.mode ≡ self.old.mode) × (self.new.skips ≡ self.old.skips)) }
-        ensures answer { IfOk result (λ answer. (self.new.lease ≡ None) × (self.new.result ≡ None) × AnswersAt (number self.new) answer) }
+        ensures taken { IfOk result (λ answer. IfSome (S.objects store.old) (λ o. TakesUnder o view self.old (unleased self.new) answer)) }
+        ensures asked { IfOk result (λ answer. (self.new.mode ≡ self.old.mode) × (self.new.skips ≡ self.old.skips) × (self.new.lease ≡ self.old.lease)
+            × (self.new.result ≡ None) × (self.new.view ≡ view) × AnswersAt (number self.new) answer) }
         ensures failed { OnErr result (self.new ≡ self.old) }
         ensures segments { (x : Option Extractor) → IsExtractor E.may_name E.may_extract (option_copied extractor.entry) x → HasSegments x self.old → HasSegments x self.new }
         ensures lacks { (x : Option Extractor) (key : List ℕ) → IsExtractor E.may_name E.may_extract (option_copied extractor.entry) x →
-            result ≡ Err (SlateError.EmptySegmentPrefix key) → IfSome (S.objects store.old) (λ o. (first : List ℕ) × GoingLacks x o view last self.old first) }
+            result ≡ Err (SlateError.EmptySegmentPrefix key) → IfSome (S.objects store.old) (λ o. TakingLacks x o view self.old) }
+        ensures named { (x : Option Extractor) (key : List ℕ) → IsExtractor E.may_name E.may_extract (option_copied extractor.entry) x → result ≡ Err (SlateError.EmptySegmentPrefix key) → IsSome x }
+        ensures refusals { IfErr result IsOfRebuilding }
+        ensures calls { IfSome (S.objects store.old) (λ o. S.calls store.new ≤ S.calls store.old + (new_logs self.old view o + 1)) }
+    {
+        if self.goes_on(&view) {
+            let answer = self.go_on(alloc, store, view, extractor)?;
+            return Ok(answer);
+        }
+        let last = last_read(alloc, store, self.following, &view)?;
+        let (rebuilt, answer) = rebuild(alloc, store, self.following, view, last, extractor)?;
+        self.take(alloc, rebuilt)?;
+        Ok(answer)
+    }
+
+    /// Goes by a manifest, and takes what log files have that it hasn't replayed yet.
+    fn go_on<S: Store, E: PrefixExtractor>(
+        &mut self,
+        alloc: Global,
+        store: &mut S,
+        view: VersionedManifest,
+        extractor: Option<&E>,
+    ) -> Result<PollAnswer, SlateError>
+        requires open_ { self.old.result ≡ None }
+        requires reaches { Reaches self.old view }
+        ensures faults { CountsFaults (S.faults store.old) (S.faults store.new) result }
+        ensures calls { IfSome (S.objects store.old) (λ o. S.calls store.new ≤ S.calls store.old + (last_above self.old view o - max self.old.mark view.manifest.replay_after_wal_id + 1)) }
+        ensures kept { S.objects store.new ≡ S.objects store.old }
+        ensures gone { IfOk result (λ answer. IfSome (S.objects store.old) (λ o. GoesOn o view (last_above self.old view o) self.old (unleased self.new) answer)) }
+        ensures asked { IfOk result (λ answer. (self.new.mode ≡ self.old.mode) × (self.new.skips ≡ self.old.skips) × (self.new.lease ≡ self.old.lease)
+            × (self.new.result ≡ None) × (self.new.view ≡ view) × AnswersAt (number self.new) answer) }
+        ensures failed { OnErr result (self.new ≡ self.old) }
+        ensures segments { (x : Option Extractor) → IsExtractor E.may_name E.may_extract (option_copied extractor.entry) x → HasSegments x self.old → HasSegments x self.new }
+        ensures lacks { (x : Option Extractor) (key : List ℕ) → IsExtractor E.may_name E.may_extract (option_copied extractor.entry) x →
+            result ≡ Err (SlateError.EmptySegmentPrefix key) → IfSome (S.objects store.old) (λ o. (first : List ℕ) × GoingLacks x o view (last_above self.old view o) self.old first) }
         ensures named { (x : Option Extractor) (key : List ℕ) → IsExtractor E.may_name E.may_extract (option_copied extractor.entry) x → result ≡ Err (SlateError.EmptySegmentPrefix key) → IsSome x }
         ensures refusals { IfErr result IsOfRebuilding }
     {
         let from = self.mark.max(view.manifest.replay_after_wal_id);
         let tabled = view.manifest.last_l0_seq;
+        let last = last_above(alloc, store, from)?;
         let (replayed, _had) = self.extend(alloc, store, from, last, tabled, extractor)?;
         self.go_by(view, reached(replayed, last));
         Ok(answer_of(replayed, self.number()))

@@ -3,23 +3,25 @@ ghost use Rattle.std.specs.Prelude.{◌≡◌, ◌+◌, ◌-◌, ◌*◌, ◌≤
 ghost use Rattle.std.specs.Option.{option_copied};
 ghost use Rattle.slate_types.specs.Line.{AreNumberedFrom};
 ghost use Rattle.slate_store.specs.Calls.{WhereModelled};
+ghost use Rattle.slate_store.specs.declared.reader_modes.DbReaderMode.TheVariants.{ManagedCheckpoint};
 ghost use Rattle.slate_store.specs.Checkpoints.{found, to_refresh, to_write};
+ghost use Rattle.slate_store.specs.Refusals.{checkpoint_changes, planned};
 ghost use Rattle.slate_replay.specs.declared.replays.Replayed.TheVariants.{Whole};
-ghost use Rattle.slate_model.specs.Followed.{read_logs};
 ghost use Rattle.slate_model.specs.Follower.{Follower, HasSegments, number};
 ghost use Rattle.slate_model.specs.Known.{CountsFaults, known};
 ghost use Rattle.slate_model.specs.Lease.{differs, leased, to_keep};
 ghost use Rattle.slate_model.specs.Managed.{IsOpenAt, Keeps, KeepsLease, KeepsOrNot, PutsPlanned, poll_result, unrefused};
-ghost use Rattle.slate_model.specs.Segments.{Extractor, IsExtractor, segments_of};
+ghost use Rattle.slate_model.specs.Segments.{Extractor, IsExtractor};
 ghost use Rattle.slate_model.specs.Open.{replayed_logs};
 ghost use Rattle.slate_model.specs.Stores.{Stands, by_objects};
 ghost use Rattle.slate_follow.specs.Growing.{IsPushed, added_to, settled};
-ghost use Rattle.slate_follow.specs.Keeping.{BuildsLatest, IsNews, IsOfPolling, KeepLacks, MayLack, NewsLacks, PutsBy, ReplaceLacks, put_tried, tried};
-ghost use Rattle.slate_follow.specs.Rebuilding.{answer_of};
+ghost use Rattle.slate_follow.specs.Keeping.{CallsKeeping, IsNews, IsOfPolling, KeepLacks, MayLack, NewsLacks, PutsBy, ReplaceLacks, TakesLatest, put_tried, tried};
+ghost use Rattle.slate_follow.specs.Answering.{IsOfPoll};
+ghost use Rattle.slate_follow.specs.Rebuilding.{Truncates, answer_of, new_logs};
 
 use crate::leases::{latest_of, put_next, with_new_lease, with_renewed_lease};
 use crate::polls::poll_error;
-use crate::rebuilds::{answer_of, last_read, reached, rebuild};
+use crate::rebuilds::{answer_of, last_above, reached};
 use crate::{FollowerState, PollAnswer};
 use bytes::Bytes;
 use slate_errors::{CloseFault, SlateError};
@@ -28,16 +30,15 @@ use slate_replay::Replayed;
 use slate_store::{COMMIT_TRIES, Store, VersionedManifest, find_checkpoint};
 use slate_types::{PrefixExtractor, Seq};
 use std::alloc::Global;
-use std::mem;
 
-/// What a reader took of log files that it hadn't replayed yet: how the replay ended, and up to which log file. By the number of
-/// its last batch and its segments before that it is as it was then.
+/// How a reader took what log files have that it hadn't replayed yet. By the number of its last batch, its mark and, where these are
+/// others now, its segments before that it is as it was then.
 #[derive(Drop)]
 pub(crate) struct News {
     number: u64,
-    segments: Seq<Bytes>,
-    replayed: Replayed,
     mark: u64,
+    segments: Option<Seq<Bytes>>,
+    replayed: Replayed,
 }
 
 impl FollowerState {
@@ -56,6 +57,9 @@ impl FollowerState {
         ensures keeps { (x : Option Extractor) → IsExtractor E.may_name E.may_extract (option_copied extractor.entry) x → (made : ℕ) × KeepsLease (by_objects (S.objects store.old)) x made lease.now moment self.old
             (known S.objects S.faults store.old) result self.new (known S.objects S.faults store.new) }
         ensures left { IfErr result (λ error. self.new ≡ record self.old { lease = self.new.lease; result = poll_result error }) }
+        ensures truncates { IfOk result (λ answer. IfSome (S.objects store.old) (λ o. Truncates o self.new answer)) }
+        ensures kind { IfErr result (IsOfPoll ManagedCheckpoint) }
+        ensures costs { IfOk result (λ _. IfSome (S.objects store.old) (λ o. CallsKeeping o self.old lease.now moment (S.calls store.old) (S.calls store.new))) }
         ensures calls { IfSome (S.objects store.old) (λ o. S.calls store.new ≤ S.calls store.old + 9 * (replayed_logs o + 3)) }
     {
         match self.keep_lease(alloc, store, lease, extractor, moment) {
@@ -94,6 +98,9 @@ impl FollowerState {
         ensures answers { IfOk result (λ answer. IsOpenAt self.old.skips self.new answer) }
         ensures keeps { IfOk result (λ answer. WhereModelled (λ o o'. Keeps (by_objects (S.objects store.old)) lease.now moment self.old o self.new answer o') (S.objects store.old) (S.objects store.new)) }
         ensures failed { IfErr result (λ _. self.new ≡ record self.old { lease = self.new.lease }) }
+        ensures truncates { IfOk result (λ answer. IfSome (S.objects store.old) (λ o. Truncates o self.new answer)) }
+        ensures kind { IfErr result (IsOfPoll ManagedCheckpoint) }
+        ensures costs { IfOk result (λ _. IfSome (S.objects store.old) (λ o. CallsKeeping o self.old lease.now moment (S.calls store.old) (S.calls store.new))) }
         ensures calls { IfSome (S.objects store.old) (λ o. S.calls store.new ≤ S.calls store.old + 9 * (replayed_logs o + 3)) }
         ensures segments { (x : Option Extractor) → IsExtractor E.may_name E.may_extract (option_copied extractor.entry) x → HasSegments x self.old → HasSegments x self.new }
         ensures lacks { (x : Option Extractor) → IsExtractor E.may_name E.may_extract (option_copied extractor.entry) x → result ≡ Err SlateError.InvalidDBState → IfSome (S.objects store.old) (λ o. KeepLacks x lease.now moment self.old o) }
@@ -126,6 +133,10 @@ impl FollowerState {
         ensures keeps { IfOk (tried result) (λ answer. WhereModelled (λ o o'. Keeps (by_objects (S.objects store.old)) lease.now moment self.old o self.new answer o') (S.objects store.old) (S.objects store.new)) }
         ensures failed { IfErr (tried result) (λ _. self.new ≡ record self.old { lease = self.new.lease }) }
         ensures again { result ≡ Ok None → (self.new ≡ self.old) × (S.objects store.new ≡ S.objects store.old) }
+        ensures truncates { IfOk (tried result) (λ answer. IfSome (S.objects store.old) (λ o. Truncates o self.new answer)) }
+        ensures kind { IfErr result (IsOfPoll ManagedCheckpoint) }
+        ensures free { IfOk (tried result) (λ _. IfSome (S.objects store.old) (λ o. Stands (checkpoint_changes (to_keep self.old.view lease.now moment) o) o → ⊥)) }
+        ensures costs { IfOk (tried result) (λ _. IfSome (S.objects store.old) (λ o. CallsKeeping o self.old lease.now moment (S.calls store.old) (S.calls store.new))) }
         ensures calls { IfSome (S.objects store.old) (λ o. S.calls store.new ≤ S.calls store.old + 2 * (replayed_logs o + 2)) }
         ensures calls_again { result ≡ Ok None → IfSome (S.objects store.old) (λ o. S.calls store.new ≤ S.calls store.old + (replayed_logs o + 3)) }
         ensures segments { (x : Option Extractor) → IsExtractor E.may_name E.may_extract (option_copied extractor.entry) x → HasSegments x self.old → HasSegments x self.new }
@@ -140,8 +151,7 @@ impl FollowerState {
             return Ok(Some(self.take_news(alloc, &news)));
         }
         if find_checkpoint(&latest, lease.id).is_none() {
-            self.drop_news(news);
-            return self.replace_lease(alloc, store, lease, &latest, extractor, moment);
+            return self.replace_missing(alloc, store, lease, &latest, news, extractor, moment);
         }
         let renewed = match self.renew_lease(alloc, store, lease, &latest, moment) {
             Ok(renewed) => renewed,
@@ -172,15 +182,18 @@ impl FollowerState {
         requires leased { self.old.lease ≡ Some lease.now }
         ensures faults { CountsFaults (S.faults store.old) (S.faults store.new) result }
         ensures puts { WhereModelled (λ o o'. PutsBy MayLack (leased lease.now.lifetime (to_write (Some lease.now.id) (Some lease.now.lifetime) moment latest.now)) self.old.lease o (tried result) self.new.lease o') (S.objects store.old) (S.objects store.new) }
-        ensures built { IfOk (tried result) (λ answer. IfSome (S.objects store.new) (λ o'. BuildsLatest (leased lease.now.lifetime (to_write (Some lease.now.id) (Some lease.now.lifetime) moment latest.now)) self.old.skips o' self.new answer)) }
+        ensures taken { IfOk (tried result) (λ answer. IfSome (S.objects store.new) (λ o'. TakesLatest (leased lease.now.lifetime (to_write (Some lease.now.id) (Some lease.now.lifetime) moment latest.now)) self.old o' self.new answer)) }
         ensures answers { IfOk (tried result) (λ answer. IsOpenAt self.old.skips self.new answer) }
         ensures failed { IfErr (tried result) (λ _. self.new ≡ record self.old { lease = self.new.lease }) }
         ensures again { result ≡ Ok None → (self.new ≡ self.old) × (S.objects store.new ≡ S.objects store.old) }
-        ensures calls { IfSome (S.objects store.old) (λ o. S.calls store.new ≤ S.calls store.old + (read_logs self.old.mode self.old.skips o (Some latest.now) + 2)) }
+        ensures truncates { IfOk (tried result) (λ answer. IfSome (S.objects store.old) (λ o. Truncates o self.new answer)) }
+        ensures kind { IfErr result (IsOfPoll ManagedCheckpoint) }
+        ensures free { IfOk (tried result) (λ _. IfSome (S.objects store.old) (λ o. Stands (planned (leased lease.now.lifetime (to_write (Some lease.now.id) (Some lease.now.lifetime) moment latest.now))) o → ⊥)) }
+        ensures calls { IfSome (S.objects store.old) (λ o. S.calls store.new ≤ S.calls store.old + (new_logs self.old latest.now o + 2)) }
         ensures calls_again { result ≡ Ok None → S.calls store.new ≤ S.calls store.old + 1 }
         ensures segments { (x : Option Extractor) → IsExtractor E.may_name E.may_extract (option_copied extractor.entry) x → HasSegments x self.old → HasSegments x self.new }
         ensures lacks { (x : Option Extractor) → IsExtractor E.may_name E.may_extract (option_copied extractor.entry) x → result ≡ Err SlateError.InvalidDBState →
-            IfSome (S.objects store.old) (λ o. ReplaceLacks x (leased lease.now.lifetime (to_write (Some lease.now.id) (Some lease.now.lifetime) moment latest.now)) self.old.skips o) }
+            IfSome (S.objects store.old) (λ o. ReplaceLacks x (leased lease.now.lifetime (to_write (Some lease.now.id) (Some lease.now.lifetime) moment latest.now)) self.old o) }
     {
         let replaced = Some(lease.id);
         let (next, taken) = with_new_lease(alloc, latest, replaced, lease.lifetime, moment)?;
@@ -189,13 +202,53 @@ impl FollowerState {
             return Ok(None);
         }
         self.lease = Some(taken);
-        let last = last_read(alloc, store, self.following, &next)?;
-        let (rebuilt, answer) = match rebuild(alloc, store, self.following, next, last, extractor) {
-            Ok(built) => built,
-            Err(error) => return Err(poll_error(error)),
-        };
-        self.take(alloc, rebuilt)?;
-        Ok(Some(answer))
+        match self.follow(alloc, store, next, extractor) {
+            Ok(answer) => Ok(Some(answer)),
+            Err(error) => Err(poll_error(error)),
+        }
+    }
+
+    /// Replaces a checkpoint that isn't there, once it took what log files have. Where that fails, it is as it was before that.
+    fn replace_missing<S: Store, E: PrefixExtractor>(
+        &mut self,
+        alloc: Global,
+        store: &mut S,
+        lease: &Lease,
+        latest: &VersionedManifest,
+        news: News,
+        extractor: Option<&E>,
+        moment: i64,
+    ) -> Result<Option<PollAnswer>, SlateError>
+        requires open_ { self.old.result ≡ None }
+        requires leased { self.old.lease ≡ Some lease.now }
+        requires low { self.old.line.floor ≤ news.number }
+        requires high { news.number ≤ number self.old }
+        ensures faults { CountsFaults (S.faults store.old) (S.faults store.new) result }
+        ensures puts { WhereModelled (λ o o'. PutsBy MayLack (leased lease.now.lifetime (to_write (Some lease.now.id) (Some lease.now.lifetime) moment latest.now)) self.old.lease o (tried result) self.new.lease o') (S.objects store.old) (S.objects store.new) }
+        ensures taken { IfOk (tried result) (λ answer. IfSome (S.objects store.new) (λ o'. TakesLatest (leased lease.now.lifetime (to_write (Some lease.now.id) (Some lease.now.lifetime) moment latest.now)) self.old o' self.new answer)) }
+        ensures answers { IfOk (tried result) (λ answer. IsOpenAt self.old.skips self.new answer) }
+        ensures failed { (before : Follower) → IsPushed before news.number news.mark news.segments self.old → IfErr (tried result) (λ _. self.new ≡ record before { lease = self.new.lease }) }
+        ensures again { result ≡ Ok None → (self.new.lease ≡ self.old.lease) × (S.objects store.new ≡ S.objects store.old) }
+        ensures truncates { IfOk (tried result) (λ answer. IfSome (S.objects store.old) (λ o. Truncates o self.new answer)) }
+        ensures kind { IfErr result (IsOfPoll ManagedCheckpoint) }
+        ensures free { IfOk (tried result) (λ _. IfSome (S.objects store.old) (λ o. Stands (planned (leased lease.now.lifetime (to_write (Some lease.now.id) (Some lease.now.lifetime) moment latest.now))) o → ⊥)) }
+        ensures calls { IfSome (S.objects store.old) (λ o. S.calls store.new ≤ S.calls store.old + (new_logs self.old latest.now o + 2)) }
+        ensures calls_again { result ≡ Ok None → S.calls store.new ≤ S.calls store.old + 1 }
+        ensures segments { (x : Option Extractor) → IsExtractor E.may_name E.may_extract (option_copied extractor.entry) x → IfOk (tried result) (λ _. HasSegments x self.old → HasSegments x self.new) }
+        ensures lacks { (x : Option Extractor) → IsExtractor E.may_name E.may_extract (option_copied extractor.entry) x → result ≡ Err SlateError.InvalidDBState →
+            IfSome (S.objects store.old) (λ o. ReplaceLacks x (leased lease.now.lifetime (to_write (Some lease.now.id) (Some lease.now.lifetime) moment latest.now)) self.old o) }
+    {
+        match self.replace_lease(alloc, store, lease, latest, extractor, moment) {
+            Ok(Some(answer)) => Ok(Some(answer)),
+            Ok(None) => {
+                self.drop_news(news);
+                Ok(None)
+            }
+            Err(error) => {
+                self.drop_news(news);
+                Err(error)
+            }
+        }
     }
 
     /// Puts a manifest after the latest one where the lease of its checkpoint ends anew. It answers false where one is
@@ -214,6 +267,8 @@ impl FollowerState {
         ensures puts { WhereModelled (λ o o'. PutsBy unrefused (leased lease.now.lifetime (to_refresh lease.now.id lease.now.lifetime moment latest.now)) self.old.lease o (put_tried result) self.new.lease o') (S.objects store.old) (S.objects store.new) }
         ensures same { self.new ≡ record self.old { lease = self.new.lease } }
         ensures again { result ≡ Ok false → (self.new ≡ self.old) × (S.objects store.new ≡ S.objects store.old) }
+        ensures kind { IfErr result (IsOfPoll ManagedCheckpoint) }
+        ensures free { result ≡ Ok true → IfSome (S.objects store.old) (λ o. Stands (planned (leased lease.now.lifetime (to_refresh lease.now.id lease.now.lifetime moment latest.now))) o → ⊥) }
         ensures calls { S.calls store.new ≤ S.calls store.old + 1 }
     {
         let (next, taken) = with_renewed_lease(alloc, latest, lease, moment)?;
@@ -235,48 +290,50 @@ impl FollowerState {
     ) -> Result<News, SlateError>
         ensures faults { CountsFaults (S.faults store.old) (S.faults store.new) result }
         ensures kept { S.objects store.new ≡ S.objects store.old }
-        ensures pushed { IfOk result (λ news. IsPushed self.old news.number news.segments self.new) }
+        ensures pushed { IfOk result (λ news. IsPushed self.old news.number news.mark news.segments self.new) }
         ensures err { OnErr result (self.new ≡ self.old) }
         ensures leased { IfOk result (λ _. self.new.lease ≡ self.old.lease) }
-        ensures news { IfOk result (λ news. IfSome (S.objects store.old) (λ o. IsNews o self.old latest.now self.old.skips (added_to self.old.line.batches self.new.line.batches) news.replayed news.mark)) }
+        ensures news { IfOk result (λ news. IfSome (S.objects store.old) (λ o. IsNews o self.old latest.now self.old.skips (added_to self.old.line.batches self.new.line.batches) news.replayed self.new.mark)) }
         ensures skipped { IfOk result (λ news. self.old.skips ≡ true → (added_to self.old.line.batches self.new.line.batches ≡ []) × (news.replayed ≡ Whole)) }
         ensures numbered { IfOk result (λ _. AreNumberedFrom (number self.old) (added_to self.old.line.batches self.new.line.batches)) }
-        ensures segments { (x : Option Extractor) → IsExtractor E.may_name E.may_extract (option_copied extractor.entry) x → IfOk result (λ _. self.old.skips ≡ false → HasSegments x self.old →
-            self.new.segments ≡ segments_of x self.new.line.batches) }
+        ensures segments { (x : Option Extractor) → IsExtractor E.may_name E.may_extract (option_copied extractor.entry) x → HasSegments x self.old → HasSegments x self.new }
         ensures lacks { (x : Option Extractor) → IsExtractor E.may_name E.may_extract (option_copied extractor.entry) x → result ≡ Err SlateError.InvalidDBState → IfSome (S.objects store.old) (λ o. NewsLacks x self.old latest.now o) }
         ensures segmented { (x : Option Extractor) → IsExtractor E.may_name E.may_extract (option_copied extractor.entry) x → result ≡ Err SlateError.InvalidDBState → IsSome x }
         ensures refusals { IfErr result IsOfPolling }
-        ensures calls { IfSome (S.objects store.old) (λ o. S.calls store.new ≤ S.calls store.old + (read_logs self.old.mode self.old.skips o (Some latest.now) + 1)) }
+        ensures calls { IfSome (S.objects store.old) (λ o. differs self.old.view latest.now ≡ false → S.calls store.new ≤ S.calls store.old + (new_logs self.old latest.now o + 1)) }
     {
-        let number = self.number();
-        let last = last_read(alloc, store, self.following, latest)?;
+        let (number, mark) = (self.number(), self.mark);
         if self.following.skips {
+            self.mark = latest.manifest.replay_after_wal_id;
             return Ok(News {
                 number,
-                segments: mem::replace(&mut self.segments, Seq::of(Vec::new(alloc))),
+                mark,
+                segments: None,
                 replayed: Replayed::Whole,
-                mark: last,
             });
         }
-        let from = self.mark.max(latest.manifest.replay_after_wal_id);
+        let from = mark.max(latest.manifest.replay_after_wal_id);
+        let last = last_above(alloc, store, from)?;
         let tabled = self.status.manifest().manifest.last_l0_seq;
         match self.extend(alloc, store, from, last, tabled, extractor) {
-            Ok((replayed, segments)) => Ok(News {
-                number,
-                segments,
-                replayed,
-                mark: reached(replayed, last),
-            }),
+            Ok((replayed, segments)) => {
+                self.mark = reached(replayed, last);
+                Ok(News {
+                    number,
+                    mark,
+                    segments: Some(segments),
+                    replayed,
+                })
+            }
             Err(error) => Err(poll_error(error)),
         }
     }
 
     /// Has what log files have, and stays at the manifest that it goes by.
     fn take_news(&mut self, alloc: Global, news: &News) -> PollAnswer
-        ensures ok { self.new ≡ settled self.old.skips self.old news.now.mark }
+        ensures ok { self.new ≡ settled self.old.skips self.old }
         ensures answer { result ≡ answer_of news.now.replayed (number self.new) }
     {
-        self.mark = news.mark;
         if self.following.skips {
             self.kept = Vec::new(alloc);
             self.number = self.status.manifest().manifest.last_l0_seq;
@@ -289,10 +346,14 @@ impl FollowerState {
     fn drop_news(&mut self, news: News)
         requires low { self.old.line.floor ≤ news.number }
         requires high { news.number ≤ number self.old }
-        ensures { (before : Follower) → IsPushed before news.number news.segments self.old → self.new ≡ record before { lease = self.old.lease } }
+        ensures back { (before : Follower) → IsPushed before news.number news.mark news.segments self.old → self.new ≡ record before { lease = self.old.lease } }
+        ensures leased { self.new.lease ≡ self.old.lease }
     {
         self.take_back(news.number);
-        self.segments = news.segments;
+        self.mark = news.mark;
+        if let Some(segments) = news.segments {
+            self.segments = segments;
+        }
     }
 }
 

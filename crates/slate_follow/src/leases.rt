@@ -1,8 +1,9 @@
 // The lease of a reader that keeps a checkpoint of its own: what options pass, and the manifests that take it and renew it.
-ghost use Rattle.std.specs.Prelude.{◌≡◌, ◌+◌, ◌≤◌, ℕ, List, Option, None, Some, Ok, Err, false, true, IfOk, IfErr, IfSome, IsSome};
+ghost use Rattle.std.specs.Prelude.{◌≡◌, ◌⊎◌, ◌+◌, ◌≤◌, ℕ, List, Option, None, Some, Ok, Err, false, true, IfOk, IfErr, IfSome, IsSome};
 ghost use Rattle.std.specs.Option.{option_copied};
 ghost use Rattle.slate_types.specs.Counts.{one_more};
 ghost use Rattle.slate_store.specs.declared.reader_modes.DbReaderMode.{DbReaderMode as AnyMode};
+ghost use Rattle.slate_store.specs.declared.reader_modes.DbReaderMode.TheVariants.{ManagedCheckpoint};
 ghost use Rattle.slate_store.specs.Calls.{WhereModelled};
 ghost use Rattle.slate_store.specs.Objects.{PutManifest, is_present};
 ghost use Rattle.slate_store.specs.Checkpoints.{found, to_refresh, to_write};
@@ -13,6 +14,7 @@ ghost use Rattle.slate_model.specs.Followed.{RefusesLatest};
 ghost use Rattle.slate_model.specs.Managed.{PutsPlanned, TakeRefusal};
 ghost use Rattle.slate_model.specs.Segments.{Extractor, IsExtractor};
 ghost use Rattle.slate_model.specs.Stores.{Stands};
+ghost use Rattle.slate_follow.specs.Answering.{IsOfOpening, IsOfOptions};
 ghost use Rattle.slate_follow.specs.Keeping.{FindsLatest, GivesLease, MayMismatch, PutsManifest, tried};
 ghost use Rattle.slate_follow.specs.Stepping.{IsOfTurn};
 
@@ -32,7 +34,8 @@ const LEAST_LIFETIME: u64 = 1000;
 
 /// Why a reader with these options may not keep a checkpoint of its own.
 pub(crate) fn lease_refusal(options: &DbReaderOptions) -> Option<SlateError>
-    ensures { result ≡ lease_refusal options.now.checkpoint_lifetime_ms options.now.manifest_poll_interval_ms }
+    ensures refusal { result ≡ lease_refusal options.now.checkpoint_lifetime_ms options.now.manifest_poll_interval_ms }
+    ensures kind { IfSome result IsOfOptions }
 {
     let lifetime = options.checkpoint_lifetime_ms;
     let interval = options.manifest_poll_interval_ms;
@@ -140,9 +143,12 @@ fn try_to_take<S: Store, E: PrefixExtractor>(
     ensures fits { (x : Option Extractor) → IsExtractor E.may_name E.may_extract (option_copied extractor.entry) x → IfOk (tried result) (λ p. IfSome (S.objects store.old) (λ o. RefusesLatest x true o None)) }
     ensures whole { (key : List ℕ) → result ≡ Err (SlateError.EmptySegmentPrefix key) → ⊥ }
     ensures again { result ≡ Ok None → S.objects store.new ≡ S.objects store.old }
+    ensures kind { IfErr result (IsOfOpening ManagedCheckpoint) }
+    ensures decided { (x : Option Extractor) → IsExtractor E.may_name E.may_extract (option_copied extractor.entry) x → result ≡ Err SlateError.InvalidDBState →
+        IfSome (S.objects store.old) (λ o. RefusesLatest x true o (Some SlateError.InvalidDBState) ⊎ RefusesLatest x true o None) }
 {
     let latest = latest_of(alloc, store)?;
-    if let Some(refusal) = follow_refusal(alloc, true, extractor, &latest)? {
+    if let Some(refusal) = follow_refusal(alloc, extractor, &latest)? {
         return Err(refusal);
     }
     let (next, lease) = with_new_lease(alloc, &latest, None, lifetime, moment)?;
@@ -169,6 +175,9 @@ pub(crate) fn take_lease<S: Store, E: PrefixExtractor>(
     ensures given { IfOk result (λ p. IfSome (S.objects store.old) (λ o. PlanIs (to_take lifetime moment) o (Ok (Some p.0, p.1)))) }
     ensures fits { (x : Option Extractor) → IsExtractor E.may_name E.may_extract (option_copied extractor.entry) x → IfOk result (λ p. IfSome (S.objects store.old) (λ o. RefusesLatest x true o None)) }
     ensures whole { (key : List ℕ) → result ≡ Err (SlateError.EmptySegmentPrefix key) → ⊥ }
+    ensures kind { IfErr result (IsOfOpening ManagedCheckpoint) }
+    ensures decided { (x : Option Extractor) → IsExtractor E.may_name E.may_extract (option_copied extractor.entry) x → result ≡ Err SlateError.InvalidDBState →
+        IfSome (S.objects store.old) (λ o. RefusesLatest x true o (Some SlateError.InvalidDBState) ⊎ RefusesLatest x true o None) }
 {
     for earlier in 0..COMMIT_TRIES {
         if let Some(taken) = try_to_take(alloc, store, lifetime, extractor, moment)? {

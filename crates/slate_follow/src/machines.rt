@@ -12,7 +12,7 @@ ghost use Rattle.slate_model.specs.Known.{CountsFaults, IsContent};
 ghost use Rattle.slate_model.specs.Segments.{Extractor, IsExtractor};
 ghost use Rattle.slate_follow.specs.Answering.{IsOfPoll};
 ghost use Rattle.slate_follow.specs.Following.{FollowsLine, FollowsOn};
-ghost use Rattle.slate_follow.specs.Stepping.{FitsReader, IsGoing, Steps, failed_by};
+ghost use Rattle.slate_follow.specs.Stepping.{FitsReader, IsGoing, StepLacks, Steps, failed_by};
 
 use crate::polls::poll_error;
 use crate::{FollowerState, PollAnswer};
@@ -183,23 +183,33 @@ impl PollMachine {
     }
 
     /// Makes the next call of the poll. It answers None while there is another to make, and the poll's answer once there is
-    /// none: the reader is then, as one whole, what a whole poll would have made of it; after `Truncated` it has what came
-    /// before the log file that is missing. SlateDB has no such call.
+    /// none: the reader is then, as one whole, what a whole poll would have made of it. SlateDB has no such call.
     ///
     /// What the calls are, in this order: the latest manifest; where a reader that keeps a checkpoint finds another one there
     /// than its view, in its tables, the last number in them or its segments, the put of one with a new checkpoint; the last
     /// log file; each log file above the mark, or the latest manifest once more where there is none; and where the lease is
     /// due then, the put of a manifest that renews it, or, where the checkpoint isn't there, that replaces it, and
     /// what log files have once more. One that skips log files leaves out those calls. A put that finds another manifest
-    /// under its id begins the poll anew with the next step. One of a reader at a checkpoint answers at once, and makes no call.
+    /// under its id begins the poll anew with the next step.
     ///
-    /// It answers `Truncated` where a log file isn't there any more or a batch is missing, which comes only where others put
-    /// a table and swept between two steps, and `TransactionalObjectTimeout` at the eighth put that finds another manifest.
-    /// Else it answers what a whole poll does. An answer and an error end the poll; after an error the reader sees what
-    /// it saw, and one that keeps a checkpoint is closed, unless that is `NoMemory`.
+    /// # Errors
     ///
-    /// A step that reads a log file takes time linear in its operations, for each new key a logarithm of the keys; one that
-    /// reads or puts a manifest, in that; and the one that answers, in the operations of what is new.
+    /// answer | when
+    /// ---|---
+    /// `Truncated` | a log file isn't there any more or a batch is missing: others put a table and swept between two steps
+    /// `TransactionalObjectTimeout` | at the eighth put that finds another manifest
+    /// others | as of `poll`
+    ///
+    /// # Cost
+    ///
+    /// One call of the store; of a reader at a checkpoint none. A step that reads a log file takes time linear in its
+    /// operations, for each new key a logarithm of the keys; one that reads or puts a manifest, in that; and the one that
+    /// answers, in the operations of what is new.
+    ///
+    /// # What stands after
+    ///
+    /// An answer and an error end the poll. After `Truncated` the reader has what came before the log file that is missing;
+    /// after an error it sees what it saw, and one that keeps a checkpoint is closed, unless that is `NoMemory`.
     pub fn step<S: Store, E: PrefixExtractor>(
         &mut self,
         alloc: Global,
@@ -213,6 +223,8 @@ impl PollMachine {
         ensures pinned { is_pinned state.old.mode ≡ true → (result ≡ Ok (Some (PollAnswer.Whole (number state.old)))) × (state.new ≡ state.old) × (store.new ≡ store.old) }
         ensures calls { is_pinned state.old.mode ≡ false → S.calls store.new ≡ one_more (S.calls store.old) }
         ensures steps { is_pinned state.old.mode ≡ false → WhereModelled (λ o o'. Steps state.old self.old result o state.new self.new o') (S.objects store.old) (S.objects store.new) }
+        ensures lacks { (x : Option Extractor) → IsExtractor E.may_name E.may_extract (option_copied extractor.entry) x → is_pinned state.old.mode ≡ false → result ≡ Err SlateError.InvalidDBState →
+            IfSome (S.objects store.old) (λ o. StepLacks x state.old self.old o) }
         ensures goes { result ≡ Ok None → (state.new ≡ state.old) × FitsReader state.new self.new × IsGoing self.new.stage }
         ensures answers { IfOk result (λ answer. IfSome answer (λ _. (state.new.result ≡ None) × (self.new.stage ≡ Ended))) }
         ensures failed { IfErr result (λ error. (state.new ≡ failed_by error state.old) × (self.new.stage ≡ Ended)) }
@@ -250,6 +262,8 @@ impl PollMachine {
         requires fits { FitsReader state.old self.old }
         ensures calls { S.calls store.new ≡ one_more (S.calls store.old) }
         ensures steps { WhereModelled (λ o o'. Steps state.old self.old result o state.new self.new o') (S.objects store.old) (S.objects store.new) }
+        ensures lacks { (x : Option Extractor) → IsExtractor E.may_name E.may_extract (option_copied extractor.entry) x → result ≡ Err SlateError.InvalidDBState →
+            IfSome (S.objects store.old) (λ o. StepLacks x state.old self.old o) }
         ensures goes { result ≡ Ok None → (state.new ≡ state.old) × FitsReader state.new self.new × IsGoing self.new.stage }
         ensures answers { IfOk result (λ answer. IfSome answer (λ _. (state.new.result ≡ None) × (self.new.stage ≡ Ended))) }
         ensures failed { IfErr result (λ error. (state.new ≡ state.old) × (self.new.stage ≡ Ended)) }

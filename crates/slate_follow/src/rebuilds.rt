@@ -2,6 +2,7 @@
 ghost use Rattle.std.specs.Prelude.{◌≡◌, ◌+◌, ◌-◌, ◌<◌, ◌≤◌, ℕ, List, true, false, cond, Err, Option, Some, None, IfOk, IfErr, IfSome, IsSome};
 ghost use Rattle.std.specs.Option.{option_copied};
 ghost use Rattle.slate_types.specs.declared.store_errors.StoreFault.TheVariants.{NotFound};
+ghost use Rattle.slate_store.specs.Objects.{last_log};
 ghost use Rattle.slate_model.specs.Follow.{AnswersAt};
 ghost use Rattle.slate_model.specs.Followed.{can_follow, follow_refusal};
 ghost use Rattle.slate_model.specs.Follower.{HasSegments, is_pinned, number};
@@ -55,30 +56,28 @@ impl Rebuilt {
     }
 }
 
-/// The manifest that a reader goes by, where the database can be followed, and the last log file that it reads.
+/// The manifest that a reader goes by that is opened, where the database can be followed, and the last log file that it reads.
 pub(crate) fn find_view<S: Store, E: PrefixExtractor>(
     alloc: Global,
     store: &mut S,
     following: Following,
-    opening: bool,
     extractor: Option<&E>,
 ) -> Result<(VersionedManifest, u64), SlateError>
     ensures faults { FaultsRise (S.faults store.old) (S.faults store.new) result }
     ensures missing { result ≡ Err (SlateError.ObjectStoreError NotFound) → is_pinned following.mode ≡ true }
     ensures calls { S.calls store.new ≤ S.calls store.old + 2 }
     ensures kept { S.objects store.new ≡ S.objects store.old }
-    ensures where_modelled { IfSome (S.objects store.old) (λ o. FindsView following.mode following.skips opening o result) }
+    ensures where_modelled { IfSome (S.objects store.old) (λ o. FindsView following.mode following.skips true o result) }
     ensures follows { (x : Option Extractor) → IsExtractor E.may_name E.may_extract (option_copied extractor.entry) x →
-        IfSome (S.objects store.old) (λ o. Follows x following.mode opening o result) }
+        IfSome (S.objects store.old) (λ o. Follows x following.mode true o result) }
     ensures whole { (key : List ℕ) → result ≡ Err (SlateError.EmptySegmentPrefix key) → ⊥ }
-    ensures valid { opening ≡ false → result ≡ Err SlateError.InvalidDBState → ⊥ }
-    ensures kind { IfErr result (IsOfFinding following.mode opening) }
+    ensures kind { IfErr result (IsOfFinding following.mode) }
     ensures first { IfErr result (λ error. IsOfLatest error → S.calls store.new ≤ S.calls store.old + 1) }
 {
     let Some(latest) = store.latest_manifest(alloc)? else {
         return Err(SlateError::LatestTransactionalObjectVersionMissing);
     };
-    if let Some(refusal) = follow_refusal(alloc, opening, extractor, &latest)? {
+    if let Some(refusal) = follow_refusal(alloc, extractor, &latest)? {
         return Err(refusal);
     }
     let view = view_under(alloc, store, following.mode, latest)?;
@@ -86,22 +85,17 @@ pub(crate) fn find_view<S: Store, E: PrefixExtractor>(
     Ok((view, last))
 }
 
-/// Why a database isn't followed by its latest manifest.
+/// Why a reader isn't opened by the latest manifest of a database.
 pub(crate) fn follow_refusal<E: PrefixExtractor>(
     alloc: Global,
-    opening: bool,
     extractor: Option<&E>,
     latest: &VersionedManifest,
 ) -> Result<Option<SlateError>, NoMemory>
-    ensures refusal { (x : Option Extractor) → IsExtractor E.may_name E.may_extract (option_copied extractor.entry) x → IfOk result (λ refusal. refusal ≡ follow_refusal x opening latest.now) }
+    ensures refusal { (x : Option Extractor) → IsExtractor E.may_name E.may_extract (option_copied extractor.entry) x → IfOk result (λ refusal. refusal ≡ follow_refusal x true latest.now) }
     ensures kind { IfOk result (λ refusal. IfSome refusal IsOfFollowing) }
-    ensures can { IfOk result (λ refusal. refusal ≡ None → can_follow opening latest.now ≡ true) }
+    ensures can { IfOk result (λ refusal. refusal ≡ None → can_follow true latest.now ≡ true) }
     ensures invalid { IfOk result (λ refusal. refusal ≡ Some SlateError.InvalidDBState → latest.now.manifest.initialized ≡ false) }
-    ensures poll { opening ≡ false → IfOk result (λ refusal. refusal ≡ None) }
 {
-    if !opening {
-        return Ok(None);
-    }
     if !latest.manifest.initialized {
         return Ok(Some(SlateError::InvalidDBState));
     }
@@ -155,7 +149,22 @@ pub(crate) fn last_read<S: Store>(
     if let DbReaderMode::Checkpoint(_) = following.mode {
         return Ok(view.manifest.next_wal_id.saturating_sub(1));
     }
-    Ok(store.last_log(alloc, view.manifest.replay_after_wal_id)?)
+    last_above(alloc, store, view.manifest.replay_after_wal_id)
+}
+
+/// The last log file above this one, or this one.
+pub(crate) fn last_above<S: Store>(
+    alloc: Global,
+    store: &mut S,
+    from: u64,
+) -> Result<u64, SlateError>
+    ensures faults { CountsFaults (S.faults store.old) (S.faults store.new) result }
+    ensures calls { S.calls store.new ≤ S.calls store.old + 1 }
+    ensures kept { S.objects store.new ≡ S.objects store.old }
+    ensures found { IfOk result (λ last. IfSome (S.objects store.old) (λ o. last ≡ last_log from o)) }
+    ensures refusals { IfErr result IsOfReplay }
+{
+    Ok(store.last_log(alloc, from)?)
 }
 
 /// What a reader has of a manifest that it goes by and its log files up to the last one, and whether these were whole.
@@ -171,7 +180,7 @@ pub(crate) fn rebuild<S: Store, E: PrefixExtractor>(
     ensures calls { S.calls store.new ≤ S.calls store.old + (last - view.manifest.replay_after_wal_id) }
     ensures kept { S.objects store.new ≡ S.objects store.old }
     ensures built { IfOk result (λ p. IfSome (S.objects store.old) (λ o. Builds o following.mode following.skips view last p.0 p.1)) }
-    ensures asked { IfOk result (λ p. (p.0.mode ≡ following.mode) × (p.0.skips ≡ following.skips)) }
+    ensures asked { IfOk result (λ p. (p.0.mode ≡ following.mode) × (p.0.skips ≡ following.skips) × (p.0.view ≡ view)) }
     ensures answer { IfOk result (λ p. (p.0.lease ≡ None) × (p.0.result ≡ None) × AnswersAt (number p.0) p.1) }
     ensures segments { (x : Option Extractor) → IsExtractor E.may_name E.may_extract (option_copied extractor.entry) x → IfOk result (λ p.
         HasSegments x p.0 × (unsegmented_refusal x (ops_of p.0.line.batches) ≡ None)) }

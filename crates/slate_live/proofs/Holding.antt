@@ -31,7 +31,7 @@ use Rattle.slate_script.specs.declared.replies.Reply.{Reply}
 use Rattle.slate_script.specs.declared.commands.Action.{Action}
 use Rattle.slate_script.specs.declared.commands.Action.TheVariants as actions
 use Rattle.slate_live.specs.Calls.{OfObject, WholeStore, target_of}
-use Rattle.slate_live.specs.Leases.{closes, polls}
+use Rattle.slate_live.specs.Leases.{ComesBefore, closes, polls}
 use Rattle.slate_live.specs.Represents.{IsFollowerAt, IsReached}
 use Rattle.slate_live.specs.Settings.{Settings}
 use Rattle.slate_live.specs.World.{Next, World, state_of}
@@ -46,9 +46,13 @@ cond-end : (b : Bool) (x y z : ℤ) → int_lt x y ≡ b → int_lt z (cond b x 
 cond-end true x y z less below = grind (arith, ints, less, below)
 cond-end false x y z less below = below
 
--- a moment before the end of a lease isn't after an end that isn't before that one
-not-over : (end bound moment : ℤ) → int_lt end bound ≡ false → int_lt moment bound ≡ true → int_lt end moment ≡ false
-not-over end bound moment ahead before = grind (arith, ints, ahead, before)
+-- a moment that comes before the end of a lease isn't after an end that isn't before that one
+not-over-by : (b : Bool) (end last moment : ℤ) (lifetime : ℕ) → int_lt last_moment (last +ℤ pos lifetime) ≡ b → int_lt end (cond b last_moment (last +ℤ pos lifetime)) ≡ false → ComesBefore lifetime last moment → int_lt end moment ≡ false
+not-over-by true end last moment lifetime is_b ahead (before, within) = grind (arith, ints, ahead, within)
+not-over-by false end last moment lifetime is_b ahead (before, within) = grind (arith, ints, ahead, before)
+
+not-over : (end last moment : ℤ) (lifetime : ℕ) → int_lt end (lease_end last lifetime) ≡ false → ComesBefore lifetime last moment → int_lt end moment ≡ false
+not-over end last moment lifetime ahead before = not-over-by (int_lt last_moment (last +ℤ pos lifetime)) end last moment lifetime refl ahead before
 
 -- a longer lease that begins at a moment doesn't end before a shorter one
 longer-ends : (b c : Bool) (t : ℤ) (long short : ℕ) → short ≤ long → int_lt last_moment (t +ℤ pos long) ≡ b → int_lt last_moment (t +ℤ pos short) ≡ c → int_lt (cond b last_moment (t +ℤ pos long)) (cond c last_moment (t +ℤ pos short)) ≡ false
@@ -87,14 +91,14 @@ pub record Holds (n lifetime : ℕ) (last : ℤ) (w : World) : Type 0 where
   pub tables : kept.tables ≡ follower.view.manifest.tables
 
 -- it isn't over at a moment in time
-unexpired : (c : Checkpoint) (end moment bound : ℤ) → c.expire_ms ≡ Some end → int_lt end bound ≡ false → int_lt moment bound ≡ true → is_expired moment c ≡ false
-unexpired c end moment bound expires ahead before = by c.expire_ms expires where
+unexpired : (c : Checkpoint) (end last moment : ℤ) (lifetime : ℕ) → c.expire_ms ≡ Some end → int_lt end (lease_end last lifetime) ≡ false → ComesBefore lifetime last moment → is_expired moment c ≡ false
+unexpired c end last moment lifetime expires ahead before = by c.expire_ms expires where
   by : (e : Option ℤ) → e ≡ Some end → is_expired moment (record c { expire_ms = e }) ≡ false
   by None is = absurd (cc)
-  by (Some x) is = let same : x ≡ end = cc in subst (λ y. int_lt y moment ≡ false) (sym same) (not-over end bound moment ahead before)
+  by (Some x) is = let same : x ≡ end = cc in subst (λ y. int_lt y moment ≡ false) (sym same) (not-over end last moment lifetime ahead before)
 
-pub holds-lasts : (n lifetime : ℕ) (last moment : ℤ) (w : World) (h : Holds n lifetime last w) → int_lt moment (lease_end last lifetime) ≡ true → is_expired moment h.checkpoint ≡ false
-holds-lasts n lifetime last moment w h before = unexpired h.checkpoint h.lease.end moment (lease_end last lifetime) h.expires h.ahead before
+pub holds-lasts : (n lifetime : ℕ) (last moment : ℤ) (w : World) (h : Holds n lifetime last w) → ComesBefore lifetime last moment → is_expired moment h.checkpoint ≡ false
+holds-lasts n lifetime last moment w h before = unexpired h.checkpoint h.lease.end last moment lifetime h.expires h.ahead before
 
 -- the id of a new checkpoint isn't that of one of the latest manifest
 pub new-apart : (w : World) → IsReached w → (latest : VersionedManifest) → latest_manifest w.catalogue ≡ Some latest → latest.id < last_number → All (λ x. has_id (checkpoint_id (latest.id + 1)) x ≡ false) latest.manifest.checkpoints
@@ -112,7 +116,7 @@ is-sweep action is = absurd (cc)
 
 module _ (settings : Settings) (w w' : World) (command : Command) (reply : Reply) (reached : IsReached w) (reached' : IsReached w') (next : Next settings w command reply w') (apart : AreApart w) (n lifetime : ℕ) (last : ℤ) (h : Holds n lifetime last w) where
   -- a command that neither polls nor closes it, and sweeps in time
-  pub holds-still : polls n command.action ≡ false → closes n command.action ≡ false → (command.action ≡ actions.Sweep → int_lt command.moment (lease_end last lifetime) ≡ true) → Holds n lifetime last w'
+  pub holds-still : polls n command.action ≡ false → closes n command.action ≡ false → (command.action ≡ actions.Sweep → ComesBefore lifetime last command.moment) → Holds n lifetime last w'
   holds-still unpolled unclosed before =
       let quiet = is-quiet n command.action unpolled unclosed in
       let spares = spared w command h.has.latest h.lease.id h.checkpoint h.has.there (λ whole. holds-lasts n lifetime last command.moment w h (before (is-sweep command.action whole)))

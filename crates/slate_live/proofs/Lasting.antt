@@ -27,7 +27,6 @@ use Rattle.slate_live.proofs.Cases.{some-of}
 use Rattle.slate_live.proofs.Naming.{FollowerDid, follower-did}
 use Rattle.slate_types.specs.declared.read_faults.ReadFault.{ReadFault}
 use Rattle.slate_types.specs.declared.store_errors.StoreFault.TheVariants.{NotFound}
-use Rattle.slate_store.specs.Checkpoints.{lease_end}
 use Rattle.slate_store.specs.declared.objects.TableId.{TableId}
 use Rattle.slate_errors.specs.declared.errors.SlateError.{SlateError}
 use Rattle.slate_errors.specs.declared.errors.SlateError.TheVariants as errors
@@ -38,7 +37,7 @@ use Rattle.slate_script.specs.declared.commands.Command.{Command}
 use Rattle.slate_script.specs.declared.replies.Reply.{Reply}
 use Rattle.slate_script.specs.declared.replies.Reply.TheVariants as replies
 use Rattle.slate_live.specs.Commands.{ActsOn, DoesBy, lifetime_of}
-use Rattle.slate_live.specs.Leases.{AreInTime, IsInTime, KeepsCheckpoint, LeasesHold, closes, is_whole, last_turn, polls, reads, turn}
+use Rattle.slate_live.specs.Leases.{AreInTime, ComesBefore, IsInTime, KeepsCheckpoint, LeasesHold, closes, is_whole, last_turn, polls, reads, turn}
 use Rattle.slate_live.specs.Replies.{found_reply, refusal, reply_to}
 use Rattle.slate_live.specs.Represents.{IsReached}
 use Rattle.slate_live.specs.Settings.{Settings}
@@ -95,7 +94,7 @@ module _ (settings : Settings) where
   holds-stored w n lifetime last reached h = subst (AreStored w.catalogue) h.tables (kept-stored w reached h.lease.id h.checkpoint h.kept h.has)
 
   -- a reader that holds its checkpoint keeps it at a moment in time
-  keeps-it : (w : World) (n lifetime : ℕ) (last moment : ℤ) → IsReached w → (h : Holds n lifetime last w) → int_lt moment (lease_end last lifetime) ≡ true → KeepsCheckpoint n moment w
+  keeps-it : (w : World) (n lifetime : ℕ) (last moment : ℤ) → IsReached w → (h : Holds n lifetime last w) → ComesBefore lifetime last moment → KeepsCheckpoint n moment w
   keeps-it w n lifetime last moment reached h before = record {
     follower = h.follower;
     is_follower = h.at;

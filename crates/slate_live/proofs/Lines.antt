@@ -1,5 +1,5 @@
 -- What an object of a world reads are the batches of its line.
-use Rattle.std.proofs.Common.{◌≡◌, ◌∙◌, ℕ, List, [], ◌∷◌, ◌++◌, Option, Some, None, refl, sym, ap, subst}
+use Rattle.std.proofs.Common.{◌≡◌, ◌∙◌, ℕ, List, [], ◌∷◌, ◌++◌, Some, None, ap, subst}
 use Rattle.std.specs.Prelude.{◌≢◌, slice_get}
 use Rattle.std.proofs.lemmas.List.Elements.{All-nil}
 use Rattle.slate_types.specs.declared.batches.Batch.{Batch}
@@ -7,7 +7,7 @@ use Rattle.slate_store.specs.Content.{AreStored, table_batches}
 use Rattle.slate_store.specs.Objects.{Objects, table_at}
 use Rattle.slate_store.specs.declared.objects.TableId.{TableId}
 use Rattle.slate_model.specs.Known.{Known}
-use Rattle.slate_model.specs.Object.{Object, Handle, Snapshot, Follower, batches_of, kept, tables_of}
+use Rattle.slate_model.specs.Object.{Object, Handle, Snapshot, Follower, batches_of, kept}
 use Rattle.slate_model.specs.Stores.{kept_rows}
 use Rattle.slate_model.specs.Tables.{AreJoined}
 use Rattle.slate_model.specs.Valid.{ReadsItsLine}

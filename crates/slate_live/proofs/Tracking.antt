@@ -1,5 +1,5 @@
 -- The tracker of a handle that flushed to a table is that of the next opening.
-use Rattle.std.proofs.Common.{◌≡◌, ◌⊎◌, ◌++◌, ◌∷◌, ◌&&◌, ◌+◌, ◌<◌, ◌≤◌, ◌∙◌, [], inl, inr, ℕ, Bool, true, false, cond, ltb, length, set, List, map, Option, Some, None, Result, Ok, Err, refl, sym, subst, ap, arith}
+use Rattle.std.proofs.Common.{◌≡◌, ◌⊎◌, ◌++◌, ◌∷◌, ◌&&◌, ◌+◌, ◌<◌, ◌≤◌, ◌∙◌, [], inl, inr, ℕ, Bool, true, false, cond, length, set, List, map, Option, Some, None, Result, Ok, Err, refl, sym, subst, ap, arith}
 use Rattle.std.proofs.lemmas.Bool.{eqb-true, lt-ltb, ltb-true}
 use Rattle.std.proofs.lemmas.List.{length-append, take_all}
 use Rattle.std.proofs.lemmas.List.Elements.{All-head, All-tail}
@@ -42,7 +42,6 @@ use Rattle.slate_model.specs.Object.{Object, Handle as AHandle, Snapshot as ASna
 use Rattle.slate_model.specs.Open.{OpensHandle, found_log, has_next, is_ready, log_refusal, manifest_refusal, next_manifest, refusal_unless, replayed}
 use Rattle.slate_model.specs.Known.{Known}
 use Rattle.slate_model.specs.Segments.{Extractor, extractor_name, extractor_refusal}
-use Rattle.slate_model.specs.Write.{last_number}
 use Rattle.slate_model.specs.Stores.{by_catalogue}
 use Rattle.slate_model.specs.Tracked.{fits_tables, fitting, no_times, opened_tracker, stored_tracker, tracked_all, tracker_in}
 use Rattle.slate_script.specs.declared.commands.Action.{Action}

@@ -1,7 +1,7 @@
 -- How long a reader keeps a checkpoint of its own.
-use Rattle.std.specs.Prelude.{◌≡◌, ◌++◌, ◌==◌, ◌/◌, ℕ, ℤ, int_lt, if◌then◌else◌, Bool, true, false, List, [], ◌∷◌, Option, Some}
+use Rattle.std.specs.Prelude.{◌≡◌, ◌++◌, ◌==◌, ◌/◌, ◌+ℤ◌, pos, ℕ, ℤ, int_lt, if◌then◌else◌, Bool, true, false, List, [], ◌∷◌, Option, Some}
 use Rattle.slate_types.specs.declared.store_errors.StoreFault.TheVariants.{NotFound}
-use Rattle.slate_store.specs.Checkpoints.{found, is_expired, lease_end}
+use Rattle.slate_store.specs.Checkpoints.{found, is_expired, last_moment}
 use Rattle.slate_store.specs.Objects.{latest_manifest}
 use Rattle.slate_store.specs.declared.objects.Checkpoint.{Checkpoint}
 use Rattle.slate_store.specs.declared.objects.VersionedManifest.{VersionedManifest}
@@ -48,9 +48,13 @@ abbrev pub last_turn : ℕ → ℤ → List Step → ℤ
 last_turn n last [] = last
 last_turn n last (step ∷ steps) = last_turn n (turn n last step) steps
 
+-- A moment comes less than this lifetime after another, and isn't past the greatest, where each longer lease ends.
+abbrev pub ComesBefore : (lifetime : ℕ) → (last moment : ℤ) → Type 0
+ComesBefore lifetime last moment = (int_lt moment (last +ℤ pos lifetime) ≡ true) × (int_lt last_moment moment ≡ false)
+
 -- A step comes before the end of a lease of this lifetime that begins at the reader's last turn.
 abbrev pub IsInTime : (lifetime : ℕ) → (last : ℤ) → Step → Type 0
-IsInTime lifetime last step = int_lt step.command.moment (lease_end last lifetime) ≡ true
+IsInTime lifetime last step = ComesBefore lifetime last step.command.moment
 
 -- Each sweep of these steps does, the reader isn't closed, and each poll of it took all log files.
 abbrev pub AreInTime : (n lifetime : ℕ) → (last : ℤ) → List Step → Type 0

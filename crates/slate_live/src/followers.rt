@@ -45,7 +45,7 @@ pub(crate) fn act<S: Store, M: MergeOperator, E: PrefixExtractor>(
     match &command.action {
         Action::Get { key, .. } => get(follower, alloc, store, key, operator),
         Action::Scan { range, order, .. } => {
-            scan(follower, alloc, store, range, *order, operator)
+            scan(follower, alloc, store, range.as_ref(), *order, operator)
         }
         Action::Seek {
             range,
@@ -57,7 +57,7 @@ pub(crate) fn act<S: Store, M: MergeOperator, E: PrefixExtractor>(
             follower,
             alloc,
             store,
-            range,
+            range.as_ref(),
             (*take, key),
             *order,
             operator,
@@ -153,7 +153,7 @@ fn poll<S: Store, E: PrefixExtractor>(
 fn status(follower: &FollowerState, alloc: Global) -> Reply
     ensures { AnswersStatus (follower_status follower.now) result }
 {
-    status_reply(follower.status(alloc))
+    status_reply(alloc, follower.status(alloc))
 }
 
 /// Closes a reader; one that keeps a checkpoint takes that out.

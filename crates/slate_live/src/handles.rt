@@ -24,7 +24,7 @@ use crate::states::Write;
 use bytes::Bytes;
 use slate_errors::{Ended, SlateError};
 use slate_rows::DbIterator;
-use slate_script::{Action, Command, Reply};
+use slate_script::{Action, Boxed, Command, Reply};
 use slate_status::DbStatus;
 use slate_store::Store;
 use slate_types::{
@@ -74,7 +74,16 @@ pub(crate) fn act<S: Store, M: MergeOperator, E: PrefixExtractor>(
             order,
             remote,
             ..
-        } => scan(writer, alloc, store, range, *order, *remote, None, operator),
+        } => scan(
+            writer,
+            alloc,
+            store,
+            range.as_ref(),
+            *order,
+            *remote,
+            None,
+            operator,
+        ),
         Action::Seek {
             range,
             take,
@@ -85,7 +94,15 @@ pub(crate) fn act<S: Store, M: MergeOperator, E: PrefixExtractor>(
         } => {
             let from = (*take, key);
             seek(
-                writer, alloc, store, range, from, *order, *remote, None, operator,
+                writer,
+                alloc,
+                store,
+                range.as_ref(),
+                from,
+                *order,
+                *remote,
+                None,
+                operator,
             )
         }
         Action::Close { options, .. } => close(writer, alloc, store, *options),
@@ -127,7 +144,7 @@ pub(crate) fn act_at<S: Store, M: MergeOperator>(
             writer,
             alloc,
             store,
-            range,
+            range.as_ref(),
             *order,
             *remote,
             Some(snapshot),
@@ -146,7 +163,7 @@ pub(crate) fn act_at<S: Store, M: MergeOperator>(
                 writer,
                 alloc,
                 store,
-                range,
+                range.as_ref(),
                 from,
                 *order,
                 *remote,
@@ -467,15 +484,18 @@ fn close<S: Store>(
 fn status(writer: &WriterState, alloc: Global) -> Reply
     ensures { AnswersStatus (handle_status writer.now) result }
 {
-    status_reply(writer.status(alloc))
+    status_reply(alloc, writer.status(alloc))
 }
 
 /// The reply to a question for a status.
-pub(crate) fn status_reply(answer: Result<DbStatus, NoMemory>) -> Reply
-    ensures ok { IfOk answer (λ status. result ≡ Reply.Status status) }
+pub(crate) fn status_reply(alloc: Global, answer: Result<DbStatus, NoMemory>) -> Reply
+    ensures ok { IfOk answer (λ status. AnswersStatus status result) }
     ensures err { IfErr answer (λ _. result ≡ Reply.NoMemory) }
 {
-    match answer {
+    let Ok(status) = answer else {
+        return Reply::NoMemory;
+    };
+    match Boxed::new(alloc, status) {
         Ok(status) => Reply::Status(status),
         Err(_) => Reply::NoMemory,
     }

@@ -1,5 +1,5 @@
 -- The commands that the generator makes, and the summary of the replies to them.
-use Rattle.std.specs.Prelude.{ℕ, zero, suc, pos, ◌+◌, ◌*◌, ◌%◌, Bool, true, false, nat_eq, if◌then◌else◌, List, [], ◌∷◌, ◌++◌, count_by, length, reverse, Option, Some, None, codes, decimal}
+use Rattle.std.specs.Prelude.{ℕ, zero, suc, pos, ◌+◌, ◌*◌, ◌%◌, Bool, true, false, nat_eq, if◌then◌else◌, List, [], ◌∷◌, ◌++◌, count_by, length, reverse, Some, None, codes, decimal}
 use Rattle.slate_types.specs.declared.options.FlushType.TheVariants.{Wal, MemTable}
 use Rattle.slate_types.specs.declared.scan_options.IterationOrder.TheVariants.{Ascending}
 use Rattle.slate_types.specs.declared.ranges.KeyBound.TheVariants.{Unbounded}

@@ -2,6 +2,7 @@
 ghost use Rattle.std.specs.Prelude.{◌≡◌};
 ghost use Rattle.slate_script.specs.declared.commands.ScriptFault.TheVariants.{NoMemory as OutOfMemory};
 
+use crate::Boxed;
 use bytes::Bytes;
 use slate_seqtrack::FindOption;
 use slate_store::DbReaderMode;
@@ -72,14 +73,14 @@ pub enum Action {
     /// Reads the rows of a range of an object in an order, from durable batches alone where `remote` is true.
     Scan {
         object: u64,
-        range: ByteRange,
+        range: Boxed<ByteRange>,
         order: IterationOrder,
         remote: bool,
     },
     /// Begins the same scan, reads up to `take` of its rows, seeks the key, and reads the rows from there on.
     Seek {
         object: u64,
-        range: ByteRange,
+        range: Boxed<ByteRange>,
         take: u64,
         key: Bytes,
         order: IterationOrder,

@@ -5,7 +5,7 @@ ghost use Rattle.slate_script.specs.Generator.{is_error, polled_at, row_count, e
 ghost use Rattle.slate_script.specs.declared.commands.Action.TheVariants as actions;
 
 use crate::printing::write_labelled;
-use crate::{Action, Command, Reply};
+use crate::{Action, Boxed, Command, Reply};
 use bytes::Bytes;
 use slate_store::DbReaderMode;
 use slate_text::write_text;
@@ -27,7 +27,7 @@ pub fn generate(alloc: Global, seed: u64, count: u16) -> Result<Vec<Command>, No
     for number in 0..count {
         add_turn(alloc, &mut commands, seed, u64::from(number) + 1)?;
     }
-    add_ending(&mut commands, u64::from(count))?;
+    add_ending(alloc, &mut commands, u64::from(count))?;
     Ok(commands)
 }
 
@@ -168,10 +168,11 @@ fn flush(flush_type: FlushType) -> Action
     }
 }
 
-fn add_ending(commands: &mut Vec<Command>, count: u64) -> Result<(), NoMemory>
+fn add_ending(alloc: Global, commands: &mut Vec<Command>, count: u64) -> Result<(), NoMemory>
     requires { count < 2 ^ 32 }
     ensures { OnOk result (commands.new.items ≡ commands.old.items ++ ending count) }
 {
+    let range = Boxed::new(alloc, ByteRange::full())?;
     commands.reserve(3)?;
     commands.push_reserved(timed(count, flush(FlushType::Wal)));
     commands.push_reserved(timed(count, Action::Poll { follower: 1 }));
@@ -179,7 +180,7 @@ fn add_ending(commands: &mut Vec<Command>, count: u64) -> Result<(), NoMemory>
         count,
         Action::Scan {
             object: 0,
-            range: ByteRange::full(),
+            range,
             order: IterationOrder::Ascending,
             remote: false,
         },

@@ -1,6 +1,7 @@
 //! Scripts: their lines and commands, the replies to them, and the words of the command line.
 #![tactic(auto)]
 
+mod boxed;
 mod commands;
 mod fields;
 mod forms;
@@ -15,6 +16,7 @@ mod scripts;
 mod values;
 mod writes;
 
+pub use boxed::Boxed;
 pub use commands::{Action, Command, LineAnswer, ScriptFault};
 pub use fields::script_fields;
 pub use forms::read_line;

@@ -284,7 +284,7 @@ fn write_words(out: &mut Vec<u8>, reply: &Reply) -> Result<(), NoMemory>
         Reply::Pending => write_text(out, "pending"),
         Reply::Polled { whole, at } => write_poll(out, *whole, *at),
         Reply::Ended { fault, tasks } => write_ended(out, fault, tasks),
-        Reply::Status(status) => write_status(out, status),
+        Reply::Status(status) => write_status(out, status.as_ref()),
         Reply::Time(time) => write_time(out, *time),
         Reply::Number(number) => write_found_number(out, *number),
         Reply::Backpressure { unflushed, limit } => write_backpressure(out, *unflushed, *limit),

@@ -2,8 +2,8 @@
 ghost use Rattle.std.specs.Prelude.{◌≡◌, IfOk, IfSome};
 ghost use Rattle.slate_script.specs.Queries.{get_form, scan_form, seek_form, query_of};
 
-use crate::Action;
 use crate::values::{read_order, read_range, read_remote, read_word};
+use crate::{Action, Boxed};
 use bytes::Bytes;
 use slate_text::read_number;
 use slate_types::NoMemory;
@@ -49,7 +49,7 @@ fn read_scan(alloc: Global, fields: &[Bytes]) -> Result<Option<Action>, NoMemory
     };
     Ok(Some(Action::Scan {
         object,
-        range,
+        range: Boxed::new(alloc, range)?,
         order,
         remote,
     }))
@@ -79,7 +79,7 @@ fn read_seek(alloc: Global, fields: &[Bytes]) -> Result<Option<Action>, NoMemory
     };
     Ok(Some(Action::Seek {
         object,
-        range,
+        range: Boxed::new(alloc, range)?,
         take,
         key,
         order,

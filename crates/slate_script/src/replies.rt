@@ -1,4 +1,5 @@
 // The replies to commands.
+use crate::Boxed;
 use slate_errors::{Ending, SlateError};
 use slate_status::DbStatus;
 use slate_types::{KeyValue, Seq};
@@ -60,7 +61,7 @@ pub enum Reply {
         tasks: Ending,
     },
     /// What an object reports of itself.
-    Status(DbStatus),
+    Status(Boxed<DbStatus>),
     /// When a batch was written, in whole seconds; None where the handle knows no time for its number.
     Time(Option<i64>),
     /// Which number was written at a time; None where the handle knows none.

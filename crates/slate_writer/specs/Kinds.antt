@@ -21,6 +21,13 @@ IsOfFlush (errors.ObjectStoreError Unavailable) = Unit {0}
 IsOfFlush errors.NoMemory = Unit {0}
 IsOfFlush error = ⊥
 
+-- the errors of a compaction
+abbrev pub IsOfCompacting : SlateError → Type 0
+IsOfCompacting errors.TransactionalObjectVersionExists = Unit {0}
+IsOfCompacting errors.InvalidDBState = Unit {0}
+IsOfCompacting (errors.ObjectStoreError fault) = Unit {0}
+IsOfCompacting error = IsOfLooking error
+
 -- the errors of an opening
 abbrev pub IsOfOpening : SlateError → Type 0
 IsOfOpening errors.InvalidDBState = Unit {0}

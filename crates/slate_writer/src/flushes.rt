@@ -16,33 +16,44 @@ use slate_types::{Batch, FlushType};
 use std::alloc::Global;
 
 impl WriterState {
-    /// Stores the accepted batches. After Ok all of them are durable.
+    /// Stores the accepted batches. After Ok all of them are durable. SlateDB's `flush`.
     ///
-    /// With `Wal` it puts those that aren't stored yet as one log file; where there are none, it puts nothing. With
-    /// `MemTable` it does the same, where the handle keeps a log, then puts a table of all batches that aren't in
-    /// tables yet, and commits a manifest that names it, from which on a replay begins after the log files that were
-    /// there, and whose segments are those of the latest manifest and the prefixes of the batches, each once, in their
-    /// order; where there are none for a table, it puts nothing. That manifest has the times of the batches, too, for
-    /// the handles that are opened later; where these have no bytes, the last one alone is left, also for this handle.
-    /// Then it drops the batches from memory that are in the tables of the manifest that it goes by, and their
-    /// prefixes, where all are.
+    /// type | what it puts, where there are such batches
+    /// ---|---
+    /// `Wal` | those that aren't stored yet, as one log file
+    /// `MemTable` | the same, where the handle keeps a log; then a table of all that aren't in tables yet, and a manifest
     ///
-    /// It calls the store three times at most with `Wal`, and five times with `MemTable`; once where it is fenced, or its first
-    /// look finds all batches in tables, and never again after a call that failed. It takes time linear in the batches
-    /// that it puts, however many operations they have, and in the manifest that it reads and compares with the present
-    /// one; a flush to a table also takes n log n comparisons, for n prefixes in the manifest and in memory. The table
-    /// shares what the handle has in memory, with its indexes, so that nothing is indexed again or copied. Only where the
-    /// tables of the latest manifest have some of these batches, which no store has that handles alone wrote, the others
-    /// are indexed anew.
+    /// The manifest names the table; a replay begins after the log files that were there; its segments are those of the latest
+    /// manifest and the prefixes of the batches, each once, in their order; and it has the times of the batches for the handles
+    /// that are opened later; where these have no bytes, the last one alone is left, also for this handle. Then the handle drops
+    /// the batches from memory that are in the tables of the manifest that it goes by, and their prefixes, where all are.
     ///
-    /// On a closed handle it answers `Closed` or the error that closed it, and touches no store. A handle that keeps
-    /// no log answers `WalDisabled` to a flush with `Wal`. `Fenced`, where another handle opened since, and every fault of
-    /// the store (`ObjectStoreError`, `TransactionalObjectVersionExists`, `LatestTransactionalObjectVersionMissing`) close
-    /// the handle with that error. `InvalidDBState`, where the next log file, table or manifest would pass the greatest id,
-    /// and `NoMemory` close nothing. After `ObjectStoreError` and `TransactionalObjectVersionExists` the log file may be
-    /// stored, or it and the table, and after `ObjectStoreError` all three; after `NoMemory` all but the last of them; after
-    /// any other error nothing is. The index of a table that was to be put is not used again. Where `NoMemory` comes after
-    /// the table was put, memory is shared with it, and the next write indexes it once more. SlateDB's `flush`.
+    /// # Errors
+    ///
+    /// error | when
+    /// ---|---
+    /// `Closed`, or the error that closed it | of a closed handle
+    /// `WalDisabled` | `Wal` of a handle that keeps no log
+    /// `Fenced` | another handle opened since
+    /// `ObjectStoreError`, `TransactionalObjectVersionExists`, `LatestTransactionalObjectVersionMissing` | a fault of the store
+    /// `InvalidDBState` | the next log file, table or manifest would pass the greatest id
+    /// `NoMemory` | want of memory
+    ///
+    /// # Cost
+    ///
+    /// Three calls of the store at most with `Wal`, and five with `MemTable`; once where it is fenced, or its first look finds all
+    /// batches in tables, none on a closed handle, and none after a call that failed. Time linear in the batches that it puts,
+    /// however many operations they have, and in the manifest; a flush to a table also n log n comparisons, for n prefixes in the
+    /// manifest and in memory. The table shares what the handle has in memory, with its indexes. Only where the tables of the latest
+    /// manifest have some of these batches, which no store has that handles alone wrote, the others are indexed anew.
+    ///
+    /// # What stands after
+    ///
+    /// `Fenced` and every fault of the store close the handle with that error; `InvalidDBState` and `NoMemory` close nothing.
+    /// After `ObjectStoreError` and `TransactionalObjectVersionExists` the log file may be stored, or it and the table, and after
+    /// `ObjectStoreError` all three; after `NoMemory` all but the last of them; after any other error nothing is. The index of a
+    /// table that was to be put is not used again. Where `NoMemory` comes after the table was put, memory is shared with it, and
+    /// the next write indexes it once more.
     pub fn flush<S: Store>(
         &mut self,
         alloc: Global,

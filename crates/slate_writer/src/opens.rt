@@ -67,31 +67,41 @@ impl Default for WriterOptions {
 }
 
 impl WriterState {
-    /// Opens a database, a new one where the store has no manifest. It commits the next manifest, with an epoch above
-    /// those of the handles that were opened before, and, for a new database, the name of the extractor, and puts an
-    /// empty log file: from then on their flushes store nothing and answer `Fenced`, if nothing else fails first, while
-    /// their writes and gets go on until then. Then it replays the log files above the manifest's replay mark, and
-    /// keeps their batches that aren't in the manifest's tables in memory. The handle sees all batches that are stored,
-    /// and all of them are durable. It reads no table. It calls the store four times, and once for each log file that
-    /// it replays; once more where the replay ended early, and once alone where the latest manifest decides. It takes time linear in the operations of the log files, and
-    /// for each key a logarithm of the keys. It makes room for 8194 numbers and times, 16 bytes a pair: its tracker
-    /// is that of the latest manifest, and the batches that are replayed are tracked in it, in their order. With an extractor it also takes a call of it for each segment of the
-    /// manifest and each operation that it replays, and a logarithm of the prefixes for each operation. SlateDB's
-    /// `Db::open`.
+    /// Opens a database, a new one where the store has no manifest. SlateDB's `Db::open`.
     ///
-    /// It answers `InvalidDBState` where the latest manifest isn't initialised, where its tracker can't be read, has more
-    /// than 8192 pairs or one of a batch that isn't in its tables, and where the next manifest, epoch or log file would pass
-    /// the greatest number; nothing is put then. Nor is where the name of the extractor isn't the one in
-    /// the latest manifest, or one of them is absent (`SegmentExtractorMismatch`, which has both), nor, then, where the
-    /// extractor doesn't answer a stored prefix of itself (`SegmentPrefixNotRecognized`, which names the first); both come
-    /// before a number that would pass the greatest. After the
-    /// replay `EmptySegmentPrefix` names the first key that was replayed and has no prefix, or an empty one; the manifest and
-    /// the log file are put then. A fault of the store (`ObjectStoreError`) or `NoMemory` may leave the manifest, which
-    /// fences the handles before it, or the manifest and the log file. `WalTruncated` names the log file at which the
-    /// replay ended, since it isn't stored or a batch of it is past the next number; it comes where another look at the
-    /// latest manifest finds no greater epoch, and `Fenced` where it does, since another handle was opened meanwhile.
-    /// The manifest and the log file are put then. None of the two, nor `TransactionalObjectVersionExists`, comes over
-    /// a store that only handles wrote.
+    /// It commits the next manifest, with an epoch above those of the handles that were opened before, and, for a new database,
+    /// the name of the extractor, and puts an empty log file: from then on their flushes store nothing and answer `Fenced`, if
+    /// nothing else fails first, while their writes and gets go on until then. Then it replays the log files above the
+    /// manifest's replay mark, and keeps their batches that aren't in the manifest's tables in memory. The handle sees all
+    /// batches that are stored, and all of them are durable. It reads no table. Its tracker is that of the latest manifest,
+    /// and the batches that are replayed are tracked in it, in their order.
+    ///
+    /// # Errors
+    ///
+    /// error | when
+    /// ---|---
+    /// `InvalidDBState` | the latest manifest isn't initialised; its tracker can't be read, has more than 8192 pairs or one of a batch that isn't in its tables; the next manifest, epoch or log file would pass the greatest number
+    /// `SegmentExtractorMismatch` | the extractor's name isn't the one in the latest manifest, or one of them is absent; it has both
+    /// `SegmentPrefixNotRecognized` | of the first stored prefix that the extractor doesn't answer of itself
+    /// `EmptySegmentPrefix` | after the replay, of the first key that has no prefix, or an empty one
+    /// `WalTruncated` | of the log file at which the replay ended, since it isn't stored or a batch of it is past the next number; where another look at the latest manifest finds no greater epoch
+    /// `Fenced` | the same, where it finds one, since another handle was opened meanwhile
+    /// `ObjectStoreError`, `NoMemory` | a fault of the store; want of memory
+    ///
+    /// A mismatch and an unknown prefix come before a number that would pass the greatest. `WalTruncated`, `Fenced` and
+    /// `TransactionalObjectVersionExists` never come over a store that only handles wrote.
+    ///
+    /// # Cost
+    ///
+    /// Four calls of the store, and one for each log file that it replays; one more where the replay ended early, and one alone
+    /// where the latest manifest decides. Time linear in the operations of the log files, for each key a logarithm of the keys;
+    /// with an extractor also a call of it for each segment of the manifest and each operation, and a logarithm of the prefixes.
+    /// It makes room for 8194 numbers and times, 16 bytes a pair.
+    ///
+    /// # What stands after
+    ///
+    /// After the first three errors nothing is put; after the next three the manifest and the log file are. A fault of the store
+    /// or `NoMemory` may leave the manifest, which fences the handles before it, or the manifest and the log file.
     pub fn open<S: Store, E: PrefixExtractor>(
         alloc: Global,
         store: &mut S,

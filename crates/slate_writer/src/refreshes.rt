@@ -7,7 +7,7 @@ ghost use Rattle.slate_model.specs.Stores.{by_objects};
 ghost use Rattle.slate_store.specs.Calls.{WhereModelled};
 ghost use Rattle.slate_store.specs.Compaction.{HasTablesToJoin, compact_calls};
 ghost use Rattle.slate_writer.specs.Joined.{Joins};
-ghost use Rattle.slate_writer.specs.Kinds.{IsOfLooking};
+ghost use Rattle.slate_writer.specs.Kinds.{IsOfCompacting, IsOfLooking};
 
 use crate::WriterState;
 use crate::flushes::current_manifest;
@@ -60,6 +60,7 @@ impl WriterState {
     /// by the manifest that it had. SlateDB runs it in a compactor.
     pub fn compact<S: Store>(&mut self, alloc: Global, store: &mut S) -> Result<(), SlateError>
         ensures does { (made : ℕ) × Compacts (by_objects (S.objects store.old)) made self.old (known S.objects S.faults store.old) result self.new (known S.objects S.faults store.new) }
+        ensures kind { self.old.result ≡ None → IfErr result IsOfCompacting }
         ensures count { S.faults store.old ≤ S.faults store.new }
         ensures read { IfOk result (λ _. IfSome (S.objects store.old) HasTablesToJoin) }
         ensures calls { IfSome (S.objects store.old) (λ o. S.calls store.new ≤ S.calls store.old + compact_calls o) }
@@ -92,6 +93,7 @@ impl WriterState {
     fn join_tables<S: Store>(&mut self, alloc: Global, store: &mut S) -> Result<(), SlateError>
         ensures moved { self.new ≡ record self.old { counter = self.new.counter; view = self.new.view } }
         ensures faults { FaultsRise (S.faults store.old) (S.faults store.new) result }
+        ensures kind { IfErr result IsOfCompacting }
         ensures read { IfOk result (λ _. IfSome (S.objects store.old) HasTablesToJoin) }
         ensures calls { IfSome (S.objects store.old) (λ o. S.calls store.new ≤ S.calls store.old + compact_calls o) }
         ensures joins { WhereModelled (λ o o'. (made : ℕ) × Joins self.old result self.new made o o') (S.objects store.old) (S.objects store.new) }

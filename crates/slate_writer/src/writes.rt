@@ -38,30 +38,40 @@ pub struct WriteRefusal {
 
 impl WriterState {
     /// Accepts a batch: it gets the next number, and is readable at once. Its creation time is `moment` in
-    /// milliseconds, or `second`, where `moment` is below the creation time of the batch before.
+    /// milliseconds, or `second`, where `moment` is below the creation time of the batch before. Where it is accepted, its number
+    /// and its creation time in whole seconds, rounded down, are tracked, at most one in 60 seconds. SlateDB's `write`.
     ///
-    /// It is refused, in this order, on a closed handle (`Closed` or the error that closed it), without an operation
-    /// (`EmptyBatch`), with an empty key (`EmptyKey`), where it merges one key under two times of expiry
-    /// (`IncompatibleMergeTtls`, which names the first such merge), where the unflushed bytes have reached the
-    /// handle's limit (`Backpressure`, which names both: what `unflushed` answers, without the batch's own bytes, and
-    /// `max_unflushed_bytes`), where a key has no segment (below), after the greatest number (`InvalidDBState`), and
-    /// where both moments are below the creation time of the batch before (`InvalidClockTick`). A refusal, and want of
-    /// memory (`NoMemory`), changes nothing and hands the batch back. After `Backpressure` a flush to a table makes
-    /// room.
+    /// With an extractor each key is to have a prefix of a byte or more that doesn't nest with a known one: two prefixes nest where
+    /// they differ and one begins the other. Known are the prefixes of the manifest that the handle goes by, those of its batches
+    /// that aren't in the tables of that, and those of the batch's earlier operations. A handle is to be given one extractor, or
+    /// none, from its opening on.
     ///
-    /// With an extractor each key is to have a prefix of a byte or more (`EmptySegmentPrefix`, which names the key), and that
-    /// isn't to nest with a known one (`InvalidSegmentPrefix`, which names the prefix and the least known one that it nests
-    /// with): two prefixes nest where they differ and one begins the other. Known are the prefixes of the manifest that the
-    /// handle goes by, those of its batches that aren't in the tables of that, and those of the batch's earlier operations.
-    /// The first operation of the batch that fails is named. A handle is to be given one extractor, or none, from its opening
-    /// on.
+    /// # Errors
     ///
-    /// It takes time linear in the batch's operations, and for each key that the handle doesn't have yet a logarithm of
-    /// its keys; with an extractor also a logarithm of the known prefixes for each byte of an operation's prefix, and, where
-    /// one is new, a copy of those of the handle's batches and a shift of those of the operations before. Where the
-    /// prefixes of the manifest don't rise, each operation takes time linear in them. Once a transaction began on the
-    /// handle it also takes a logarithm of the tracked keys for each operation. Where it is accepted, its number and its
-    /// creation time in whole seconds, rounded down, are tracked, at most one in 60 seconds. SlateDB's `write`.
+    /// In this order:
+    ///
+    /// error | when
+    /// ---|---
+    /// `Closed`, or the error that closed it | of a closed handle
+    /// `EmptyBatch`, `EmptyKey` | without an operation; with an empty key
+    /// `IncompatibleMergeTtls` | it merges one key under two times of expiry; of the first such merge
+    /// `Backpressure` | what `unflushed` answers, without the batch's own bytes, has reached `max_unflushed_bytes`; it has both
+    /// `EmptySegmentPrefix`, `InvalidSegmentPrefix` | of the first operation that has no prefix; or one that nests, with the least known one that it nests with
+    /// `InvalidDBState` | after the greatest number
+    /// `InvalidClockTick` | both moments are below the creation time of the batch before
+    /// `NoMemory` | want of memory
+    ///
+    /// # Cost
+    ///
+    /// No call of the store. Time linear in the batch's operations, and for each key that the handle doesn't have yet a logarithm
+    /// of its keys; with an extractor also a logarithm of the known prefixes for each byte of an operation's prefix, and, where
+    /// one is new, a copy of those of the handle's batches and a shift of those of the operations before. Where the prefixes of
+    /// the manifest don't rise, each operation takes time linear in them. Once a transaction began on the handle it also takes a
+    /// logarithm of the tracked keys for each operation.
+    ///
+    /// # What stands after
+    ///
+    /// A refusal changes nothing and hands the batch back. After `Backpressure` a flush to a table makes room.
     pub fn write<E: PrefixExtractor>(
         &mut self,
         alloc: Global,

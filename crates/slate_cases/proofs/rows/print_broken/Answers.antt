@@ -1,6 +1,6 @@
 use Rattle.std.specs.List.Sorted.{IsStrictlySortedBy}
 use Rattle.slate_cases.proofs.rows.print_broken.Goals as goal
 
-pub of_rows-requires-clause-in_order : goal.of_rows-requires-clause-in_order
+pub of_rows-made-requires-clause-in_order : goal.of_rows-made-requires-clause-in_order
 unfolding IsStrictlySortedBy
-of_rows-requires-clause-in_order c = rw (c.of-none.ensures, c.new.ensures.items) tt
+of_rows-made-requires-clause-in_order c = rw (c.of-none.ensures, c.new.ensures.items) tt

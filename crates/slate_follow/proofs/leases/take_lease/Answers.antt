@@ -1,4 +1,4 @@
-use Rattle.std.proofs.Common.{ℕ, Err, rules, subst}
+use Rattle.std.proofs.Common.{◌≡◌, ◌∙◌, ℕ, Some, None, true, Err, ap, rules, subst, sym}
 use Rattle.slate_types.specs.Modelled.{WhereModelled}
 use Rattle.slate_store.specs.declared.objects.VersionedManifest.{VersionedManifest}
 use Rattle.slate_model.specs.Lease.{to_take}
@@ -6,6 +6,11 @@ use Rattle.slate_model.specs.Managed.{PutsPlanned}
 use Rattle.slate_model.specs.Stores.{Stands}
 use Rattle.slate_model.specs.declared.leases.Lease.{Lease}
 use Rattle.slate_follow.specs.Keeping.{MayMismatch}
+use Rattle.std.specs.Option.{IfSome}
+use Rattle.std.specs.Prelude.{◌⊎◌}
+use Rattle.slate_errors.specs.declared.errors.SlateError.TheVariants.{InvalidDBState}
+use Rattle.slate_model.specs.Followed.{RefusesLatest}
+use Rattle.slate_follow.proofs.Refusing.{err-same}
 use Rattle.slate_follow.proofs.leases.take_lease.Goals as goal
 
 pub returns-in_err-taken-clause-puts : goal.returns-in_err-taken-clause-puts
@@ -15,3 +20,15 @@ returns-in_err-taken-clause-puts g c =
     let puts : WhereModelled (λ o o'. (made : ℕ) × PutsPlanned {B = VersionedManifest × Lease} Stands MayMismatch plan o (Err e) made o') (g.S.Store.objects c.loop-earlier.store) (g.S.Store.objects c.try_to_take.new.store) = search rules in
     let all = subst (λ s. WhereModelled (λ o o'. (made : ℕ) × PutsPlanned {B = VersionedManifest × Lease} Stands MayMismatch plan o (Err e) made o') s (g.S.Store.objects c.try_to_take.new.store)) c.loop-earlier.invariant.kept puts in
     search (rules, all)
+
+pub returns-in_err-taken-clause-kind : goal.returns-in_err-taken-clause-kind
+returns-in_err-taken-clause-kind g c =
+    let is : c.from_residual.result ≡ Err c.in_err-taken.field-0.0 = search rules in
+    rw is c.in_err-taken.ensures.kind
+
+pub returns-in_err-taken-clause-decided : goal.returns-in_err-taken-clause-decided
+returns-in_err-taken-clause-decided g c x lawful is =
+    let e = c.in_err-taken.field-0.0 in
+    let got : c.from_residual.result ≡ Err e = search rules in
+    let same : e ≡ InvalidDBState = err-same (VersionedManifest × Lease) e InvalidDBState (sym got ∙ is) in
+    subst (λ s. IfSome s (λ o. RefusesLatest x true o (Some InvalidDBState) ⊎ RefusesLatest x true o None)) c.loop-earlier.invariant.kept (c.in_err-taken.ensures.decided x lawful (ap Err same))

@@ -1,10 +1,10 @@
-use Rattle.std.proofs.Common.{◌≡◌, ◌∙◌, ◌||◌, ℕ, ℤ, Bool, false, not, true, Option, None, Some, Ok, Err, ap, refl, rules, subst, sym}
+use Rattle.std.proofs.Common.{◌≡◌, ◌∙◌, ◌||◌, ℕ, ℤ, Bool, false, not, true, Option, None, Some, Ok, Err, inl, inr, ap, refl, rules, subst, sym}
 use Rattle.std.proofs.lemmas.Result.{err_from_is_err_and}
 use Rattle.slate_types.specs.Modelled.{WhereModelled}
 use Rattle.slate_store.specs.Checkpoints.{Plan, to_write}
 use Rattle.slate_store.specs.Refusals.{PlanIs}
 use Rattle.slate_store.specs.declared.objects.VersionedManifest.{VersionedManifest}
-use Rattle.slate_errors.specs.declared.errors.SlateError.TheVariants.{NoMemory}
+use Rattle.slate_errors.specs.declared.errors.SlateError.TheVariants.{InvalidDBState, NoMemory}
 use Rattle.std.specs.Option.{IfSome}
 use Rattle.slate_store.specs.Objects.{Objects}
 use Rattle.slate_model.specs.Followed.{RefusesLatest, can_follow, follow_refusal}
@@ -14,6 +14,10 @@ use Rattle.slate_model.specs.declared.leases.Lease.{Lease}
 use Rattle.slate_follow.specs.Keeping.{FindsLatest, GivesLease, MayMismatch, PutsManifest}
 use Rattle.slate_follow.proofs.Planned.{all-put, failed-put, mismatched, planless, put-matches, taken, unfollowed, unput, unput-same}
 use Rattle.slate_follow.proofs.Taken.{counts-then}
+use Rattle.slate_store.specs.declared.reader_modes.DbReaderMode.TheVariants.{ManagedCheckpoint}
+use Rattle.slate_follow.proofs.Answering.{finding-opening, following-finding, latest-opening, latest-valid}
+use Rattle.slate_follow.proofs.Rebuilt.{if_some, some_at}
+use Rattle.slate_follow.proofs.Refusing.{err-same}
 use Rattle.slate_follow.proofs.leases.try_to_take.Goals as goal
 
 initialised : (latest : VersionedManifest) → can_follow true latest ≡ true → latest.manifest.initialized ≡ true
@@ -125,3 +129,41 @@ returns-clause-given g c =
     let gives : leased c.args.lifetime (to_write None (Some c.args.lifetime) c.args.moment v.latest) ≡ Ok (Some n.next, n.lease) = search rules in
     let plan = subst (λ p. p ≡ Ok (Some n.next, n.lease)) (sym (taken c.args.lifetime c.args.moment v.latest there)) gives in
     planned-is c.args.lifetime c.args.moment v.latest (Ok (Some n.next, n.lease)) plan (g.S.Store.objects c.args.store.now) v.ensures.found
+
+-- ---- which errors it answers, and when that is InvalidDBState
+pub returns-in_err-latest-clause-kind : goal.returns-in_err-latest-clause-kind
+returns-in_err-latest-clause-kind g c =
+    let is : c.from_residual.result ≡ Err c.in_err-latest.field-0.0 = search rules in
+    rw is (latest-opening c.in_err-latest.field-0.0 c.in_err-latest.ensures.kind)
+
+pub returns-in-Some-clause-kind : goal.returns-in-Some-clause-kind
+returns-in-Some-clause-kind g c = finding-opening ManagedCheckpoint c.in-Some.refusal (following-finding ManagedCheckpoint c.in-Some.refusal (search rules))
+
+pub returns-in_err-is_put-clause-kind : goal.returns-in_err-is_put-clause-kind
+returns-in_err-is_put-clause-kind g c =
+    let is : c.from_residual-in_err-is_put.result ≡ Err c.in_err-is_put.field-0.0 = search rules in
+    rw is (latest-opening c.in_err-is_put.field-0.0 c.in_err-is_put.ensures.kind)
+
+pub returns-in_err-latest-clause-decided : goal.returns-in_err-latest-clause-decided
+returns-in_err-latest-clause-decided g c x lawful is =
+    let got : c.from_residual.result ≡ Err c.in_err-latest.field-0.0 = search rules in
+    absurd (latest-valid c.in_err-latest.field-0.0 c.in_err-latest.ensures.kind (err-same (Option Taken) c.in_err-latest.field-0.0 InvalidDBState (sym got ∙ is)))
+
+pub returns-in_err-is_put-clause-decided : goal.returns-in_err-is_put-clause-decided
+returns-in_err-is_put-clause-decided g c x lawful is =
+    let got : c.from_residual-in_err-is_put.result ≡ Err c.in_err-is_put.field-0.0 = search rules in
+    absurd (latest-valid c.in_err-is_put.field-0.0 c.in_err-is_put.ensures.kind (err-same (Option Taken) c.in_err-is_put.field-0.0 InvalidDBState (sym got ∙ is)))
+
+pub returns-in-Some-clause-decided : goal.returns-in-Some-clause-decided
+returns-in-Some-clause-decided g c x lawful is =
+    let v = c.in_ok-latest in
+    let t = g.S.Store.objects c.args.store.now in
+    let same : c.in-Some.refusal ≡ InvalidDBState = err-same (Option Taken) c.in-Some.refusal InvalidDBState is in
+    if_some t (λ o at. inl (v.latest, some_at (λ o. FindsLatest o (Ok v.latest)) t o at v.ensures.found, sym (c.in_ok-refusal.ensures.refusal x lawful) ∙ (c.in-Some.is ∙ ap Some same)))
+
+pub returns-in_err-next-clause-decided : goal.returns-in_err-next-clause-decided
+returns-in_err-next-clause-decided g c x lawful is =
+    let v = c.in_ok-latest in
+    let t = g.S.Store.objects c.args.store.now in
+    let fits = followed x v.latest (sym (c.in_ok-refusal.ensures.refusal x lawful) ∙ c.in_default.is) t v.ensures.found in
+    if_some t (λ o at. inr (some_at (λ o. RefusesLatest x true o None) t o at fits))

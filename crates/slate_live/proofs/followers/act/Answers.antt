@@ -1,4 +1,4 @@
-use Rattle.std.proofs.Common.{rules, ◌≡◌, ℕ, ℤ, List, ap, refl, subst, w64, to_z, of_z}
+use Rattle.std.proofs.Common.{rules, ◌≡◌, ℕ, ℤ, List, ap, refl, sym, subst, w64, to_z, of_z}
 use Rattle.slate_model.specs.Known.{Known, known}
 use Rattle.slate_model.specs.Stores.{by_objects}
 use Rattle.slate_live.specs.Followers.{FollowerActs, PollsFollower}
@@ -16,10 +16,10 @@ pub returns-in-Get-clause-does : goal.returns-in-Get-clause-does
 returns-in-Get-clause-does g c settings writes lawful extracts = (0, rw c.in-Get.is (c.get.ensures.read settings.merge (lawful (ap goes_by_operator c.in-Get.is)), refl {a = c.args.follower.now}, refl, refl {a = writes}))
 
 pub returns-in-Scan-clause-does : goal.returns-in-Scan-clause-does
-returns-in-Scan-clause-does g c settings writes lawful extracts = (0, rw c.in-Scan.is (c.scan.ensures.read settings.merge (lawful (ap goes_by_operator c.in-Scan.is)), refl {a = c.args.follower.now}, refl, refl {a = writes}))
+returns-in-Scan-clause-does g c settings writes lawful extracts = (0, rw c.in-Scan.is (rw (sym c.as_ref.ensures) (c.scan.ensures.read settings.merge (lawful (ap goes_by_operator c.in-Scan.is))), refl {a = c.args.follower.now}, refl, refl {a = writes}))
 
 pub returns-in-Seek-clause-does : goal.returns-in-Seek-clause-does
-returns-in-Seek-clause-does g c settings writes lawful extracts = (0, rw c.in-Seek.is (c.seek.ensures.read settings.merge (lawful (ap goes_by_operator c.in-Seek.is)), refl {a = c.args.follower.now}, refl, refl {a = writes}))
+returns-in-Seek-clause-does g c settings writes lawful extracts = (0, rw c.in-Seek.is (rw (sym c.as_ref-in-Seek.ensures) (c.seek.ensures.read settings.merge (lawful (ap goes_by_operator c.in-Seek.is))), refl {a = c.args.follower.now}, refl, refl {a = writes}))
 
 -- a poll, by the command that asks it
 polls-by : {L : Type 0} (k : Knowledge L) (settings : Settings) (moment : ℤ) (action : Action) (n made : ℕ) (old : Follower) (before : Known L) (writes : List Write) (reply : Reply) (new : Follower) (after : Known L) → action ≡ actions.Poll n →

@@ -1,4 +1,4 @@
-use Rattle.std.proofs.Common.{rules, ◌≡◌, ap, refl, subst, w64, to_z, of_z}
+use Rattle.std.proofs.Common.{rules, ◌≡◌, ap, refl, sym, subst, w64, to_z, of_z}
 use Rattle.std.specs.Ordering.{int_cmp}
 use Rattle.slate_seqtrack.specs.Lookup.{IsPartner}
 use Rattle.slate_seqtrack.specs.Tracker.{numbers_of, times_of}
@@ -12,10 +12,10 @@ pub returns-in-Get-clause-does : goal.returns-in-Get-clause-does
 returns-in-Get-clause-does g c settings lawful extracts = (0, rw c.in-Get.is (c.get.ensures.read settings.merge (lawful (ap goes_by_operator c.in-Get.is)), refl {a = c.args.writer.now}, refl, refl {a = c.args.writes.now.items}))
 
 pub returns-in-Scan-clause-does : goal.returns-in-Scan-clause-does
-returns-in-Scan-clause-does g c settings lawful extracts = (0, rw c.in-Scan.is (c.scan.ensures.read settings.merge (lawful (ap goes_by_operator c.in-Scan.is)), refl {a = c.args.writer.now}, refl, refl {a = c.args.writes.now.items}))
+returns-in-Scan-clause-does g c settings lawful extracts = (0, rw c.in-Scan.is (rw (sym c.as_ref.ensures) (c.scan.ensures.read settings.merge (lawful (ap goes_by_operator c.in-Scan.is))), refl {a = c.args.writer.now}, refl, refl {a = c.args.writes.now.items}))
 
 pub returns-in-Seek-clause-does : goal.returns-in-Seek-clause-does
-returns-in-Seek-clause-does g c settings lawful extracts = (0, rw c.in-Seek.is (c.seek.ensures.read settings.merge (lawful (ap goes_by_operator c.in-Seek.is)), refl {a = c.args.writer.now}, refl, refl {a = c.args.writes.now.items}))
+returns-in-Seek-clause-does g c settings lawful extracts = (0, rw c.in-Seek.is (rw (sym c.as_ref-in-Seek.ensures) (c.seek.ensures.read settings.merge (lawful (ap goes_by_operator c.in-Seek.is))), refl {a = c.args.writer.now}, refl, refl {a = c.args.writes.now.items}))
 
 pub returns-in-Ts-clause-does : goal.returns-in-Ts-clause-does
 returns-in-Ts-clause-does g c settings lawful extracts = (0, rw c.in-Ts.is ((c.find_ts.result, c.find_ts.ensures, refl), refl {a = c.args.writer.now}, (refl, refl), refl {a = c.args.writes.now.items}))

@@ -6,6 +6,8 @@ use Rattle.slate_model.specs.Known.{known}
 use Rattle.slate_model.specs.Managed.{ClosesManaged, EndsLease}
 use Rattle.slate_model.specs.Stores.{by_objects}
 use Rattle.slate_tasks.specs.Running.{Running}
+use Rattle.std.specs.Option.{IfSome}
+use Rattle.slate_follow.specs.Answering.{IsOfPoll}
 use Rattle.slate_follow.specs.Kept.{follower_of}
 use Rattle.slate_follow.proofs.Closing.{closes-again, closes-first, has-lease}
 use Rattle.slate_follow.proofs.Rebuilt.{some_at}
@@ -42,4 +44,14 @@ returns-clause-managed g c = λ managed.
           let is : answer ≡ ended old.tasks e.result = tasks ∙ ap (ended old.tasks) w.fault-is in
           subst (λ s. (made : ℕ) × ClosesManaged (by_objects t) made old before answer new (known g.S.Store.objects g.S.Store.faults s)) (sym w.store-is)
           (ends.0, closes-first t old new before answer closed tasks ends.0 after held.0 open_ held.1 (subst (λ a. EndsLease (by_objects t) ends.0 held.0 before a after) (sym is) ends.1))
+    ]
+
+pub returns-clause-kind : goal.returns-clause-kind
+returns-clause-kind g c = λ open_.
+    let old = c.args.self.now in
+    elim c.match-closed.branch [
+      | in-Some-Err w ↦ let was : old.result ≡ Some (Err w.in-Some-Err.fault) = search rules in absurd (cc (was, open_))
+      | in-Some-Ok w ↦ let was : old.result ≡ Some (Ok tt) = search rules in absurd (cc (was, open_))
+      | in-None w ↦
+          subst (λ x. IfSome x (IsOfPoll old.mode)) (sym w.fault-is) w.end_lease-fault.ensures.kind
     ]

@@ -35,19 +35,17 @@ returns-clause-gone g c =
     let tasks : old.tasks ≡ follower_tasks old.mode = subst (λ (f : Follower). f.result ≡ None → f.tasks ≡ follower_tasks f.mode) c.self.view_is c.self.invariant.running c.requires.open_ in
     let from_is : c.max-from.result ≡ max old.mark view.manifest.replay_after_wal_id = c.max-from.ensures ∙ ap (λ (f : Follower). max f.mark view.manifest.replay_after_wal_id) c.self.view_is in
     let becomes = followed-new view old mid new c.reached.result tasks c.requires.open_ e.same e.grew.parts c.go_by.ensures in
-    gone-on (g.S.Store.objects c.args.store.now) view c.args.last c.max-from.result old from_is (added_to old.line.batches mid.line.batches) c.in_ok-replayed.replayed e.grew.logs new mid.segments c.reached.result c.number.result c.answer_of.result
-    c.requires.unleased c.reached.ensures becomes c.answer_of.ensures.value c.number.ensures
+    gone-on (g.S.Store.objects c.args.store.now) (g.S.Store.objects c.last_above.new.store) c.in_ok-last.ensures.kept view c.in_ok-last.last c.max-from.result old from_is c.in_ok-last.ensures.found
+    (added_to old.line.batches mid.line.batches) c.in_ok-replayed.replayed e.grew.logs new mid.segments c.reached.result c.number.result c.answer_of.result c.reached.ensures becomes c.answer_of.ensures.value c.number.ensures
 
 pub returns-clause-asked : goal.returns-clause-asked
 returns-clause-asked g c =
-    let e = c.in_ok-replayed.ensures in
-    (ap (λ (f : Follower). f.mode) c.go_by.ensures ∙ ap (λ (f : Follower). f.mode) e.same, ap (λ (f : Follower). f.skips) c.go_by.ensures ∙ ap (λ (f : Follower). f.skips) e.same)
-
-pub returns-clause-answer : goal.returns-clause-answer
-returns-clause-answer g c =
     let e = c.in_ok-replayed.ensures in (
-      ap (λ (f : Follower). f.lease) c.go_by.ensures ∙ (ap (λ (f : Follower). f.lease) e.same ∙ c.requires.unleased),
+      ap (λ (f : Follower). f.mode) c.go_by.ensures ∙ ap (λ (f : Follower). f.mode) e.same,
+      ap (λ (f : Follower). f.skips) c.go_by.ensures ∙ ap (λ (f : Follower). f.skips) e.same,
+      ap (λ (f : Follower). f.lease) c.go_by.ensures ∙ ap (λ (f : Follower). f.lease) e.same,
       ap (λ (f : Follower). f.result) c.go_by.ensures ∙ (ap (λ (f : Follower). f.result) e.same ∙ c.requires.open_),
+      ap (λ (f : Follower). f.view) c.go_by.ensures,
       subst (λ n. AnswersAt n c.answer_of.result) c.number.ensures c.answer_of.ensures.number,
     )
 
@@ -65,17 +63,17 @@ returns-clause-segments g c x lawful has =
 
 pub returns-in_err-replayed-clause-lacks : goal.returns-in_err-replayed-clause-lacks
 returns-in_err-replayed-clause-lacks g c x key lawful is =
-    let p = err_from_is_err_and c.from_residual.result c.from_residual.ensures.1 in
+    let p = err_from_is_err_and c.from_residual-in_err-replayed.result c.from_residual-in_err-replayed.ensures.1 in
     let e = c.in_err-replayed.field-0.0 in
     let old = c.args.self.now in
     let view = c.args.view in
     let named : e ≡ EmptySegmentPrefix key = err-same PollAnswer e (EmptySegmentPrefix key) (sym (p.1 ∙ ap Err p.2) ∙ is) in
     let from_is : c.max-from.result ≡ max old.mark view.manifest.replay_after_wal_id = c.max-from.ensures ∙ ap (λ (f : Follower). max f.mark view.manifest.replay_after_wal_id) c.self.view_is in
-    going-lacks (g.S.Store.objects c.args.store.now) view c.args.last c.max-from.result old from_is x (c.in_err-replayed.ensures.lacks x key lawful (ap Err named))
+    going-lacks (g.S.Store.objects c.args.store.now) (g.S.Store.objects c.last_above.new.store) c.in_ok-last.ensures.kept view c.in_ok-last.last c.max-from.result old from_is c.in_ok-last.ensures.found x (c.in_err-replayed.ensures.lacks x key lawful (ap Err named))
 
 pub returns-in_err-replayed-clause-named : goal.returns-in_err-replayed-clause-named
 returns-in_err-replayed-clause-named g c x key lawful is =
-    let p = err_from_is_err_and c.from_residual.result c.from_residual.ensures.1 in
+    let p = err_from_is_err_and c.from_residual-in_err-replayed.result c.from_residual-in_err-replayed.ensures.1 in
     let e = c.in_err-replayed.field-0.0 in
     let named : e ≡ EmptySegmentPrefix key = err-same PollAnswer e (EmptySegmentPrefix key) (sym (p.1 ∙ ap Err p.2) ∙ is) in
     c.in_err-replayed.ensures.named x key lawful (ap Err named)

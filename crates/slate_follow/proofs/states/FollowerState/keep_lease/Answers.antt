@@ -9,11 +9,12 @@ use Rattle.slate_model.specs.Follower.{Follower}
 use Rattle.slate_model.specs.Lease.{to_keep}
 use Rattle.slate_model.specs.Managed.{Keeps, PlanCause}
 use Rattle.slate_model.specs.Stores.{Stands, by_objects}
-use Rattle.slate_follow.specs.Keeping.{tried}
-use Rattle.slate_follow.proofs.Counted.{all-tries, last-try, tries-on}
+use Rattle.slate_follow.specs.Keeping.{CallsKeeping, tried}
+use Rattle.slate_follow.proofs.Counted.{all-tries, first-costs, last-try, tries-on}
 use Rattle.slate_follow.proofs.Keeping.{PutsAndKeeps}
 use Rattle.slate_follow.proofs.Rebuilt.{if_some}
 use Rattle.slate_follow.proofs.Trying.{never-put, timed-out}
+use Rattle.slate_follow.specs.Rebuilding.{Truncates}
 use Rattle.slate_follow.proofs.states.FollowerState.keep_lease.Goals as goal
 
 pub returns-in_err-answer-clause-puts : goal.returns-in_err-answer-clause-puts
@@ -96,3 +97,39 @@ pub returns-clause-calls : goal.returns-clause-calls
 returns-clause-calls g c =
     let i = c.loop-earlier.invariant in
     all-tries (g.S.Store.objects c.args.store.now) c.loop-earlier.earlier (g.S.Store.calls c.args.store.now) (g.S.Store.calls c.loop-earlier.store) i.calls i.within
+
+pub returns-in_err-answer-clause-kind : goal.returns-in_err-answer-clause-kind
+returns-in_err-answer-clause-kind g c =
+    let is : c.from_residual.result ≡ Err c.in_err-answer.field-0.0 = search rules in
+    rw is c.in_err-answer.ensures.kind
+
+pub returns-in-Some-clause-costs : goal.returns-in-Some-clause-costs
+returns-in-Some-clause-costs g c =
+    let l = c.args.lease.now in
+    let m = c.args.moment in
+    let i = c.loop-earlier.invariant in
+    let a = c.in-Some.answer in
+    let before = c.loop-earlier.self in
+    let old = c.args.self.now in
+    let t = g.S.Store.objects c.args.store.now in
+    let was = g.S.Store.objects c.loop-earlier.store in
+    let k = g.S.Store.calls c.args.store.now in
+    let k1 = g.S.Store.calls c.loop-earlier.store in
+    let k2 = g.S.Store.calls c.try_to_keep.new.store in
+    let undone = to_z-of_z {w = w64} {z = m} (search rules) in
+    let found : c.in_ok-answer.field-0 ≡ Some a = search rules in
+    let free0 = subst (λ x. IfOk (tried (Ok x)) (λ _. IfSome was (λ o. Stands (checkpoint_changes (to_keep before.view l (to_z w64 (of_z w64 m))) o) o → ⊥))) found c.in_ok-answer.ensures.free in
+    let free = subst (λ (f : Follower). IfSome was (λ o. Stands (checkpoint_changes (to_keep f.view l m) o) o → ⊥)) i.same (subst (λ m. IfSome was (λ o. Stands (checkpoint_changes (to_keep before.view l m) o) o → ⊥)) undone free0) in
+    let costs0 = subst (λ x. IfOk (tried (Ok x)) (λ _. IfSome was (λ o. CallsKeeping o before l (to_z w64 (of_z w64 m)) k1 k2))) found c.in_ok-answer.ensures.costs in
+    let costs = subst (λ (f : Follower). IfSome was (λ o. CallsKeeping o f l m k1 k2)) i.same (subst (λ m. IfSome was (λ o. CallsKeeping o before l m k1 k2)) undone costs0) in
+    first-costs (to_keep old.view l m) t was i.kept c.loop-earlier.earlier k k1 k2 old l m i.calls
+    (λ ran. subst (λ m. IfSome t (λ o. PlanCause (Stands (checkpoint_changes (to_keep old.view l m) o) o) (to_keep old.view l m) o (TransactionalObjectTimeout 8))) undone (i.met ran)) free costs
+
+pub returns-in-Some-clause-truncates : goal.returns-in-Some-clause-truncates
+returns-in-Some-clause-truncates g c =
+    let a = c.in-Some.answer in
+    let new = c.try_to_keep.new.self in
+    let was = g.S.Store.objects c.loop-earlier.store in
+    let found : c.in_ok-answer.field-0 ≡ Some a = search rules in
+    let truncates = subst (λ x. IfOk (tried (Ok x)) (λ answer. IfSome was (λ o. Truncates o new answer))) found c.in_ok-answer.ensures.truncates in
+    subst (λ s. IfSome s (λ o. Truncates o new a)) c.loop-earlier.invariant.kept truncates

@@ -1,13 +1,7 @@
-use Rattle.std.proofs.Common.{◌≡◌, ◌∙◌, Err, max, false, ap, rules, subst, sym}
-use Rattle.std.specs.Option.{IfSome}
+use Rattle.std.proofs.Common.{◌≡◌, ◌∙◌, Err, max, false, ap, rules, sym}
 use Rattle.slate_errors.specs.declared.errors.SlateError.TheVariants.{InvalidDBState}
 use Rattle.slate_store.specs.declared.objects.VersionedManifest.{VersionedManifest}
-use Rattle.slate_model.specs.Followed.{last_read}
 use Rattle.slate_model.specs.Follower.{Follower}
-use Rattle.slate_types.specs.Line.{batches_above}
-use Rattle.slate_model.specs.Segments.{segments_of}
-use Rattle.slate_follow.specs.Growing.{added_to}
-use Rattle.slate_follow.proofs.Segmented.{all-kept}
 use Rattle.slate_follow.specs.declared.keeps.News.{News}
 use Rattle.slate_follow.proofs.Lacking.{taken-lacks}
 use Rattle.slate_follow.proofs.Refusing.{err-same, poll-key}
@@ -23,19 +17,8 @@ returns-in-Err-clause-lacks g c x lawful is =
     let from_is = c.max-from.ensures ∙ ap (λ (f : Follower). max f.mark latest.manifest.replay_after_wal_id) c.self.view_is in
     let tabled_is = ap (λ (m : VersionedManifest). m.manifest.last_l0_seq) c.manifest.ensures ∙ ap (λ (f : Follower). f.view.manifest.last_l0_seq) c.self.view_is in
     let reads : old.skips ≡ false = search rules in
-    taken-lacks (g.S.Store.objects c.args.store.now) (g.S.Store.objects c.last_read.new.store) x latest c.in_ok-last.last c.max-from.result _ old l.kept (c.in-Err.ensures.lacks x named.0 lawful (ap Err named.1)) from_is tabled_is
-    (subst (λ (f : Follower). IfSome (g.S.Store.objects c.args.store.now) (λ o. c.in_ok-last.last ≡ last_read f.mode f.skips latest o)) c.self.view_is l.where_modelled) reads
-
-pub returns-in-Ok-clause-segments : goal.returns-in-Ok-clause-segments
-returns-in-Ok-clause-segments g c x lawful = λ reads has.
-    let e = c.in-Ok.ensures in
-    let old = c.args.self.now in
-    let new = c.extend.new.self in
-    let tabled = c.manifest.result.now.manifest.last_l0_seq in
-    let added = added_to old.line.batches new.line.batches in
-    let is : tabled ≡ c.self.inside.status.manifest.manifest.last_l0_seq = ap (λ (v : VersionedManifest). v.manifest.last_l0_seq) c.manifest.ensures in
-    let all = all-kept c.self.inside old added tabled c.self.invariant c.self.view_is is e.grew.numbered in
-    e.segments x lawful has ∙ ap (segments_of x) (ap (batches_above tabled) e.grew.parts ∙ (all ∙ sym e.grew.parts))
+    taken-lacks (g.S.Store.objects c.args.store.now) (g.S.Store.objects c.last_above.new.store) x latest c.in_ok-last.last c.max-from.result _ old l.kept (c.in-Err.ensures.lacks x named.0 lawful (ap Err named.1)) from_is tabled_is
+    l.found reads
 
 pub returns-in-Err-clause-segmented : goal.returns-in-Err-clause-segmented
 returns-in-Err-clause-segmented g c x lawful is =

@@ -1,4 +1,4 @@
-use Rattle.std.proofs.Common.{ℕ, rules, true, None, Err, ap, subst, sym, ◌∙◌}
+use Rattle.std.proofs.Common.{◌≡◌, ℕ, rules, true, None, Err, IfErr, ap, subst, sym, ◌∙◌}
 use Rattle.std.proofs.lemmas.Result.{err_from_is_err_and}
 use Rattle.std.proofs.Math.Facts.{to_z-of_z}
 use Rattle.std.specs.Int.{w64}
@@ -12,7 +12,11 @@ use Rattle.slate_model.specs.declared.answers.PollAnswer.{PollAnswer}
 use Rattle.slate_follow.proofs.Rebuilt.{built-can, built-logs, built-sees, built-segmented, built-view, if_some, lacking-refuses, some_at}
 use Rattle.slate_follow.proofs.Refusing.{opening-fails, opening-lacks, opening-unnamed}
 use Rattle.slate_follow.proofs.Answering.{finding-opening, rebuilding-later, rebuilding-opening}
+use Rattle.slate_follow.proofs.Continued.{builds-truncates, leased-truncates}
 use Rattle.slate_follow.proofs.Handed.{handed}
+use Rattle.slate_follow.specs.Answering.{IsOfOpening}
+use Rattle.slate_follow.specs.Rebuilding.{Builds}
+use Rattle.slate_store.specs.declared.reader_modes.DbReaderMode.TheVariants.{ManagedCheckpoint}
 use Rattle.slate_follow.proofs.states.FollowerState.open.Goals as goal
 
 pub returns-clause-rebuilds : goal.returns-clause-rebuilds
@@ -136,12 +140,12 @@ returns-clause-handed g c x lawful = λ unmanaged free.
 
 -- ---- which errors it answers, and which of them after one call
 pub returns-in_err-view-clause-errors : goal.returns-in_err-view-clause-errors
-returns-in_err-view-clause-errors g c = λ unmanaged.
+returns-in_err-view-clause-errors g c =
     let p = err_from_is_err_and c.from_residual.result c.from_residual.ensures.1 in
     rw (p.1, p.2) (finding-opening c.args.mode c.in_err-view.field-0.0 c.in_err-view.ensures.kind)
 
 pub returns-in_err-rebuilt-clause-errors : goal.returns-in_err-rebuilt-clause-errors
-returns-in_err-rebuilt-clause-errors g c = λ unmanaged.
+returns-in_err-rebuilt-clause-errors g c =
     let p = err_from_is_err_and c.from_residual-in_err-rebuilt.result c.from_residual-in_err-rebuilt.ensures.1 in
     rw (p.1, p.2) (rebuilding-opening c.args.mode c.in_err-rebuilt.field-0.0 c.in_err-rebuilt.ensures.refusals)
 
@@ -149,3 +153,19 @@ pub returns-in_err-rebuilt-clause-first : goal.returns-in_err-rebuilt-clause-fir
 returns-in_err-rebuilt-clause-first g c = λ unmanaged.
     let p = err_from_is_err_and c.from_residual-in_err-rebuilt.result c.from_residual-in_err-rebuilt.ensures.1 in
     rw (p.1, p.2) (λ first. absurd (rebuilding-later c.in_err-rebuilt.field-0.0 c.in_err-rebuilt.ensures.refusals first))
+
+pub returns-then-eq-clause-errors : goal.returns-then-eq-clause-errors
+returns-then-eq-clause-errors g c =
+    let managed : c.args.mode ≡ ManagedCheckpoint = search rules in
+    subst (λ m. IfErr c.open_managed.result (IsOfOpening m)) (sym managed) c.open_managed.ensures.kind
+
+pub returns-clause-truncates : goal.returns-clause-truncates
+returns-clause-truncates g c =
+    let v = c.in_ok-view in
+    let b = c.in_ok-rebuilt in
+    let skips = c.args.options.now.skip_wal_replay in
+    let t1 = g.S.Store.objects c.find_view.new.store in
+    let t' = g.S.Store.objects c.rebuild.new.store in
+    rw c.in_ok-new.ensures
+    (if_some t' (λ o at. leased-truncates o b.rebuilt None b.answer
+    (builds-truncates o c.args.mode skips v.view v.last b.rebuilt b.answer (some_at (λ o. Builds o c.args.mode skips v.view v.last b.rebuilt b.answer) t1 o (sym b.ensures.kept ∙ at) b.ensures.built))))

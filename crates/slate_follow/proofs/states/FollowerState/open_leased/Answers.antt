@@ -1,8 +1,10 @@
 use Rattle.std.proofs.Common.{◌≡◌, ℕ, ◌≤◌, Ok, Err, Some, None, true, ap, refl, rules, subst, sym, arith, ◌∙◌}
+use Rattle.std.proofs.Math.Facts.{to_z-of_z}
+use Rattle.std.specs.Int.{w64}
 use Rattle.std.specs.Option.{IfSome}
 use Rattle.slate_store.specs.Refusals.{PlanIs}
 use Rattle.slate_store.specs.declared.reader_modes.DbReaderMode.TheVariants.{ManagedCheckpoint}
-use Rattle.slate_errors.specs.declared.errors.SlateError.TheVariants.{NoMemory}
+use Rattle.slate_errors.specs.declared.errors.SlateError.TheVariants.{InvalidDBState, NoMemory}
 use Rattle.slate_model.specs.Followed.{RefusesLatest, last_read}
 use Rattle.slate_model.specs.Follower.{Follower}
 use Rattle.slate_model.specs.declared.answers.PollAnswer.{PollAnswer}
@@ -15,15 +17,18 @@ use Rattle.slate_model.specs.Stores.{Stands}
 use Rattle.slate_model.specs.declared.leases.Lease.{Lease}
 use Rattle.slate_follow.specs.Keeping.{MayMismatch}
 use Rattle.slate_follow.proofs.Counted.{taken-calls}
-use Rattle.slate_follow.proofs.Refusing.{lacks-read, replay-rebuilding, replay-unnamed}
+use Rattle.slate_follow.proofs.Refusing.{err-same, lacks-read, replay-rebuilding, replay-unnamed}
 use Rattle.slate_follow.proofs.Taken.{all-well, counts-then, no-fault, take-broken, take-done, take-failed}
+use Rattle.slate_follow.proofs.Answering.{rebuilding-opening, rebuilding-valid}
+use Rattle.slate_follow.proofs.Continued.{builds-truncates, leased-truncates}
+use Rattle.slate_follow.proofs.Rebuilt.{if_some, some_at}
 use Rattle.slate_follow.proofs.states.FollowerState.open_leased.Goals as goal
 
 pub returns-in_err-view-clause-takes : goal.returns-in_err-view-clause-takes
 returns-in_err-view-clause-takes g c x lawful =
     let e = c.in_err-view.field-0.0 in
     let lifetime = c.args.options.now.checkpoint_lifetime_ms in
-    let puts : WhereModelled (λ o o'. (made : ℕ) × PutsPlanned {B = VersionedManifest × Lease} Stands MayMismatch (to_take lifetime c.args.moment) o (Err e) made o') (g.S.Store.objects c.args.store.now) (g.S.Store.objects c.take_lease.new.store) = search rules in
+    let puts = subst (λ m. WhereModelled (λ o o'. (made : ℕ) × PutsPlanned {B = VersionedManifest × Lease} Stands MayMismatch (to_take lifetime m) o (Err e) made o') (g.S.Store.objects c.args.store.now) (g.S.Store.objects c.take_lease.new.store)) (to_z-of_z {w = w64} {z = c.args.moment} (search rules)) c.in_err-view.ensures.puts in
     let all = take-failed x lifetime c.args.options.now.skip_wal_replay c.args.moment (g.S.Store.objects c.args.store.now) (g.S.Store.objects c.take_lease.new.store) (g.S.Store.faults c.args.store.now) (g.S.Store.faults c.take_lease.new.store) e puts (c.in_err-view.ensures.mismatch x lawful) (λ key is. c.in_err-view.ensures.whole key (ap Err is)) c.in_err-view.ensures.faults in
     let is : c.from_residual.result ≡ Err e = search rules in
     rw is all
@@ -134,3 +139,49 @@ returns-clause-calls g c =
     let plans : IfSome t (λ o. PlanIs (to_take lifetime c.args.moment) o (Ok (Some v.view, v.lease))) = search rules in
     taken-calls MayMismatch lifetime skips c.args.moment t t1 v.view v.lease puts plans c.in_ok-last.last c.in_ok-last.ensures.where_modelled (g.S.Store.calls c.args.store.now) (g.S.Store.calls c.rebuild.new.store)
     (let a = v.ensures.calls in let b = c.in_ok-last.ensures.calls in let d = c.in_ok-rebuilt.ensures.calls in omega (arith, a, b, d))
+
+-- ---- which errors it answers, and when that is InvalidDBState
+pub returns-in_err-view-clause-kind : goal.returns-in_err-view-clause-kind
+returns-in_err-view-clause-kind g c =
+    let is : c.from_residual.result ≡ Err c.in_err-view.field-0.0 = search rules in
+    rw is c.in_err-view.ensures.kind
+
+pub returns-in_err-last-clause-kind : goal.returns-in_err-last-clause-kind
+returns-in_err-last-clause-kind g c =
+    let e = c.in_err-last.field-0.0 in
+    let is : c.from_residual-in_err-last.result ≡ Err e = search rules in
+    rw is (rebuilding-opening ManagedCheckpoint e (replay-rebuilding e c.in_err-last.ensures.refusals))
+
+pub returns-in_err-rebuilt-clause-kind : goal.returns-in_err-rebuilt-clause-kind
+returns-in_err-rebuilt-clause-kind g c =
+    let is : c.from_residual-in_err-rebuilt.result ≡ Err c.in_err-rebuilt.field-0.0 = search rules in
+    rw is (rebuilding-opening ManagedCheckpoint c.in_err-rebuilt.field-0.0 c.in_err-rebuilt.ensures.refusals)
+
+pub returns-in_err-view-clause-decided : goal.returns-in_err-view-clause-decided
+returns-in_err-view-clause-decided g c x lawful is =
+    let e = c.in_err-view.field-0.0 in
+    let got : c.from_residual.result ≡ Err e = search rules in
+    c.in_err-view.ensures.decided x lawful (ap Err (err-same (Follower × PollAnswer) e InvalidDBState (sym got ∙ is)))
+
+pub returns-in_err-last-clause-decided : goal.returns-in_err-last-clause-decided
+returns-in_err-last-clause-decided g c x lawful is =
+    let e = c.in_err-last.field-0.0 in
+    let got : c.from_residual-in_err-last.result ≡ Err e = search rules in
+    absurd (rebuilding-valid e (replay-rebuilding e c.in_err-last.ensures.refusals) (err-same (Follower × PollAnswer) e InvalidDBState (sym got ∙ is)))
+
+pub returns-in_err-rebuilt-clause-decided : goal.returns-in_err-rebuilt-clause-decided
+returns-in_err-rebuilt-clause-decided g c x lawful is =
+    let e = c.in_err-rebuilt.field-0.0 in
+    let got : c.from_residual-in_err-rebuilt.result ≡ Err e = search rules in
+    absurd (rebuilding-valid e c.in_err-rebuilt.ensures.refusals (err-same (Follower × PollAnswer) e InvalidDBState (sym got ∙ is)))
+
+pub returns-clause-truncates : goal.returns-clause-truncates
+returns-clause-truncates g c =
+    let v = c.in_ok-view in
+    let b = c.in_ok-rebuilt in
+    let skips = c.args.options.now.skip_wal_replay in
+    let t1 = g.S.Store.objects c.last_read.new.store in
+    let t' = g.S.Store.objects c.rebuild.new.store in
+    rw c.in_ok-new.ensures
+    (if_some t' (λ o at. leased-truncates o b.rebuilt (Some v.lease) b.answer
+    (builds-truncates o ManagedCheckpoint skips v.view c.in_ok-last.last b.rebuilt b.answer (some_at (λ o. Builds o ManagedCheckpoint skips v.view c.in_ok-last.last b.rebuilt b.answer) t1 o (sym b.ensures.kept ∙ at) b.ensures.built))))

@@ -1,10 +1,17 @@
-use Rattle.std.proofs.Common.{◌≡◌, ℕ, None, rules, subst}
+use Rattle.std.proofs.Common.{◌≡◌, ℕ, None, Some, Result, Err, refl, rules, subst, sym}
+use Rattle.std.specs.Option.{IfSome}
+use Rattle.slate_errors.specs.declared.errors.SlateError.{SlateError}
 use Rattle.std.proofs.Math.Facts.{to_z-of_z}
 use Rattle.std.specs.Int.{w64}
-use Rattle.slate_model.specs.Known.{known}
+use Rattle.slate_model.specs.Known.{Untouched, known}
 use Rattle.slate_model.specs.Lease.{lease_refusal}
 use Rattle.slate_model.specs.Managed.{TakesLease}
 use Rattle.slate_model.specs.Stores.{by_objects}
+use Rattle.slate_errors.specs.declared.errors.SlateError.TheVariants.{InvalidDBState}
+use Rattle.slate_model.specs.Follower.{Follower}
+use Rattle.slate_model.specs.declared.answers.PollAnswer.{PollAnswer}
+use Rattle.slate_follow.proofs.Answering.{options-opening, options-valid}
+use Rattle.slate_follow.proofs.Refusing.{err-same}
 use Rattle.slate_follow.proofs.states.FollowerState.open_managed.Goals as goal
 
 pub returns-clause-opens : goal.returns-clause-opens
@@ -14,3 +21,22 @@ returns-clause-opens g c x lawful =
     (to_z-of_z {w = w64} (search rules)) (c.open_leased.ensures.takes x lawful) in
     let none : lease_refusal o.checkpoint_lifetime_ms o.manifest_poll_interval_ms ≡ None = search rules in
     (t.0, record { refused = rw none tt; takes = λ passes. t.1 })
+
+pub returns-in-Some-clause-kind : goal.returns-in-Some-clause-kind
+returns-in-Some-clause-kind g c = options-opening c.in-Some.refusal (search rules)
+
+pub returns-in-Some-clause-decided : goal.returns-in-Some-clause-decided
+returns-in-Some-clause-decided g c x lawful is = absurd (options-valid c.in-Some.refusal (search rules) (err-same (Follower × PollAnswer) c.in-Some.refusal InvalidDBState is))
+
+pub returns-in-Some-clause-opens : goal.returns-in-Some-clause-opens
+returns-in-Some-clause-opens g c x lawful =
+    let o = c.args.options.now in
+    let r = c.in-Some.refusal in
+    let before = known g.S.Store.objects g.S.Store.faults c.args.store.now in
+    let is : lease_refusal o.checkpoint_lifetime_ms o.manifest_poll_interval_ms ≡ Some r = search rules in (
+      0,
+      record {
+        refused = subst (λ y. IfSome y (λ error. (◌≡◌ {A = Result (Follower × PollAnswer) SlateError} (Err r) (Err error)) × Untouched 0 before before)) (sym is) (refl, (refl, refl));
+        takes = λ passes. absurd (cc (is, passes));
+      },
+    )

@@ -8,7 +8,7 @@ use Rattle.slate_model.specs.Follower.{Follower}
 use Rattle.slate_model.specs.Managed.{Keeps, poll_result}
 use Rattle.slate_model.specs.Segments.{Extractor, IsExtractor}
 use Rattle.slate_model.specs.Stores.{by_objects}
-use Rattle.slate_follow.specs.Keeping.{KeepLacks}
+use Rattle.slate_follow.specs.Keeping.{CallsKeeping, KeepLacks}
 use Rattle.slate_follow.proofs.Keeping.{PutsAndKeeps}
 use Rattle.slate_follow.proofs.Taken.{keeps-err, keeps-ok}
 use Rattle.slate_follow.proofs.states.FollowerState.poll_leased.Goals as goal
@@ -24,7 +24,8 @@ returns-in-Ok g c =
     let undone = to_z-of_z {w = w64} {z = c.args.moment} (search rules) in
     let goes = subst (λ m. WhereModelled (PutsAndKeeps l m old (Ok c.in-Ok.answer) new) t t') undone k.puts in
     let keeps = subst (λ m. WhereModelled (λ o o'. Keeps (by_objects t) l m old o new c.in-Ok.answer o') t t') undone k.keeps in
-    record { faults = k.faults; calls = k.calls; left = tt; keeps = λ x lawful. keeps-ok x l c.args.moment old t t' (g.S.Store.faults c.args.store.now) (g.S.Store.faults c.keep_lease.new.store) c.in-Ok.answer new k.faults goes k.answers keeps (k.segments x lawful) }
+    let costs = subst (λ m. IfSome t (λ o. CallsKeeping o old l m (g.S.Store.calls c.args.store.now) (g.S.Store.calls c.keep_lease.new.store))) undone k.costs in
+    record { faults = k.faults; calls = k.calls; kind = tt; costs = costs; truncates = k.truncates; left = tt; keeps = λ x lawful. keeps-ok x l c.args.moment old t t' (g.S.Store.faults c.args.store.now) (g.S.Store.faults c.keep_lease.new.store) c.in-Ok.answer new k.faults goes k.answers keeps (k.segments x lawful) }
 
 pub returns-in-Err : goal.returns-in-Err
 returns-in-Err g c =
@@ -45,6 +46,9 @@ returns-in-Err g c =
     record {
       faults = k.faults;
       calls = k.calls;
+      kind = k.kind;
+      costs = tt;
+      truncates = tt;
       left = subst (λ n. closed ≡ record old { lease = n; result = poll_result c.in-Err.error }) (sym lease_is) first;
       keeps = λ x lawful. keeps-err x l c.args.moment old t t' (g.S.Store.faults c.args.store.now) (g.S.Store.faults c.keep_lease.new.store) c.in-Err.error inner c.close_by.new.self k.faults goes k.failed c.close_by.ensures (lacks x lawful);
     }

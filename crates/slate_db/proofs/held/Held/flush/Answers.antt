@@ -1,0 +1,4 @@
+use Rattle.slate_db.proofs.held.Held.flush.Goals as goal
+
+pub returns-clause-does : goal.returns-clause-does
+returns-clause-does g c = rw (← c.self.view_is) c.flush.ensures.does

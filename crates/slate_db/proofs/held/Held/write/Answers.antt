@@ -1,0 +1,13 @@
+use Rattle.std.proofs.Common.{◌≡◌, ap, ◌∙◌, rules, true, to_z-of_z, w64}
+use Rattle.slate_types.specs.declared.batches.WriteBatch.{WriteBatch}
+use Rattle.slate_db.specs.Moments.{is_of_clock}
+use Rattle.slate_db.proofs.Writing.{written-second}
+use Rattle.slate_db.proofs.held.Held.write.Goals as goal
+
+pub returns-clause-does : goal.returns-clause-does
+returns-clause-does g c x lawful =
+    let late : is_of_clock c.in-Err.refusal.error ≡ true = search rules in
+    rw (← c.self.view_is)
+    (written-second x _ _ _ _ _ _ _ _ _ _ _ (to_z-of_z {w = w64} {z = c.args.moment} c.ranges.moment)
+    (to_z-of_z {w = w64} {z = c.again.result} (record { sfits = c.again.type_inv })) (c.in-Err.ensures.does x lawful) late
+    (ap (λ (b : WriteBatch). b.ops) (c.batch_of-batch.ensures ∙ c.in-Err.ensures.handed_back)) c.again.ensures (c.write-2.ensures.does x lawful))

@@ -1,0 +1,10 @@
+use Rattle.std.proofs.Common.{◌≡◌, to_z, of_z, to_z-of_z, w64}
+use Rattle.slate_db.proofs.held_readers.HeldReader.poll.Goals as goal
+
+pub returns-clause-polls : goal.returns-clause-polls
+returns-clause-polls g c = rw (← c.self.view_is) c.poll.ensures.polls
+
+pub returns-clause-managed : goal.returns-clause-managed
+returns-clause-managed g c =
+    let moment_back : to_z w64 (of_z w64 c.args.moment) ≡ c.args.moment = to_z-of_z {w = w64} {z = c.args.moment} c.ranges.moment in
+    rw (← c.self.view_is, ← moment_back) c.poll.ensures.managed

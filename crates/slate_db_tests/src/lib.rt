@@ -1,0 +1,22 @@
+//! Tests from outside: of databases and readers that threads share, their snapshots and transactions, of statuses that threads
+//! share, of the handles of writes, of clocks, and of the board of a handle.
+#![tactic(auto)]
+
+#[cfg(test)]
+mod boards;
+#[cfg(test)]
+mod clocks;
+#[cfg(test)]
+mod databases;
+#[cfg(test)]
+mod handles;
+#[cfg(test)]
+mod shares;
+#[cfg(test)]
+mod steps;
+#[cfg(test)]
+mod tellings;
+#[cfg(test)]
+mod threads;
+#[cfg(test)]
+mod transactions;

@@ -3,9 +3,10 @@ use bytes::Bytes;
 use slate_types::{MergeFault, MergeOperator, PrefixExtractor};
 use std::alloc::Global;
 
-/// The merge operator of a database without one. It has no value, so that no call is ever made on it.
+/// The type of the merge operator where a database has none. Nothing makes a value of it, so that no call is ever made on
+/// it; one would refuse each operand.
 #[derive(Clone, Copy, Debug)]
-pub enum NoMerge {}
+pub struct NoMerge(());
 
 impl MergeOperator for NoMerge {
     ghost use Rattle.std.specs.Prelude.{◌≡◌, None};
@@ -19,13 +20,14 @@ impl MergeOperator for NoMerge {
         _existing: Option<&Bytes>,
         _operand: &Bytes,
     ) -> Result<Bytes, MergeFault> {
-        match *self {}
+        Err(MergeFault::Refused)
     }
 }
 
-/// The prefix extractor of a database without one. It has no value, so that no call is ever made on it.
+/// The type of the prefix extractor where a database has none. Nothing makes a value of it, so that no call is ever made on
+/// it; one would find no prefix.
 #[derive(Clone, Copy, Debug)]
-pub enum NoExtractor {}
+pub struct NoExtractor(());
 
 impl PrefixExtractor for NoExtractor {
     ghost use Rattle.std.specs.Prelude.{◌≡◌, [], None};
@@ -35,10 +37,10 @@ impl PrefixExtractor for NoExtractor {
     ghost may_extract = { λ _ _ prefix. prefix ≡ None };
 
     fn name(&self) -> &str {
-        match *self {}
+        ""
     }
 
     fn prefix_of<'a>(&self, _key: &'a [u8]) -> Option<&'a [u8]> {
-        match *self {}
+        None
     }
 }

@@ -15,7 +15,7 @@ ghost use Rattle.slate_model.specs.Segments.{Extractor, IsExtractor};
 ghost use Rattle.slate_model.specs.Status.{follower_status};
 ghost use Rattle.slate_model.specs.Stores.{by_objects, kept_rows};
 ghost use Rattle.slate_follow.specs.Answering.{IsOfOpening, IsOfPoll};
-ghost use Rattle.slate_follow.specs.Scanned.{BeginsScanOf};
+ghost use Rattle.slate_follow.specs.Scanned.{BeginsFrontOf, BeginsScanOf};
 
 use slate_errors::{CloseFault, Ended, SlateError};
 use slate_follow::{DbReaderMode, DbReaderOptions, FollowerState, PollAnswer};
@@ -140,6 +140,29 @@ impl<S: Store> HeldReader<S> {
     {
         self.reader
             .scan(alloc, &mut self.store, range, order, operator)
+    }
+
+    /// The first rows of a range, up to `limit`, as `FollowerState::scan_first` finds them.
+    pub fn scan_first<M: MergeOperator>(
+        &mut self,
+        alloc: Global,
+        range: &ByteRange,
+        order: IterationOrder,
+        limit: u64,
+        operator: Option<&M>,
+    ) -> Result<DbIterator, SlateError>
+        ensures scan { (merge : Option Merge) → IsOperator M.may_answer (option_copied operator.entry) merge →
+            Reads self.old.follower.result self.old.follower.view.manifest.tables (kept_rows (S.objects self.old.store) (Follower self.old.follower))
+            (Gives (BeginsFrontOf self.old.follower merge range.now order limit))
+            (known S.objects S.faults self.old.store) result (known S.objects S.faults self.new.store) }
+        ensures by_any { ReadsByAny self.old.follower.result self.old.follower.view.manifest.tables (known S.objects S.faults self.old.store) result (known S.objects S.faults self.new.store) }
+        ensures kept { self.new.follower ≡ self.old.follower }
+        ensures count { S.faults self.old.store ≤ S.faults self.new.store }
+        ensures calls { S.calls self.new.store ≤ S.calls self.old.store + length self.old.follower.view.manifest.tables }
+        ensures closed { (self.old.follower.result ≡ None → ⊥) → self.new.store ≡ self.old.store }
+    {
+        self.reader
+            .scan_first(alloc, &mut self.store, range, order, limit, operator)
     }
 
     /// Polls at this moment, in milliseconds, as `FollowerState::poll` does.

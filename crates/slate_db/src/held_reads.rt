@@ -11,7 +11,7 @@ ghost use Rattle.slate_model.specs.Read.{Gives, Reads, ReadsByAny};
 ghost use Rattle.slate_model.specs.Recency.{ScansByRecency};
 ghost use Rattle.slate_model.specs.Snapshot.{snapshot_number};
 ghost use Rattle.slate_model.specs.Stores.{kept_rows};
-ghost use Rattle.slate_writer.specs.Scanned.{BeginsScanOf};
+ghost use Rattle.slate_writer.specs.Scanned.{BeginsFrontOf, BeginsScanOf};
 
 use crate::Held;
 use slate_errors::SlateError;
@@ -72,6 +72,30 @@ impl<S: Store> Held<S> {
     {
         self.writer
             .scan(alloc, &mut self.store, range, options, snapshot, operator)
+    }
+
+    /// The first rows of a range, up to `limit`, as `WriterState::scan_first` finds them.
+    pub fn scan_first<M: MergeOperator>(
+        &mut self,
+        alloc: Global,
+        range: &ByteRange,
+        options: &ScanOptions,
+        limit: u64,
+        operator: Option<&M>,
+    ) -> Result<DbIterator, SlateError>
+        ensures scan { (merge : Option Merge) → IsOperator M.may_answer (option_copied operator.entry) merge →
+            Reads self.old.handle.result self.old.handle.view.manifest.tables (kept_rows (S.objects self.old.store) (Handle self.old.handle))
+            (Gives (BeginsFrontOf limit self.old.handle merge None options.now range.now))
+            (known S.objects S.faults self.old.store) result (known S.objects S.faults self.new.store) }
+        ensures by_any { ReadsByAny self.old.handle.result self.old.handle.view.manifest.tables (known S.objects S.faults self.old.store) result (known S.objects S.faults self.new.store) }
+        ensures kept { self.new.handle ≡ self.old.handle }
+        ensures count { S.faults self.old.store ≤ S.faults self.new.store }
+        ensures calls { S.calls self.new.store ≤ S.calls self.old.store + length self.old.handle.view.manifest.tables }
+        ensures closed { (self.old.handle.result ≡ None → ⊥) → self.new.store ≡ self.old.store }
+    {
+        let store = &mut self.store;
+        self.writer
+            .scan_first(alloc, store, range, options, limit, None, operator)
     }
 
     /// Lists the operations on the keys with a prefix, source by source, as `WriterState::scan_by_recency` does.

@@ -197,6 +197,27 @@ impl<S: Store, M, E: PrefixExtractor, C: Clock> DbReader<S, M, E, C> {
     }
 }
 
+impl<S: Store, M: MergeOperator, E, C> DbReader<S, M, E, C> {
+    /// Our own, where a scan of SlateDB reads as its rows are asked for: the first rows of a range, up to `limit`, as
+    /// `Db::scan_first` reads them of a database. The level of the options has no effect.
+    pub fn scan_first<R: Wait>(
+        &self,
+        rt: &R,
+        alloc: Global,
+        range: &ByteRange,
+        options: &ScanOptions,
+        limit: u64,
+    ) -> Result<DbIterator, Error> {
+        let mut guarded = self.lock(rt);
+        let (order, operator) = (options.order, self.operator.as_ref());
+        let found = guarded
+            .held
+            .scan_first(alloc, range, order, limit, operator);
+        guarded.tell(rt, alloc, &self.status);
+        Ok(found?)
+    }
+}
+
 impl<S: Store, M: MergeOperator, E, C> DbReadOps for DbReader<S, M, E, C> {
     fn get_key_value_with_options<R: Wait>(
         &self,

@@ -3,9 +3,10 @@ use crate::{Db, DbWriteOps, Stop};
 use slate_errors::{Error, ErrorKind};
 use slate_model::error_of_refusal;
 use slate_receivers::Clock;
+use slate_rows::DbIterator;
 use slate_seqtrack::FindOption;
 use slate_store::{Checkpoint, Store, StoreRefusal};
-use slate_types::{MergeOperator, PrefixExtractor};
+use slate_types::{ByteRange, MergeOperator, PrefixExtractor, ScanOptions};
 use std::alloc::Global;
 use std::rt;
 use std::sync::Wait;
@@ -52,6 +53,31 @@ impl<S: Store + Drop, M: Drop, E: Drop, C: Drop> Db<S, M, E, C> {
     /// the settings' `max_unflushed_bytes`, a write answers `Backpressure`. It takes no memory.
     pub fn unflushed<R: Wait>(&self, rt: &R) -> u64 {
         self.shared.lock(rt).held.unflushed()
+    }
+}
+
+impl<S: Store + Drop, M: MergeOperator + Drop, E: Drop, C: Drop> Db<S, M, E, C> {
+    /// Our own, where a scan of SlateDB reads as its rows are asked for: the first rows of a range, up to `limit`, in the order
+    /// asked for, as of the first job of a queue. A key without a row doesn't count, and no key is read after the last row, so
+    /// that it takes the time of a read for each key up to that alone. With a limit of 0 there are no rows.
+    ///
+    /// It calls the store once for each table, and answers the errors of `scan_with_options`, the fault of a key only where it
+    /// comes before so many rows.
+    pub fn scan_first<R: Wait>(
+        &self,
+        rt: &R,
+        alloc: Global,
+        range: &ByteRange,
+        options: &ScanOptions,
+        limit: u64,
+    ) -> Result<DbIterator, Error> {
+        let mut guarded = self.shared.lock(rt);
+        let operator = self.shared.operator();
+        let found = guarded
+            .held
+            .scan_first(alloc, range, options, limit, operator);
+        self.shared.tell_late(rt, alloc, &mut guarded);
+        Ok(found?)
     }
 }
 

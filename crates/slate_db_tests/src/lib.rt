@@ -13,6 +13,8 @@ mod handles;
 #[cfg(test)]
 mod shares;
 #[cfg(test)]
+mod snapshots;
+#[cfg(test)]
 mod steps;
 #[cfg(test)]
 mod tellings;

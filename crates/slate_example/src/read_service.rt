@@ -1,102 +1,123 @@
-// A read service: all that it serves between two polls is of one state of the database, whatever a writer stores meanwhile.
-// Here the states are the balances of two accounts. Each transfer writes both as one batch, so that in every state they
-// come to 100. The service reads one balance before a transfer and one after it, and still they come to 100.
-use crate::calls::{Answer, NO_OPERATOR, open_reader, open_writer, poll, text_of, write};
-use slate_follow::FollowerState;
-use slate_store::Store;
-use slate_types::{FlushType, WriteBatch};
-use slate_writer::WriterState;
+// A read service on threads: while one thread writes, one flushes, one polls and one serves. What one scan of a reader finds is of
+// one state of the database, whatever is stored meanwhile, and no later one goes back behind it.
+//
+// Here the states are the balances of two accounts. Each transfer writes both as one batch, so that in every state they come to
+// 100.
+use slate_db::{
+    ByteRange, Db, DbReadOps, DbReader, DbReaderMode, DbReaderOptions, DbWriteOps, Error,
+    MemoryStore, NoExtractor, NoMerge, SharedStore, Stop, SystemClock, WriteBatch, WriterOptions,
+};
 use std::alloc::Global;
+use std::rt::Clock;
+use std::sync::Wait;
+use std::thread::{Threads, join};
 
-/// Two balances, and the number at which they were read.
-#[derive(Debug, Drop)]
+/// What a service found in its scans.
+#[derive(Clone, Copy, Debug, PartialEq, Eq)]
 pub struct Served {
-    pub number: u64,
-    pub ann: String,
-    pub bob: String,
+    /// Whether both balances came to 100 in each.
+    pub are_whole: bool,
+    /// Bob's balance in the last one.
+    pub bob: u8,
 }
 
-/// Serves balances at the number of its reader.
-#[derive(Drop)]
-pub struct ReadService {
-    reader: FollowerState,
+/// The database in which the bank keeps its accounts.
+type Bank<R> = Db<SharedStore<R, MemoryStore>, NoMerge, NoExtractor, SystemClock<R>>;
+
+/// What serves the balances to others.
+type Service<R> = DbReader<SharedStore<R, MemoryStore>, NoMerge, NoExtractor, SystemClock<R>>;
+
+/// The balances of Ann and Bob after each transfer.
+const TRANSFERS: [(u8, u8); 5] = [(100, 0), (90, 10), (70, 30), (40, 60), (20, 80)];
+
+/// What a service finds in a hundred scans beside all transfers, and after its last poll.
+pub fn serve_transfers<R>(rt: R, alloc: Global) -> Result<(bool, Served), Error>
+where
+    R: Threads + Wait + Clock + Copy + Send + Sync,
+{
+    let store = SharedStore::new(alloc, rt, MemoryStore::new(alloc))?;
+    let bank = Db::open(alloc, rt, store.share()?, &WriterOptions::default())?;
+    let options = DbReaderOptions {
+        manifest_poll_interval_ms: 1,
+        ..DbReaderOptions::default()
+    };
+    let service = DbReader::open(alloc, rt, store, DbReaderMode::FollowLatest, &options)?;
+    let is_served = serve_beside(&rt, alloc, &bank, &service);
+    service.poll(&rt, alloc)?;
+    Ok((is_served, serve(&rt, alloc, &service)?))
 }
 
-impl ReadService {
-    /// A service of what is stored now.
-    pub fn open<S: Store>(alloc: Global, store: &mut S) -> Answer<ReadService> {
-        let reader = open_reader(alloc, store)?;
-        Ok(ReadService { reader })
+/// Runs the four threads until the last transfer is durable. Whether none failed, and each scan found a whole state.
+fn serve_beside<R>(rt: &R, alloc: Global, bank: &Bank<R>, service: &Service<R>) -> bool
+where
+    R: Threads + Wait + Clock + Copy + Send + Sync,
+{
+    let stop = &Stop::new();
+    let (stored, kept_on) = join(
+        rt,
+        move || transfer_all(rt, alloc, bank, stop).is_ok(),
+        move || keep_on(rt, alloc, bank, service, stop),
+    );
+    stored && kept_on
+}
+
+/// Writes each transfer, waits until the last one is durable, and stops the flusher and the poller.
+fn transfer_all<R>(rt: &R, alloc: Global, bank: &Bank<R>, stop: &Stop) -> Result<(), Error>
+where
+    R: Wait + Clock,
+{
+    let mut outcome = Ok(());
+    for (ann, bob) in TRANSFERS {
+        let mut batch = WriteBatch::new(alloc);
+        batch.put(alloc, b"ann", &[ann])?;
+        batch.put(alloc, b"bob", &[bob])?;
+        outcome = bank.write(rt, alloc, batch)?.await_durable(rt);
     }
+    stop.stop(rt);
+    outcome
+}
 
-    /// Goes on to what is stored now, and answers the number at which it serves from then on. That number is never below
-    /// the one before. Where the poll fails, it serves as before, and may poll again.
-    pub fn go_on<S: Store>(&mut self, alloc: Global, store: &mut S) -> Answer<u64> {
-        poll(alloc, store, &mut self.reader)
+/// Runs the flusher of the bank, and the poller of the service beside those whom it serves.
+fn keep_on<R>(rt: &R, alloc: Global, bank: &Bank<R>, service: &Service<R>, stop: &Stop) -> bool
+where
+    R: Threads + Wait + Clock + Copy + Send + Sync,
+{
+    let (flushed, (polled, whole)) = join(
+        rt,
+        move || bank.run_flusher(rt, alloc, 1, stop).is_ok(),
+        move || {
+            join(
+                rt,
+                move || service.run_poller(rt, alloc, stop).is_ok(),
+                move || matches!(serve_often(rt, alloc, service), Ok(true)),
+            )
+        },
+    );
+    flushed && polled && whole
+}
+
+/// Serves a hundred times. Whether each scan found a whole state.
+fn serve_often<R>(rt: &R, alloc: Global, service: &Service<R>) -> Result<bool, Error>
+where
+    R: Wait + Clock,
+{
+    let mut are_whole = true;
+    for _ in 0..100 {
+        are_whole = are_whole && serve(rt, alloc, service)?.are_whole;
     }
+    Ok(are_whole)
+}
 
-    /// What an account has at the number of the service.
-    pub fn balance<S: Store>(
-        &self,
-        alloc: Global,
-        store: &mut S,
-        account: &[u8],
-    ) -> Answer<String> {
-        let row = self.reader.get(alloc, store, account, NO_OPERATOR)?;
-        Ok(text_of(alloc, row)?)
+/// Serves both balances, which one scan finds.
+fn serve<R: Wait + Clock>(rt: &R, alloc: Global, service: &Service<R>) -> Result<Served, Error> {
+    let rows = service
+        .scan(rt, alloc, &ByteRange::full())?
+        .into_rows(alloc)?;
+    let (mut sum, mut bob) = (0_u8, 0);
+    for row in rows.as_slice() {
+        bob = row.value.as_slice().first().copied().unwrap_or(0);
+        sum = sum.saturating_add(bob);
     }
-}
-
-/// What the service serves while a transfer is stored, and after its next poll.
-pub fn serve_a_transfer<S: Store>(alloc: Global, store: &mut S) -> Answer<(Served, Served)> {
-    let mut bank = open_writer(alloc, store)?;
-    serve_beside(alloc, store, &mut bank)
-}
-
-/// What a service beside this bank serves, in which Ann has 70 and Bob has 30 at first.
-fn serve_beside<S: Store>(
-    alloc: Global,
-    store: &mut S,
-    bank: &mut WriterState,
-) -> Answer<(Served, Served)> {
-    store_balances(alloc, store, bank, (b"70", b"30"))?;
-    let mut service = ReadService::open(alloc, store)?;
-    let before = serve_during_transfer(alloc, store, &service, bank)?;
-    Ok((before, serve_next(alloc, store, &mut service)?))
-}
-
-/// Stores both balances as one batch.
-fn store_balances<S: Store>(
-    alloc: Global,
-    store: &mut S,
-    bank: &mut WriterState,
-    (ann, bob): (&[u8], &[u8]),
-) -> Answer<()> {
-    let mut batch = WriteBatch::new(alloc);
-    batch.put(alloc, b"ann", ann)?;
-    batch.put(alloc, b"bob", bob)?;
-    write(alloc, bank, batch)?;
-    bank.flush(alloc, store, FlushType::Wal)
-}
-
-/// Serves a balance, stores a transfer of 50 from Ann to Bob, and serves the other balance: both are of the state before.
-fn serve_during_transfer<S: Store>(
-    alloc: Global,
-    store: &mut S,
-    service: &ReadService,
-    bank: &mut WriterState,
-) -> Answer<Served> {
-    let ann = service.balance(alloc, store, b"ann")?;
-    store_balances(alloc, store, bank, (b"20", b"80"))?;
-    let bob = service.balance(alloc, store, b"bob")?;
-    let number = service.reader.number();
-    Ok(Served { number, ann, bob })
-}
-
-/// Goes on to what is stored now, and serves both balances.
-fn serve_next<S: Store>(alloc: Global, store: &mut S, service: &mut ReadService) -> Answer<Served> {
-    let number = service.go_on(alloc, store)?;
-    let ann = service.balance(alloc, store, b"ann")?;
-    let bob = service.balance(alloc, store, b"bob")?;
-    Ok(Served { number, ann, bob })
+    let are_whole = sum == 0 || sum == 100;
+    Ok(Served { are_whole, bob })
 }

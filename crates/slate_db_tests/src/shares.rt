@@ -6,7 +6,7 @@ use slate_errors::Error;
 use slate_follow::{DbReaderMode, DbReaderOptions, PollAnswer};
 use slate_receivers::SystemClock;
 use slate_store::MemoryStore;
-use slate_types::NoMemory;
+use slate_types::{ByteRange, NoMemory, ScanOptions};
 use slate_writer::WriterOptions;
 use std::alloc::Global;
 use std::sync::Wait;
@@ -50,6 +50,11 @@ fn reader_sees_what_was_flushed_once_polled(rt: HostRuntime) -> Result<(), Fail>
     assert!(rt; !has(&rt, alloc, &reader, b"a")? && !receiver.has_changed(&rt));
     assert!(rt; reader.poll(&rt, alloc)? == PollAnswer::Whole { at: 1 });
     assert!(rt; has(&rt, alloc, &reader, b"a")? && receiver.has_changed(&rt));
+    let (all, options) = (ByteRange::full(), ScanOptions::default());
+    let first = reader.scan_first(&rt, alloc, &all, &options, 1)?;
+    let none = db.scan_first(&rt, alloc, &all, &options, 0)?;
+    let (first, none) = (first.into_rows(alloc)?, none.into_rows(alloc)?);
+    assert!(rt; (first.as_slice().len(), none.as_slice().len()) == (1, 0));
     reader.close(&rt, alloc)?;
     assert!(rt; reader.get(&rt, alloc, b"a").is_err());
     Ok(())

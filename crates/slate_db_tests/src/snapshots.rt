@@ -10,7 +10,7 @@ use crate::databases::{HandDb, opened};
 use bytes::Bytes;
 use slate_db::{
     ByteRange, DbReadOps, DbSnapshot, DbWriteOps, Error, HandClock, KeyBound, MemoryStore,
-    NoExtractor, NoMerge,
+    NoExtractor, NoMemory, NoMerge,
 };
 use std::alloc::Global;
 use std::sync::Wait;
@@ -123,8 +123,9 @@ where
     D: DbReadOps,
     R: Wait,
 {
+    let from = Bytes::copy_from_slice(alloc, from.as_bytes()).map_err(NoMemory::from)?;
     let range = ByteRange {
-        low: KeyBound::Included(Bytes::copy_from_slice(alloc, from.as_bytes())?),
+        low: KeyBound::Included(from),
         high: KeyBound::Unbounded,
     };
     let mut found = read.scan(rt, alloc, &range)?;

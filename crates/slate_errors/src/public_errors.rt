@@ -6,7 +6,7 @@ ghost use Rattle.slate_errors.specs.Kinds.{kind_of};
 use crate::texts::{source_of, write_message, write_source};
 use crate::{CloseReason, ErrorKind, SlateError};
 use slate_text::{cut_back, write_text};
-use slate_types::{Name, NoMemory};
+use slate_types::{Name, NoMemory, ReadFault};
 use std::marker::Model;
 
 /// What an error comes from.
@@ -185,5 +185,17 @@ impl From<NoMemory> for Error {
 
     fn from(_error: NoMemory) -> Error {
         Error::from(SlateError::NoMemory)
+    }
+}
+
+/// The fault that ends the rows of an iterator as an error whose cause it is, so that `?` takes it there in one step.
+impl From<ReadFault> for Error {
+    ghost use Rattle.slate_errors.specs.Errors.{error_of_read};
+    ghost use Rattle.slate_errors.specs.PublicErrors.{caused_by};
+
+    ghost from_gives = { λ fault error. error ≡ caused_by (error_of_read fault) };
+
+    fn from(fault: ReadFault) -> Error {
+        Error::from(SlateError::from(fault))
     }
 }

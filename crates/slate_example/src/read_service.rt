@@ -64,7 +64,7 @@ where
 /// Writes each transfer, waits until the last one is durable, and stops the flusher and the poller.
 fn transfer_all<R>(rt: &R, alloc: Global, bank: &Bank<R>, stop: &Stop) -> Result<(), Error>
 where
-    R: Wait + Clock,
+    R: Wait + Clock + Drop,
 {
     let mut outcome = Ok(());
     for (ann, bob) in TRANSFERS {

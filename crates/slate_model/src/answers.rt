@@ -15,3 +15,16 @@ pub enum PollAnswer {
     /// A log file or a batch is missing: the reader sees what comes before it.
     Truncated { at: u64 },
 }
+
+impl PollAnswer {
+    ghost use Rattle.slate_model.specs.Follow.{AnswersAt};
+
+    /// The number of the last batch that the reader sees.
+    pub fn at(self) -> u64
+        ensures { AnswersAt result self }
+    {
+        match self {
+            PollAnswer::Whole { at } | PollAnswer::Truncated { at } => at,
+        }
+    }
+}

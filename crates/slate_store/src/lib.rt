@@ -27,6 +27,7 @@ pub use memory_store::MemoryStore;
 pub use objects::{Checkpoint, Listing, Manifest, TableId, VersionedManifest};
 pub use reader_modes::DbReaderMode;
 pub use refusals::StoreRefusal;
+pub use slate_reads::Table;
 pub use slate_types::{StoreError, StoreFault};
 pub use stores::Store;
 pub use sweeps::{sweep, to_sweep};

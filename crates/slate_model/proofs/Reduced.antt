@@ -353,7 +353,7 @@ pub opens-reduced : (x : Option Extractor) (stored : Line) (made : ℕ) (keeps_l
     OpensHandle (by_catalogue stored (catalogue_of o)) x made keeps_log limit tasks (catalogued o f) (opened-whole x keeps_log limit tasks stored (opened_manifest (extractor_name x) o) r) (catalogued o' f')
 opens-reduced x stored made keeps_log limit tasks (Ok k) o o' f f' sound is s = record {
   opens = as_modelled (catalogue_of o) (catalogue_of o') (opened-known x keeps_log limit tasks stored k made o o' sound (modelled o o' s.opens));
-  faults = record { count = s.faults.count; unavailable = λ no. absurd (cc); none_missing = λ no. absurd (cc) };
+  faults = record { count = s.faults.count; unavailable = λ no. absurd (cc); stays = s.faults.stays; none_missing = λ no. absurd (cc) };
   fresh = fresh-opened x keeps_log limit tasks stored (opened_manifest (extractor_name x) o) (subst (λ (k : Handle). IsFresh keeps_log limit tasks k) (s.handle o stored refl (o, refl, sound, sym is)) s.fresh);
   view = λ c at. sym (opened_manifest-known (extractor_name x) o) ∙ ap (opened_manifest (extractor_name x)) (some-same (catalogue_of o) c at);
   segmented = segmented-known x stored (Ok (opened_handle x keeps_log limit tasks (opened_manifest (extractor_name x) o) stored)) o (s.segmented o stored refl (o, refl, sound, sym is));
@@ -473,7 +473,7 @@ module _ (x : Option Extractor) (stored : Line) (mode : DbReaderMode) (skips ope
       let known = sees-known stored (catalogue_of o) (Some o) mode skips opening o b.0 b.1 sound is v all in
       record {
         kept = kept-known o o' f f' s.kept;
-        faults = record { count = s.faults.count; unavailable = λ no. absurd (cc) };
+        faults = record { count = s.faults.count; unavailable = λ no. absurd (cc); stays = s.faults.stays };
         missing = λ no. absurd (cc);
         cause = tt;
         answer = (refl, refl, refl, refl, inl (all.3 ∙ ap (λ l. Whole (end l)) (owed-is (Some o) o mode skips b.0.view stored all.0 all.1)));

@@ -4,7 +4,7 @@ use Rattle.slate_types.specs.declared.batches.Batch.{Batch}
 use Rattle.slate_types.specs.Line.{Line}
 use Rattle.slate_types.specs.declared.store_errors.StoreFault.TheVariants.{NotFound, Unavailable}
 use Rattle.slate_store.specs.Objects.{Objects, ObjectsOf}
-use Rattle.slate_store.specs.Calls.{HasRisen}
+use Rattle.slate_store.specs.Calls.{HasRisen, KeepsFaults}
 use Rattle.slate_store.specs.Content.{IsSound, content}
 use Rattle.slate_errors.specs.declared.errors.SlateError.{SlateError}
 use Rattle.slate_errors.specs.declared.errors.SlateError.TheVariants.{ObjectStoreError}
@@ -23,15 +23,17 @@ known objects faults store = record { objects = objects store; faults = faults s
 abbrev pub Untouched : {L : Type 0} → ℕ → Known L → Known L → Type 0
 Untouched made before after = (made ≡ 0) × (after ≡ before)
 
--- over any store: a fault is answered only where the count of faults has risen
+-- over any store: a fault is answered only where the count of faults has risen, and where it rose a fault is answered
 pub record FaultsRise {A : Type 0} (faults faults' : ℕ) (result : Result A SlateError) : Type 0 where
   pub count : faults ≤ faults'
   pub unavailable : result ≡ Err (ObjectStoreError Unavailable) → HasRisen faults faults'
+  pub stays : KeepsFaults (ObjectStoreError Unavailable) faults faults' result
 
 -- the same of an operation that finds no object missing
 pub record CountsFaults {A : Type 0} (faults faults' : ℕ) (result : Result A SlateError) : Type 0 where
   pub count : faults ≤ faults'
   pub unavailable : result ≡ Err (ObjectStoreError Unavailable) → HasRisen faults faults'
+  pub stays : KeepsFaults (ObjectStoreError Unavailable) faults faults' result
   pub none_missing : result ≢ Err (ObjectStoreError NotFound)
 
 -- this line is what an honest store holds

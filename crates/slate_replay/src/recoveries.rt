@@ -2,6 +2,7 @@
 ghost use Rattle.std.specs.Prelude.{◌≡◌, ◌≢◌, ◌+◌, ◌-◌, ◌<◌, ◌≤◌, ◌^◌, [], ℕ, Ok, Err, length, IfOk, IfSome};
 ghost use Rattle.slate_types.specs.Counts.{HasRisen};
 ghost use Rattle.slate_types.specs.Line.{AreNumberedFrom};
+ghost use Rattle.slate_store.specs.Calls.{KeepsFaults};
 ghost use Rattle.slate_replay.specs.Replay.{Replays, calls_after};
 
 use crate::replays::{Replayed, replay};
@@ -23,6 +24,7 @@ pub fn recover<S: Store>(
     ensures kept { S.objects store.new ≡ S.objects store.old }
     ensures count { S.faults store.old ≤ S.faults store.new }
     ensures failed { result ≡ Err StoreError.Failed → HasRisen (S.faults store.old) (S.faults store.new) }
+    ensures stays { KeepsFaults StoreError.Failed (S.faults store.old) (S.faults store.new) result }
     ensures none_missing { result ≢ Err StoreError.NotFound }
     ensures none_exists { result ≢ Err StoreError.Exists }
     ensures calls { S.calls store.new ≤ S.calls store.old + (last - manifest.now.replay_after_wal_id) }

@@ -4,6 +4,7 @@ ghost use Rattle.slate_types.specs.Counts.{HasRisen, one_more};
 ghost use Rattle.slate_types.specs.Line.{AreNumberedFrom};
 ghost use Rattle.slate_types.specs.declared.batches.Batch.{Batch};
 ghost use Rattle.slate_reads.specs.Index.{IsAboveLast};
+ghost use Rattle.slate_store.specs.Calls.{KeepsFaults};
 ghost use Rattle.slate_replay.specs.Replay.{Replays, ReplaysNext, AppendsNext, calls_after};
 
 use slate_reads::IndexedTable;
@@ -44,6 +45,7 @@ pub fn replay<S: Store>(
     ensures kept { S.objects store.new ≡ S.objects store.old }
     ensures count { S.faults store.old ≤ S.faults store.new }
     ensures failed { result ≡ Err StoreError.Failed → HasRisen (S.faults store.old) (S.faults store.new) }
+    ensures stays { KeepsFaults StoreError.Failed (S.faults store.old) (S.faults store.new) result }
     ensures none_missing { result ≢ Err StoreError.NotFound }
     ensures none_exists { result ≢ Err StoreError.Exists }
     ensures calls { S.calls store.new ≤ S.calls store.old + (last - mark) }
@@ -82,6 +84,7 @@ pub fn replay_next<S: Store>(
     ensures kept { S.objects store.new ≡ S.objects store.old }
     ensures count { S.faults store.old ≤ S.faults store.new }
     ensures failed { result ≡ Err StoreError.Failed → HasRisen (S.faults store.old) (S.faults store.new) }
+    ensures stays { KeepsFaults StoreError.Failed (S.faults store.old) (S.faults store.new) result }
     ensures none_missing { result ≢ Err StoreError.NotFound }
     ensures none_exists { result ≢ Err StoreError.Exists }
     ensures calls { S.calls store.new ≡ one_more (S.calls store.old) }

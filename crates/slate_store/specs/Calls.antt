@@ -6,11 +6,18 @@ use Rattle.slate_types.specs.declared.store_errors.StoreError.{StoreError}
 use Rattle.slate_types.specs.declared.store_errors.StoreError.TheVariants.{NotFound, Exists, Failed, NoMemory}
 use Rattle.slate_store.specs.Objects.{Objects, Change, is_present, changed}
 
--- what every call says of the two counts: a failure is answered only where the count of faults has risen
+-- the count of faults stays as it was, but where this error is answered
+abbrev pub KeepsFaults : {A E : Type 0} → E → ℕ → ℕ → Result A E → Type 0
+KeepsFaults fault faults faults' (Ok _) = faults' ≡ faults
+KeepsFaults fault faults faults' (Err error) = (faults' ≡ faults) ⊎ (error ≡ fault)
+
+-- what every call says of the two counts: a failure is answered only where the count of faults has risen, and where it
+-- rose a failure is answered
 pub record IsCall {A : Type 0} (faults faults' calls calls' : ℕ) (result : Result A StoreError) : Type 0 where
   pub fault_count : faults ≤ faults'
   pub call_count : calls' ≡ one_more calls
   pub failed : IsErrOf result Failed → HasRisen faults faults'
+  pub stays : KeepsFaults Failed faults faults' result
 
 -- a read gives what is stored, and NotFound where nothing is
 abbrev pub Finds : {A : Type 0} → Option A → Result A StoreError → Type 0

@@ -7,6 +7,7 @@ use Rattle.slate_types.specs.declared.store_errors.StoreFault.TheVariants as fau
 use Rattle.slate_store.specs.declared.objects.VersionedManifest.{VersionedManifest}
 use Rattle.slate_store.specs.declared.refusals.StoreRefusal.{StoreRefusal}
 use Rattle.slate_store.specs.declared.refusals.StoreRefusal.TheVariants.{CheckpointMissing, LatestTransactionalObjectVersionMissing, Fenced, InvalidDBState, ObjectStoreError, TransactionalObjectVersionExists, TransactionalObjectTimeout, NoMemory}
+use Rattle.slate_store.specs.Calls.{KeepsFaults}
 use Rattle.slate_store.specs.Changes.{PartMadeBy, after_part}
 use Rattle.slate_store.specs.Checkpoints.{Plan}
 use Rattle.slate_store.specs.Content.{IsSound, KeepsPins, content}
@@ -23,10 +24,11 @@ leaves_prefix refusal = false
 abbrev pub PartMade : {A : Type 0} → Result A StoreRefusal → ℕ → ℕ → Type 0
 PartMade result all made = PartMadeBy leaves_prefix result all made
 
--- over any store: a fault is answered only where the count of faults has risen
+-- over any store: a fault is answered only where the count of faults has risen, and where it rose a fault is answered
 pub record CountsFaults {A : Type 0} (faults faults' : ℕ) (result : Result A StoreRefusal) : Type 0 where
   pub count : faults ≤ faults'
   pub unavailable : result ≡ Err (ObjectStoreError fault.Unavailable) → HasRisen faults faults'
+  pub stays : KeepsFaults (ObjectStoreError fault.Unavailable) faults faults' result
 
 -- what a refusal by a call of the store is to the call that made it
 abbrev pub refusal_of : StoreError → StoreRefusal

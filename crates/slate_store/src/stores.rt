@@ -11,8 +11,9 @@ use std::alloc::Global;
 /// An object store: manifests, log files and tables, each under an id. An object is put once, never changed, and may be
 /// removed.
 ///
-/// Every call may answer `Failed`, where the store's count of faults has risen, and `NoMemory`. A put or a removal that
-/// answers `Failed` may have taken place; a call that answers anything else but Ok did nothing.
+/// Every call may answer `Failed`, where the store's count of faults has risen, and `NoMemory`; one that answers anything
+/// but `Failed` leaves that count as it was. A put or a removal that answers `Failed` may have taken place; a call that
+/// answers anything else but Ok did nothing.
 pub trait Store {
     /// The objects that it holds, where it is modelled.
     ghost objects: { Self → Option Objects };

@@ -30,7 +30,7 @@ loop-before-preserved g c =
       fits = e.fits;
       grows = (i.grows.0 ++ e.grows.0, e.grows.1 ∙ (ap (λ xs. xs ++ e.grows.0) i.grows.1 ∙ append_assoc c.args.memory.now i.grows.0 e.grows.0));
       kept = e.kept ∙ i.kept;
-      count = let n = e.count in omega (arith, n, i.count);
+      count = let n = e.stays in omega (arith, n, i.count);
       calls = let n = e.calls in omega (arith, n, i.calls);
       counted = let n = e.calls in omega (arith, n, i.counted);
       within = omega arith;

@@ -13,7 +13,7 @@ invariant-loop-before g l = record {
   fits : l.floor + length l.memory < 2 ^ 64;
   grows : (added : List Batch) × (l.memory ≡ l.fn.memory ++ added);
   kept : g.S.Store.objects l.store ≡ g.S.Store.objects l.fn.store;
-  count : g.S.Store.faults l.fn.store ≤ g.S.Store.faults l.store;
+  count : g.S.Store.faults l.store ≡ g.S.Store.faults l.fn.store;
   calls : g.S.Store.calls l.store ≤ g.S.Store.calls l.fn.store + (l.before - l.mark);
   counted : one_more (g.S.Store.calls l.store) ≡ calls_after (l.before - l.mark + 1) (g.S.Store.calls l.fn.store);
   within : l.before ≤ max l.mark l.last;

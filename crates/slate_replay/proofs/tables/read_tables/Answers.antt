@@ -25,7 +25,7 @@ loop-id-preserved g c =
     let i = c.loop-id.invariant in
     record {
       kept = c.read_table.ensures.kept ∙ i.kept;
-      faults = let n = c.read_table.ensures.counts.fault_count in omega (arith, n, i.faults);
+      faults = let n = c.in_ok-table.ensures.counts.stays in omega (arith, n, i.faults);
       calls = let n = c.read_table.ensures.counts.call_count in omega (arith, n, i.calls);
       untouched = λ none. absurd (omega (arith, none));
       count = grind (arith, common_steps);

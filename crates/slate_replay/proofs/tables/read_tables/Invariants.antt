@@ -8,7 +8,7 @@ abbrev pub invariant-loop-id : goal.invariant-loop-id
 invariant-loop-id g l =
     record {
       kept : g.S.Store.objects l.store ≡ g.S.Store.objects l.fn.store;
-      faults : g.S.Store.faults l.fn.store ≤ g.S.Store.faults l.store;
+      faults : g.S.Store.faults l.store ≡ g.S.Store.faults l.fn.store;
       calls : g.S.Store.calls l.store ≤ g.S.Store.calls l.fn.store + l.id-index;
       untouched : l.id-index ≡ 0 → l.store ≡ l.fn.store;
       count : length l.tables.items ≡ l.id-index;

@@ -9,7 +9,7 @@ abbrev pub invariant-loop-earlier : goal.invariant-loop-earlier
 invariant-loop-earlier g l =
     record {
       kept : g.S.Store.objects l.store ≡ g.S.Store.objects l.fn.store;
-      faults : g.S.Store.faults l.fn.store ≤ g.S.Store.faults l.store;
+      faults : g.S.Store.faults l.store ≡ g.S.Store.faults l.fn.store;
       most : g.S.Store.calls l.store ≤ g.S.Store.calls l.fn.store + 2 * l.earlier;
       counted : one_more (g.S.Store.calls l.store) ≡ min (g.S.Store.calls l.fn.store + 2 * l.earlier + 1) count_end;
       calls : 0 < l.earlier → g.S.Store.calls l.store ≡ min (g.S.Store.calls l.fn.store + 2 * l.earlier) count_end;

@@ -22,7 +22,7 @@ loop-id-preserved g c =
     let i = c.loop-id.invariant in
     record {
       kept = c.read_table.ensures.kept ∙ i.kept;
-      faults = let n = c.read_table.ensures.counts.fault_count in omega (arith, n, i.faults);
+      faults = let n = c.in_ok-table.ensures.counts.stays in omega (arith, n, i.faults);
       calls = let n = c.read_table.ensures.counts.call_count in omega (arith, n, i.calls);
       stored = both-known _ _ i.kept i.stored c.in_ok-table.ensures.found
           (λ o so_far found. stored-more o c.args.ids.now c.loop-id.id-index _ _ c.in_ok-table.table (omega arith) refl found so_far);

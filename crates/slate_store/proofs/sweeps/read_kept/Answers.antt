@@ -20,7 +20,7 @@ loop-checkpoint-preserved g c =
     let counts = c.read_manifest.ensures.counts in
     record {
       kept = c.read_manifest.ensures.kept ∙ i.kept;
-      faults = omega (arith, i.faults, counts.fault_count);
+      faults = let n = c.in_ok-manifest.ensures.counts.stays in omega (arith, n, i.faults);
       calls = omega (arith, i.calls, counts.call_count);
       read = both-known (λ o. c.push.new.self.items ≡ kept_by o _) i.kept i.read c.in_ok-manifest.ensures.found
           (λ o so_far found. pushed ∙ read-next o checkpoints c.loop-checkpoint.checkpoint-index c.checkpoint-item.result c.loop-checkpoint.kept.items c.in_ok-manifest.manifest c.loop-checkpoint-test.true c.checkpoint-item.is so_far found);

@@ -12,7 +12,7 @@ returns-in_err-remove_manifest-clause-made g c =
 pub loop-id-preserved : goal.loop-id-preserved
 loop-id-preserved g c =
     let i = c.loop-id.invariant in
-    let faults = c.in_ok-remove_manifest.ensures.counts.fault_count in
+    let faults = c.in_ok-remove_manifest.ensures.counts.stays in
     let calls = c.in_ok-remove_manifest.ensures.counts.call_count in
     record {
       removed = one-more (λ id. RemoveManifest id) c.args.ids.now c.loop-id.id-index 0 (get_or c.args.ids.now c.loop-id.id-index 0) c.loop-id-test.true refl i.removed c.in_ok-remove_manifest.ensures.removed;

@@ -12,7 +12,7 @@ returns-in_err-remove_table-clause-made g c =
 pub loop-id-preserved : goal.loop-id-preserved
 loop-id-preserved g c =
     let i = c.loop-id.invariant in
-    let faults = c.in_ok-remove_table.ensures.counts.fault_count in
+    let faults = c.in_ok-remove_table.ensures.counts.stays in
     let calls = c.in_ok-remove_table.ensures.counts.call_count in
     record {
       removed = one-more (λ id. RemoveTable id) c.args.ids.now c.loop-id.id-index _ _ c.loop-id-test.true refl i.removed c.in_ok-remove_table.ensures.removed;

@@ -1,4 +1,5 @@
-use Rattle.std.proofs.Common.{rules, arith, sym, subst, ℕ, ◌+◌, ◌≤◌, List, length, Ok, Err, ◌≡◌}
+use Rattle.std.proofs.Common.{rules, ap, ◌∙◌, arith, sym, subst, ℕ, ◌+◌, ◌≤◌, List, length, Ok, Err, ◌≡◌}
+use Rattle.std.proofs.lemmas.Result.{err_from_is_err_and}
 use Rattle.slate_types.specs.declared.batches.Batch.{Batch}
 use Rattle.slate_types.specs.Modelled.{WhereModelled}
 use Rattle.slate_store.specs.Steps.{TakesOut}
@@ -11,8 +12,9 @@ pub returns-in_err-take_out_expired-clause-sweeps : goal.returns-in_err-take_out
 returns-in_err-take_out_expired-clause-sweeps g c =
     let e = c.in_err-take_out_expired.field-0.0 in
     let taken : WhereModelled (λ o o'. (made : ℕ) × TakesOut c.args.moment c.in_ok-latest.latest o (Err e) made o') (g.S.Store.objects c.read_latest.new.store) (g.S.Store.objects c.take_out_expired.new.store) = search rules in
-    let all = not-taken c.args.moment c.in_ok-latest.latest e (latest-known (Ok c.in_ok-latest.latest) c.in_ok-latest.ensures.kept c.in_ok-latest.ensures.found) taken in
-    search (rules, all)
+    let p = err_from_is_err_and c.from_residual-in_err-take_out_expired.result c.from_residual-in_err-take_out_expired.ensures.1 in
+    let same : c.from_residual-in_err-take_out_expired.result ≡ Err e = p.1 ∙ ap Err p.2 in
+    rw same (not-taken c.args.moment c.in_ok-latest.latest e (latest-known (Ok c.in_ok-latest.latest) c.in_ok-latest.ensures.kept c.in_ok-latest.ensures.found) taken)
 
 pub returns-in_err-take_out_expired-clause-sound : goal.returns-in_err-take_out_expired-clause-sound
 returns-in_err-take_out_expired-clause-sound g c =

@@ -2,3 +2,4 @@ pub mod Appending
 pub mod Replaying
 pub mod Recovered
 pub mod Reading
+pub mod Logged

@@ -1,5 +1,5 @@
 -- What a replay of log files appends, and how it ends.
-use Rattle.std.specs.Prelude.{◌≡◌, ℕ, ◌+◌, Bool, true, false, min, All, List, [], length, unwrap_or, IsSomeAnd, MatchOption, Result, Ok, Err}
+use Rattle.std.specs.Prelude.{◌≡◌, ℕ, ◌+◌, ◌⊎◌, Bool, true, false, min, All, Contains, List, [], length, unwrap_or, IsSomeAnd, MatchOption, Result, Ok, Err}
 use Rattle.slate_types.specs.Counts.{count_end}
 use Rattle.slate_types.specs.declared.batches.Batch.{Batch}
 use Rattle.slate_types.specs.Line.{Line, IsPrefix, batches_above}
@@ -17,6 +17,10 @@ line_of floor batches = record { floor = floor; batches = batches }
 -- a count of calls after so many more, one at least
 abbrev pub calls_after : (made calls : ℕ) → ℕ
 calls_after made calls = min (calls + made) count_end
+
+-- each of the batches that a replay leaves was there before, or this holds of it
+abbrev pub AreFrom : (Batch → Type 0) → (old new : List Batch) → Type 0
+AreFrom P old new = (batch : Batch) → Contains new batch → Contains old batch ⊎ P batch
 
 -- How a replay ends that leads from one number to another: the log files are whole, or truncated at this one, and the
 -- replay leads up to the gap. One that fails leads to any number.

@@ -1,9 +1,10 @@
 // What a manifest's log files have, in a table of its own.
-ghost use Rattle.std.specs.Prelude.{◌≡◌, ◌≢◌, ◌+◌, ◌-◌, ◌<◌, ◌≤◌, ◌^◌, [], ℕ, Ok, Err, length, IfOk, IfSome};
+ghost use Rattle.std.specs.Prelude.{◌≡◌, ◌≢◌, ◌+◌, ◌-◌, ◌<◌, ◌≤◌, ◌^◌, [], ℕ, Ok, Err, All, length, IfOk, IfSome};
 ghost use Rattle.slate_types.specs.Counts.{HasRisen};
 ghost use Rattle.slate_types.specs.Line.{AreNumberedFrom};
 ghost use Rattle.slate_store.specs.Calls.{KeepsFaults};
 ghost use Rattle.slate_replay.specs.Replay.{Replays, calls_after};
+ghost use Rattle.slate_store.specs.Logs.{IsLogged};
 
 use crate::replays::{Replayed, replay};
 use slate_reads::IndexedTable;
@@ -30,6 +31,7 @@ pub fn recover<S: Store>(
     ensures calls { S.calls store.new ≤ S.calls store.old + (last - manifest.now.replay_after_wal_id) }
     ensures ended_early { IfOk result (λ p. (id : ℕ) → p.1 ≡ Replayed.Truncated id → S.calls store.new ≡ calls_after (id - manifest.now.replay_after_wal_id) (S.calls store.old)) }
     ensures where_modelled { IfOk result (λ p. IfSome (S.objects store.old) (λ o. Replays manifest.now.replay_after_wal_id last manifest.now.last_l0_seq [] p.0 o (Ok p.1))) }
+    ensures logged { IfOk result (λ p. IfSome (S.objects store.old) (λ o. All (IsLogged manifest.now.replay_after_wal_id o) p.0)) }
 {
     let floor = manifest.last_l0_seq;
     let mark = manifest.replay_after_wal_id;

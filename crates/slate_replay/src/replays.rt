@@ -1,11 +1,12 @@
 // Appending the batches of log files to those in memory.
-ghost use Rattle.std.specs.Prelude.{◌≡◌, ◌≢◌, ◌+◌, ◌-◌, ◌<◌, ◌≤◌, ◌^◌, ◌++◌, [], ◌∷◌, ℕ, List, Ok, Err, OnOk, OnErr, length, IfSome};
+ghost use Rattle.std.specs.Prelude.{◌≡◌, ◌≢◌, ◌+◌, ◌-◌, ◌<◌, ◌≤◌, ◌^◌, ◌++◌, [], ◌∷◌, ℕ, List, Ok, Err, OnOk, OnErr, length, Contains, IfSome};
 ghost use Rattle.slate_types.specs.Counts.{HasRisen, one_more};
 ghost use Rattle.slate_types.specs.Line.{AreNumberedFrom};
 ghost use Rattle.slate_types.specs.declared.batches.Batch.{Batch};
 ghost use Rattle.slate_reads.specs.Index.{IsAboveLast};
 ghost use Rattle.slate_store.specs.Calls.{KeepsFaults};
-ghost use Rattle.slate_replay.specs.Replay.{Replays, ReplaysNext, AppendsNext, calls_after};
+ghost use Rattle.slate_store.specs.Logs.{IsLogged};
+ghost use Rattle.slate_replay.specs.Replay.{AreFrom, Replays, ReplaysNext, AppendsNext, calls_after};
 
 use slate_reads::IndexedTable;
 use slate_store::Store;
@@ -51,6 +52,7 @@ pub fn replay<S: Store>(
     ensures calls { S.calls store.new ≤ S.calls store.old + (last - mark) }
     ensures ended_early { (id : ℕ) → result ≡ Ok (Replayed.Truncated id) → S.calls store.new ≡ calls_after (id - mark) (S.calls store.old) }
     ensures where_modelled { IfSome (S.objects store.old) (λ o. Replays mark last floor memory.old memory.new o result) }
+    ensures logged { IfSome (S.objects store.old) (λ o. AreFrom (IsLogged mark o) memory.old memory.new) }
 {
     for before in mark..last {
         if let Replayed::Truncated(id) = replay_next(alloc, store, memory, floor, before + 1)? {
@@ -90,6 +92,7 @@ pub fn replay_next<S: Store>(
     ensures calls { S.calls store.new ≡ one_more (S.calls store.old) }
     ensures cut { (n : ℕ) → result ≡ Ok (Replayed.Truncated n) → n ≡ id }
     ensures where_modelled { IfSome (S.objects store.old) (λ o. ReplaysNext id floor memory.old memory.new o result) }
+    ensures logged { (mark : ℕ) → mark < id → IfSome (S.objects store.old) (λ o. AreFrom (IsLogged mark o) memory.old memory.new) }
 {
     let log = match store.read_log(alloc, id) {
         Ok(log) => log,
@@ -112,6 +115,7 @@ fn append_next(memory: &mut IndexedTable, floor: u64, batches: &[Batch]) -> Resu
     ensures fits { floor + length memory.new < 2 ^ 64 }
     ensures grows { (added : List Batch) × (memory.new ≡ memory.old ++ added) }
     ensures appended { AppendsNext floor memory.old memory.new batches.now result }
+    ensures from { AreFrom (Contains batches.now) memory.old memory.new }
 {
     for batch in batches {
         let end = floor + memory.batches().len() as u64;

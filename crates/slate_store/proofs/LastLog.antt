@@ -30,3 +30,11 @@ greatest_key n k v es i is all =
     let lower = at_least n (keys_of es) in
     let member : k ≤ greatest n (keys_of es) = above n es i (k, v) is in
     omega arith
+
+-- no key is above the greatest
+up_to : (k : ℕ) (xs : List ℕ) → AllByRecursion (λ q. is_lt (nat_cmp k q) ≡ false) xs → AllByRecursion (λ q. q ≤ k) xs
+up_to k [] all = tt
+up_to k (x ∷ xs) all = (ge_from_not_lt k x all.0, up_to k xs all.1)
+
+pub all-up_to : {X : Type 0} (k : ℕ) (es : List (ℕ × X)) → All (λ q. is_lt (nat_cmp k q) ≡ false) (keys_of es) → AllByRecursion (λ q. q ≤ k) (keys_of es)
+all-up_to k es all = up_to k (keys_of es) (recursion_from_All _ (keys_of es) all)

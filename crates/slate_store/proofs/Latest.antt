@@ -1,14 +1,16 @@
 -- The latest manifest of sound objects, and ids that rise.
-use Rattle.slate_store.proofs.Entries.{nil-from-last}
+use Rattle.slate_store.proofs.Entries.{insert-last, last-push, nil-from-last}
 use Rattle.slate_store.specs.Content.{AreRising, HasItsObjects, IsSound, content_by}
-use Rattle.slate_store.specs.Objects.{Objects, empty, greatest, last, latest_manifest, versioned}
+use Rattle.slate_store.specs.Objects.{IsGreatest, Objects, PutManifest, changed, empty, greatest, last, latest_manifest, versioned}
 use Rattle.slate_store.specs.declared.objects.Manifest.{Manifest}
 use Rattle.slate_store.specs.declared.objects.VersionedManifest.{VersionedManifest}
 use Rattle.slate_types.specs.Line.{IsLine}
 use Rattle.std.proofs.Common.{◌++◌, ◌<◌, ◌∙◌, ◌∷◌, ◌≡◌, ◌≤◌, [], List, None, Option, Some, ap, arith, map, max, refl, sub-one, subst, sym, ℕ}
+use Rattle.std.specs.BTreeMap.{insert_entry}
 use Rattle.std.specs.List.Sorted.{IsStrictlySortedBy}
 use Rattle.std.specs.List.{AllByRecursion}
 use Rattle.std.specs.Option.{IfSome, option_map}
+use Rattle.std.specs.Ordering.{nat_cmp}
 
 no_last : {X Y : Type 0} (f : X → Y) (o : Option X) → option_map f o ≡ None → o ≡ None
 no_last f None h = refl
@@ -75,3 +77,24 @@ module _ (o : Objects) (latest : VersionedManifest) (sound : IsSound o) (is : la
 
   pub its-line : IsLine (content_by o (Some latest))
   its-line = subst (λ x. IsLine (content_by o x)) is sound.line
+
+-- ---- the next manifest, over any objects
+all-push_up : (k n : ℕ) (es : List (ℕ × Manifest)) (e : ℕ × Manifest) → AllByRecursion (λ id. id ≤ k) (map (λ x. x.0) es) → k ≤ n → e.0 ≤ n → AllByRecursion (λ id. id ≤ n) (map (λ x. x.0) (es ++ e ∷ []))
+all-push_up k n [] e all up top = (top, tt)
+all-push_up k n (x ∷ es) e all up top = let first : x.0 ≤ k = all.0 in (omega (arith, first, up), all-push_up k n es e all.1 up top)
+
+module _ (o : Objects) (k : ℕ) (next : VersionedManifest) (within : AllByRecursion (λ id. id ≤ k) (map (λ e. e.0) o.manifests)) (above : k < next.id) where
+  next-end : insert_entry nat_cmp o.manifests next.id next.manifest ≡ o.manifests ++ (next.id, next.manifest) ∷ []
+  next-end = let top = all-greatest k 0 (map (λ (e : ℕ × Manifest). e.0) o.manifests) within in insert-last next.id 0 next.manifest o.manifests (omega (arith, top, above))
+
+  -- a manifest above all others is the latest once it is put
+  pub next-latest : latest_manifest (changed (PutManifest next.id next.manifest) o) ≡ Some next
+  next-latest = ap (λ (es : List (ℕ × Manifest)). option_map versioned (last es)) next-end ∙ ap (option_map versioned) (last-push o.manifests (next.id, next.manifest))
+
+  pub next-greatest : IsGreatest (changed (PutManifest next.id next.manifest) o) next
+  next-greatest = subst (λ (es : List (ℕ × Manifest)). AllByRecursion (λ id. id ≤ next.id) (map (λ e. e.0) es)) (sym next-end)
+      (all-push_up k next.id o.manifests (next.id, next.manifest) within (omega (arith, above)) (omega arith))
+
+-- without a latest manifest there is none
+pub none-latest : (o : Objects) → latest_manifest o ≡ None → o.manifests ≡ []
+none-latest o none = nil-from-last o.manifests (no_last versioned (last o.manifests) none)

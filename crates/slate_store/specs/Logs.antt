@@ -1,5 +1,5 @@
 -- The log files above a mark: whether they are whole, where they are truncated, and which line they belong to.
-use Rattle.std.specs.Prelude.{◌≡◌, ◌≢◌, ℕ, ◌+◌, ◌-◌, ◌<◌, ◌≤◌, max, All, List, [], ◌∷◌, ◌++◌, slice_get, Some, None, unwrap_or, MatchOption}
+use Rattle.std.specs.Prelude.{◌≡◌, ◌≢◌, ℕ, ◌+◌, ◌-◌, ◌<◌, ◌≤◌, max, All, Contains, List, [], ◌∷◌, ◌++◌, slice_get, Some, None, unwrap_or, MatchOption}
 use Rattle.std.specs.List.{flat_map, range_with_len}
 use Rattle.slate_types.specs.declared.batches.Batch.{Batch}
 use Rattle.slate_types.specs.Line.{Line, batches_above}
@@ -8,6 +8,14 @@ use Rattle.slate_store.specs.Objects.{Objects, log_at}
 -- the batches of the log files above a mark, up to an id, in order; one that isn't stored has none
 abbrev pub batches_between : (mark last : ℕ) → Objects → List Batch
 batches_between mark last objects = flat_map (λ id. unwrap_or (log_at id objects) []) (range_with_len (mark + 1) (last - mark))
+
+-- a log file above a mark has this batch
+pub record IsLogged (mark : ℕ) (objects : Objects) (batch : Batch) : Type 0 where
+  pub id : ℕ
+  pub log : List Batch
+  pub above : mark < id
+  pub stored : log_at id objects ≡ Some log
+  pub has : Contains log batch
 
 -- Batches whose numbers lead from one number to another without a gap: each is at most one past the greatest before it.
 abbrev pub HaveNoGap : (from end : ℕ) → List Batch → Type 0

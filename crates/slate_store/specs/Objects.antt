@@ -1,5 +1,6 @@
 -- The objects of a store, and what puts and removals make of them.
-use Rattle.std.specs.Prelude.{ℕ, ◌-◌, Bool, not, max, List, [], ◌∷◌, length, filter, map, slice_get, is_some, Option, option_map}
+use Rattle.std.specs.Prelude.{ℕ, ◌-◌, ◌≤◌, Bool, not, max, List, [], ◌∷◌, length, filter, map, slice_get, is_some, Option, option_map}
+use Rattle.std.specs.List.{AllByRecursion}
 use Rattle.std.specs.Ordering.{nat_cmp, ordering_then}
 use Rattle.std.specs.declared.cmp.Ordering.{Ordering}
 use Rattle.std.specs.Map.{keys_of, lookup}
@@ -42,6 +43,10 @@ versioned entry = record { id = entry.0; manifest = entry.1 }
 -- the manifest with the greatest id
 abbrev pub latest_manifest : {L : Type 0} → ObjectsOf L → Option VersionedManifest
 latest_manifest objects = option_map versioned (last objects.manifests)
+
+-- no manifest has a greater id than this one
+abbrev pub IsGreatest : {L : Type 0} → ObjectsOf L → VersionedManifest → Type 0
+IsGreatest objects latest = AllByRecursion (λ id. id ≤ latest.id) (map (λ entry. entry.0) objects.manifests)
 
 -- the greatest of a number and these
 abbrev pub greatest : ℕ → List ℕ → ℕ

@@ -132,7 +132,7 @@ fn find_call(failing: &[FailingCall], call: u64) -> Option<FailingCall>
 
 impl<S: Store> Store for FaultyStore<S> {
     ghost use Rattle.std.specs.Prelude.{◌≡◌, ◌+◌, IfSome, IfOk, IfErr};
-    ghost use Rattle.slate_store.specs.Objects.{PutManifest, PutLog, PutTable, RemoveManifest, RemoveLog, RemoveTable, latest_manifest, last_log, log_at, entry_at, table_at, listing_of};
+    ghost use Rattle.slate_store.specs.Objects.{IsGreatest, PutManifest, PutLog, PutTable, RemoveManifest, RemoveLog, RemoveTable, latest_manifest, last_log, log_at, entry_at, table_at, listing_of};
     ghost use Rattle.slate_store.specs.Calls.{IsCall, WhereModelled, Finds, Puts, Removes, IsOfList, IsOfRead, IsOfPut};
     ghost use Rattle.slate_store.specs.Faulty.{IsFated};
 
@@ -147,6 +147,7 @@ impl<S: Store> Store for FaultyStore<S> {
             (S.faults self.new.inner + self.new.faults) self.old.calls self.new.calls result }
         ensures kept { S.objects self.new.inner ≡ S.objects self.old.inner }
         ensures found { IfSome (S.objects self.old.inner) (λ o. IfOk result (λ latest. latest ≡ latest_manifest o)) }
+        ensures greatest { IfSome (S.objects self.old.inner) (λ o. IfOk result (λ latest. IfSome latest (IsGreatest o))) }
         ensures refusals { IfErr result IsOfList }
         ensures fated { IsFated self.old self.new
             (S.calls self.old.inner) (S.calls self.new.inner) result }

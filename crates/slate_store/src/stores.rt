@@ -1,6 +1,6 @@
 // The calls of a store, and what each answers and changes.
 ghost use Rattle.std.specs.Prelude.{◌≡◌, ℕ, Option, IfSome, IfOk, IfErr};
-ghost use Rattle.slate_store.specs.Objects.{Objects, PutManifest, PutLog, PutTable, RemoveManifest, RemoveLog, RemoveTable, latest_manifest, last_log, log_at, entry_at, table_at, listing_of};
+ghost use Rattle.slate_store.specs.Objects.{IsGreatest, Objects, PutManifest, PutLog, PutTable, RemoveManifest, RemoveLog, RemoveTable, latest_manifest, last_log, log_at, entry_at, table_at, listing_of};
 ghost use Rattle.slate_store.specs.Calls.{IsCall, WhereModelled, Finds, Puts, Removes, IsOfList, IsOfRead, IsOfPut};
 
 use crate::{Listing, LogFile, Manifest, TableId, VersionedManifest};
@@ -29,6 +29,7 @@ pub trait Store {
         ensures counts { IsCall (faults self.old) (faults self.new) (calls self.old) (calls self.new) result }
         ensures kept { objects self.new ≡ objects self.old }
         ensures found { IfSome (objects self.old) (λ o. IfOk result (λ latest. latest ≡ latest_manifest o)) }
+        ensures greatest { IfSome (objects self.old) (λ o. IfOk result (λ latest. IfSome latest (IsGreatest o))) }
         ensures refusals { IfErr result IsOfList };
 
     /// A manifest. It answers `NotFound` where none is stored under the id.

@@ -4,6 +4,7 @@ use Rattle.slate_types.proofs.Lines.{numbered-push}
 use Rattle.slate_store.specs.Logs.{HaveNoGap}
 use Rattle.slate_store.proofs.Logs.{no_gap-next, no_gap-passed}
 use Rattle.slate_replay.proofs.Appending.{begins-push, gap-at, numbered-last}
+use Rattle.slate_replay.proofs.Logged.{from-push}
 use Rattle.slate_replay.proofs.replays.append_next.Goals as goal
 
 pub loop-batch-preserved-then-batch-end : goal.loop-batch-preserved-then-batch-end
@@ -20,6 +21,7 @@ loop-batch-preserved-then-batch-end c =
       fits = i.fits;
       grows = i.grows;
       begins = i.begins;
+      from = i.from;
       no_gap = subst (HaveNoGap from end) (sym more) (no_gap-passed from end so_far b i.no_gap (omega (arith, ap length c.batches.ensures.value)));
     }
 
@@ -55,6 +57,7 @@ loop-batch-preserved c =
       fits = simp length-append (omega (arith, next));
       grows = (i.grows.0 ++ b ∷ [], ap (λ xs. xs ++ b ∷ []) i.grows.1 ∙ append_assoc c.args.memory.now i.grows.0 (b ∷ []));
       begins = begins-push c.args.floor c.loop-batch.batch-index c.args.memory.now c.loop-batch.memory all b i.begins (omega (arith, l)) c.loop-batch-test.true c.batch-item.is next;
+      from = from-push c.args.memory.now c.loop-batch.memory all c.loop-batch.batch-index b i.from c.loop-batch-test.true c.batch-item.is;
       no_gap = subst (λ xs. HaveNoGap from (c.args.floor + length (c.loop-batch.memory ++ b ∷ [])) xs) (sym more)
           (subst (λ e. HaveNoGap from e (so_far ++ b ∷ [])) end_is (no_gap-next from end so_far b i.no_gap next));
     })
@@ -64,3 +67,8 @@ returns-then-is_err-clause-appended c =
     let i = c.loop-batch.invariant in
     let kept : c.push_copy.new.memory ≡ c.loop-batch.memory = grind arith in
     rw kept (record { begins = i.begins; ends = refl })
+
+pub returns-then-is_err-clause-from : goal.returns-then-is_err-clause-from
+returns-then-is_err-clause-from c =
+    let kept : c.push_copy.new.memory ≡ c.loop-batch.memory = grind arith in
+    rw kept c.loop-batch.invariant.from

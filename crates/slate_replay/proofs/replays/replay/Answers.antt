@@ -1,5 +1,7 @@
 use Rattle.std.proofs.Common.{◌++◌, length, Ok, refl, ap, ◌∙◌, arith, length-append, append_assoc}
 use Rattle.std.proofs.lemmas.Result.{err_from_is_err_and}
+use Rattle.slate_store.specs.Logs.{IsLogged}
+use Rattle.slate_replay.proofs.Logged.{from-then}
 use Rattle.slate_replay.proofs.Replaying.{all-replayed, failed, known, next-replayed, truncated}
 use Rattle.slate_replay.proofs.replays.replay.Goals as goal
 
@@ -36,6 +38,8 @@ loop-before-preserved g c =
       within = omega arith;
       replays = known _ _ i.kept i.replays (rw c.in_default.is at e.where_modelled)
           (λ o so_far next. next-replayed c.args.mark c.loop-before.before c.args.floor c.args.memory.now c.loop-before.memory c.replay_next.new.memory o (omega arith) so_far (omega (arith, l)) next);
+      logged = known _ _ i.kept i.logged (e.logged c.args.mark (omega arith))
+          (λ o so_far next. from-then (IsLogged c.args.mark o) c.args.memory.now c.loop-before.memory c.replay_next.new.memory so_far next);
     }
 
 pub returns-clause-where_modelled : goal.returns-clause-where_modelled
@@ -43,3 +47,15 @@ returns-clause-where_modelled g c =
     let i = c.loop-before.invariant in
     known _ _ refl i.replays i.replays
     (λ o so_far again. all-replayed c.args.mark c.loop-before.before c.args.last c.args.floor c.args.memory.now c.loop-before.memory o (omega arith) (omega arith) so_far)
+
+pub returns-in_err-id-clause-logged : goal.returns-in_err-id-clause-logged
+returns-in_err-id-clause-logged g c =
+    let i = c.loop-before.invariant in
+    known _ _ i.kept i.logged (c.in_err-id.ensures.logged c.args.mark (omega arith))
+    (λ o so_far next. from-then (IsLogged c.args.mark o) c.args.memory.now c.loop-before.memory c.replay_next.new.memory so_far next)
+
+pub returns-in-Truncated-clause-logged : goal.returns-in-Truncated-clause-logged
+returns-in-Truncated-clause-logged g c =
+    let i = c.loop-before.invariant in
+    known _ _ i.kept i.logged (c.in_ok-id.ensures.logged c.args.mark (omega arith))
+    (λ o so_far next. from-then (IsLogged c.args.mark o) c.args.memory.now c.loop-before.memory c.replay_next.new.memory so_far next)

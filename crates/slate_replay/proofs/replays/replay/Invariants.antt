@@ -3,7 +3,8 @@ use Rattle.std.specs.Option.{IfSome}
 use Rattle.slate_types.specs.Line.{AreNumberedFrom}
 use Rattle.slate_types.specs.declared.batches.Batch.{Batch}
 use Rattle.slate_types.specs.Counts.{one_more}
-use Rattle.slate_replay.specs.Replay.{Replays, calls_after}
+use Rattle.slate_store.specs.Logs.{IsLogged}
+use Rattle.slate_replay.specs.Replay.{AreFrom, Replays, calls_after}
 use Rattle.slate_replay.specs.declared.replays.Replayed.TheVariants.{Whole}
 use Rattle.slate_replay.proofs.replays.replay.Given as goal
 
@@ -18,4 +19,5 @@ invariant-loop-before g l = record {
   counted : one_more (g.S.Store.calls l.store) ≡ calls_after (l.before - l.mark + 1) (g.S.Store.calls l.fn.store);
   within : l.before ≤ max l.mark l.last;
   replays : IfSome (g.S.Store.objects l.fn.store) (λ o. Replays l.mark l.before l.floor l.fn.memory l.memory o (Ok Whole));
+  logged : IfSome (g.S.Store.objects l.fn.store) (λ o. AreFrom (IsLogged l.mark o) l.fn.memory l.memory);
 }

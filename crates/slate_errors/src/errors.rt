@@ -11,7 +11,7 @@ use slate_types::{ByteRange, Name, NoMemory, ReadFault, StoreError, StoreFault};
 use uuid::Uuid;
 
 /// Every error that a call of the product answers. SlateDB's `SlateDBError`.
-#[derive(Debug, Drop)]
+#[derive(Debug, PartialEq, Eq, Drop)]
 pub enum SlateError {
     /// A key to be written is empty.
     EmptyKey,

@@ -28,8 +28,8 @@ usage: slate [--store DIR] [--merge concat] [--segments N] [--limit N] [--bare]
 
 With --store DIR the database is kept in the directory DIR, which is made where
 it isn't there: what a flush answered is there for later runs, also after a
-crash. Any number of runs may use one directory at once, but while one sweeps no
-other may write.
+crash. While one run writes, any number of others may read the directory; while
+one sweeps, no other may write.
 With --merge concat the operands of a key are appended; without it a merge is
 refused. With --segments N, from 1 to 255, the first N bytes of a key name its
 segment: a shorter key is refused, and so is a database that was made with

@@ -58,8 +58,8 @@ impl<S: Store + Drop, M: Drop, E: Drop, C: Drop> Db<S, M, E, C> {
 
 impl<S: Store + Drop, M: MergeOperator + Drop, E: Drop, C: Drop> Db<S, M, E, C> {
     /// Our own, where a scan of SlateDB reads as its rows are asked for: the first rows of a range, up to `limit`, in the order
-    /// asked for, as of the first job of a queue. A key without a row doesn't count, and no key is read after the last row, so
-    /// that it takes the time of a read for each key up to that alone. With a limit of 0 there are no rows.
+    /// asked for, as of the first job of a queue. A key without a row doesn't count. No key is read after the row that reaches
+    /// the limit, so that it takes the time of a read for each key up to that alone. With a limit of 0 there are no rows.
     ///
     /// It calls the store once for each table, and answers the errors of `scan_with_options`, the fault of a key only where it
     /// comes before so many rows.

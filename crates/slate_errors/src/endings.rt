@@ -18,7 +18,7 @@ pub enum TaskName {
 }
 
 impl TaskName {
-    /// Its text: SlateDB's name of the task.
+    /// The name as a text.
     pub fn as_str(self) -> &'static str
         ensures { result.now ≡ task_text self }
     {

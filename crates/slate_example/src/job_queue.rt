@@ -2,7 +2,8 @@
 //
 // Each job is a key. A worker takes the first one by deleting it, and the job is taken once a flush has stored that. The
 // worker that opens the database last fences those before it: their flushes answer that they are fenced and store nothing,
-// so that what they took and hadn't stored is still there.
+// so that what they took and hadn't stored is still there. A flush that is under way while the other one opens may still be
+// answered; so a worker is opened once the one before it has ended, or is held for dead.
 use bytes::Bytes;
 use slate_db::{
     ByteRange, CloseReason, Db, DbReadOps, DbWriteOps, Error, ErrorKind, MemoryStore, NoExtractor,

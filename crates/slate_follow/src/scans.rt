@@ -74,8 +74,8 @@ impl FollowerState {
     /// are `NoMemory`, and `ObjectStoreError` where the store fails, or a table isn't stored, as of a scan.
     ///
     /// It calls the store once for each stored table, and shares what it reads, also with a limit of 0. It takes time
-    /// logarithmic in the keys of each table, stored or in memory, and then for each key up to the last row, also one without
-    /// a row, that of a `get` and a look at the next key of each table. It takes memory for each table and each row, and copies
+    /// logarithmic in the keys of each table, stored or in memory, and then for each key up to the row that reaches the limit,
+    /// also one without a row, that of a `get` and a look at the next key of each table. It takes memory for each table and each row, and copies
     /// no key and no value. It is our own: SlateDB has `scan` alone.
     pub fn scan_first<S: Store, M: MergeOperator>(
         &self,

@@ -23,8 +23,8 @@ use std::alloc::Global;
 /// whose operations leave no row doesn't count. After `limit` rows no further key is read, so a fault of one isn't
 /// answered, and a seek passes among these rows alone.
 ///
-/// It takes time logarithmic in the keys of the tables, and for each key up to the last row that of a `read_key` and a look
-/// at the next key of each table. It takes memory for each table and each row, and copies no bytes.
+/// It takes time logarithmic in the keys of the tables, and for each key up to the one that reaches the limit that of a
+/// `read_key` and a look at the next key of each table. It takes memory for each table and each row, and copies no bytes.
 pub fn scan_first<M: MergeOperator>(
     alloc: Global,
     stored: &[Table],

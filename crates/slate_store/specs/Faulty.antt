@@ -1,5 +1,5 @@
 -- A store whose calls fail by a list, and what becomes of each.
-use Rattle.std.specs.Prelude.{◌≡◌, ℕ, ◌==◌, if◌then◌else◌, List, find, Option, Some, None, Result, Err}
+use Rattle.std.specs.Prelude.{◌≡◌, ℕ, ◌==◌, if◌then◌else◌, Bool, List, [], ◌∷◌, ◌++◌, find, Option, Some, None, Result, Err}
 use Rattle.slate_types.specs.Counts.{next_call, one_more}
 use Rattle.slate_types.specs.declared.store_errors.StoreError.{StoreError}
 use Rattle.slate_types.specs.declared.store_errors.StoreError.TheVariants.{Failed}
@@ -14,6 +14,11 @@ pub record Faulty (S : Type 0) : Type 0 where
   pub failing : List FailingCall
   pub calls : ℕ
   pub faults : ℕ
+
+-- the store whose list also names this call, after those that it named before
+abbrev pub naming : {S : Type 0} → Option ℕ → (landed : Bool) → Faulty S → Faulty S
+naming None landed store = store
+naming (Some number) landed store = record store { failing = store.failing ++ record { at = number; landed = landed } ∷ [] }
 
 -- what the list says of a call
 abbrev pub named : List FailingCall → Option ℕ → Option FailingCall

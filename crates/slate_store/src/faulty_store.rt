@@ -1,9 +1,10 @@
 // Letting calls of a store fail by their numbers, made or not made.
-ghost use Rattle.std.specs.Prelude.{◌≡◌, ◌≤◌, ◌==◌, find};
+ghost use Rattle.std.specs.Prelude.{◌≡◌, ◌≤◌, ◌==◌, find, OnErr, OnOk};
+ghost use Rattle.slate_types.specs.Counts.{next_call};
 
 use crate::{Listing, LogFile, Manifest, Store, TableId, VersionedManifest};
 use slate_reads::Table;
-use slate_types::{Batch, CallCount, Seq, StoreError};
+use slate_types::{Batch, CallCount, NoMemory, Seq, StoreError};
 use std::alloc::Global;
 use std::marker::Model;
 
@@ -46,7 +47,7 @@ impl Fate {
 /// store inside. Each call takes time linear in the list besides.
 pub struct FaultyStore<S> {
     inner: S,
-    failing: Seq<FailingCall>,
+    failing: Vec<FailingCall>,
     count: CallCount,
 }
 
@@ -65,11 +66,11 @@ impl<S> Model for FaultyStore<S> {
 
     ghost Value = { Faulty S };
 
-    ghost view = { λ s. record { inner = s.inner; failing = s.failing; calls = s.count.made; faults = s.count.faults } };
+    ghost view = { λ s. record { inner = s.inner; failing = s.failing.items; calls = s.count.made; faults = s.count.faults } };
 }
 
 impl<S> FaultyStore<S> {
-    ghost use Rattle.slate_store.specs.Faulty.{called, fate};
+    ghost use Rattle.slate_store.specs.Faulty.{called, fate, naming};
 
     /// A store over `inner` whose calls of these numbers fail. It takes no memory.
     pub fn new(inner: S, failing: Seq<FailingCall>) -> FaultyStore<S>
@@ -77,9 +78,21 @@ impl<S> FaultyStore<S> {
     {
         FaultyStore {
             inner,
-            failing,
+            failing: failing.into_vec(),
             count: CallCount::new(),
         }
+    }
+
+    /// Lets the next call fail, made all the same or not; where the list names it already, as that says. After the greatest
+    /// `u64` of calls it does nothing. Where it answers `NoMemory`, the list is as before.
+    pub fn fail_next(&mut self, landed: bool) -> Result<(), NoMemory>
+        ensures ok { OnOk result (self.new ≡ naming (next_call self.old.calls) landed self.old) }
+        ensures err { OnErr result (self.new ≡ self.old) }
+    {
+        if let Some(at) = self.count.made().checked_add(1) {
+            self.failing.push(FailingCall { at, landed })?;
+        }
+        Ok(())
     }
 
     /// How many calls there were, those that failed too. It stays at the greatest `u64`, and then no call fails by the

@@ -74,8 +74,8 @@ impl WriterState {
     /// answered, and a seek passes among these rows alone. With a limit of 0 there are none.
     ///
     /// It answers the errors that `scan` answers, when it answers them, changes nothing, and calls the store as often. It takes
-    /// time logarithmic in the keys of memory and of each table, and then for each key up to the last row, also one without a
-    /// row, that of a `get` and a look at the next key of each table. It takes memory for each table and each row, and copies
+    /// time logarithmic in the keys of memory and of each table, and then for each key up to the row that reaches the limit,
+    /// also one without a row, that of a `get` and a look at the next key of each table. It takes memory for each table and each row, and copies
     /// no key and no value. SlateDB has no such call; there a scan reads as its rows are asked for.
     pub fn scan_first<S: Store, M: MergeOperator>(
         &self,

@@ -20,7 +20,7 @@ pub const TABLE_BYTES: u64 = 64 * 1024 * 1024;
 /// the object, under its id.
 ///
 /// Its objects are what its blobs are, where the three folders are modelled. A blob that isn't decoded stands for an
-/// object with nothing in it that can't be read, and so does a table whose numbers don't rise.
+/// object with nothing in it, and isn't read; nor is a table whose numbers don't rise.
 ///
 /// Tables that were read or put are kept decoded, the newest of them, as many as a bound of bytes has room for. A removal
 /// forgets the table, also where it fails. Over folders that aren't modelled, as those of a directory, a table that is kept

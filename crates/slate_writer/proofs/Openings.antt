@@ -307,10 +307,10 @@ segmented_refusing x batches (errors.EmptySegmentPrefix key) (inr cause) = cause
 segmented_refusing x batches e h = tt
 
 -- the errors of a segment are no faults
-pub segment-faults : {A : Type 0} (faults faults' : ℕ) (e : SlateError) → faults ≤ faults' → IsOfSegment e → CountsFaults {A = A} faults faults' (Err e)
-segment-faults faults faults' (errors.EmptySegmentPrefix key) count kind = record { count = count; unavailable = λ no. absurd (cc); none_missing = λ no. absurd (cc) }
-segment-faults faults faults' errors.NoMemory count kind = record { count = count; unavailable = λ no. absurd (cc); none_missing = λ no. absurd (cc) }
-segment-faults faults faults' e count kind = absurd kind
+pub segment-faults : {A : Type 0} (faults faults' : ℕ) (e : SlateError) → faults' ≡ faults → IsOfSegment e → CountsFaults {A = A} faults faults' (Err e)
+segment-faults faults faults' (errors.EmptySegmentPrefix key) same kind = record { count = omega (arith, same); unavailable = λ no. absurd (cc); stays = inl same; none_missing = λ no. absurd (cc) }
+segment-faults faults faults' errors.NoMemory same kind = record { count = omega (arith, same); unavailable = λ no. absurd (cc); stays = inl same; none_missing = λ no. absurd (cc) }
+segment-faults faults faults' e same kind = absurd kind
 
 -- an opening that answers an error, and one that answers a handle
 some-same : (a b : Objects) → Some a ≡ Some b → a ≡ b
@@ -403,11 +403,11 @@ finding-of (errors.SegmentExtractorMismatch persisted configured) kind = tt
 finding-of (errors.SegmentPrefixNotRecognized prefix named) kind = tt
 finding-of e kind = absurd kind
 
-pub manifest-faults : {A : Type 0} (faults faults' : ℕ) (e : SlateError) → faults ≤ faults' → IsOfManifest e → CountsFaults {A = A} faults faults' (Err e)
-manifest-faults faults faults' errors.InvalidDBState count kind = record { count = count; unavailable = λ refused. absurd (cc); none_missing = λ refused. absurd (cc) }
-manifest-faults faults faults' (errors.SegmentExtractorMismatch persisted configured) count kind = record { count = count; unavailable = λ refused. absurd (cc); none_missing = λ refused. absurd (cc) }
-manifest-faults faults faults' (errors.SegmentPrefixNotRecognized prefix name) count kind = record { count = count; unavailable = λ refused. absurd (cc); none_missing = λ refused. absurd (cc) }
-manifest-faults faults faults' e count kind = absurd kind
+pub manifest-faults : {A : Type 0} (faults faults' : ℕ) (e : SlateError) → faults' ≡ faults → IsOfManifest e → CountsFaults {A = A} faults faults' (Err e)
+manifest-faults faults faults' errors.InvalidDBState same kind = record { count = omega (arith, same); unavailable = λ refused. absurd (cc); stays = inl same; none_missing = λ refused. absurd (cc) }
+manifest-faults faults faults' (errors.SegmentExtractorMismatch persisted configured) same kind = record { count = omega (arith, same); unavailable = λ refused. absurd (cc); stays = inl same; none_missing = λ refused. absurd (cc) }
+manifest-faults faults faults' (errors.SegmentPrefixNotRecognized prefix name) same kind = record { count = omega (arith, same); unavailable = λ refused. absurd (cc); stays = inl same; none_missing = λ refused. absurd (cc) }
+manifest-faults faults faults' e same kind = absurd kind
 
 fits-manifest : (x : Option Extractor) (o : Objects) (e : SlateError) → IsOfManifest e → manifest_refusal x (latest_manifest o) ≡ Some e → OpenCause x (λ _. ⊥) o e
 fits-manifest x o errors.InvalidDBState kind is = ap (λ r. option_or r (log_refusal (found_log o))) is

@@ -1,5 +1,5 @@
 -- What a read of a handle's tables and of its batches answers.
-use Rattle.std.proofs.Common.{◌≡◌, refl, sym, ◌∙◌, ap, subst, ◌≤◌, Bool, true, false, List, [], ◌∷◌, ◌++◌, Option, None, Result, Ok, Err}
+use Rattle.std.proofs.Common.{arith, ◌≡◌, refl, sym, ◌∙◌, ap, subst, inl, Bool, true, false, List, [], ◌∷◌, ◌++◌, Option, None, Result, Ok, Err}
 use Rattle.std.specs.List.{flat_map}
 use Rattle.std.specs.Option.{IfSome}
 use Rattle.std.proofs.lemmas.Bool.{false≢true}
@@ -9,7 +9,9 @@ use Rattle.slate_types.specs.declared.batches.KeyValue.{KeyValue}
 use Rattle.slate_types.specs.declared.read_faults.ReadFault.{ReadFault}
 use Rattle.slate_types.specs.declared.read_faults.ReadFault.TheVariants.{ChecksumMismatch, MergeOperatorError, MergeOperatorMissing, NoMemory}
 use Rattle.slate_types.specs.declared.store_errors.StoreFault.{StoreFault}
+use Rattle.slate_types.specs.declared.store_errors.StoreFault.TheVariants.{Unavailable}
 use Rattle.slate_reads.specs.Read.{Reads as IsRead}
+use Rattle.slate_store.specs.Calls.{KeepsFaults}
 use Rattle.slate_store.specs.Objects.{Objects}
 use Rattle.slate_store.specs.declared.objects.TableId.{TableId}
 use Rattle.slate_errors.specs.Errors.{closed_error, error_of_read}
@@ -48,12 +50,12 @@ not-stored {A = A} answer fault of is other =
 
 -- a read of a handle that is open, by these batches
 module _ {A : Type 0} (result : CloseResult) (tables : List TableId) (has_rows : List Batch → Type 0) (before after : Known (List Batch)) (rows : List Batch) (live : result ≡ None)
-    (count : before.faults ≤ after.faults) (kept : after.objects ≡ before.objects) (alone : tables ≡ [] → after ≡ before) (has : has_rows rows) where
+    (same : after.faults ≡ before.faults) (kept : after.objects ≡ before.objects) (alone : tables ≡ [] → after ≡ before) (has : has_rows rows) where
   pub given : (is_plain : List Batch → Result A ReadFault → Type 0) (a : A) → is_plain rows (Ok a) → Reads result tables has_rows is_plain before (Ok a) after
   given is_plain a plain = record {
     closed = subst (λ (r : CloseResult). IfSome r (λ r. (◌≡◌ {A = Result A SlateError} (Ok a) (Err (closed_error r))) × (after ≡ before))) (sym live) tt;
     read = λ _. record {
-      faults = record { count = count; unavailable = λ is. absurd (cc) };
+      faults = record { count = omega (arith, same); unavailable = λ is. absurd (cc); stays = same };
       kept = kept;
       missing = λ is. absurd (cc);
       alone = λ none. (alone none, λ is. cc);
@@ -71,7 +73,11 @@ module _ {A : Type 0} (result : CloseResult) (tables : List TableId) (has_rows :
   refused is_plain answer fault is plain = record {
     closed = subst (λ (r : CloseResult). IfSome r (λ r. (answer ≡ Err (closed_error r)) × (after ≡ before))) (sym live) tt;
     read = λ _. record {
-      faults = record { count = count; unavailable = λ other. absurd (not-stored answer fault _ is other) };
+      faults = record {
+        count = omega (arith, same);
+        unavailable = λ other. absurd (not-stored answer fault _ is other);
+        stays = subst (KeepsFaults (ObjectStoreError Unavailable) before.faults after.faults) (sym is) (inl same);
+      };
       kept = kept;
       missing = λ other. absurd (not-stored answer fault _ is other);
       alone = λ none. (alone none, λ other. not-stored answer fault _ is other);

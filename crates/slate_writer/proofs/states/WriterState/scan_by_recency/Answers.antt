@@ -33,5 +33,5 @@ returns-clause-scan g c =
     ∙ ap (λ (tables : List (List Batch)). map (source_entries bound prefix) (h.line.batches ∷ tables)) c.as_slice-tables.ensures.value)
     in
     lists-recent h options prefix (known objects g.S.Store.faults c.args.store.now) (known objects g.S.Store.faults c.read_newest_first.new.store) c.in_ok-tables.tables.items c.in_ok-list_recent.field-0 live single
-    v.faults.count v.kept (λ none. ap (known objects g.S.Store.faults) (v.untouched none)) v.each
+    v.faults.stays v.kept (λ none. ap (known objects g.S.Store.faults) (v.untouched none)) v.each
     (subst (λ (lists : List (List RowEntry)). IsRecency options.order lists c.in_ok-list_recent.field-0) lists_are c.in_ok-list_recent.ensures)

@@ -35,6 +35,6 @@ returns-clause-scan g c merge lawful =
     in
     let plain = subst (λ (bs : List Batch). IsScan merge bs None c.args.range.now options.order it.rows it.fault) same found in
     given h.result h.view.manifest.tables (kept_rows (objects store) (AHandle h)) (known objects g.S.Store.faults store) (known objects g.S.Store.faults new) rows live
-    c.in_ok-stored.ensures.faults.count c.in_ok-stored.ensures.kept (λ none. ap (known objects g.S.Store.faults) (c.in_ok-stored.ensures.untouched none)) has
+    c.in_ok-stored.ensures.faults.stays c.in_ok-stored.ensures.kept (λ none. ap (known objects g.S.Store.faults) (c.in_ok-stored.ensures.untouched none)) has
     (Gives (λ rows it. BeginsScan merge (seen_by t bound rows) None c.args.range.now options.order it)) it
     (record { unbegun = c.in_ok-scan.ensures.begun; plain = plain })

@@ -40,6 +40,6 @@ returns-in_err-read-clause-read g c merge lawful =
     ∙ ap (λ k. read_at merge (seen_by t bound rows) None k) key_is
     in
     refused h.result h.view.manifest.tables (kept_rows (objects store) (AHandle h)) (known objects g.S.Store.faults store) (known objects g.S.Store.faults new) rows live
-    c.in_ok-stored.ensures.faults.count c.in_ok-stored.ensures.kept (λ none. ap (known objects g.S.Store.faults) (c.in_ok-stored.ensures.untouched none)) has
+    c.in_ok-stored.ensures.faults.stays c.in_ok-stored.ensures.kept (λ none. ap (known objects g.S.Store.faults) (c.in_ok-stored.ensures.untouched none)) has
     (λ rows answer. answer ≡ read_at merge (seen_by t bound rows) None key) c.from_residual-in_err-read.result fault is
     (plain-fault _ fault (subst (λ (r : Result (Option KeyValue) ReadFault). IsRead r (Err fault)) same found))

@@ -2,6 +2,7 @@
 ghost use Rattle.std.specs.Prelude.{◌≡◌, ◌≤◌, IfOk, IfSome, IsErrOf};
 ghost use Rattle.slate_types.specs.Counts.{HasRisen};
 ghost use Rattle.slate_types.specs.declared.store_errors.StoreError.TheVariants.{Failed};
+ghost use Rattle.slate_store.specs.Calls.{KeepsFaults};
 ghost use Rattle.slate_store.specs.Objects.{greatest};
 ghost use Rattle.slate_blobs.specs.Decoded.{answer_of};
 
@@ -18,6 +19,7 @@ pub(crate) fn answer_with<A: Drop>(
     ensures made { count.new.made ≡ count.old.made }
     ensures never_falls { count.old.faults ≤ count.new.faults }
     ensures failed { IsErrOf result Failed → HasRisen count.old.faults count.new.faults }
+    ensures stays { KeepsFaults Failed count.old.faults count.new.faults result }
     ensures answer { result ≡ answer_of decoded }
 {
     match decoded {

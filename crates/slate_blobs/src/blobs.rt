@@ -12,8 +12,9 @@ use std::alloc::Global;
 /// The blobs of one folder of an object store: bytes, each under an id of the type `K`. A blob is put once, never
 /// changed, and may be removed.
 ///
-/// Every call may answer `Failed`, where the count of faults has risen, and `NoMemory`. A put or a removal that answers
-/// `Failed` may have taken place; a call that answers anything else but Ok did nothing.
+/// Every call may answer `Failed`, where the count of faults has risen, and `NoMemory`; one that answers anything but
+/// `Failed` leaves that count as it was. A put or a removal that answers `Failed` may have taken place; a call that
+/// answers anything else but Ok did nothing.
 pub trait Blobs<K: Copy + Ord> {
     /// The blobs that the folder holds, in the order of their ids, where it is modelled.
     ghost held: { Self → Option (List (K × List ℕ)) };

@@ -1,5 +1,5 @@
 // Keeping the blobs of a folder as files.
-ghost use Rattle.std.specs.Prelude.{◌≡◌, ◌≤◌, ◌++◌, IfOk, string_bytes};
+ghost use Rattle.std.specs.Prelude.{◌≡◌, ◌≤◌, ◌⊎◌, ◌++◌, IfOk, string_bytes};
 ghost use Rattle.slate_types.specs.Counts.{HasRisen};
 ghost use Rattle.slate_types.specs.declared.store_errors.StoreError.TheVariants.{Failed};
 ghost use Rattle.slate_store.specs.Calls.{IsOfList};
@@ -99,6 +99,7 @@ impl<R: Files + Copy, K: FileId> DirectoryBlobs<R, K> {
         ensures made { self.new.count.made ≡ self.old.count.made }
         ensures never_falls { self.old.count.faults ≤ self.new.count.faults }
         ensures risen { result ≡ Failed → HasRisen self.old.count.faults self.new.count.faults }
+        ensures stays { (self.new.count.faults ≡ self.old.count.faults) ⊎ (result ≡ Failed) }
         ensures refusal { IsOfList result }
     {
         if kind == ErrorKind::OutOfMemory {

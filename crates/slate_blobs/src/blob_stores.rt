@@ -33,7 +33,7 @@ pub const TABLE_BYTES: u64 = 64 * 1024 * 1024;
 ///
 /// # Cost
 ///
-/// A call is counted once. Besides, it takes time linear in the bytes that it reads or writes and in the ids that it lists.
+/// A call is counted once. Besides, it takes time linear in the bytes that it reads or writes, and in the ids that it lists, which a directory sorts.
 ///
 /// call | of blobs
 /// ---|---

@@ -296,7 +296,7 @@ impl<S: Store, M, E: PrefixExtractor, C: Clock> Shared<S, M, E, C> {
         }
     }
 
-    /// Commits a transaction whose operations have keys with these prefixes, and answers the handle of its write.
+    /// Commits a transaction, and answers the handle of its write.
     pub(crate) fn commit<R: Wait>(
         &self,
         rt: &R,

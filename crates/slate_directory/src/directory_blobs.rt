@@ -23,8 +23,8 @@ use std::marker::PhantomData;
 /// put that was broken off has put the whole blob or none. Any number of processes may use a folder at once: of two puts
 /// under one id one answers `Exists`.
 ///
-/// A call is one of the system's, or a few; a put waits for the disk twice, and a removal once. A listing is linear in
-/// the names of the folder.
+/// A call is one of the system's, or a few; a put waits for the disk twice, and a removal once. A listing sorts the names of
+/// the folder.
 pub struct DirectoryBlobs<R: Files + Copy, K: FileId> {
     folder: Folder<R>,
     extension: &'static str,

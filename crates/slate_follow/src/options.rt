@@ -1,8 +1,8 @@
 /// How a reader follows a database. SlateDB's struct of this name.
 #[derive(Clone, Copy, Debug, PartialEq, Eq)]
 pub struct DbReaderOptions {
-    /// How far apart polls are to be, in milliseconds. Nothing polls by itself yet; a reader that keeps a checkpoint of its
-    /// own has a lifetime of at least twice that.
+    /// How far apart polls are to be, in milliseconds. Nothing polls by itself; a reader that keeps a checkpoint of its own
+    /// has a lifetime of at least twice that.
     pub manifest_poll_interval_ms: u64,
     /// For how long a checkpoint of the reader's own is kept unless it is renewed, in milliseconds: at least 1000.
     pub checkpoint_lifetime_ms: u64,

@@ -18,3 +18,4 @@ pub mod Recent
 pub mod Spanning
 pub mod Storing
 pub mod Tracking
+pub mod Leaving

@@ -1,10 +1,10 @@
 -- The steps of an opening: what it finds, what it puts, and what it replays.
-use Rattle.std.specs.Prelude.{◌≡◌, ℕ, ◌+◌, ◌-◌, ◌≤◌, ◌<◌, ◌⊎◌, List, [], ◌∷◌, true, Option, Some, None, Result, Ok, Err}
+use Rattle.std.specs.Prelude.{◌≡◌, ℕ, ◌+◌, ◌-◌, ◌≤◌, ◌<◌, ◌⊎◌, All, List, [], ◌∷◌, true, Option, Some, None, Result, Ok, Err}
 use Rattle.slate_types.specs.declared.batches.Batch.{Batch}
 use Rattle.slate_store.specs.declared.objects.VersionedManifest.{VersionedManifest}
 use Rattle.slate_types.specs.declared.store_errors.StoreFault.TheVariants.{Unavailable}
-use Rattle.slate_store.specs.Objects.{Objects, Change, PutManifest, PutLog, is_present, last_log, latest_manifest}
-use Rattle.slate_store.specs.Logs.{AreTruncatedAt}
+use Rattle.slate_store.specs.Objects.{IsGreatest, Objects, Change, PutManifest, PutLog, is_present, last_log, latest_manifest}
+use Rattle.slate_store.specs.Logs.{AreTruncatedAt, IsLogged}
 use Rattle.slate_replay.specs.Replay.{Replays, calls_after}
 use Rattle.slate_replay.specs.declared.replays.Replayed.TheVariants.{Whole}
 use Rattle.slate_errors.specs.declared.errors.SlateError.{SlateError}
@@ -84,6 +84,12 @@ abbrev pub HasLogs : Objects → Handle → Type 0
 HasLogs objects handle =
     let latest = latest_manifest objects in
     Replays (mark_of latest) (found_log objects) (number_of latest) [] handle.line.batches objects (Ok Whole)
+
+-- The manifest that a handle was opened by is the latest, and each batch that it replayed is in a log file above its mark.
+pub record IsLeftBy (handle : Handle) (objects : Objects) : Type 0 where
+  pub latest : latest_manifest objects ≡ Some handle.view
+  pub greatest : IsGreatest objects handle.view
+  pub logged : All (IsLogged handle.view.manifest.replay_after_wal_id objects) handle.line.batches
 
 -- how often a recovery of the log files of a manifest, up to one of them, calls a store at most
 abbrev pub recovery_calls : {A : Type 0} → VersionedManifest → ℕ → Result A SlateError → ℕ

@@ -1,21 +1,22 @@
 // Opening a database: its manifest, the fence, and the replay of its log files.
-ghost use Rattle.std.specs.Prelude.{◌≡◌, ℕ, ◌+◌, ◌-◌, ◌<◌, ◌≤◌, ◌^◌, true, Option, None, Some, Ok, Err, length, IfErr, IfOk, IfSome, IsSome};
+ghost use Rattle.std.specs.Prelude.{◌≡◌, ℕ, ◌+◌, ◌-◌, ◌<◌, ◌≤◌, ◌^◌, true, All, Option, None, Some, Ok, Err, length, IfErr, IfOk, IfSome, IsSome};
 ghost use Rattle.std.specs.Option.{option_copied};
-ghost use Rattle.slate_types.specs.Line.{AreNumberedFrom};
+ghost use Rattle.slate_types.specs.Line.{AreNumberedFrom, IsLine};
 ghost use Rattle.slate_store.specs.Calls.{IsCall, IsOfList, WhereModelled};
 ghost use Rattle.slate_store.specs.declared.objects.VersionedManifest.{VersionedManifest};
-ghost use Rattle.slate_store.specs.Objects.{Objects, latest_manifest};
+ghost use Rattle.slate_store.specs.Logs.{IsLogged};
+ghost use Rattle.slate_store.specs.Objects.{IsGreatest, Objects, latest_manifest};
 ghost use Rattle.slate_model.specs.Handle.{latest_tick};
 ghost use Rattle.slate_model.specs.Tracked.{latest_tracker, stored_tracker};
 ghost use Rattle.slate_model.specs.Known.{CountsFaults, known};
-ghost use Rattle.slate_model.specs.Open.{OpensHandle, can_open_by, first_manifest, has_next, manifest_refusal, mark_of, next_manifest};
+ghost use Rattle.slate_model.specs.Open.{IsFresh, OpensHandle, can_open_by, first_manifest, has_next, manifest_refusal, mark_of, next_manifest};
 ghost use Rattle.slate_model.specs.Segments.{Extractor, IsExtractor, extractor_name};
 ghost use Rattle.slate_model.specs.Stores.{by_objects};
 ghost use Rattle.slate_model.specs.Write.{last_number};
 ghost use Rattle.slate_replay.specs.Replay.{calls_after};
 ghost use Rattle.slate_writer.specs.Kinds.{IsOfOpening};
 ghost use Rattle.slate_writer.specs.Tasks.{tasks_of};
-ghost use Rattle.slate_writer.specs.Opening.{CallsOpening, FindsLog, FindsNext, Fits, HasLogs, IsOfFinding, IsOfManifest, PutsOpening, Recovers, recovery_calls};
+ghost use Rattle.slate_writer.specs.Opening.{CallsOpening, FindsLog, FindsNext, Fits, HasLogs, IsLeftBy, IsOfFinding, IsOfManifest, PutsOpening, Recovers, recovery_calls};
 
 use crate::WriterState;
 use crate::board::{new_board, raise};
@@ -114,6 +115,10 @@ impl WriterState {
         // Memory begins after the tables of the manifest.
         ensures floor { IfOk result (λ h. h.line.floor ≡ h.view.manifest.last_l0_seq) }
         ensures replays { IfOk result (λ h. IfSome (S.objects store.old) (λ o. HasLogs o h)) }
+        // With any extractor, lawful or not.
+        ensures fresh { IfOk result (IsFresh options.now.wal_enabled options.now.max_unflushed_bytes (tasks_of options.now)) }
+        ensures line { IfOk result (λ h. IsLine h.line) }
+        ensures left { IfOk result (λ h. IfSome (S.objects store.new) (IsLeftBy h)) }
         ensures calls { IfSome (S.objects store.old) (λ o. CallsOpening o (S.calls store.old) (S.calls store.new) result) }
         // What the latest manifest decides takes one call.
         ensures first { (x : Option Extractor) (o : Objects) → IsExtractor E.may_name E.may_extract (option_copied extractor.entry) x →
@@ -278,6 +283,7 @@ fn find_next<S: Store, E: PrefixExtractor>(
         S.objects store.old ≡ Some o → (manifest_refusal x (latest_manifest o) ≡ None → ⊥) → S.calls store.new ≤ S.calls store.old + 1 }
     ensures kind { IfErr result IsOfFinding }
     ensures below { IfOk result (λ found. found.1 < last_number) }
+    ensures greatest { IfOk result (λ found. IfSome (S.objects store.old) (λ o. IfSome (latest_manifest o) (IsGreatest o))) }
 {
     let latest = store.latest_manifest(alloc)?;
     let tracker = tracker_of(alloc, latest.as_ref())?;
@@ -334,6 +340,7 @@ fn recover<S: Store>(
     ensures fits { IfOk result (λ batches. view.now.manifest.last_l0_seq + length batches < 2 ^ 64) }
     ensures kind { IfErr result IsOfOpening }
     ensures where_modelled { IfSome (S.objects store.old) (λ o. Recovers view.now last o result) }
+    ensures logged { IfOk result (λ batches. IfSome (S.objects store.old) (λ o. All (IsLogged view.now.manifest.replay_after_wal_id o) batches)) }
 {
     let manifest = &view.manifest;
     let (memory, replayed) = slate_replay::recover(alloc, store, manifest, last)?;

@@ -1,5 +1,5 @@
 // What a handle that writes keeps, and its batches above a number.
-ghost use Rattle.std.specs.Prelude.{◌≡◌, ◌-◌, IfOk, length};
+ghost use Rattle.std.specs.Prelude.{◌≡◌, ◌-◌, ◌≤◌, IfOk, length};
 ghost use Rattle.slate_types.specs.Line.{IsLine, batches_above};
 ghost use Rattle.slate_reads.specs.Index.{AreRising};
 ghost use Rattle.slate_status.specs.Segments.{AreRising as AreRisingPrefixes};
@@ -104,7 +104,8 @@ impl WriterState {
 
     /// The number up to which its batches are stored.
     pub fn durable(&self) -> u64
-        ensures { result ≡ self.now.durable }
+        ensures value { result ≡ self.now.durable }
+        ensures accepted { result ≤ accepted self.now }
     {
         self.status.durable()
     }

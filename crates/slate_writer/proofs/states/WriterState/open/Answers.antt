@@ -10,6 +10,7 @@ use Rattle.slate_writer.specs.Opening.{FindsNext}
 use Rattle.slate_writer.specs.Tasks.{tasks_of}
 use Rattle.slate_writer.proofs.Answering.{finding-opening, segment-opening, unrefused}
 use Rattle.slate_writer.proofs.Counted.{counted-none}
+use Rattle.slate_writer.proofs.Leaving.{left-by}
 use Rattle.slate_writer.proofs.Openings.{calls-of, calls-of-ok, calls-of-puts, calls-of-segments, found_view, has_logs, none_modelled, opened-tracker, opened_modelled, opens_err, opens_ok, puts_modelled, recovered_at, recovered_modelled, recovery_modelled, segment-faults, segmented_finding, segmented_modelled, segmented_putting, segmented_recovering, segmented_refusing, segments_modelled, untracked_modelled, whole_modelled}
 use Rattle.slate_writer.proofs.Tracking.{ends-all, ends-stored}
 use Rattle.slate_writer.proofs.states.WriterState.open.Goals as goal
@@ -166,3 +167,15 @@ pub returns-in_err-segments-clause-kind : goal.returns-in_err-segments-clause-ki
 returns-in_err-segments-clause-kind g c =
     let p = err_from_is_err_and c.from_residual-in_err-segments.result c.from_residual-in_err-segments.ensures.1 in
     rw (p.1, p.2) (segment-opening _ c.in_err-segments.ensures.kind)
+
+pub returns-clause-left : goal.returns-clause-left
+returns-clause-left g c =
+    let v = c.in_ok-view.ensures in
+    rw (c.new.ensures, c.of.ensures) (left-by _ _ _ _ _ c.in_ok-view.view c.in_ok-view.last c.in_ok-memory.memory _ v.where_modelled v.greatest v.kept c.in_ok-put_opening.ensures.where_modelled c.in_ok-memory.ensures.kept c.in_ok-memory.ensures.logged (search rules) (search rules))
+
+pub returns-clause-line : goal.returns-clause-line
+returns-clause-line g c = rw c.of.ensures c.in_ok-memory.ensures.numbered
+
+pub returns-clause-fresh : goal.returns-clause-fresh
+returns-clause-fresh g c =
+    rw (c.new.ensures, c.of.ensures) (record { keeps = search rules; limit_is = search rules; tasked = ap (λ t. t.names) c.in_ok-tasks.ensures; unclosed = search rules; epoch = search rules; counter = search rules; durable = ap (λ n. c.in_ok-view.view.manifest.last_l0_seq + n) (ap length c.batches-3.ensures.value); tabled = omega arith })

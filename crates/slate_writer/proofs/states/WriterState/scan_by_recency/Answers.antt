@@ -23,7 +23,7 @@ returns-clause-scan g c =
     in
     let bound = read_bound None h.durable (accepted h) options.durability_filter options.dirty in
     let bound_is : c.prepare_max_seq-bound.result ≡ bound =
-    c.prepare_max_seq-bound.ensures ∙ (ap (λ n. read_bound None n c.accepted.result options.durability_filter options.dirty) c.durable.ensures
+    c.prepare_max_seq-bound.ensures ∙ (ap (λ n. read_bound None n c.accepted.result options.durability_filter options.dirty) c.durable.ensures.value
     ∙ ap (λ n. read_bound None h.durable n options.durability_filter options.dirty) c.accepted.ensures.value)
     in
     let memory_is : c.as_indexed-memory.result.now ≡ h.line.batches = c.as_indexed-memory.ensures ∙ (c.in_ok-memory.ensures ∙ ap (λ (h : Handle). h.line.batches) c.self.view_is) in

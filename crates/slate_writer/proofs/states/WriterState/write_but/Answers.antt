@@ -37,7 +37,7 @@ invariant_of-self-2 g c =
     let rises = rw c.in-Ok.is at c.admit.ensures.rising in
     let next : c.in-Ok.admitted.0.number ≡ c.self.inside.floor + length memory + 1 = admitted.0 ∙ ap (λ h. accepted h + 1) (sym c.self.view_is) in
     let fits : c.in-Ok.admitted.0.number < 2 ^ 64 = rw admitted.0 admitted.1 in
-    let durable : c.durable-durable.result ≡ c.self.inside.status.durable = c.durable-durable.ensures ∙ ap (λ (h : Handle). h.durable) (sym c.self.view_is) in
+    let durable : c.durable-durable.result ≡ c.self.inside.status.durable = c.durable-durable.ensures.value ∙ ap (λ (h : Handle). h.durable) (sym c.self.view_is) in
     let counted : IsCounted c.durable-durable.result memory c.unstored_size.result =
     subst (λ n. IsCounted n memory c.unstored_size.result) (sym durable) (c.unstored_size.ensures ∙ ap (λ h. min (size_of (unstored h)) most_bytes) (sym c.self.view_is))
     in

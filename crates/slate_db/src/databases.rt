@@ -98,7 +98,7 @@ impl<S: Store + Drop, M: Drop, E: Drop, C: Drop> Db<S, M, E, C> {
 
     /// What was accepted until now, whatever is written, flushed or compacted later: reads of the snapshot are those of the
     /// database up to this number. Nothing is kept for it. On a closed database it answers `Closed` or the error that closed
-    /// it. SlateDB's `snapshot`.
+    /// it, and `NoMemory` where too many share the database. SlateDB's `snapshot`.
     pub fn snapshot<R: Wait>(&self, rt: &R) -> Result<DbSnapshot<S, M, E, C>, Error> {
         let shared = self.shared.clone().map_err(NoMemory::from)?;
         let number = shared.lock(rt).held.snapshot_number()?;

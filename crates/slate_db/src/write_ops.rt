@@ -126,7 +126,7 @@ pub trait DbWriteOps {
     ) -> Result<(), Error>;
 
     /// Begins a transaction under this id, whose reads see what was accepted until now. On a closed database it answers
-    /// `Closed` or the error that closed it.
+    /// `Closed` or the error that closed it, and `NoMemory` where too many share the database.
     fn begin<R: Wait>(
         &self,
         rt: &R,

@@ -1,11 +1,15 @@
 -- What the reads of a store find in the blobs of a folder.
-use Rattle.std.proofs.Common.{◌≡◌, ℕ, ◌-◌, List, [], length, Option, Some, None, Result, Ok, Err, refl, ap, sym, subst, ◌∙◌}
+use Rattle.std.proofs.Common.{◌≡◌, ℕ, ◌-◌, ◌<◌, ◌≤◌, inl, inr, List, [], ◌∷◌, arith, length, Option, Some, None, Result, Ok, Err, refl, ap, sym, subst, ◌∙◌}
 use Rattle.std.specs.Option.{IfSome, option_map}
-use Rattle.std.specs.List.{slice_get}
+use Rattle.std.specs.List.{AllByRecursion, slice_get}
 use Rattle.std.specs.List.Sorted.{IsStrictlySortedBy}
 use Rattle.std.specs.Ordering.{nat_cmp}
 use Rattle.std.specs.declared.cmp.Ordering.{Ordering}
+use Rattle.std.specs.declared.cmp.Ordering.TheVariants.{Less}
 use Rattle.std.specs.Map.{keys_of}
+use Rattle.std.proofs.lemmas.Bool.{cases_lt}
+use Rattle.slate_store.proofs.Entries.{greater}
+use Rattle.slate_store.proofs.Latest.{last-cons}
 use Rattle.std.proofs.lemmas.Cmp.{eq_by_cmp_equiv, nat_cmp_total}
 use Rattle.std.proofs.lemmas.List.{length-map}
 use Rattle.std.proofs.lemmas.Option.{slice_get-map}
@@ -18,7 +22,7 @@ use Rattle.slate_objects.specs.declared.faults.DecodeError.TheVariants as errors
 use Rattle.slate_objects.specs.declared.faults.DecodeFault.{DecodeFault}
 use Rattle.slate_store.specs.declared.objects.Manifest.{Manifest}
 use Rattle.slate_store.specs.Calls.{Finds}
-use Rattle.slate_store.specs.Objects.{entry_at, greatest, last, last_log, latest_manifest, listing_of, log_at, table_at, table_cmp, versioned}
+use Rattle.slate_store.specs.Objects.{IsGreatest, entry_at, greatest, last, last_log, latest_manifest, listing_of, log_at, table_at, table_cmp, versioned}
 use Rattle.slate_store.specs.declared.objects.TableId.{TableId}
 use Rattle.slate_types.specs.declared.batches.Batch.{Batch}
 use Rattle.slate_objects.specs.Objects.{log_in, manifest_in, table_in}
@@ -40,6 +44,20 @@ pub decoded-ok : {X : Type 0} (decoded : Result X DecodeError) (read : Result X 
 decoded-ok (Ok y) read x is gives = let same : y ≡ x = cc in gives ∙ ap Ok same
 decoded-ok (Err (errors.Fault fault)) read x is gives = absurd (cc)
 decoded-ok (Err errors.NoMemory) read x is gives = absurd (cc)
+
+at_most : (x y : ℕ) → nat_cmp x y ≡ Less → x ≤ y
+at_most x y is = elim (cases_lt y x) [ inl above ↦ absurd (let more = greater x y above in cc) | inr low ↦ low ]
+
+-- the last of rising ids is the greatest
+sorted-last : (id : ℕ) (ids : List ℕ) → IsStrictlySortedBy nat_cmp ids → last ids ≡ Some id → AllByRecursion (λ x. x ≤ id) ids
+unfolding IsStrictlySortedBy
+sorted-last id [] sorted is = absurd (cc)
+sorted-last id (x ∷ []) sorted is = let same = some-inj x id is in (omega (arith, same), tt)
+sorted-last id (x ∷ y ∷ ids) sorted is =
+    let rest = sorted-last id (y ∷ ids) sorted.1 (sym (last-cons x y ids) ∙ is) in
+    let below = at_most x y (sorted.0).0 in
+    let top : y ≤ id = rest.0 in
+    (omega (arith, below, top), rest)
 
 entry-of : {K X : Type 0} (found : Option (K × X)) (k : K) → option_map (λ e. e.0) found ≡ Some k → (v : X) × (found ≡ Some (k, v))
 entry-of None k is = absurd (cc)
@@ -113,6 +131,12 @@ module _ (ms ls : Option (List (ℕ × List ℕ))) (ts : Option (List (TableId �
   latest-answer ids id bytes x ms' kept listed rising is got decoded = where-held (λ o. Some (record { id = id; manifest = x }) ≡ latest_manifest o) ms ls ts (λ m l t m-is l-is t-is.
       latest-found m ids id bytes x (known (λ blobs. ids ≡ keys_of blobs) ms m m-is listed) (known (λ blobs. IsStrictlySortedBy nat_cmp ids) ms m m-is rising) is
       (known (λ blobs. value_at nat_cmp id blobs ≡ Some bytes) ms' m (kept ∙ m-is) got) (ap (value_or blank_manifest) decoded))
+
+  -- whose id is the greatest
+  pub latest-greatest : (ids : List ℕ) (id : ℕ) (x : Manifest) → IfSome ms (λ blobs. ids ≡ keys_of blobs) → IfSome ms (λ blobs. IsStrictlySortedBy nat_cmp ids) → last ids ≡ Some id → IfSome (all_held ms ls ts) (λ o. IsGreatest o (record { id = id; manifest = x }))
+  latest-greatest ids id x listed rising is = where-held (λ o. IsGreatest o (record { id = id; manifest = x })) ms ls ts (λ m l t m-is l-is t-is.
+      let keys = known (λ blobs. ids ≡ keys_of blobs) ms m m-is listed ∙ sym (keys_of-map_values manifest_held m) in
+      subst (λ (ks : List ℕ). AllByRecursion (λ k. k ≤ id) ks) keys (sorted-last id ids (known (λ blobs. IsStrictlySortedBy nat_cmp ids) ms m m-is rising) is))
 
 -- a table that was got and decoded is stored
 pub table-there : (ts ts' : Option (List (TableId × List ℕ))) (id : TableId) (bytes : List ℕ) (batches table : List Batch) → ts' ≡ ts → table ≡ batches → IfSome ts (λ blobs. value_at table_cmp id blobs ≡ Some bytes) → table_in bytes ≡ Ok batches → IfSome ts' (λ blobs. value_at table_cmp id (each table_held blobs) ≡ Some table)

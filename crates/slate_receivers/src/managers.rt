@@ -3,13 +3,14 @@ ghost use Rattle.std.specs.Prelude.{◌≡◌, true, IfOk};
 ghost use Rattle.slate_errors.specs.declared.closing.CloseFault.{CloseFault};
 ghost use Rattle.slate_status.specs.Records.{with_durable, with_manifest, with_result, with_segments};
 ghost use Rattle.slate_status.specs.Segments.{AreRising};
+ghost use Rattle.slate_receivers.specs.Outcomes.{EndsBy, IsRecorded};
 ghost use Rattle.slate_receivers.specs.Reported.{AnswersAdded, AnswersReport, IsReported};
 
 use crate::StatusReceiver;
 use crate::shared::SharedRecord;
 use bytes::Bytes;
-use slate_errors::CloseFault;
-use slate_status::{DbStatus, StatusRecord};
+use slate_errors::{CloseFault, Error};
+use slate_status::{DbStatus, DurableAnswer, StatusRecord};
 use slate_store::VersionedManifest;
 use slate_types::{NoMemory, Seq};
 use std::alloc::Global;
@@ -144,6 +145,20 @@ impl StatusManager {
         let shared = Arc::try_clone(&self.shared)?;
         let seen = shared.lock(rt).version();
         Ok(StatusReceiver::new(shared, seen))
+    }
+
+    /// Whether the write of this number is durable, as `poll_durable` of its handle answers. Our own.
+    pub fn poll_durable<R: Wait>(&self, rt: &R, seq: u64) -> DurableAnswer
+        ensures { IsRecorded seq result }
+    {
+        self.shared.answer(rt, seq)
+    }
+
+    /// Waits until `poll_durable` doesn't answer `Pending`, as `await_durable` of the write's handle does. Our own.
+    pub fn await_durable<R: Wait>(&self, rt: &R, seq: u64) -> Result<(), Error>
+        ensures { EndsBy (IsRecorded seq) result }
+    {
+        self.shared.wait_durable(rt, seq)
     }
 
     pub(crate) fn into_shared(self) -> Arc<SharedRecord> {

@@ -78,18 +78,18 @@ latest-failed stage reader begun after e reads found kept kind ended = record {
     at o e f = absurd f
 
 -- no fault is answered by what a poll decides
-pub decision-counts : (mode : DbReaderMode) (f f' : ℕ) (result : Result Answered SlateError) → f ≤ f' → IfErr result (IsOfDecision mode) → CountsFaults f f' result
-decision-counts mode f f' (Ok answered) low kind = record { count = low; unavailable = λ is. absurd (cc); none_missing = λ is. cc }
-decision-counts mode f f' (Err errors.InvalidDBState) low kind = record { count = low; unavailable = λ is. absurd (cc); none_missing = λ is. cc }
-decision-counts mode f f' (Err (errors.TransactionalObjectTimeout tries)) low kind = record { count = low; unavailable = λ is. absurd (cc); none_missing = λ is. cc }
-decision-counts mode f f' (Err errors.NoMemory) low kind = record { count = low; unavailable = λ is. absurd (cc); none_missing = λ is. cc }
-decision-counts mode f f' (Err e) low kind = absurd kind
+pub decision-counts : (mode : DbReaderMode) (f f' : ℕ) (result : Result Answered SlateError) → f' ≡ f → IfErr result (IsOfDecision mode) → CountsFaults f f' result
+decision-counts mode f f' (Ok answered) same kind = record { count = omega (arith, same); unavailable = λ is. absurd (cc); stays = same; none_missing = λ is. cc }
+decision-counts mode f f' (Err errors.InvalidDBState) same kind = record { count = omega (arith, same); unavailable = λ is. absurd (cc); stays = inl same; none_missing = λ is. cc }
+decision-counts mode f f' (Err (errors.TransactionalObjectTimeout tries)) same kind = record { count = omega (arith, same); unavailable = λ is. absurd (cc); stays = inl same; none_missing = λ is. cc }
+decision-counts mode f f' (Err errors.NoMemory) same kind = record { count = omega (arith, same); unavailable = λ is. absurd (cc); stays = inl same; none_missing = λ is. cc }
+decision-counts mode f f' (Err e) same kind = absurd kind
 
-pub commit-counts : (f f' : ℕ) (result : Result Answered SlateError) → f ≤ f' → IfErr result IsOfCommit → CountsFaults f f' result
-commit-counts f f' (Ok answered) low kind = record { count = low; unavailable = λ is. absurd (cc); none_missing = λ is. cc }
-commit-counts f f' (Err errors.InvalidDBState) low kind = record { count = low; unavailable = λ is. absurd (cc); none_missing = λ is. cc }
-commit-counts f f' (Err errors.NoMemory) low kind = record { count = low; unavailable = λ is. absurd (cc); none_missing = λ is. cc }
-commit-counts f f' (Err e) low kind = absurd kind
+pub commit-counts : (f f' : ℕ) (result : Result Answered SlateError) → f' ≡ f → IfErr result IsOfCommit → CountsFaults f f' result
+commit-counts f f' (Ok answered) same kind = record { count = omega (arith, same); unavailable = λ is. absurd (cc); stays = same; none_missing = λ is. cc }
+commit-counts f f' (Err errors.InvalidDBState) same kind = record { count = omega (arith, same); unavailable = λ is. absurd (cc); stays = inl same; none_missing = λ is. cc }
+commit-counts f f' (Err errors.NoMemory) same kind = record { count = omega (arith, same); unavailable = λ is. absurd (cc); stays = inl same; none_missing = λ is. cc }
+commit-counts f f' (Err e) same kind = absurd kind
 
 -- what is there
 pub some-of : {A : Type 0} (o : Option A) → IsSome o → (x : A) × (o ≡ Some x)

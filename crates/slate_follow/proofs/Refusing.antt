@@ -118,19 +118,20 @@ poll-fault (errors.EmptySegmentPrefix key) fault is = absurd (cc)
 poll-fault e fault is = is
 
 -- so a poll that answers one raised the count
-pub poll-rises : (A B : Type 0) (e : SlateError) (f f' f'' : ℕ) → f ≤ f' → CountsFaults {A = A} f' f'' (Err e) → FaultsRise {A = B} f f'' (Err (poll_error e))
-poll-rises A B e f f' f'' low counts = record {
-  count = (let more = counts.count in omega (arith, low, more));
-  unavailable = λ is. risen-over f f' f'' low (counts.unavailable (ap Err (poll-fault e Unavailable (err-same B (poll_error e) (errors.ObjectStoreError Unavailable) is))));
+pub poll-rises : (A B : Type 0) (e : SlateError) (f f' f'' : ℕ) → f' ≡ f → CountsFaults {A = A} f' f'' (Err e) → FaultsRise {A = B} f f'' (Err (poll_error e))
+poll-rises A B e f f' f'' kept counts = record {
+  count = (let more = counts.count in omega (arith, kept, more));
+  unavailable = λ is. risen-over f f' f'' (omega (arith, kept)) (counts.unavailable (ap Err (poll-fault e Unavailable (err-same B (poll_error e) (errors.ObjectStoreError Unavailable) is))));
+  stays = elim counts.stays [ inl same ↦ inl (same ∙ kept) | inr fault ↦ inr (ap poll_error fault) ];
 }
 
 pub poll-present : (A B : Type 0) (e : SlateError) (f f' : ℕ) → CountsFaults {A = A} f f' (Err e) → ◌≡◌ {A = Result B SlateError} (Err (poll_error e)) (Err (errors.ObjectStoreError NotFound)) → ⊥
 poll-present A B e f f' counts is = counts.none_missing (ap Err (poll-fault e NotFound (err-same B (poll_error e) (errors.ObjectStoreError NotFound) is)))
 
-pub poll-counts : (A B : Type 0) (e : SlateError) (f f' f'' : ℕ) → f ≤ f' → CountsFaults {A = A} f' f'' (Err e) → CountsFaults {A = B} f f'' (Err (poll_error e))
-poll-counts A B e f f' f'' low counts =
-    let rises = poll-rises A B e f f' f'' low counts in
-    record { count = rises.count; unavailable = rises.unavailable; none_missing = poll-present A B e f' f'' counts }
+pub poll-counts : (A B : Type 0) (e : SlateError) (f f' f'' : ℕ) → f' ≡ f → CountsFaults {A = A} f' f'' (Err e) → CountsFaults {A = B} f f'' (Err (poll_error e))
+poll-counts A B e f f' f'' kept counts =
+    let rises = poll-rises A B e f f' f'' kept counts in
+    record { count = rises.count; unavailable = rises.unavailable; stays = rises.stays; none_missing = poll-present A B e f' f'' counts }
 
 -- what a poll answers for an error of a replay
 pub poll-polling : (e : SlateError) → IsOfRebuilding e → IsOfPolling (poll_error e)

@@ -59,6 +59,7 @@ pub counts-as : {A B : Type 0} (f f' : ℕ) (e : SlateError) → CountsFaults {A
 counts-as f f' e c = record {
   count = c.count;
   unavailable = λ is. let same : e ≡ errors.ObjectStoreError Unavailable = cc in c.unavailable (ap Err same);
+  stays = c.stays;
   none_missing = λ is. let same : e ≡ errors.ObjectStoreError NotFound = cc in c.none_missing (ap Err same);
 }
 
@@ -298,20 +299,21 @@ risen-then : (f f1 f' : ℕ) → f ≤ f1 → HasRisen f1 f' → HasRisen f f'
 risen-then f f1 f' low (inl less) = inl (omega (arith, low, less))
 risen-then f f1 f' low (inr end) = inr end
 
-pub counts-then : {A B : Type 0} (f f1 f' : ℕ) (e : SlateError) → f ≤ f1 → CountsFaults {A = A} f1 f' (Err e) → CountsFaults {A = B} f f' (Err e)
-counts-then f f1 f' e low c = record {
-  count = (let up = c.count in omega (arith, low, up));
-  unavailable = λ is. let same : e ≡ errors.ObjectStoreError Unavailable = cc in risen-then f f1 f' low (c.unavailable (ap Err same));
+pub counts-then : {A B : Type 0} (f f1 f' : ℕ) (e : SlateError) → f1 ≡ f → CountsFaults {A = A} f1 f' (Err e) → CountsFaults {A = B} f f' (Err e)
+counts-then f f1 f' e kept c = record {
+  count = (let up = c.count in omega (arith, kept, up));
+  unavailable = λ is. let same : e ≡ errors.ObjectStoreError Unavailable = cc in risen-then f f1 f' (omega (arith, kept)) (c.unavailable (ap Err same));
+  stays = elim c.stays [ inl same ↦ inl (same ∙ kept) | inr fault ↦ inr fault ];
   none_missing = λ is. let same : e ≡ errors.ObjectStoreError NotFound = cc in c.none_missing (ap Err same);
 }
 
-pub no-fault : {A : Type 0} (f f' : ℕ) → f ≤ f' → CountsFaults {A = A} f f' (Err errors.NoMemory)
-no-fault f f' low = record { count = low; unavailable = λ is. absurd (cc); none_missing = λ is. cc }
+pub no-fault : {A : Type 0} (f f' : ℕ) → f' ≡ f → CountsFaults {A = A} f f' (Err errors.NoMemory)
+no-fault f f' kept = record { count = omega (arith, kept); unavailable = λ is. absurd (cc); stays = inl kept; none_missing = λ is. cc }
 
-pub all-well : {A : Type 0} (f f' : ℕ) (x : A) → f ≤ f' → CountsFaults f f' (Ok x)
-all-well f f' x low = record { count = low; unavailable = λ is. absurd (cc); none_missing = λ is. cc }
+pub all-well : {A : Type 0} (f f' : ℕ) (x : A) → f' ≡ f → CountsFaults f f' (Ok x)
+all-well f f' x kept = record { count = omega (arith, kept); unavailable = λ is. absurd (cc); stays = kept; none_missing = λ is. cc }
 
 -- whatever it answers
-pub counts-on : {A : Type 0} (f f1 f' : ℕ) (r : Result A SlateError) → f ≤ f1 → CountsFaults f1 f' r → CountsFaults f f' r
-counts-on f f1 f' (Ok x) low c = all-well f f' x (let up = c.count in omega (arith, low, up))
-counts-on f f1 f' (Err e) low c = counts-then f f1 f' e low c
+pub counts-on : {A : Type 0} (f f1 f' : ℕ) (r : Result A SlateError) → f1 ≡ f → CountsFaults f1 f' r → CountsFaults f f' r
+counts-on f f1 f' (Ok x) kept c = all-well f f' x (c.stays ∙ kept)
+counts-on f f1 f' (Err e) kept c = counts-then f f1 f' e kept c

@@ -11,7 +11,7 @@ abbrev pub invariant-loop-earlier : goal.invariant-loop-earlier
 invariant-loop-earlier g l =
     record {
       kept : g.S.Store.objects l.store ≡ g.S.Store.objects l.fn.store;
-      faults : g.S.Store.faults l.fn.store ≤ g.S.Store.faults l.store;
+      faults : g.S.Store.faults l.store ≡ g.S.Store.faults l.fn.store;
       most : g.S.Store.calls l.store ≤ g.S.Store.calls l.fn.store + 2 * l.earlier;
       within : l.earlier ≤ 8;
       met : 0 < l.earlier → IfSome (g.S.Store.objects l.fn.store) (λ o. PlanCause (Stands (checkpoint_changes (to_take l.fn.lifetime l.fn.moment) o) o) (to_take l.fn.lifetime l.fn.moment) o (TransactionalObjectTimeout 8));

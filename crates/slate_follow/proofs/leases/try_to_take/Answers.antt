@@ -114,7 +114,7 @@ pub returns-in_err-is_put-clause-faults : goal.returns-in_err-is_put-clause-faul
 returns-in_err-is_put-clause-faults g c =
     let e = c.in_err-is_put.field-0.0 in
     let is : c.from_residual-in_err-is_put.result ≡ Err e = search rules in
-    rw is (counts-then _ _ _ e c.in_ok-latest.ensures.faults.count c.in_err-is_put.ensures.faults)
+    rw is (counts-then _ _ _ e c.in_ok-latest.ensures.faults.stays c.in_err-is_put.ensures.faults)
 
 -- the plan is that after the latest manifest
 planned-is : (lifetime : ℕ) (moment : ℤ) (latest : VersionedManifest) (given : Plan Lease) → to_take lifetime moment latest ≡ given → (a : Option Objects) → IfSome a (λ o. FindsLatest o (Ok latest)) → IfSome a (λ o. PlanIs (to_take lifetime moment) o given)

@@ -27,4 +27,4 @@ returns-clause-next g c = λ reader fits.
     (modelled-kept c.in_ok-latest.ensures.found c.in_ok-latest.ensures.kept (λ o is. ((v, is, refl, refl), refl))) turns
 
 pub returns-clause-faults : goal.returns-clause-faults
-returns-clause-faults g c = commit-counts _ _ c.keep_lease.result c.in_ok-latest.ensures.faults.count c.keep_lease.ensures.kind
+returns-clause-faults g c = commit-counts _ _ c.keep_lease.result c.in_ok-latest.ensures.faults.stays c.keep_lease.ensures.kind

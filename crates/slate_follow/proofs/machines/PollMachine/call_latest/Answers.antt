@@ -22,4 +22,4 @@ returns-clause-next g c =
     (modelled-kept c.in_ok-latest.ensures.found c.in_ok-latest.ensures.kept (λ o is. ((v, is, refl, refl), refl))) turn
 
 pub returns-clause-faults : goal.returns-clause-faults
-returns-clause-faults g c = decision-counts c.args.state.now.mode _ _ c.decide.result c.in_ok-latest.ensures.faults.count c.decide.ensures.kind
+returns-clause-faults g c = decision-counts c.args.state.now.mode _ _ c.decide.result c.in_ok-latest.ensures.faults.stays c.decide.ensures.kind

@@ -28,4 +28,4 @@ returns-then-id-last-clause-next g c = λ reader fits.
     (modelled-kept next c.in_ok-replayed.ensures.kept (λ o n. ((v.0, r.new.memory, Whole, v.1, n, refl, refl), refl))) turns
 
 pub returns-then-id-last-clause-faults : goal.returns-then-id-last-clause-faults
-returns-then-id-last-clause-faults g c = commit-counts _ _ c.keep_lease.result c.in_ok-replayed.ensures.count c.keep_lease.ensures.kind
+returns-then-id-last-clause-faults g c = commit-counts _ _ c.keep_lease.result c.in_ok-replayed.ensures.stays c.keep_lease.ensures.kind

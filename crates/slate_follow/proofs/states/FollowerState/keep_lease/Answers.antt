@@ -65,7 +65,7 @@ loop-earlier-preserved g c =
     record {
       same = again.0 ∙ i.same;
       kept = again.1 ∙ i.kept;
-      faults = (let up = a.ensures.faults.count in let low = i.faults in omega (arith, up, low));
+      faults = a.ensures.faults.stays ∙ i.faults;
       calls = tries-on t (g.S.Store.objects c.loop-earlier.store) i.kept c.loop-earlier.earlier (g.S.Store.calls c.args.store.now) (g.S.Store.calls c.loop-earlier.store) (g.S.Store.calls c.try_to_keep.new.store) i.calls (a.ensures.calls_again (ap Ok none));
       within = search rules;
       met = λ more. if_some (g.S.Store.objects c.args.store.now) (λ o at. timed-out (Stands (checkpoint_changes plan o) o) plan o (all.some o at).2.1.cause);

@@ -13,7 +13,7 @@ invariant-loop-earlier g l =
     record {
       same : l.self ≡ l.fn.self;
       kept : g.S.Store.objects l.store ≡ g.S.Store.objects l.fn.store;
-      faults : g.S.Store.faults l.fn.store ≤ g.S.Store.faults l.store;
+      faults : g.S.Store.faults l.store ≡ g.S.Store.faults l.fn.store;
       calls : IfSome (g.S.Store.objects l.fn.store) (λ o. g.S.Store.calls l.store ≤ g.S.Store.calls l.fn.store + l.earlier * (replayed_logs o + 3));
       within : l.earlier ≤ 8;
       met : 0 < l.earlier → IfSome (g.S.Store.objects l.fn.store) (λ o. PlanCause (Stands (checkpoint_changes (to_keep l.fn.self.view l.fn.lease l.fn.moment) o) o) (to_keep l.fn.self.view l.fn.lease l.fn.moment) o (TransactionalObjectTimeout 8));

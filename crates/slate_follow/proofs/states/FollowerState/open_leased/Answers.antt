@@ -41,7 +41,7 @@ returns-in_err-last-clause-takes g c x lawful =
     let t = g.S.Store.objects c.args.store.now in
     let t1 = g.S.Store.objects c.take_lease.new.store in
     let puts : WhereModelled (λ o o'. (made : ℕ) × PutsPlanned {B = VersionedManifest × Lease} Stands MayMismatch (to_take lifetime c.args.moment) o (Ok (v.view, v.lease)) made o') t t1 = search rules in
-    let faults = counts-then {B = Follower × PollAnswer} (g.S.Store.faults c.args.store.now) (g.S.Store.faults c.take_lease.new.store) (g.S.Store.faults c.last_read.new.store) e v.ensures.faults.count c.in_err-last.ensures.faults in
+    let faults = counts-then {B = Follower × PollAnswer} (g.S.Store.faults c.args.store.now) (g.S.Store.faults c.take_lease.new.store) (g.S.Store.faults c.last_read.new.store) e v.ensures.faults.stays c.in_err-last.ensures.faults in
     let plans : IfSome t (λ o. PlanIs (to_take lifetime c.args.moment) o (Ok (Some v.view, v.lease))) = search rules in
     let fits : IfSome t (λ o. RefusesLatest x true o None) = search (rules, v.ensures.fits x lawful) in
     let all = take-broken x lifetime c.args.options.now.skip_wal_replay c.args.moment t (g.S.Store.objects c.last_read.new.store) (g.S.Store.faults c.args.store.now) (g.S.Store.faults c.last_read.new.store) v.view v.lease t1 c.in_err-last.ensures.kept puts plans fits e (replay-rebuilding e c.in_err-last.ensures.refusals) (λ key is. absurd (replay-unnamed e key c.in_err-last.ensures.refusals is)) faults in
@@ -56,8 +56,8 @@ returns-in_err-rebuilt-clause-takes g c x lawful =
     let t = g.S.Store.objects c.args.store.now in
     let t1 = g.S.Store.objects c.take_lease.new.store in
     let puts : WhereModelled (λ o o'. (made : ℕ) × PutsPlanned {B = VersionedManifest × Lease} Stands MayMismatch (to_take lifetime c.args.moment) o (Ok (v.view, v.lease)) made o') t t1 = search rules in
-    let low : g.S.Store.faults c.args.store.now ≤ g.S.Store.faults c.last_read.new.store = (let a = v.ensures.faults.count in let b = c.in_ok-last.ensures.faults.count in omega (arith, a, b)) in
-    let faults = counts-then {B = Follower × PollAnswer} (g.S.Store.faults c.args.store.now) (g.S.Store.faults c.last_read.new.store) (g.S.Store.faults c.rebuild.new.store) e low c.in_err-rebuilt.ensures.faults in
+    let same : g.S.Store.faults c.last_read.new.store ≡ g.S.Store.faults c.args.store.now = (let a = v.ensures.faults.stays in let b = c.in_ok-last.ensures.faults.stays in omega (arith, a, b)) in
+    let faults = counts-then {B = Follower × PollAnswer} (g.S.Store.faults c.args.store.now) (g.S.Store.faults c.last_read.new.store) (g.S.Store.faults c.rebuild.new.store) e same c.in_err-rebuilt.ensures.faults in
     let plans : IfSome t (λ o. PlanIs (to_take lifetime c.args.moment) o (Ok (Some v.view, v.lease))) = search rules in
     let fits : IfSome t (λ o. RefusesLatest x true o None) = search (rules, v.ensures.fits x lawful) in
     let all = take-broken x lifetime c.args.options.now.skip_wal_replay c.args.moment t (g.S.Store.objects c.rebuild.new.store) (g.S.Store.faults c.args.store.now) (g.S.Store.faults c.rebuild.new.store) v.view v.lease t1 (c.in_err-rebuilt.ensures.kept ∙ c.in_ok-last.ensures.kept) puts plans fits e c.in_err-rebuilt.ensures.refusals
@@ -72,8 +72,8 @@ returns-in_err-new-clause-takes g c x lawful =
     let t = g.S.Store.objects c.args.store.now in
     let t1 = g.S.Store.objects c.take_lease.new.store in
     let puts : WhereModelled (λ o o'. (made : ℕ) × PutsPlanned {B = VersionedManifest × Lease} Stands MayMismatch (to_take lifetime c.args.moment) o (Ok (v.view, v.lease)) made o') t t1 = search rules in
-    let low : g.S.Store.faults c.args.store.now ≤ g.S.Store.faults c.rebuild.new.store = (let a = v.ensures.faults.count in let b = c.in_ok-last.ensures.faults.count in let d = c.in_ok-rebuilt.ensures.faults.count in omega (arith, a, b, d)) in
-    let faults = no-fault {A = Follower × PollAnswer} (g.S.Store.faults c.args.store.now) (g.S.Store.faults c.rebuild.new.store) low in
+    let same : g.S.Store.faults c.rebuild.new.store ≡ g.S.Store.faults c.args.store.now = (let a = v.ensures.faults.stays in let b = c.in_ok-last.ensures.faults.stays in let d = c.in_ok-rebuilt.ensures.faults.stays in omega (arith, a, b, d)) in
+    let faults = no-fault {A = Follower × PollAnswer} (g.S.Store.faults c.args.store.now) (g.S.Store.faults c.rebuild.new.store) same in
     let plans : IfSome t (λ o. PlanIs (to_take lifetime c.args.moment) o (Ok (Some v.view, v.lease))) = search rules in
     let fits : IfSome t (λ o. RefusesLatest x true o None) = search (rules, v.ensures.fits x lawful) in
     let all = take-broken x lifetime c.args.options.now.skip_wal_replay c.args.moment t (g.S.Store.objects c.rebuild.new.store) (g.S.Store.faults c.args.store.now) (g.S.Store.faults c.rebuild.new.store) v.view v.lease t1 (c.in_ok-rebuilt.ensures.kept ∙ c.in_ok-last.ensures.kept) puts plans fits NoMemory tt (λ key is. absurd (cc)) faults in
@@ -96,9 +96,9 @@ returns-clause-takes g c x lawful =
     let s = b.ensures.segments x lawful in
     let reads = subst (λ x. IfSome x (λ o. c.in_ok-last.last ≡ last_read ManagedCheckpoint skips v.view o)) (sym (b.ensures.kept ∙ c.in_ok-last.ensures.kept)) c.in_ok-last.ensures.where_modelled in
     let builds = subst (λ x. IfSome x (λ o. Builds o ManagedCheckpoint skips v.view c.in_ok-last.last b.rebuilt b.answer)) (sym b.ensures.kept) b.ensures.built in
-    let low : g.S.Store.faults c.args.store.now ≤ g.S.Store.faults c.rebuild.new.store = (let a = v.ensures.faults.count in let d = c.in_ok-last.ensures.faults.count in let h = b.ensures.faults.count in omega (arith, a, d, h)) in
+    let same : g.S.Store.faults c.rebuild.new.store ≡ g.S.Store.faults c.args.store.now = (let a = v.ensures.faults.stays in let d = c.in_ok-last.ensures.faults.stays in let h = b.ensures.faults.stays in omega (arith, a, d, h)) in
     let new : Follower = record b.rebuilt { lease = Some v.lease } in
-    let faults = all-well (g.S.Store.faults c.args.store.now) (g.S.Store.faults c.rebuild.new.store) (new, b.answer) low in
+    let faults = all-well (g.S.Store.faults c.args.store.now) (g.S.Store.faults c.rebuild.new.store) (new, b.answer) same in
     let answers : IsOpenAt skips new b.answer = (b.ensures.asked.0, b.ensures.asked.1, b.ensures.answer.1, b.ensures.answer.2) in
     let all = take-done x lifetime skips c.args.moment t t' (g.S.Store.faults c.args.store.now) (g.S.Store.faults c.rebuild.new.store) v.view v.lease t1 (b.ensures.kept ∙ c.in_ok-last.ensures.kept) puts plans fits
     b.rebuilt new b.answer c.in_ok-last.last reads builds b.ensures.answer.0 refl s.0 s.1 answers faults in

@@ -12,7 +12,7 @@ use Rattle.slate_follow.proofs.Answering.{rebuilding-polling, turn-polling}
 use Rattle.slate_follow.proofs.Counted.{replaced-calls}
 use Rattle.slate_follow.proofs.Lacking.{put-lacks}
 use Rattle.slate_follow.proofs.Planned.{broken-by, failed-by, polling-cause, put-by, unput-by, unstanding}
-use Rattle.slate_follow.proofs.Refusing.{err-same, poll-key, poll-polling}
+use Rattle.slate_follow.proofs.Refusing.{err-same, poll-counts, poll-key, poll-polling}
 use Rattle.slate_follow.proofs.Trying.{put-takes, put-truncates}
 use Rattle.slate_follow.specs.Rebuilding.{TakesUnder, TakingLacks, new_logs, poll_error, unleased}
 use Rattle.slate_follow.proofs.states.FollowerState.replace_lease.Goals as goal
@@ -89,6 +89,11 @@ returns-in-Err-clause-puts g c =
     let all = broken-by MayLack plan c.args.self.now.lease n.next n.taken gives b.kept puts {A = PollAnswer} e of (λ o. polling-cause plan o e of) in
     let same : c.follow.new.self.lease ≡ Some n.taken = ap (λ (f : Follower). f.lease) b.failed in
     rw (c.poll_error.ensures, same) all
+
+pub returns-in-Err-clause-faults : goal.returns-in-Err-clause-faults
+returns-in-Err-clause-faults g c =
+    rw c.poll_error.ensures
+    (poll-counts PollAnswer (Option PollAnswer) c.in-Err.error (g.S.Store.faults c.args.store.now) (g.S.Store.faults c.put_next.new.store) (g.S.Store.faults c.follow.new.store) c.in_ok-is_put.ensures.faults.stays c.in-Err.ensures.faults)
 
 pub returns-in-Err-clause-kind : goal.returns-in-Err-clause-kind
 returns-in-Err-clause-kind g c = rw c.poll_error.ensures (rebuilding-polling c.in-Err.error c.in-Err.ensures.refusals)

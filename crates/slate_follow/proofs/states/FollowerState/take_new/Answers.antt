@@ -81,7 +81,7 @@ returns-in_err-answer-clause-rebuilds g c x lawful =
     rw (p.1, p.2)
     (record {
       kept = search rules;
-      faults = poll-rises _ _ e _ _ _ v.ensures.faults.count b.faults;
+      faults = poll-rises _ _ e _ _ _ v.ensures.faults.stays b.faults;
       missing = λ is. absurd (poll-present _ _ e _ _ b.faults is);
       cause = poll-fails x old.mode t e b.refusals (λ key is. taken-some x v.latest old v.ensures.kept (lacks key is));
       fits = tt;

@@ -133,8 +133,8 @@ returns-then-not-is_due-clause-keeps g c =
 
 pub returns-in-Err-clause-faults : goal.returns-in-Err-clause-faults
 returns-in-Err-clause-faults g c =
-    let low : g.S.Store.faults c.args.store.now ≤ g.S.Store.faults c.news.new.store = (let a = c.in_ok-latest.ensures.faults.count in let b = c.in_ok-news.ensures.faults.count in omega (arith, a, b)) in
-    counts-then (g.S.Store.faults c.args.store.now) (g.S.Store.faults c.news.new.store) (g.S.Store.faults c.renew_lease.new.store) c.in-Err.error low c.in-Err.ensures.faults
+    let same : g.S.Store.faults c.news.new.store ≡ g.S.Store.faults c.args.store.now = (let a = c.in_ok-latest.ensures.faults.stays in let b = c.in_ok-news.ensures.faults.stays in omega (arith, a, b)) in
+    counts-then (g.S.Store.faults c.args.store.now) (g.S.Store.faults c.news.new.store) (g.S.Store.faults c.renew_lease.new.store) c.in-Err.error same c.in-Err.ensures.faults
 
 pub returns-in-Err-clause-puts : goal.returns-in-Err-clause-puts
 returns-in-Err-clause-puts g c =
@@ -197,8 +197,8 @@ returns-then-not-renewed-clause-again g c =
 
 pub returns-clause-faults : goal.returns-clause-faults
 returns-clause-faults g c =
-    let low : g.S.Store.faults c.args.store.now ≤ g.S.Store.faults c.renew_lease.new.store = (let a = c.in_ok-latest.ensures.faults.count in let b = c.in_ok-news.ensures.faults.count in let d = c.in-Ok.ensures.faults.count in omega (arith, a, b, d)) in
-    let all = all-well (g.S.Store.faults c.args.store.now) (g.S.Store.faults c.renew_lease.new.store) (Some c.take_news-2.result) low in
+    let same : g.S.Store.faults c.renew_lease.new.store ≡ g.S.Store.faults c.args.store.now = (let a = c.in_ok-latest.ensures.faults.stays in let b = c.in_ok-news.ensures.faults.stays in let d = c.in-Ok.ensures.faults.stays in omega (arith, a, b, d)) in
+    let all = all-well (g.S.Store.faults c.args.store.now) (g.S.Store.faults c.renew_lease.new.store) (Some c.take_news-2.result) same in
     search (rules, all)
 
 pub returns-clause-puts : goal.returns-clause-puts
@@ -561,8 +561,8 @@ returns-clause-free g c =
 
 pub returns-then-is_none-clause-faults : goal.returns-then-is_none-clause-faults
 returns-then-is_none-clause-faults g c =
-    let low : g.S.Store.faults c.args.store.now ≤ g.S.Store.faults c.news.new.store = (let a = c.in_ok-latest.ensures.faults.count in let b = c.in_ok-news.ensures.faults.count in omega (arith, a, b)) in
-    counts-on (g.S.Store.faults c.args.store.now) (g.S.Store.faults c.news.new.store) (g.S.Store.faults c.replace_missing.new.store) c.replace_missing.result low c.replace_missing.ensures.faults
+    let same : g.S.Store.faults c.news.new.store ≡ g.S.Store.faults c.args.store.now = (let a = c.in_ok-latest.ensures.faults.stays in let b = c.in_ok-news.ensures.faults.stays in omega (arith, a, b)) in
+    counts-on (g.S.Store.faults c.args.store.now) (g.S.Store.faults c.news.new.store) (g.S.Store.faults c.replace_missing.new.store) c.replace_missing.result same c.replace_missing.ensures.faults
 
 pub returns-then-is_none-clause-puts : goal.returns-then-is_none-clause-puts
 returns-then-is_none-clause-puts g c =

@@ -1,10 +1,10 @@
 // A handle that writes and its store, as one value.
-ghost use Rattle.std.specs.Prelude.{◌≡◌, ◌≤◌, ℕ, IfErr, IfOk, MatchResult, Err, Ok, Option};
+ghost use Rattle.std.specs.Prelude.{◌≡◌, ◌+◌, ◌≤◌, ℕ, IfErr, IfOk, IfSome, MatchResult, Err, Ok, Option};
 ghost use Rattle.std.specs.Option.{option_copied};
-ghost use Rattle.slate_types.specs.Line.{IsLine};
+ghost use Rattle.slate_db.specs.Keeping.{IsKept};
 ghost use Rattle.slate_model.specs.Handle.{accepted};
 ghost use Rattle.slate_model.specs.Known.{known};
-ghost use Rattle.slate_model.specs.Open.{OpensHandle};
+ghost use Rattle.slate_model.specs.Open.{OpensHandle, replayed_logs};
 ghost use Rattle.slate_model.specs.Segments.{Extractor, IsExtractor};
 ghost use Rattle.slate_model.specs.Status.{handle_status};
 ghost use Rattle.slate_model.specs.Stores.{by_objects};
@@ -22,7 +22,7 @@ use std::marker::Model;
 /// A handle that writes, with its store, as one value: what a `Db` holds under its lock. A program of one thread may use
 /// it by itself. Each call is that of `WriterState` of its name, over the store that it was opened with.
 ///
-/// A contract sees the handle and the store.
+/// A contract sees the handle and the store. Since no other changes the store, each call finds and leaves them in step.
 pub struct Held<S: Store> {
     pub(crate) writer: WriterState,
     pub(crate) store: S,
@@ -43,6 +43,10 @@ impl<S: Store> Model for Held<S> {
     ghost Value = { Holding S };
 
     ghost view = { λ held. record { handle = held.writer; store = held.store } };
+
+    ghost use Rattle.slate_db.specs.Keeping.{IsKept};
+
+    ghost invariant = { λ held. IsKept (S.objects held.store) held.writer };
 }
 
 impl<S: Store> Held<S> {
@@ -65,6 +69,7 @@ impl<S: Store> Held<S> {
         ensures kind { IfErr result IsOfOpening }
         ensures floor { IfOk result (λ held. held.handle.line.floor ≡ held.handle.view.manifest.last_l0_seq) }
         ensures faults { IfOk result (λ held. S.faults store ≤ S.faults held.store) }
+        ensures calls { IfOk result (λ held. IfSome (S.objects store) (λ o. S.calls held.store ≤ S.calls store + 4 + replayed_logs o)) }
     {
         let writer = WriterState::open(alloc, &mut store, options, extractor)?;
         Ok(Held { writer, store })
@@ -73,15 +78,17 @@ impl<S: Store> Held<S> {
     /// The number of the last batch that it accepted.
     pub fn accepted(&self) -> u64
         ensures value { result ≡ accepted self.now.handle }
-        // The batches in memory are numbered one after another, up to this number.
-        ensures line { IsLine self.now.handle.line }
+        // The batches in memory are numbered one after another, up to this number; where the store is modelled, memory begins
+        // after the tables of the latest manifest, and what is durable of it is stored.
+        ensures kept { IsKept (S.objects self.now.store) self.now.handle }
     {
         self.writer.accepted()
     }
 
     /// The number up to which its batches are stored.
     pub fn durable(&self) -> u64
-        ensures { result ≡ self.now.handle.durable }
+        ensures value { result ≡ self.now.handle.durable }
+        ensures accepted { result ≤ accepted self.now.handle }
     {
         self.writer.durable()
     }

@@ -1,20 +1,24 @@
 // A reader and its store, as one value.
-ghost use Rattle.std.specs.Prelude.{◌≡◌, ◌≢◌, ◌+◌, ◌≤◌, ℕ, true, false, None, Some, Ok, Err, Option, IfErr, IfOk, IfSome, MatchResult, length};
+ghost use Rattle.std.specs.Prelude.{◌≡◌, ◌≢◌, ◌+◌, ◌*◌, ◌≤◌, ℕ, true, false, None, Some, Ok, Err, Option, IfErr, IfOk, IfSome, MatchResult, length};
 ghost use Rattle.std.specs.Option.{option_copied};
 ghost use Rattle.slate_errors.specs.Errors.{closed_error};
 ghost use Rattle.slate_types.specs.Operator.{Merge};
 ghost use Rattle.slate_reads.specs.Read.{IsOperator, read_at};
 ghost use Rattle.slate_model.specs.Close.{closed_follower, ended, recorded_fault};
 ghost use Rattle.slate_model.specs.Follow.{Polls, Rebuilds, unseen};
+ghost use Rattle.slate_model.specs.Followed.{followed_logs};
 ghost use Rattle.slate_model.specs.Follower.{is_managed, is_pinned, number};
 ghost use Rattle.slate_model.specs.Known.{known};
 ghost use Rattle.slate_model.specs.Managed.{ClosesManaged, OpensManaged, PollsManaged};
 ghost use Rattle.slate_model.specs.Object.{Follower};
+ghost use Rattle.slate_model.specs.Open.{replayed_logs};
 ghost use Rattle.slate_model.specs.Read.{Gives, Reads, ReadsByAny};
 ghost use Rattle.slate_model.specs.Segments.{Extractor, IsExtractor};
 ghost use Rattle.slate_model.specs.Status.{follower_status};
 ghost use Rattle.slate_model.specs.Stores.{by_objects, kept_rows};
 ghost use Rattle.slate_follow.specs.Answering.{IsOfOpening, IsOfPoll};
+ghost use Rattle.slate_follow.specs.Keeping.{CallsKeeping};
+ghost use Rattle.slate_follow.specs.Rebuilding.{CallsContinuing, CallsOpening, CallsRebuilding};
 ghost use Rattle.slate_follow.specs.Scanned.{BeginsFrontOf, BeginsScanOf};
 
 use slate_errors::{CloseFault, Ended, SlateError};
@@ -71,6 +75,9 @@ impl<S: Store> HeldReader<S> {
         ensures managed { (x : Option Extractor) → IsExtractor E.may_name E.may_extract (option_copied extractor.entry) x → is_managed mode ≡ true →
             IfOk result (λ p. (made : ℕ) × OpensManaged (by_objects (S.objects store)) x made options.now.checkpoint_lifetime_ms options.now.manifest_poll_interval_ms
             options.now.skip_wal_replay moment (known S.objects S.faults store) (Ok (p.0.follower, p.1)) (known S.objects S.faults p.0.store)) }
+        ensures calls { is_managed mode ≡ false → IfOk result (λ p. IfSome (S.objects store) (λ o. CallsOpening mode options.now.skip_wal_replay o (S.calls store) (S.calls p.0.store))) }
+        ensures managed_calls { is_managed mode ≡ true → IfOk result (λ p. IfSome (S.objects store) (λ o. S.calls p.0.store ≤ S.calls store + (followed_logs mode options.now.skip_wal_replay o + 17))) }
+        ensures faults { IfOk result (λ p. S.faults store ≤ S.faults p.0.store) }
     {
         let (reader, answer) = FollowerState::open(
             alloc, &mut store, mode, options, extractor, moment,
@@ -177,6 +184,10 @@ impl<S: Store> HeldReader<S> {
             Polls (by_objects (S.objects self.old.store)) x self.old.follower (known S.objects S.faults self.old.store) result self.new.follower (known S.objects S.faults self.new.store) }
         ensures managed { (x : Option Extractor) → IsExtractor E.may_name E.may_extract (option_copied extractor.entry) x → is_managed self.old.follower.mode ≡ true →
             (made : ℕ) × PollsManaged (by_objects (S.objects self.old.store)) x made moment self.old.follower (known S.objects S.faults self.old.store) result self.new.follower (known S.objects S.faults self.new.store) }
+        ensures calls { is_managed self.old.follower.mode ≡ false → IfSome (S.objects self.old.store) (λ o. CallsRebuilding o (S.calls self.old.store) (S.calls self.new.store)) }
+        ensures costs { is_managed self.old.follower.mode ≡ false → IfOk result (λ _. IfSome (S.objects self.old.store) (λ o. CallsContinuing o self.old.follower (S.calls self.old.store) (S.calls self.new.store))) }
+        ensures managed_calls { is_managed self.old.follower.mode ≡ true → IfSome (S.objects self.old.store) (λ o. S.calls self.new.store ≤ S.calls self.old.store + 9 * (replayed_logs o + 3)) }
+        ensures costs_managed { is_managed self.old.follower.mode ≡ true → IfOk result (λ _. IfSome self.old.follower.lease (λ lease. IfSome (S.objects self.old.store) (λ o. CallsKeeping o self.old.follower lease moment (S.calls self.old.store) (S.calls self.new.store)))) }
         ensures count { S.faults self.old.store ≤ S.faults self.new.store }
         ensures closed { IfSome self.old.follower.result (λ r. result ≡ Err (closed_error r)) }
         ensures left { is_managed self.old.follower.mode ≡ false → IfErr result (λ _. self.new.follower ≡ self.old.follower) }
@@ -195,6 +206,8 @@ impl<S: Store> HeldReader<S> {
         ensures store { is_managed self.old.follower.mode ≡ false → self.new.store ≡ self.old.store }
         ensures managed { is_managed self.old.follower.mode ≡ true → (made : ℕ) × ClosesManaged (by_objects (S.objects self.old.store)) made self.old.follower (known S.objects S.faults self.old.store) result self.new.follower (known S.objects S.faults self.new.store) }
         ensures untouched { self.old.follower.result ≢ None → self.new.store ≡ self.old.store }
+        ensures count { S.faults self.old.store ≤ S.faults self.new.store }
+        ensures calls { S.calls self.new.store ≤ S.calls self.old.store + 16 }
     {
         self.reader.close(alloc, &mut self.store)
     }

@@ -93,9 +93,15 @@ impl<S: Store> Held<S> {
         ensures calls { S.calls self.new.store ≤ S.calls self.old.store + length self.old.handle.view.manifest.tables }
         ensures closed { (self.old.handle.result ≡ None → ⊥) → self.new.store ≡ self.old.store }
     {
-        let store = &mut self.store;
-        self.writer
-            .scan_first(alloc, store, range, options, limit, None, operator)
+        self.writer.scan_first(
+            alloc,
+            &mut self.store,
+            range,
+            options,
+            limit,
+            None,
+            operator,
+        )
     }
 
     /// Lists the operations on the keys with a prefix, source by source, as `WriterState::scan_by_recency` does.

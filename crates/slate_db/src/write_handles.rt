@@ -1,8 +1,9 @@
 // The handle of a write to a database.
 ghost use Rattle.std.specs.Prelude.{◌≡◌};
+ghost use Rattle.slate_receivers.specs.Outcomes.{EndsBy, IsRecorded};
 
-use slate_errors::{Error, SlateError};
-use slate_receivers::{StatusManager, WriteHandle as WaitingHandle};
+use slate_errors::Error;
+use slate_receivers::StatusManager;
 use slate_status::DurableAnswer;
 use slate_writer::Written;
 use std::fmt;
@@ -48,21 +49,20 @@ impl WriteHandle {
 
     /// Whether the write is durable: `Durable` where the database's durable number reaches its number, also after a close;
     /// else `Pending` while the database is open; else `Closed` or the error that closed it. It waits for the lock of the
-    /// status alone. `NoMemory` comes where too many share the status. Our own.
-    pub fn poll_durable<R: Wait>(&self, rt: &R) -> DurableAnswer {
-        match self.status.share() {
-            Ok(status) => {
-                WaitingHandle::of_manager(self.seq, self.create_ts, status).poll_durable(rt)
-            }
-            Err(_) => DurableAnswer::Failed(SlateError::NoMemory),
-        }
+    /// status alone, and takes no memory. Our own.
+    pub fn poll_durable<R: Wait>(&self, rt: &R) -> DurableAnswer
+        // The lock is given up before it returns, so it answers by some record that the status was.
+        ensures { IsRecorded self.now.seq result }
+    {
+        self.status.poll_durable(rt, self.seq)
     }
 
     /// Waits until `poll_durable` doesn't answer `Pending`: Ok where it answers `Durable`, and else that error. It sleeps until a
     /// flush or a close. Nothing is flushed by itself: another thread calls `flush`, `close` or `Db::run_flusher`.
-    pub fn await_durable<R: Wait>(&self, rt: &R) -> Result<(), Error> {
-        let status = self.status.share()?;
-        WaitingHandle::of_manager(self.seq, self.create_ts, status).await_durable(rt)
+    pub fn await_durable<R: Wait>(&self, rt: &R) -> Result<(), Error>
+        ensures { EndsBy (IsRecorded self.now.seq) result }
+    {
+        self.status.await_durable(rt, self.seq)
     }
 }
 

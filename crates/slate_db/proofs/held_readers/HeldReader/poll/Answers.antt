@@ -8,3 +8,11 @@ pub returns-clause-managed : goal.returns-clause-managed
 returns-clause-managed g c =
     let moment_back : to_z w64 (of_z w64 c.args.moment) ≡ c.args.moment = to_z-of_z {w = w64} {z = c.args.moment} c.ranges.moment in
     rw (← c.self.view_is, ← moment_back) c.poll.ensures.managed
+
+pub returns-clause-costs : goal.returns-clause-costs
+returns-clause-costs g c = rw (← c.self.view_is) c.poll.ensures.costs
+
+pub returns-clause-costs_managed : goal.returns-clause-costs_managed
+returns-clause-costs_managed g c =
+    let moment_back : to_z w64 (of_z w64 c.args.moment) ≡ c.args.moment = to_z-of_z {w = w64} {z = c.args.moment} c.ranges.moment in
+    rw (← c.self.view_is, ← moment_back) c.poll.ensures.costs_managed

@@ -11,11 +11,13 @@ use Rattle.slate_types.specs.declared.store_errors.StoreFault.TheVariants.{NotFo
 use Rattle.slate_store.specs.declared.objects.Checkpoint.{Checkpoint}
 use Rattle.slate_store.specs.declared.refusals.StoreRefusal.{StoreRefusal}
 use Rattle.slate_store.specs.declared.refusals.StoreRefusal.TheVariants as refusals
+use Rattle.slate_store.specs.Calls.{KeepsFaults}
 use Rattle.slate_store.specs.Checkpoints.{to_write}
 use Rattle.slate_store.specs.Objects.{Objects, ObjectsOf}
 use Rattle.slate_store.specs.Refusals.{CountsFaults as StoreFaults, CountsTries, FollowsPlan}
 use Rattle.slate_store.specs.Sweeps.{Sweeps}
 use Rattle.slate_model.specs.Maintain.{CommitsCheckpoint, SweepsObjects}
+use Rattle.slate_model.specs.Refusal.{error_of_refusal}
 use Rattle.slate_model.specs.Stores.{by_objects}
 use Rattle.slate_model.proofs.Maintained.{answered, commits-by, sweeps-by}
 use Rattle.slate_live.specs.Maintenance.{CommitsTo, SweepsTo}
@@ -56,7 +58,7 @@ opens-nothing k extractor keeps_log limit tasks store = record {
     none = λ h. h;
     some = λ o is. (o, is, record { answer = tt; part = omega arith; only = tt; can = λ h. absurd (omega (arith, h)); after = refl });
   };
-  faults = record { count = omega arith; unavailable = λ h. absurd (cc); none_missing = λ h. absurd (cc) };
+  faults = record { count = omega arith; unavailable = λ h. absurd (cc); stays = inl refl; none_missing = λ h. absurd (cc) };
   fresh = tt;
   view = tt;
   segmented = λ o line is stored. tt;
@@ -71,7 +73,7 @@ caused ext k mode (Some o) = tt
 pub follows-in_vain : (ext : Option Extractor) (k : Knowledge (List Batch)) (mode : DbReaderMode) (skips : Bool) (b : Follower × PollAnswer) (before after : Known (List Batch)) → Rebuilds k ext mode skips true unseen before (Ok b) after → Rebuilds k ext mode skips true unseen before (Err errors.NoMemory) after
 follows-in_vain ext k mode skips b before after did = record {
   kept = did.kept;
-  faults = record { count = did.faults.count; unavailable = λ h. absurd (cc) };
+  faults = record { count = did.faults.count; unavailable = λ h. absurd (cc); stays = inl did.faults.stays };
   missing = λ h. absurd (cc);
   cause = caused ext k mode before.objects;
   answer = tt;
@@ -94,7 +96,7 @@ module _ {L : Type 0} (ext : Option Extractor) (k : Knowledge L) (made lifetime 
 
   takes-in_vain : TakesLease k ext made lifetime skips moment before (Ok b) after → TakesLease k ext made lifetime skips moment before (Err errors.NoMemory) after
   takes-in_vain takes = record {
-    faults = record { count = takes.faults.count; unavailable = λ h. absurd (cc); none_missing = λ h. absurd (cc) };
+    faults = record { count = takes.faults.count; unavailable = λ h. absurd (cc); stays = inl takes.faults.stays; none_missing = λ h. absurd (cc) };
     puts = record { none = takes.puts.none; some = λ o is. let t = takes.puts.some o is in (t.0, t.1, puts-in_vain o t.0 t.2) };
     answers = tt;
     takes = tt;
@@ -199,6 +201,10 @@ unavailable-was (Err refusals.TransactionalObjectVersionExists) is = absurd (cc)
 unavailable-was (Err (refusals.TransactionalObjectTimeout tries)) is = absurd (cc)
 unavailable-was (Err refusals.NoMemory) is = absurd (cc)
 
+stays-answered : {A : Type 0} (faults faults' : ℕ) (r : Result A StoreRefusal) → KeepsFaults (refusals.ObjectStoreError Unavailable) faults faults' r → KeepsFaults (errors.ObjectStoreError Unavailable) faults faults' (answered r)
+stays-answered faults faults' (Ok x) stays = stays
+stays-answered faults faults' (Err e) stays = elim stays [ inl same ↦ inl same | inr fault ↦ inr (ap error_of_refusal fault) ]
+
 missing-was : {A : Type 0} (r : Result A StoreRefusal) → answered r ≡ Err (errors.ObjectStoreError NotFound) → r ≡ Err (refusals.ObjectStoreError NotFound)
 missing-was (Ok x) is = absurd (cc)
 missing-was (Err (refusals.ObjectStoreError fault)) is = let same : fault ≡ NotFound = cc in ap (λ f. Err (refusals.ObjectStoreError f)) same
@@ -221,7 +227,7 @@ commits lifetime moment given same a b faults faults' calls calls' r reply follo
         result = answered r;
         replied = replied;
         does = record {
-          faults = record { count = counts.count; unavailable = λ is. counts.unavailable (unavailable-was r is); none_missing = λ is. tries.none_missing (missing-was r is) };
+          faults = record { count = counts.count; unavailable = λ is. counts.unavailable (unavailable-was r is); stays = stays-answered faults faults' r counts.stays; none_missing = λ is. tries.none_missing (missing-was r is) };
           objects = modelled_by once.1 (λ o o' there f. subst (λ x. CommitsCheckpoint (by_objects x) lifetime moment o (answered r) once.0 o') (sym there) (commits-by lifetime moment o o' once.0 r f));
         };
       },
@@ -238,7 +244,7 @@ sweeps moment given same a b faults faults' r reply swept counts replied =
         result = answered r;
         replied = replied;
         does = record {
-          faults = record { count = counts.count; unavailable = λ is. counts.unavailable (unavailable-was r is) };
+          faults = record { count = counts.count; unavailable = λ is. counts.unavailable (unavailable-was r is); stays = stays-answered faults faults' r counts.stays };
           objects = modelled_by once.1 (λ o o' there f. subst (λ x. SweepsObjects (by_objects x) moment o (answered r) once.0 o') (sym there) (sweeps-by moment o o' once.0 r f));
         };
       },

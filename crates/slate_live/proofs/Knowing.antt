@@ -644,7 +644,7 @@ module _ (stored : Line) (o o' : Objects) (f f' : ℕ) (made : ℕ) (writes writ
         view = inr (leased-stored stored g.skips false o' latest m.sound here found can k (Some o) answer all alike);
         holds_it = λ _. leased-held stored g.skips false o' latest m.sound here found can k (Some o) answer all alike;
         acts = acts-by (Ok answer) new true managed replied same_writes (keeps-known lease (Ok answer) new live is (record {
-          faults = record { count = p.faults.count; unavailable = λ no. absurd (cc); none_missing = λ no. absurd (cc) };
+          faults = record { count = p.faults.count; unavailable = λ no. absurd (cc); stays = p.faults.stays; none_missing = λ no. absurd (cc) };
           puts = keep-puts lease (Ok answer) p;
           answers = (refl, refl, refl, leased-answers stored g.skips false o' latest m.sound here found can k (Some o) answer all alike);
           keeps = as_modelled (catalogue_of o) (catalogue_of o') (record {

@@ -10,6 +10,7 @@ pub mod Doing
 pub mod Endings
 pub mod Everywhere
 pub mod Fates
+pub mod Faulting
 pub mod Finding
 pub mod Following
 pub mod Holding

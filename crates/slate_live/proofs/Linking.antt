@@ -28,6 +28,7 @@ use Rattle.slate_live.specs.World.{Next, World, grown_by}
 use Rattle.slate_live.proofs.Completing.{completes}
 use Rattle.slate_live.proofs.Chains.{reached}
 use Rattle.slate_live.proofs.Confirming.{confirms}
+use Rattle.slate_live.proofs.Faulting.{answers-faults}
 use Rattle.slate_live.proofs.Prefixes.{prefix-after, prefix-same}
 use Rattle.slate_live.proofs.Representing.{leads}
 use Rattle.slate_live.proofs.Rising.{rises}
@@ -54,6 +55,7 @@ linked settings command live live' store store' made reply does w r segments =
       record {
         next = l.1;
         completes = completes settings w command reply l.0 r.valid segments l.1;
+        faults = answers-faults settings w command reply l.0 r.valid l.1;
         grows = grows settings w command reply l.0 l.1;
         durable = λ n handle at. (l.2.valid.handles n handle at).confirmed;
         rises = rises settings w command reply l.0 r.valid l.1;

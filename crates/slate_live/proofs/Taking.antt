@@ -123,7 +123,7 @@ module _ (ext : Option Extractor) (stored : Line) (o : Objects) (f made lifetime
             held = leased-held stored skips true o' view m.sound here found can b.0 (Some o) b.1 all (refl, refl);
           };
           known = passes (taken_whole (Ok b)) none (record {
-            faults = record { count = t.faults.count; unavailable = λ no. absurd (cc); none_missing = λ no. absurd (cc) };
+            faults = record { count = t.faults.count; unavailable = λ no. absurd (cc); stays = t.faults.stays; none_missing = λ no. absurd (cc) };
             puts = as_modelled (catalogue_of o) (catalogue_of o') (puts-known (to_take lifetime moment) (take-recheckpoints lifetime moment) o sound stored (TakeRefusal ext) (TakeRefusal ext) (take_refusal-known ext o) (taken_whole (Ok b)) made o' (record { cause = tt; part = puts.part; after = puts.after }));
             answers = (refl, refl, refl, leased-answers stored skips true o' view m.sound here found can b.0 (Some o) b.1 all (refl, refl));
             takes = as_modelled (catalogue_of o) (catalogue_of o') (record {

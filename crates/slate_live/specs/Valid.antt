@@ -1,9 +1,10 @@
 -- Commands that nothing in a world stands against, and the link of a command, which such a one answers.
-use Rattle.std.specs.Prelude.{◌≡◌, ◌≢◌, ℕ, ℤ, ◌<◌, ◌≤◌, Bool, true, false, List, [], ◌∷◌, length, slice_get, Option, Some, None, Result, Ok, Err, IfSome}
+use Rattle.std.specs.Prelude.{◌≡◌, ◌≢◌, ℕ, ℤ, ◌<◌, ◌≤◌, ◌⊎◌, Bool, true, false, List, [], ◌∷◌, length, slice_get, Option, Some, None, Result, Ok, Err, IfSome}
 use Rattle.slate_types.specs.declared.batches.Batch.{Batch}
 use Rattle.slate_types.specs.declared.batches.KeyOp.{KeyOp}
 use Rattle.slate_types.specs.declared.batches.KeyValue.{KeyValue}
 use Rattle.slate_types.specs.declared.read_faults.ReadFault.{ReadFault}
+use Rattle.slate_types.specs.declared.store_errors.StoreFault.TheVariants.{Unavailable}
 use Rattle.slate_types.specs.Counts.{HasRisen}
 use Rattle.slate_types.specs.Line.{IsPrefix, end}
 use Rattle.slate_rows.specs.Iteration.{Iteration}
@@ -240,6 +241,12 @@ IsOkOrNoMemory (replies.Follower object false at) = ⊥
 IsOkOrNoMemory (replies.Polled false at) = ⊥
 IsOkOrNoMemory reply = Unit {0}
 
+-- a reply that is a fault of the store, also one that ends what is closed
+abbrev pub IsStoreFault : Reply → Type 0
+IsStoreFault (replies.Refused (errors.ObjectStoreError Unavailable)) = Unit {0}
+IsStoreFault (replies.Ended (Some (errors.ObjectStoreError Unavailable)) tasks) = Unit {0}
+IsStoreFault reply = ⊥
+
 -- the write with this number is among the batches that are stored: so is the batch that it added to its handle's line
 pub record IsConfirmed (w : World) (n : ℕ) : Type 0 where
   pub write : Write
@@ -248,12 +255,13 @@ pub record IsConfirmed (w : World) (n : ℕ) : Type 0 where
   pub stored : (batch : Batch) → IsBatchOf w n batch → StandsIn batch w.stored
 
 -- The link of a command: its reply and the world that it leads to are such as follow. A valid command that meets no
--- fault of the store is refused nothing. What is stored stays stored, what a handle knows to
+-- fault of the store is refused nothing, and one that meets a fault answers it. What is stored stays stored, what a handle knows to
 -- be durable is, the number of no follower falls, a write that is reported durable is stored, and what is stored is
 -- seen by each opening and each poll.
 pub record Link (settings : Settings) (w : World) (command : Command) (reply : Reply) (w' : World) : Type 0 where
   pub next : Next settings w command reply w'
   pub completes : IsValidCommand settings w command → (HasRisen w.faults w'.faults → ⊥) → IsOkOrNoMemory reply
+  pub faults : (w'.faults ≡ w.faults) ⊎ IsStoreFault reply
   pub grows : IsPrefix w.stored w'.stored
   pub durable : (n : ℕ) (handle : Handle) → slice_get w'.objects n ≡ Some (AHandle handle) → IsPrefix (up_to handle.durable handle.line) w'.stored
   pub rises : Rise w.objects w'.objects

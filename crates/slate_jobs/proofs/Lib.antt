@@ -1,0 +1,6 @@
+pub mod Entries
+pub mod Values
+pub mod Slots
+pub mod Keys
+pub mod Holding
+pub mod RowReading

@@ -1,0 +1,9 @@
+//! A job store on one writer: jobs are enqueued, claimed for a time and completed, and each request has one reply for good.
+#![tactic(auto)]
+
+mod effects;
+mod jobs;
+mod reading;
+mod rows;
+
+pub use jobs::{Job, JobOp, JobRefusal, JobReply, JobState};

@@ -1,6 +1,12 @@
+pub mod Asking
+pub mod Bytes
+pub mod Decoded
 pub mod Entries
-pub mod Values
-pub mod Slots
-pub mod Keys
 pub mod Holding
+pub mod Keys
 pub mod RowReading
+pub mod Slots
+pub mod Values
+pub mod Calling
+pub mod Standing
+pub mod Opened

@@ -1,10 +1,17 @@
 -- Reading rows as a machine.
-use Rattle.std.specs.Prelude.{◌==◌, ◌&&◌, ℕ, nat_lt, if◌then◌else◌, Bool, List, [], ◌∷◌, ◌++◌, length, drop, take, slice_index, Option, Some, None}
+use Rattle.std.specs.Prelude.{◌==◌, ◌&&◌, ◌<◌, ℕ, nat_lt, if◌then◌else◌, Bool, List, [], ◌∷◌, ◌++◌, length, drop, take, slice_index, Option, Some, None}
 use Rattle.std.specs.Int.{w64, cast_signed, from_be_bytes}
 use Rattle.std.specs.BTreeMap.{insert_entry}
+use Rattle.std.specs.List.{AllByRecursion}
 use Rattle.std.specs.Option.{is_none, option_and_then, option_map}
 use Rattle.std.specs.Ordering.{nat_cmp}
+use Rattle.slate_types.specs.declared.batches.Batch.{Batch}
 use Rattle.slate_types.specs.declared.batches.KeyValue.{KeyValue}
+use Rattle.slate_types.specs.declared.ranges.ByteRange.{ByteRange}
+use Rattle.slate_types.specs.declared.ranges.KeyBound.TheVariants.{Unbounded}
+use Rattle.slate_types.specs.declared.read_faults.ReadFault.{ReadFault}
+use Rattle.slate_types.specs.declared.scan_options.IterationOrder.TheVariants.{Ascending}
+use Rattle.slate_rows.specs.Scan.{IsScan}
 use Rattle.slate_jobs.specs.declared.jobs.Job.{Job}
 use Rattle.slate_jobs.specs.declared.jobs.JobReply.{JobReply}
 use Rattle.slate_jobs.specs.declared.jobs.JobReply.TheVariants as replies
@@ -103,3 +110,23 @@ machine_at rows = with_rows empty rows
 -- a machine, where something was taken into it
 abbrev pub taken : Bool → Machine → Option Machine
 taken took machine = if took then Some machine else None
+
+-- numbers that are bytes
+abbrev pub IsBytes : List ℕ → Type 0
+IsBytes bytes = (i : ℕ) → slice_index bytes i < 256
+
+-- the key and the value of a row are bytes
+abbrev pub IsOfBytes : KeyValue → Type 0
+IsOfBytes row = IsBytes row.key × IsBytes row.value
+
+-- so are those of each of these
+abbrev pub AreOfBytes : List KeyValue → Type 0
+AreOfBytes rows = AllByRecursion IsOfBytes rows
+
+-- the whole range of keys
+abbrev pub full : ByteRange
+full = record { low = Unbounded; high = Unbounded }
+
+-- the rows of all keys of batches, in their order, and the fault that ends them
+abbrev pub AreRows : List Batch → List KeyValue → Option ReadFault → Type 0
+AreRows batches rows fault = IsScan None batches None full Ascending rows fault

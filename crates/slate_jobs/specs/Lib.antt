@@ -1,3 +1,5 @@
-pub mod Machine
-pub mod Rows
+pub mod Calls
 pub mod Decoding
+pub mod Machine
+pub mod Queue
+pub mod Rows

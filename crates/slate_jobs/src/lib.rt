@@ -2,6 +2,7 @@
 #![tactic(auto)]
 
 mod effects;
+mod failures;
 mod jobs;
 mod reading;
 mod rows;

@@ -1,7 +1,7 @@
 // Reading the rows of a store as a machine.
 ghost use Rattle.std.specs.Prelude.{◌≡◌, ℕ, List, IfOk, option_map};
 ghost use Rattle.std.specs.Option.{option_and_then};
-ghost use Rattle.slate_jobs.specs.Decoding.{machine_at, taken, with_job, with_reply, with_row};
+ghost use Rattle.slate_jobs.specs.Decoding.{AreOfBytes, IsBytes, IsOfBytes, machine_at, taken, with_job, with_reply, with_row};
 ghost use Rattle.slate_jobs.specs.declared.jobs.Job.{Job as AJob};
 ghost use Rattle.slate_jobs.specs.declared.jobs.JobReply.{JobReply as AReply};
 
@@ -12,18 +12,10 @@ use std::alloc::Global;
 use std::collections::BTreeMap;
 
 /// The jobs and the kept replies of a machine.
+#[derive(Drop)]
 pub(crate) struct Kept {
     pub(crate) jobs: Vec<Job>,
     pub(crate) replies: BTreeMap<u64, JobReply>,
-}
-
-impl Drop for Kept {
-    fn drop(self) {
-        let Kept {
-            jobs: _,
-            replies: _,
-        } = self;
-    }
 }
 
 /// The machine that rows in the order of their keys are, where they are one's.
@@ -93,4 +85,26 @@ fn take_reply(
     }
     replies.insert(request, reply).map_err(NoMemory::from)?;
     Ok(true)
+}
+
+/// Does nothing: its contract says what the type of a byte says.
+fn note_bytes(bytes: &[u8])
+    ensures { IsBytes bytes.now }
+{}
+
+/// Does nothing: its contract says what the types of a key and a value say.
+fn note_row(row: &KeyValue)
+    ensures { IsOfBytes row.now }
+{
+    note_bytes(row.key.as_slice());
+    note_bytes(row.value.as_slice());
+}
+
+/// Does nothing: its contract says what the types of keys and values say.
+pub(crate) fn note_rows(rows: &[KeyValue])
+    ensures { AreOfBytes rows.now }
+{
+    for row in rows {
+        note_row(row);
+    }
 }

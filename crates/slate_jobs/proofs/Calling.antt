@@ -4,7 +4,7 @@ use Rattle.std.proofs.lemmas.List.{append-nil, append_assoc}
 use Rattle.std.proofs.lemmas.Option.{slice_get_within}
 use Rattle.std.specs.Option.{IfSome}
 use Rattle.std.specs.Prelude.{slice_get}
-use Rattle.std.specs.Result.{IfErr, IfOk}
+use Rattle.std.specs.Result.{IfErr, IfOk, IsErrAnd}
 use Rattle.slate_types.specs.Line.{Line, end, extended}
 use Rattle.slate_types.specs.declared.batches.Batch.{Batch}
 use Rattle.slate_types.specs.declared.options.FlushType.TheVariants.{Wal}
@@ -32,9 +32,13 @@ use Rattle.slate_jobs.specs.declared.jobs.JobReply.{JobReply}
 use Rattle.slate_jobs.specs.declared.jobs.JobState.{JobState}
 use Rattle.slate_jobs.specs.declared.jobs.JobState.TheVariants.{Waiting, Claimed, Done}
 use Rattle.slate_jobs.specs.Calls.{Accepts, Leaves, MayStep, RefusesBatch, Stands, Stores, failing_by, puts_for, refused_by}
-use Rattle.slate_jobs.specs.Machine.{Machine, after, claim_at, claim_of, completion_by, completion_of, effect_of, first_claimable, kept_reply, stepped, stepped_by}
+use Rattle.slate_jobs.specs.Machine.{Machine, after, claim_at, jobs_after, claim_of, completion_by, completion_of, effect_of, first_claimable, kept_reply, stepped, stepped_by}
 use Rattle.slate_jobs.specs.Queue.{IsHeld, IsInStep, Queue, error_of, failing, failure_of, refusal_of}
-use Rattle.slate_jobs.specs.Rows.{Holds}
+use Rattle.slate_jobs.specs.Rows.{Holds, puts_of}
+use Rattle.std.specs.BTreeMap.{insert_entry}
+use Rattle.std.specs.Ordering.{nat_cmp}
+use Rattle.slate_types.specs.declared.batches.KeyOp.{KeyOp}
+use Rattle.slate_model.specs.Write.{write_refusal, written}
 use Rattle.slate_jobs.proofs.Holding.{IsWithin, holds-after}
 use Rattle.slate_jobs.proofs.Standing.{accepted-more, accepted-step, fate, flush-all, flush-either, flush-sound, ok-none, ok-step, short-same, short-step, short-unstored}
 
@@ -64,7 +68,7 @@ module _ (jobs : List Job) (room : length jobs < 2 ^ 64) where
   completion-within number token None at = tt
   completion-within number token (Some job) at = state-within number token job.payload job.state (within number job at)
 
-  effect-within : (request : ℕ) (op : JobOp) (moment : ℤ) → IsWithin (length jobs) (effect_of jobs request op moment).change
+  pub effect-within : (request : ℕ) (op : JobOp) (moment : ℤ) → IsWithin (length jobs) (effect_of jobs request op moment).change
   effect-within request (Enqueue payload) moment = room
   effect-within request (Claim lease) moment = place-within request _ (first_claimable jobs moment)
   effect-within request (Complete number token) moment = completion-within number token (slice_get jobs number) refl
@@ -206,3 +210,44 @@ never-fault (faults.Custom number) previous next is = cc
 pub never-closed : (r : Result (Unit {0}) CloseFault) (previous next : ℤ) → closed_error r ≡ errors.InvalidClockTick previous next → ⊥
 never-closed (Ok done) previous next is = cc
 never-closed (Err fault) previous next is = never-fault fault previous next is
+
+-- job stores with the same parts are one
+pub queue-same : (a b : Queue) → a.handle ≡ b.handle → a.machine.jobs ≡ b.machine.jobs → a.machine.replies ≡ b.machine.replies → a.failure ≡ b.failure → a ≡ b
+queue-same a b handle jobs kept failure =
+    ap (λ x. record { handle = x; machine = a.machine; failure = a.failure }) handle
+    ∙ (ap (λ x. record { handle = b.handle; machine = record { jobs = x; replies = a.machine.replies }; failure = a.failure }) jobs
+    ∙ (ap (λ x. record { handle = b.handle; machine = record { jobs = b.machine.jobs; replies = x }; failure = a.failure }) kept
+    ∙ ap (λ x. record { handle = b.handle; machine = b.machine; failure = x }) failure))
+
+module _ (request : ℕ) (op : JobOp) (moment : ℤ) (q q' : Queue) where
+  -- memory ran out before the batch
+  pub short-refuses : q.failure ≡ None → q' ≡ q → (refusal : JobRefusal) → refusal ≡ refusals.NoMemory → RefusesBatch request op moment q q' refusal
+  short-refuses live same refusal is = inr (errors.NoMemory, is, same ∙ ap (λ f. record q { failure = f }) live, inl refl)
+
+  -- the handle refused it
+  pub write-refuses : (e : SlateError) (refusal : JobRefusal) (ops : List KeyOp) → ops ≡ puts_for request op moment q → refusal ≡ refusal_of e → (e ≡ errors.NoMemory) ⊎ (write_refusal None q.handle ops moment None ≡ Some e) →
+      q'.handle ≡ q.handle → q'.machine.jobs ≡ q.machine.jobs → q'.machine.replies ≡ q.machine.replies → q'.failure ≡ failing e → RefusesBatch request op moment q q' refusal
+  write-refuses e refusal ops are is why handle jobs kept failure =
+      inr (
+        e,
+        is,
+        queue-same q' (record q { failure = failing e }) handle jobs kept failure,
+        subst (λ xs. (e ≡ errors.NoMemory) ⊎ (write_refusal None q.handle xs moment None ≡ Some e)) are why,
+      )
+
+  -- and took it
+  pub write-accepts : (effect : Effect) (ops : List KeyOp) (at : ℤ) → effect ≡ effect_of q.machine.jobs request op moment → request < 2 ^ 64 → length q.machine.jobs < 2 ^ 64 → ops ≡ puts_of (length q.machine.jobs) request effect →
+      q'.handle ≡ written None q.handle ops at → q'.machine.jobs ≡ jobs_after q.machine.jobs effect.change → q'.machine.replies ≡ insert_entry nat_cmp q.machine.replies request effect.reply → q'.failure ≡ None → Accepts request op moment q q'
+  write-accepts effect ops at is fits room are handle jobs kept failure =
+      record {
+        fits = fits;
+        room = room;
+        handle = (at, handle ∙ ap (λ xs. written None q.handle xs at) (are ∙ ap (puts_of (length q.machine.jobs) request) is));
+        machine = ap (λ x. record { jobs = x; replies = q'.machine.replies }) (jobs ∙ ap (λ (e : Effect). jobs_after q.machine.jobs e.change) is)
+            ∙ ap (λ x. record { jobs = jobs_after q.machine.jobs (effect_of q.machine.jobs request op moment).change; replies = x }) (kept ∙ ap (λ (e : Effect). insert_entry nat_cmp q.machine.replies request e.reply) is);
+        failure = failure;
+      }
+
+  pub short-errs : {A : Type 0} (result : Result A JobRefusal) → IsErrAnd result (λ refusal. refusal ≡ refusals.NoMemory) → q.failure ≡ None → q' ≡ q → IfErr result (RefusesBatch request op moment q q')
+  short-errs (Ok x) is live same = tt
+  short-errs (Err refusal) is live same = short-refuses live same refusal is

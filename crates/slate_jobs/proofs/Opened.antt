@@ -1,8 +1,8 @@
 -- What an opening leaves of an honest store, and what its handle reads.
-use Rattle.std.proofs.Common.{◌≡◌, ℕ, zero, suc, ◌+◌, ◌<◌, ◌≤◌, inl, inr, List, [], ◌∷◌, ◌++◌, length, Option, Some, None, Result, Ok, Err, Bool, true, refl, sym, subst, ap, ◌∙◌, arith}
+use Rattle.std.proofs.Common.{◌≡◌, ℕ, zero, suc, ◌+◌, ◌<◌, ◌≤◌, ◌⊎◌, inl, inr, List, [], ◌∷◌, ◌++◌, length, Option, Some, None, Result, Ok, Err, Bool, true, refl, sym, subst, ap, ◌∙◌, arith}
 use Rattle.std.specs.Prelude.{◌≢◌}
 use Rattle.std.proofs.lemmas.List.{append-nil}
-use Rattle.std.specs.Result.{IfOk}
+use Rattle.std.specs.Result.{IfErr, IfOk}
 use Rattle.slate_types.proofs.Lines.{above-none}
 use Rattle.slate_types.specs.Line.{AreNumberedFrom, Line, batches_above, end}
 use Rattle.slate_types.specs.declared.batches.Batch.{Batch}
@@ -162,3 +162,25 @@ short-opens o o' h opens = record { sound = opens.sound; kept = opens.kept; held
 -- a handle that wasn't opened
 pub unopened : (o o' : Objects) (refusal : JobRefusal) → OpensWriter o o' (Err refusal) → Opens o o' (Err refusal)
 unopened o o' refusal opens = record { sound = opens.sound; kept = opens.kept; held = tt; found = tt; foreign = λ no. absurd (opens.foreign (let same : refusal ≡ refusals.Foreign = cc in ap Err same)) }
+
+-- the rows that an iterator had left
+module _ (has : List Batch → Type 0) (batches : List Batch) (there : has batches) (rows : List KeyValue) (fault : Option ReadFault) (are : AreRows batches rows fault) where
+  pub rows-read : (result : Result (List KeyValue) JobRefusal) → IfOk result (λ all. (rows ≡ all) × (fault ≡ None)) → IfOk result (λ all. (bs : List Batch) × has bs × AreRows bs all None)
+  rows-read (Err e) is = tt
+  rows-read (Ok all) is = (batches, there, subst (λ f. AreRows batches all f) is.1 (subst (λ rs. AreRows batches rs fault) is.0 are))
+
+  pub rows-foreign : (result : Result (List KeyValue) JobRefusal) → (result ≡ Err refusals.Foreign → (f : ReadFault) × (fault ≡ Some f)) → result ≡ Err refusals.Foreign →
+      (bs : List Batch) × has bs × (rs : List KeyValue) × (f : ReadFault) × AreRows bs rs (Some f)
+  rows-foreign result why is = let found = why is in (batches, there, rows, found.0, subst (λ f. AreRows batches rows f) found.1 are)
+
+-- the job store that rows give, or why they give none
+pub of-rows-opens : (o o' : Objects) (h : Handle) (opens : OpensWriter o o' (Ok h)) (t : Option Objects) → t ≡ Some o' → (rows : List KeyValue) (batches : List Batch) → kept_rows t (AHandle h) batches → AreRows batches rows None → AreOfBytes rows →
+    (result : Result Queue JobRefusal) → IfOk result (λ queue. (queue.handle ≡ h) × (queue.failure ≡ None) × (machine_at rows ≡ Some queue.machine)) →
+    IfErr result (λ refusal. (refusal ≡ refusals.NoMemory) ⊎ ((refusal ≡ refusals.Foreign) × (machine_at rows ≡ None))) → Opens o o' result
+of-rows-opens o o' h opens t is rows batches reads are bytes (Ok q) ok err =
+    let same : record { handle = h; machine = q.machine; failure = None } ≡ q = ap (λ x. record { handle = x; machine = q.machine; failure = None }) (sym ok.0) ∙ ap (λ f. record { handle = q.handle; machine = q.machine; failure = f }) (sym ok.1) in
+    subst (λ (x : Queue). Opens o o' (Ok x)) same (queue-opens o o' h opens t is rows batches reads are bytes q.machine ok.2)
+of-rows-opens o o' h opens t is rows batches reads are bytes (Err refusal) ok err = elim err [
+  | inl short ↦ subst (λ r. Opens o o' (Err r)) (sym short) (short-opens o o' h opens)
+  | inr none ↦ subst (λ r. Opens o o' (Err r)) (sym none.0) (none-opens o o' h opens t is rows batches reads are none.1)
+]

@@ -4,7 +4,9 @@
 mod effects;
 mod failures;
 mod jobs;
+mod laws;
 mod reading;
 mod rows;
 
 pub use jobs::{Job, JobOp, JobRefusal, JobReply, JobState};
+pub use laws::rows_and_machine_give_each_other;

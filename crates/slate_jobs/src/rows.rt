@@ -1,10 +1,11 @@
 // The rows of jobs and of kept replies, as bytes and back.
-ghost use Rattle.std.specs.Prelude.{◌≡◌, ◌≤◌, ◌+◌, ◌∷◌, [], length, IfOk};
+ghost use Rattle.std.specs.Prelude.{◌≡◌, ◌≤◌, ◌<◌, ◌^◌, ◌+◌, ◌∷◌, [], length, IfOk};
+ghost use Rattle.slate_jobs.specs.Machine.{effect_of};
 ghost use Rattle.slate_jobs.specs.Decoding.{cells_at, is_bare, job_in, name_at, number_at, plain_reply_in, reply_in, state_in};
 ghost use Rattle.slate_jobs.specs.Rows.{eight, job_cells, job_key, job_value, put, puts_of, reply_cells, reply_key, reply_value, spelled};
 
 use crate::effects::{Change, Effect};
-use crate::jobs::{Job, JobReply, JobState};
+use crate::jobs::{Job, JobOp, JobReply, JobState};
 use bytes::Bytes;
 use slate_types::{KeyOp, NoMemory, Op, Seq, WriteBatch};
 use std::alloc::Global;
@@ -262,7 +263,7 @@ fn put_reply(alloc: Global, request: u64, reply: &JobReply) -> Result<KeyOp, NoM
 }
 
 /// The batch of an effect, where there are so many jobs before: the row of its job, and that of its reply.
-pub(crate) fn batch_of(
+fn batch_of(
     alloc: Global,
     count: u64,
     request: u64,
@@ -278,4 +279,32 @@ pub(crate) fn batch_of(
     }
     ops.push(put_reply(alloc, request, &effect.reply)?)?;
     Ok(WriteBatch { ops: Seq::of(ops) })
+}
+
+/// What a request does, and its batch.
+#[derive(Drop)]
+pub(crate) struct Plan {
+    pub(crate) effect: Effect,
+    pub(crate) batch: WriteBatch,
+}
+
+impl Plan {
+    /// That of a request that has no reply yet.
+    pub(crate) fn of(
+        alloc: Global,
+        jobs: &[Job],
+        request: u64,
+        op: JobOp,
+        moment: i64,
+    ) -> Result<Plan, NoMemory>
+        ensures effect { IfOk result (λ plan. plan.effect ≡ effect_of jobs.now request op moment) }
+        ensures batch { IfOk result (λ plan. plan.batch.ops ≡ puts_of (length jobs.now) request plan.effect) }
+        // What the types say.
+        ensures room { IfOk result (λ plan. length jobs.now < 2 ^ 64) }
+        ensures fits { request < 2 ^ 64 }
+    {
+        let effect = Effect::of(jobs, request, op, moment)?;
+        let batch = batch_of(alloc, jobs.len() as u64, request, &effect)?;
+        Ok(Plan { effect, batch })
+    }
 }

@@ -2,9 +2,9 @@
 use Rattle.std.proofs.Common.{◌≡◌, ℕ, ℤ, ◌+◌, ◌<◌, ◌≤◌, ◌^◌, ◌⊎◌, inl, inr, ◌==◌, List, [], ◌∷◌, ◌++◌, length, cond, Option, Some, None, Result, Ok, Err, Bool, true, false, refl, sym, subst, ap, ◌∙◌, arith}
 use Rattle.std.proofs.lemmas.List.{append-nil, append_assoc}
 use Rattle.std.proofs.lemmas.Option.{slice_get_within}
-use Rattle.std.specs.Option.{IfSome}
+use Rattle.std.specs.Option.{IfSome, is_some}
 use Rattle.std.specs.Prelude.{slice_get}
-use Rattle.std.specs.Result.{IfErr, IfOk, IsErrAnd}
+use Rattle.std.specs.Result.{IfErr, IfOk, IsErrAnd, OnOk}
 use Rattle.slate_types.specs.Line.{Line, end, extended}
 use Rattle.slate_types.specs.declared.batches.Batch.{Batch}
 use Rattle.slate_types.specs.declared.options.FlushType.TheVariants.{Wal}
@@ -31,7 +31,7 @@ use Rattle.slate_jobs.specs.declared.jobs.JobRefusal.TheVariants as refusals
 use Rattle.slate_jobs.specs.declared.jobs.JobReply.{JobReply}
 use Rattle.slate_jobs.specs.declared.jobs.JobState.{JobState}
 use Rattle.slate_jobs.specs.declared.jobs.JobState.TheVariants.{Waiting, Claimed, Done}
-use Rattle.slate_jobs.specs.Calls.{Accepts, Leaves, MayStep, RefusesBatch, Stands, Stores, failing_by, puts_for, refused_by}
+use Rattle.slate_jobs.specs.Calls.{Accepts, Leaves, MayStep, RefusesBatch, Stands, Stores, Takes, failing_by, puts_for, refused_by}
 use Rattle.slate_jobs.specs.Machine.{Machine, after, claim_at, jobs_after, claim_of, completion_by, completion_of, effect_of, first_claimable, kept_reply, stepped, stepped_by}
 use Rattle.slate_jobs.specs.Queue.{IsHeld, IsInStep, Queue, error_of, failing, failure_of, refusal_of}
 use Rattle.slate_jobs.specs.Rows.{Holds, puts_of}
@@ -251,3 +251,16 @@ module _ (request : ℕ) (op : JobOp) (moment : ℤ) (q q' : Queue) where
   pub short-errs : {A : Type 0} (result : Result A JobRefusal) → IsErrAnd result (λ refusal. refusal ≡ refusals.NoMemory) → q.failure ≡ None → q' ≡ q → IfErr result (RefusesBatch request op moment q q')
   short-errs (Ok x) is live same = tt
   short-errs (Err refusal) is live same = short-refuses live same refusal is
+
+  -- a request that had no reply
+  pub takes-new : (result : Result (Unit {0}) JobRefusal) → kept_reply q.machine request ≡ None → OnOk result (Accepts request op moment q q') → OnOk result (Takes request op moment q q')
+  takes-new (Ok x) free accepts = inr (free, accepts)
+  takes-new (Err e) free accepts = tt
+
+  pub refuses-new : (result : Result (Unit {0}) JobRefusal) → kept_reply q.machine request ≡ None → IfErr result (RefusesBatch request op moment q q') → IfErr result (λ refusal. (kept_reply q.machine request ≡ None) × RefusesBatch request op moment q q' refusal)
+  refuses-new (Ok x) free refuses = tt
+  refuses-new (Err e) free refuses = (free, refuses)
+
+pub none-there : {X : Type 0} (found : Option X) → is_some found ≡ false → found ≡ None
+none-there None is = refl
+none-there (Some x) is = absurd (let no = is in cc)

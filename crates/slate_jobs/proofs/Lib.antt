@@ -10,3 +10,4 @@ pub mod Values
 pub mod Calling
 pub mod Standing
 pub mod Opened
+pub mod Ticking

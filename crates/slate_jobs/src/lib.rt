@@ -7,6 +7,8 @@ mod jobs;
 mod laws;
 mod reading;
 mod rows;
+mod stores;
 
 pub use jobs::{Job, JobOp, JobRefusal, JobReply, JobState};
 pub use laws::rows_and_machine_give_each_other;
+pub use stores::JobStore;

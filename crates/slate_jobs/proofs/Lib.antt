@@ -1,0 +1,13 @@
+pub mod Asking
+pub mod Bytes
+pub mod Decoded
+pub mod Entries
+pub mod Holding
+pub mod Keys
+pub mod RowReading
+pub mod Slots
+pub mod Values
+pub mod Calling
+pub mod Standing
+pub mod Opened
+pub mod Ticking

@@ -1,0 +1,27 @@
+use Rattle.std.proofs.Common.{◌≡◌, None, Some, ap, subst, sym, ◌∙◌}
+use Rattle.std.proofs.lemmas.Int.{to_z-of_z}
+use Rattle.std.specs.Int.{w64}
+use Rattle.slate_model.specs.Known.{known}
+use Rattle.slate_jobs.specs.Calls.{Takes}
+use Rattle.slate_jobs.specs.Queue.{Queue}
+use Rattle.slate_jobs.proofs.Asking.{reply-stands, store-stands, took-held}
+use Rattle.slate_jobs.proofs.Calling.{stores-stand}
+use Rattle.slate_jobs.proofs.stores.JobStore.call.Goals as goal
+
+pub returns-in-Err-store-clause-stands : goal.returns-in-Err-store-clause-stands
+returns-in-Err-store-clause-stands g c = λ o is held.
+    let live : c.args.self.now.failure ≡ None = sym (ap (λ (q : Queue). q.failure) c.self.view_is) ∙ c.in_default.is in
+    let takes : Takes c.args.request c.args.op c.args.moment c.args.self.now c.take.new.self =
+    subst (λ m. Takes c.args.request c.args.op m c.args.self.now c.take.new.self) (to_z-of_z w64 c.args.moment c.ranges.moment) c.in_default-take.ensures.taken in
+    let s = stores-stand o c.take.new.self c.store.new.self c.store.result (known g.S.Store.objects g.S.Store.faults c.args.store.now) (known g.S.Store.objects g.S.Store.faults c.store.new.store) is
+    (took-held c.args.request c.args.op c.args.moment c.args.self.now live c.take.new.self takes o held) c.store.ensures.stored in
+    (s.0, s.1, store-stands o s.0 c.store.new.self c.store.result c.in-Err-store.refusal s.2)
+
+pub returns-clause-stands : goal.returns-clause-stands
+returns-clause-stands g c = λ o is held.
+    let live : c.args.self.now.failure ≡ None = sym (ap (λ (q : Queue). q.failure) c.self.view_is) ∙ c.in_default.is in
+    let takes : Takes c.args.request c.args.op c.args.moment c.args.self.now c.take.new.self =
+    subst (λ m. Takes c.args.request c.args.op m c.args.self.now c.take.new.self) (to_z-of_z w64 c.args.moment c.ranges.moment) c.in_default-take.ensures.taken in
+    let s = stores-stand o c.take.new.self c.store.new.self c.store.result (known g.S.Store.objects g.S.Store.faults c.args.store.now) (known g.S.Store.objects g.S.Store.faults c.store.new.store) is
+    (took-held c.args.request c.args.op c.args.moment c.args.self.now live c.take.new.self takes o held) c.store.ensures.stored in
+    (s.0, s.1, reply-stands o s.0 c.store.new.self c.store.result tt c.in_default-store.is s.2 c.reply_to.result)

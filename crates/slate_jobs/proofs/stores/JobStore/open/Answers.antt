@@ -1,0 +1,25 @@
+use Rattle.std.proofs.Common.{◌≡◌, Some, None, Ok, Err, ap, sym, subst, ◌∙◌}
+use Rattle.slate_model.specs.Object.{Handle as AHandle}
+use Rattle.slate_model.specs.Stores.{kept_rows}
+use Rattle.slate_jobs.specs.Decoding.{AreOfBytes, AreRows}
+use Rattle.slate_jobs.proofs.Opened.{fault-opens, of-rows-opens}
+use Rattle.slate_jobs.proofs.stores.JobStore.open.Goals as goal
+
+pub returns-in-Ok-all_rows-clause-opens : goal.returns-in-Ok-all_rows-clause-opens
+returns-in-Ok-all_rows-clause-opens g c = λ o is sound.
+    let w = c.in-Ok.ensures.opens o is sound in
+    let d = c.in-Ok-all_rows.ensures.rows in (
+      w.0,
+      c.all_rows.ensures.kept ∙ w.1,
+      of-rows-opens o w.0 c.in-Ok.writer w.2 (g.S.Store.objects c.open_writer.new.store) w.1 c.as_slice.result.now d.0 d.1
+          (subst (λ rows. AreRows d.0 rows None) (sym c.as_slice.ensures) d.2) c.of_rows.ensures.bytes c.of_rows.result c.of_rows.ensures.queue c.of_rows.ensures.refused,
+    )
+
+pub returns-in-Err-all_rows-clause-opens : goal.returns-in-Err-all_rows-clause-opens
+returns-in-Err-all_rows-clause-opens g c = λ o is sound.
+    let w = c.in-Ok.ensures.opens o is sound in (
+      w.0,
+      c.all_rows.ensures.kept ∙ w.1,
+      fault-opens o w.0 c.in-Ok.writer w.2 (g.S.Store.objects c.open_writer.new.store) w.1 c.in-Err-all_rows.refusal
+          (λ same. c.in-Err-all_rows.ensures.foreign (ap Err same)),
+    )

@@ -1,0 +1,14 @@
+//! A job store on one writer: jobs are enqueued, claimed for a time and completed, and each request has one reply for good.
+#![tactic(auto)]
+
+mod effects;
+mod failures;
+mod jobs;
+mod laws;
+mod reading;
+mod rows;
+mod stores;
+
+pub use jobs::{Job, JobOp, JobRefusal, JobReply, JobState};
+pub use laws::rows_and_machine_give_each_other;
+pub use stores::JobStore;

@@ -8,6 +8,8 @@ mod laws;
 mod reading;
 mod rows;
 mod stores;
+#[cfg(test)]
+mod tests;
 
 pub use jobs::{Job, JobOp, JobRefusal, JobReply, JobState};
 pub use laws::rows_and_machine_give_each_other;

@@ -7,20 +7,20 @@ use slate_types::NoMemory;
 use std::alloc::Global;
 use std::test::Fail;
 
-/// A request with its number, or an opening of the job store anew.
-#[derive(Clone, Copy)]
+/// A request at a moment, with its number, or an opening of the job store anew.
+#[derive(Drop)]
 enum Step {
-    Enqueue(u64, &'static [u8]),
+    Enqueue(i64, u64, &'static [u8]),
     /// For so many milliseconds.
-    Claim(u64, u64),
+    Claim(i64, u64, u64),
     /// A job by a token.
-    Complete(u64, u64, u64),
+    Complete(i64, u64, u64, u64),
     Reopen,
 }
 
-/// Appends a reply.
-fn print(out: &mut String, alloc: Global, reply: &JobReply) -> Result<(), Fail> {
-    let text = match reply {
+/// The text of a reply.
+fn text_of(alloc: Global, reply: &JobReply) -> Result<String, NoMemory> {
+    Ok(match reply {
         JobReply::Enqueued { job } => format!(in alloc; "job {job}; ")?,
         JobReply::Claimed {
             job,
@@ -30,51 +30,50 @@ fn print(out: &mut String, alloc: Global, reply: &JobReply) -> Result<(), Fail> 
             let payload = String::from_utf8_lossy(alloc, payload.as_slice())?;
             format!(in alloc; "job {job} token {token} payload {payload}; ")?
         }
-        JobReply::Empty => format!(in alloc; "empty; ")?,
-        JobReply::Completed => format!(in alloc; "completed; ")?,
+        JobReply::Empty => String::from_str(alloc, "empty; ")?,
+        JobReply::Completed => String::from_str(alloc, "completed; ")?,
         JobReply::Stale { held: Some(token) } => format!(in alloc; "stale token {token}; ")?,
-        JobReply::Stale { held: None } => format!(in alloc; "stale; ")?,
-    };
-    out.push_str(text.as_str())?;
-    Ok(())
+        JobReply::Stale { held: None } => String::from_str(alloc, "stale; ")?,
+    })
 }
 
-/// Does a request, and answers its reply.
+/// Does a request, and answers the text of its reply.
 fn ask(
     alloc: Global,
     store: &mut MemoryStore,
     jobs: &mut JobStore,
-    step: Step,
-    moment: i64,
-) -> Result<Option<JobReply>, JobRefusal> {
-    let (request, op) = match step {
-        Enqueue(request, payload) => {
+    step: &Step,
+) -> Result<String, JobRefusal> {
+    let (moment, request, op) = match step {
+        Enqueue(moment, request, payload) => {
             let payload = Bytes::copy_from_slice(alloc, payload).map_err(NoMemory::from)?;
-            (request, JobOp::Enqueue(payload))
+            (*moment, *request, JobOp::Enqueue(payload))
         }
-        Claim(request, lease_ms) => (request, JobOp::Claim { lease_ms }),
-        Complete(request, job, token) => (request, JobOp::Complete { job, token }),
+        Claim(moment, request, lease_ms) => {
+            let lease_ms = *lease_ms;
+            (*moment, *request, JobOp::Claim { lease_ms })
+        }
+        Complete(moment, request, job, token) => {
+            let (job, token) = (*job, *token);
+            (*moment, *request, JobOp::Complete { job, token })
+        }
         Reopen => {
             *jobs = JobStore::open(alloc, store)?;
-            return Ok(None);
+            return Ok(String::from_str(alloc, "reopened; ").map_err(NoMemory::from)?);
         }
     };
-    Ok(Some(jobs.call(alloc, store, request, op, moment)?))
+    let reply = jobs.call(alloc, store, request, op, moment)?;
+    Ok(text_of(alloc, &reply)?)
 }
 
-/// The text of the replies to these requests, each at its moment.
-fn replies(alloc: Global, steps: &[(i64, Step)]) -> Result<String, Fail> {
+/// The texts of the replies to these requests.
+fn replies(alloc: Global, steps: &[Step]) -> Result<String, JobRefusal> {
     let mut out = String::new(alloc);
     let mut store = MemoryStore::new(alloc);
-    let Ok(mut jobs) = JobStore::open(alloc, &mut store) else {
-        return Err(Fail::from(NoMemory));
-    };
-    for (moment, step) in steps {
-        match ask(alloc, &mut store, &mut jobs, *step, *moment) {
-            Ok(Some(reply)) => print(&mut out, alloc, &reply)?,
-            Ok(None) => out.push_str("reopened; ")?,
-            Err(_) => out.push_str("refused; ")?,
-        }
+    let mut jobs = JobStore::open(alloc, &mut store)?;
+    for step in steps {
+        let text = ask(alloc, &mut store, &mut jobs, step)?;
+        out.push_str(text.as_str()).map_err(NoMemory::from)?;
     }
     Ok(out)
 }
@@ -82,37 +81,50 @@ fn replies(alloc: Global, steps: &[(i64, Step)]) -> Result<String, Fail> {
 // A lease that ended is taken over, and the one who had it can't complete the job.
 #[test]
 fn job_is_completed_by_the_last_who_claimed_it(rt: HostRuntime) -> Result<(), Fail> {
-    let steps = [
-        (0, Enqueue(1, b"a")),
-        (0, Claim(2, 100)),
-        (100, Claim(7, 100)),
-        (101, Claim(3, 100)),
-        (102, Complete(4, 0, 2)),
-        (102, Complete(5, 0, 3)),
-        (102, Complete(5, 0, 3)),
-        (102, Claim(6, 100)),
-        (101, Claim(8, 100)),
-    ];
-    let text = replies(rt.alloc(), &steps)?;
-    assert!(rt;
-        text.as_str()
-            == "job 0; job 0 token 2 payload a; empty; job 0 token 3 payload a; stale token 3; completed; completed; empty; refused; "
+    let alloc = rt.alloc();
+    let text = replies(
+        alloc,
+        &[
+            Enqueue(0, 1, b"a"),
+            Claim(0, 2, 100),
+            Claim(100, 7, 100),
+            Claim(101, 3, 100),
+            Complete(102, 4, 0, 2),
+            Complete(102, 5, 0, 3),
+            Complete(102, 5, 0, 3),
+            Claim(102, 6, 100),
+        ],
     );
+    let wanted =
+        "job 0; job 0 token 2 payload a; empty; job 0 token 3 payload a; stale token 3; completed; completed; empty; ";
+    assert!(rt; is_text(&text, wanted));
     Ok(())
 }
 
 // A request that is repeated, also after an opening anew, has the reply that it had, whatever it asks.
 #[test]
 fn repeated_request_has_its_reply(rt: HostRuntime) -> Result<(), Fail> {
-    let steps = [
-        (0, Enqueue(1, b"a")),
-        (0, Enqueue(1, b"b")),
-        (0, Reopen),
-        (0, Claim(1, 100)),
-        (0, Claim(2, 100)),
-        (0, Complete(3, 9, 2)),
-    ];
-    let text = replies(rt.alloc(), &steps)?;
-    assert!(rt; text.as_str() == "job 0; job 0; reopened; job 0; job 0 token 2 payload a; stale; ");
+    let alloc = rt.alloc();
+    let text = replies(
+        alloc,
+        &[
+            Enqueue(0, 1, b"a"),
+            Enqueue(0, 1, b"b"),
+            Reopen,
+            Claim(0, 1, 100),
+            Claim(0, 2, 100),
+            Complete(0, 3, 9, 2),
+        ],
+    );
+    let wanted = "job 0; job 0; reopened; job 0; job 0 token 2 payload a; stale; ";
+    assert!(rt; is_text(&text, wanted));
     Ok(())
+}
+
+/// Whether the requests were answered, with this text.
+fn is_text(found: &Result<String, JobRefusal>, wanted: &str) -> bool {
+    match found {
+        Ok(text) => text.as_str() == wanted,
+        Err(_) => false,
+    }
 }

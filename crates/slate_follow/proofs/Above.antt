@@ -1,4 +1,6 @@
 -- The batches above a number: of lists that are joined, of those above a lower number, and of log files.
+pub use Rattle.slate_model.proofs.Fronts.{above-append}
+pub use Rattle.slate_model.proofs.Keeping.{above-twice}
 use Rattle.std.proofs.Common.{◌≡◌, ℕ, suc, zero, inl, inr, ◌+◌, ◌-◌, ◌<◌, ◌≤◌, List, [], ◌∷◌, ◌++◌, length, Option, Some, None, unwrap_or, true, false, refl, sym, subst, ap, take, drop, length-append, length-drop, ◌∙◌, arith, ltb}
 use Rattle.std.proofs.lemmas.Bool.{lt-ltb, le-ltb, cases_lt}
 use Rattle.std.proofs.lemmas.List.{append-nil, length-take-le, take-append-drop}
@@ -11,26 +13,6 @@ use Rattle.slate_model.proofs.Free.{numbered-front}
 use Rattle.slate_store.proofs.Logged.{numbered-append}
 use Rattle.slate_store.specs.Logs.{batches_between}
 use Rattle.slate_store.specs.Objects.{Objects, log_at}
-
-pub above-append : (n : ℕ) (xs ys : List Batch) → batches_above n (xs ++ ys) ≡ batches_above n xs ++ batches_above n ys
-above-append n xs ys = filter-append (λ (b : Batch). ltb n b.number) xs ys
-
--- those above a number are above each lower one
-pub above-twice : (m n : ℕ) (bs : List Batch) → m ≤ n → batches_above n (batches_above m bs) ≡ batches_above n bs
-above-twice m n [] low = refl
-above-twice m n (b ∷ bs) low =
-    elim (cases_lt m b.number) [
-      | inl over ↦
-          let yes : ltb m b.number ≡ true = lt-ltb m b.number over in
-          elim (cases_lt n b.number) [
-            | inl above ↦ let also : ltb n b.number ≡ true = lt-ltb n b.number above in rw (yes, also) (ap (λ xs. b ∷ xs) (above-twice m n bs low))
-            | inr under ↦ let not : ltb n b.number ≡ false = le-ltb n b.number under in rw (yes, not) (above-twice m n bs low)
-          ]
-      | inr under ↦
-          let no : ltb m b.number ≡ false = le-ltb m b.number under in
-          let nor : ltb n b.number ≡ false = le-ltb n b.number (omega arith) in
-          rw (no, nor) (above-twice m n bs low)
-    ]
 
 -- there are no more of them
 pub above-fewer : (n : ℕ) (bs : List Batch) → length (batches_above n bs) ≤ length bs

@@ -109,7 +109,7 @@ refused-key e key refusal named (inr is) = is ∙ ap Some named
 -- ---- a step that fails once its call was made
 meets-leaves : (stage : Stage) (reader : Follower) (begun : Begun) (o o' : Objects) (turn : Turn) → MeetsAt stage reader begun o turn o' → LeavesPut stage o o'
 meets-leaves ReadsLatest reader begun o o' turn m = m.3
-meets-leaves (Puts next given replaces) reader begun o o' turn (inl m) = inr m.2
+meets-leaves (Puts next given replaces) reader begun o o' turn (inl m) = inr (m.0, m.2)
 meets-leaves (Puts next given replaces) reader begun o o' turn (inr m) = inl m.2
 meets-leaves AsksLast reader begun o o' turn m = m.1
 meets-leaves (ReadsLog last) reader begun o o' turn m = m.6

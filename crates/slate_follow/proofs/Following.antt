@@ -144,7 +144,7 @@ above-numbered m floor bs numbered low =
     nothing (x ∷ xs) none = absurd (omega (arith, none))
 
 module _ (line : Line) (numbered : IsLine line) (floor : ℕ) (low : line.floor ≤ floor) where
-  abbrev rest-of : Line
+  abbrev pub rest-of : Line
   rest-of = line_of floor (batches_above floor line.batches)
 
   stands-rest : (x : Batch) → Contains line.batches x → floor < x.number → StandsIn x rest-of
@@ -387,11 +387,11 @@ log-of line latest last fresh Whole begun are = by (begun.mark + 1 == last)
 log-of line latest last fresh (Truncated id) begun are = are
 
 -- ---- any call of a poll that follows the line
-no-gap-rises : (from end : ℕ) (bs : List Batch) → HaveNoGap from end bs → from ≤ end
+pub no-gap-rises : (from end : ℕ) (bs : List Batch) → HaveNoGap from end bs → from ≤ end
 no-gap-rises from end [] is = omega (arith, is)
 no-gap-rises from end (b ∷ bs) gap = let later = no-gap-rises (max from b.number) end bs gap.1 in omega (arith, later)
 
-stored-rises : (from end : ℕ) (log : Option (List Batch)) → IsSomeAnd log (HaveNoGap from end) → from ≤ end
+pub stored-rises : (from end : ℕ) (log : Option (List Batch)) → IsSomeAnd log (HaveNoGap from end) → from ≤ end
 stored-rises from end (Some bs) gap = no-gap-rises from end bs gap
 stored-rises from end None gap = absurd gap
 
@@ -405,15 +405,19 @@ same-tables view latest same = eqb-true view.manifest.last_l0_seq latest.manifes
     middle false b c is = absurd (cc)
 
 module _ (o : Objects) (sound : IsSound o) (reader : Follower) (begun : Begun) (numbered : AreNumberedFrom begun.floor begun.fresh) (f : FollowsLine o (content o) reader begun) where
-  -- what it has once a log file is read
-  log-read : (latest : VersionedManifest) (fresh : List Batch) (found : Replayed) → Replaying latest begun (content o) o → ReplaysNext (begun.mark + 1) begun.floor begun.fresh fresh o (Ok found) → AreOf fresh (content o)
-  log-read latest fresh found r n =
+  -- what it has once a log file is read begins what the line has from there on
+  pub log-begins : (latest : VersionedManifest) (fresh : List Batch) (found : Replayed) → Replaying latest begun (content o) o → ReplaysNext (begun.mark + 1) begun.floor begun.fresh fresh o (Ok found) →
+      IsPrefix (line_of begun.floor fresh) (rest-of (content o) sound.line begun.floor f.low)
+  log-begins latest fresh found r n =
       let above = r.above in
       let reached = r.reached in
       let logs = r.are in
       let belongs = belongs-rest (content o) sound.line begun.floor f.low (begun.mark + 1) (begun.floor + length begun.fresh) latest.manifest.last_l0_seq o (omega arith) reached
       (λ batches at. logs.logs (begun.mark + 1) batches (omega (arith, above)) at) in
-      are-begun (content o) sound.line begun.floor f.low fresh (n.begins (rest-of (content o) sound.line begun.floor f.low) (begins-rest (content o) sound.line begun.floor f.low begun.fresh numbered f.fresh) belongs)
+      n.begins (rest-of (content o) sound.line begun.floor f.low) (begins-rest (content o) sound.line begun.floor f.low begun.fresh numbered f.fresh) belongs
+
+  log-read : (latest : VersionedManifest) (fresh : List Batch) (found : Replayed) → Replaying latest begun (content o) o → ReplaysNext (begun.mark + 1) begun.floor begun.fresh fresh o (Ok found) → AreOf fresh (content o)
+  log-read latest fresh found r n = are-begun (content o) sound.line begun.floor f.low fresh (log-begins latest fresh found r n)
 
   overtaken-of : AreOf (fresh-of (overtaken_by reader (taken begun))) (content o)
   overtaken-of = by (begun.overtaken == 7)

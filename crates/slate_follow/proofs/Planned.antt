@@ -127,7 +127,7 @@ module _ (refused : Objects → SlateError → Type 0) (plan : Plan Lease) (old 
     put-failed (errors.ObjectStoreError Unavailable) o' h =
         elim h [
           | inl same ↦ record { made = zero; cause = inl tt; part = omega arith; after = same; leased = inl refl }
-          | inr put ↦ record { made = 1; cause = inl tt; part = omega (arith, one); after = put_one o' put; leased = inl refl }
+          | inr put ↦ record { made = 1; cause = inl tt; part = omega (arith, one); after = put_one o' put.1; leased = inl refl }
         ]
     put-failed errors.NoMemory o' h = record { made = zero; cause = inl tt; part = omega arith; after = h; leased = inl refl }
     put-failed e o' h = absurd h

@@ -39,7 +39,7 @@ abbrev pub PutsManifest : VersionedManifest → Result Bool SlateError → Objec
 PutsManifest next (Ok true) objects objects' = objects' ≡ changed (PutManifest next.id next.manifest) objects
 PutsManifest next (Ok false) objects objects' = (is_present (PutManifest next.id next.manifest) objects ≡ true) × (objects' ≡ objects)
 PutsManifest next (Err (errors.ObjectStoreError Unavailable)) objects objects' =
-    (objects' ≡ objects) ⊎ (objects' ≡ changed (PutManifest next.id next.manifest) objects)
+    (objects' ≡ objects) ⊎ ((is_present (PutManifest next.id next.manifest) objects ≡ false) × (objects' ≡ changed (PutManifest next.id next.manifest) objects))
 PutsManifest next (Err errors.NoMemory) objects objects' = objects' ≡ objects
 PutsManifest next (Err error) objects objects' = ⊥
 

@@ -93,9 +93,10 @@ reads_latest ReadsLatest = true
 reads_latest ReadsAgain = true
 reads_latest stage = false
 
--- the objects are as before, or the manifest was put that is to be put next
+-- the objects are as before, or the manifest was put that is to be put next, where none was under its id
 abbrev pub LeavesPut : Stage → Objects → Objects → Type 0
-LeavesPut (Puts next given replaces) objects objects' = (objects' ≡ objects) ⊎ (objects' ≡ changed (PutManifest next.id next.manifest) objects)
+LeavesPut (Puts next given replaces) objects objects' =
+    (objects' ≡ objects) ⊎ ((is_present (PutManifest next.id next.manifest) objects ≡ false) × (objects' ≡ changed (PutManifest next.id next.manifest) objects))
 LeavesPut stage objects objects' = objects' ≡ objects
 
 -- why this call answers an error, and what it leaves of the objects

@@ -148,6 +148,8 @@ impl PollMachine {
         ensures closed { IfSome state.now.result (λ r. result ≡ Err (closed_error r)) }
         ensures begun { state.now.result ≡ None → result ≡ Ok (begun_at moment 0 state.now) }
         ensures fits { IfOk result (λ machine. FitsReader state.now machine) }
+        // What the reader keeps are its batches from the last number in the tables of its view on.
+        ensures keeps { IfOk result (λ _. state.now.line.floor ≡ state.now.view.manifest.last_l0_seq) }
     {
         if let Some(result) = state.closed() {
             return Err(SlateError::of_closed(result));
@@ -165,6 +167,7 @@ impl PollMachine {
         requires few { overtaken < 8 }
         ensures begun { result ≡ begun_at moment overtaken state.now }
         ensures fits { FitsReader state.now result }
+        ensures keeps { state.now.line.floor ≡ state.now.view.manifest.last_l0_seq }
     {
         PollMachine {
             moment,

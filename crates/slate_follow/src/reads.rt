@@ -24,7 +24,7 @@ impl FollowerState {
     /// On a closed reader it answers `Closed` or the error that closed it, and doesn't touch the store. It answers
     /// `MergeOperatorMissing` where operands are to be merged and there is no operator, `MergeOperatorError` where the
     /// operator refuses one, and `NoMemory`; and `ObjectStoreError` where the store fails, or a table isn't stored (a
-    /// sweep may have removed it: the next poll mends that). A read changes nothing. It calls the store once for each
+    /// sweep may have removed it: a poll mends that, but not at a checkpoint). A read changes nothing. It calls the store once for each
     /// stored table, and shares what it reads. It takes a look-up in each of its tables in memory and in each stored one,
     /// from the last back to the first with a put or a delete, and goes over the key's operations since then. SlateDB's
     /// `get`.

@@ -24,7 +24,7 @@ impl FollowerState {
     ///
     /// On a closed reader it answers `Closed` or the error that closed it, and doesn't touch the store. Its other errors
     /// are `NoMemory`, and `ObjectStoreError` where the store fails, or a table isn't stored (a sweep may have removed
-    /// it: the next poll mends that). Where operands of a key are to be merged and there is no operator, or it refuses
+    /// it: a poll mends that, but not at a checkpoint). Where operands of a key are to be merged and there is no operator, or it refuses
     /// one, the rows end before this key, and the iterator answers that fault after them. A scan changes nothing.
     ///
     /// It calls the store once for each table, and shares what it reads. It takes time logarithmic in the keys of each

@@ -1,3 +1,4 @@
+pub mod Beside
 pub mod Carrying
 pub mod Cases
 pub mod Chains
@@ -24,6 +25,7 @@ pub mod Linking
 pub mod Listing
 pub mod Maintaining
 pub mod Naming
+pub mod Onward
 pub mod Opening
 pub mod Places
 pub mod Polling

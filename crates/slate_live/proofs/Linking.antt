@@ -44,7 +44,7 @@ call-grows (Flush t) made stored (Some (AHandle handle)) = grown-grows made stor
 call-grows (Close t) made stored (Some (AHandle handle)) = grown-grows made stored handle
 call-grows call made stored object = prefix-same stored
 
-grows : (settings : Settings) (w : World) (command : Command) (reply : Reply) (w' : World) → Next settings w command reply w' → IsPrefix w.stored w'.stored
+pub grows : (settings : Settings) (w : World) (command : Command) (reply : Reply) (w' : World) → Next settings w command reply w' → IsPrefix w.stored w'.stored
 grows settings w command reply w' next =
     subst (IsPrefix w.stored) (sym next.stored) (call-grows (call_of command.action) next.made w.stored (named w.objects (target_of command.action)))
 

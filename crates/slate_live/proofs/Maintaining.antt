@@ -8,7 +8,7 @@ use Rattle.slate_model.specs.Catalogue.{catalogue_of}
 use Rattle.slate_model.specs.Handle.{Handle}
 use Rattle.slate_model.specs.Object.{Follower as AFollower, Object, tables_of}
 use Rattle.slate_model.proofs.Maintained.{Maintained}
-use Rattle.slate_model.proofs.Logging.{stay-follow}
+use Rattle.slate_model.proofs.Logging.{OfLine, none-put_logs, stay-follow}
 use Rattle.slate_model.proofs.Moving.{Follows, still-valid}
 use Rattle.slate_model.proofs.Prefixes.{prefix-same}
 use Rattle.slate_live.specs.Represents.{IsHeld, Holds, IsHandleAt, IsValid, IsValidHandle}
@@ -21,7 +21,7 @@ module _ (w : World) (o : Objects) (is_sound : IsSound o) (holds : Holds o w) (v
   content-is : content o' ≡ w.stored
   content-is = m.content ∙ holds.stored
 
-  follows : (latest : VersionedManifest) (is : latest_manifest o ≡ Some latest) → Follows w.stored w.stored o o' latest (m.latest latest is).0
+  pub follows : (latest : VersionedManifest) (is : latest_manifest o ≡ Some latest) → Follows w.stored w.stored o o' latest (m.latest latest is).0
   follows latest is =
       let next = m.latest latest is in
       let epoch = next.2 in
@@ -34,6 +34,7 @@ module _ (w : World) (o : Objects) (is_sound : IsSound o) (holds : Holds o w) (v
         epochs = omega (arith, epoch);
         tabled = omega (arith, number);
         logs = stay-follow o o' latest.manifest.replay_after_wal_id next.0.manifest.replay_after_wal_id (sym next.4) (m.logs latest is);
+        logs_are = none-put_logs o o' m.logs_are (OfLine w.stored);
       }
 
   valid-after : (n : ℕ) (a : Handle) → IsHandleAt w.objects n a → IsValidHandle w.stored (catalogue_of o') a

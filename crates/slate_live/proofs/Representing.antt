@@ -25,6 +25,7 @@ use Rattle.slate_live.proofs.Naming.{follower-did, handle-acted}
 use Rattle.slate_model.specs.Open.{OpensHandle, opened_manifest, opened_handle}
 use Rattle.slate_model.specs.Stores.{by_catalogue, by_objects}
 use Rattle.slate_model.proofs.Flushed.{part_le}
+use Rattle.slate_model.proofs.Logging.{LogsAre, OfLine}
 use Rattle.slate_model.proofs.Maintained.{Maintained, checkpoint-maintains, checkpoints-reduced, sweep-maintains, sweeps-reduced}
 use Rattle.slate_model.proofs.Reduced.{catalogued, holding, opens-reduced, rebuilds-reduced}
 use Rattle.slate_script.specs.declared.commands.Command.{Command}
@@ -35,7 +36,8 @@ use Rattle.slate_live.specs.Calls.{Call, Write as WriteCall, Merge as MergeCall,
 use Rattle.slate_live.specs.Commands.{Acts, ActsAt, ActsOn, Adds, Does, DoesBy, DoesToStore, OpensSnapshot, ReadsSnapshot, added, asked_reply, interval_of, lifetime_of, write_reply}
 use Rattle.slate_live.specs.Maintenance.{CommitsTo, SweepsTo}
 use Rattle.slate_live.specs.Replies.{followed_reply, reply_to}
-use Rattle.slate_live.specs.Represents.{IsHeld, Holds, IsValid, Represents}
+use Rattle.slate_live.specs.Beside.{StandsBeside}
+use Rattle.slate_live.specs.Represents.{IsHandleAt, IsHeld, Holds, IsValid, Represents}
 use Rattle.slate_live.specs.Settings.{Settings, option_tasks}
 use Rattle.slate_live.specs.State.{Live, State, running}
 use Rattle.slate_live.specs.World.{Next, World, grown_by, state_of, stored_after}
@@ -49,7 +51,9 @@ use Rattle.slate_live.proofs.Leading.{followed-leads, followers-over, Leads, fol
 use Rattle.slate_live.proofs.Leasing.{leased_whole}
 use Rattle.slate_live.proofs.Maintaining.{after, after-holds, after-valid, maintained-leads}
 use Rattle.slate_live.proofs.Taking.{Taken, taken, taken-after}
+use Rattle.slate_live.proofs.Onward.{Onward, before-added, beside-onward, onward-maintained, onward-moved, onward-opened, onward-same, onward-unopened}
 use Rattle.slate_live.proofs.Opening.{opened-leads, unopened-leads}
+use Rattle.slate_live.proofs.Changing.{handles-set-follower}
 use Rattle.slate_live.proofs.Places.{get-map}
 use Rattle.slate_live.proofs.Snapshots.{snapshots-kept}
 
@@ -159,6 +163,7 @@ module _ (settings : Settings) (w : World) (o : Objects) (is_sound : IsSound o) 
     pub modelled : store.objects ≡ Some after
     pub kept : live_objects ≡ map kept objects
     pub leads : Leads stored' after objects
+    pub onward : Onward w o stored' after objects
     pub does : Does (by_catalogue w.stored w.catalogue) settings made (state_of w) command reply (state_of (world after objects))
 
   store-is : (o' : Objects) → store.objects ≡ Some o' → store ≡ holding o' store.faults
@@ -181,6 +186,13 @@ module _ (settings : Settings) (w : World) (o : Objects) (is_sound : IsSound o) 
   over : {o' : Objects} {objects : List Object} → stored' ≡ w.stored → Leads w.stored o' objects → Leads stored' o' objects
   over {o'} {objects} same l = subst (λ l. Leads l o' objects) (sym same) l
 
+  on : {o' : Objects} {objects : List Object} → stored' ≡ w.stored → Onward w o w.stored o' objects → Onward w o stored' o' objects
+  on {o'} {objects} same next = subst (λ l. Onward w o l o' objects) (sym same) next
+
+  -- where no handle is new
+  same-handles : (n : ℕ) (a : Handle) → IsHandleAt w.objects n a → IsHandleAt w.objects n a
+  same-handles n a at = at
+
   -- nothing is done
   led-only : (answer : Reply) → stored' ≡ w.stored → (made ≡ 0) × (reply ≡ answer) × (s' ≡ s) → ((made ≡ 0) × (reply ≡ answer) × (state_of (world o w.objects) ≡ state_of w) → Does (by_catalogue w.stored w.catalogue) settings made (state_of w) command reply (state_of (world o w.objects))) → Led
   led-only answer same d does =
@@ -197,6 +209,7 @@ module _ (settings : Settings) (w : World) (o : Objects) (is_sound : IsSound o) 
         modelled = ap (λ (k : Known (List Batch)). k.objects) same_store;
         kept = same_objects;
         leads = over same (leads-same w o is_sound holds valid reads);
+        onward = on same (onward-same w o is_sound holds valid reads w.objects same-handles);
         does = does (d.0, d.1, state);
       }
 
@@ -218,6 +231,7 @@ module _ (settings : Settings) (w : World) (o : Objects) (is_sound : IsSound o) 
         modelled = o'.1;
         kept = objects ∙ (ap (λ x. set (map kept w.objects) n (AHandle x)) l.kept ∙ sym (map-set kept w.objects n (AHandle l.new)));
         leads = subst (λ x. Leads x o'.0 objects') (sym grows) (moved-leads w o is_sound holds valid reads n h at (grown_by call made w.stored (Some (AHandle h))) o'.0 l.new l.moved);
+        onward = subst (λ x. Onward w o x o'.0 objects') (sym grows) (onward-moved w o is_sound holds valid reads n h at (grown_by call made w.stored (Some (AHandle h))) o'.0 l.new l.moved);
         does = does o'.0 objects' (record {
           new = AHandle l.new;
           acts = subst (λ c. Acts (by_catalogue w.stored c) settings n command call made (AHandle h) (record { objects = Some c; faults = w.faults }) w.writes reply (AHandle l.new) (catalogued o'.0 store.faults) writes) holds.catalogue l.known;
@@ -253,6 +267,7 @@ module _ (settings : Settings) (w : World) (o : Objects) (is_sound : IsSound o) 
         modelled = o'.1;
         kept = objects ∙ (ap (λ x. set (map kept w.objects) n (AFollower x)) l.kept ∙ sym (map-set kept w.objects n (AFollower l.new)));
         leads = over grows leads;
+        onward = on grows (onward-maintained w o is_sound holds valid reads o'.0 l.maintained objects' (handles-set-follower w.objects n (AFollower g) l.new at));
         does = does-at (OfObject n) is o'.0 objects'
             (subst (λ found. ActsOn (by_catalogue w.stored w.catalogue) settings n command (call_of command.action) made found (state_of w) reply (state_of (world o'.0 objects'))) (sym at)
             (record {
@@ -321,6 +336,7 @@ module _ (settings : Settings) (w : World) (o : Objects) (is_sound : IsSound o) 
         modelled = t.1;
         kept = objects ∙ (ap (λ x. map kept w.objects ++ AHandle x ∷ []) (d.handle o w.stored refl (o, refl, is_sound, sym holds.stored)) ∙ sym (map-append kept w.objects (AHandle new ∷ [])));
         leads = subst (λ x. Leads stored' x objects') (sym step.after) (over (unnamed (NewHandle keeps_log) is refl) (opened-leads settings.extractor w o is_sound holds valid reads keeps_log limit tasks made some few));
+        onward = subst (λ x. Onward w o stored' x objects') (sym step.after) (on (unnamed (NewHandle keeps_log) is refl) (onward-opened w o is_sound holds valid reads settings.extractor keeps_log limit tasks made few));
         does = does-at (NewHandle keeps_log) is t.0 objects' (record {
           result = Ok new;
           replied = replied ∙ ap replies.Handle (length-map w.objects kept);
@@ -343,6 +359,7 @@ module _ (settings : Settings) (w : World) (o : Objects) (is_sound : IsSound o) 
         modelled = t.1;
         kept = objects ∙ append-nil (map kept w.objects);
         leads = subst (λ x. Leads stored' x w.objects) (sym step.after) (over (unnamed (NewHandle keeps_log) is refl) (unopened-leads settings.extractor w o is_sound holds valid reads made few));
+        onward = subst (λ x. Onward w o stored' x w.objects) (sym step.after) (on (unnamed (NewHandle keeps_log) is refl) (onward-unopened w o is_sound holds valid reads settings.extractor made few));
         does = does-at (NewHandle keeps_log) is t.0 w.objects (record {
           result = Err e;
           replied = replied;
@@ -383,6 +400,7 @@ module _ (settings : Settings) (w : World) (o : Objects) (is_sound : IsSound o) 
           modelled = ap (λ (k : Known (List Batch)). k.objects) known;
           kept = objects ∙ sym (map-append kept w.objects (new ∷ []));
           leads = over same (pushed-leads w o is_sound holds valid reads new (λ a same. absurd (cc)) (the_latest w o is_sound holds valid reads n h at) (is_latest w o is_sound holds valid reads n h at) (All-nil (λ id. table_at id o ≢ None)) (λ f same. absurd (cc)) (tt, tt));
+          onward = on same (onward-same w o is_sound holds valid reads objects' (before-added w o is_sound holds valid reads new (λ a same. absurd (cc))));
           does = does o objects' (
             record { result = Ok number; replied = replied ∙ ap (λ m. replies.Snapshot m number) (length-map w.objects kept); does = took (Ok number) d; objects = refl; writes = same_writes },
             none,
@@ -395,6 +413,7 @@ module _ (settings : Settings) (w : World) (o : Objects) (is_sound : IsSound o) 
           modelled = ap (λ (k : Known (List Batch)). k.objects) known;
           kept = objects ∙ append-nil (map kept w.objects);
           leads = over same (leads-same w o is_sound holds valid reads);
+          onward = on same (onward-same w o is_sound holds valid reads w.objects same-handles);
           does = does o w.objects (
             record { result = Err e; replied = replied; does = took (Err e) d; objects = sym (append-nil w.objects); writes = same_writes },
             none,
@@ -432,6 +451,7 @@ module _ (settings : Settings) (w : World) (o : Objects) (is_sound : IsSound o) 
         modelled = d.kept;
         kept = objects ∙ (ap (λ x. map kept w.objects ++ AFollower x ∷ []) (seen-kept (Some o) w.stored mode skips o b.0 b.1 all) ∙ sym (map-append kept w.objects (AFollower new ∷ [])));
         leads = over (unnamed (NewFollower mode managed skips) is refl) (followed-leads w o is_sound holds valid reads new v.0 v.1 there (new-valid (b.0).segments w.stored mode skips true o (b.0).view is_sound holds.stored v (b.0).mark mark unmanaged) (new-held (b.0).segments w.stored mode skips true o (b.0).view is_sound holds.stored v (b.0).mark mark));
+        onward = on (unnamed (NewFollower mode managed skips) is refl) (onward-same w o is_sound holds valid reads objects' (before-added w o is_sound holds valid reads (AFollower new) (λ a same. absurd (cc))));
         does = does o objects' (
           record {
             result = Ok (new, b.1);
@@ -452,6 +472,7 @@ module _ (settings : Settings) (w : World) (o : Objects) (is_sound : IsSound o) 
         modelled = d.kept;
         kept = objects ∙ append-nil (map kept w.objects);
         leads = over (unnamed (NewFollower mode managed skips) is refl) (leads-same w o is_sound holds valid reads);
+        onward = on (unnamed (NewFollower mode managed skips) is refl) (onward-same w o is_sound holds valid reads w.objects same-handles);
         does = does o w.objects (
           record {
             result = Err e;
@@ -501,6 +522,7 @@ module _ (settings : Settings) (w : World) (o : Objects) (is_sound : IsSound o) 
           leads = over (unnamed (NewFollower modes.ManagedCheckpoint managed skips) is refl)
               (followed-leads (after w o is_sound holds valid reads o'.0 l.maintained) o'.0 m.sound (after-holds w o is_sound holds valid reads o'.0 l.maintained) (after-valid w o is_sound holds valid reads o'.0 l.maintained) m.reads
               new (b.0).view (l.new).found (l.new).tables (l.new).valid (l.new).held);
+          onward = on (unnamed (NewFollower modes.ManagedCheckpoint managed skips) is refl) (onward-maintained w o is_sound holds valid reads o'.0 l.maintained objects' (before-added w o is_sound holds valid reads (AFollower new) (λ a same. absurd (cc))));
           does = does-at (NewFollower modes.ManagedCheckpoint managed skips) is o'.0 objects' (record {
             result = Ok (new, b.1);
             replied = replied ∙ ap (λ n. followed_reply n b.1) (length-map w.objects kept);
@@ -517,6 +539,7 @@ module _ (settings : Settings) (w : World) (o : Objects) (is_sound : IsSound o) 
           modelled = o'.1;
           kept = objects ∙ append-nil (map kept w.objects);
           leads = over (unnamed (NewFollower modes.ManagedCheckpoint managed skips) is refl) (maintained-leads w o is_sound holds valid reads o'.0 l.maintained);
+          onward = on (unnamed (NewFollower modes.ManagedCheckpoint managed skips) is refl) (onward-maintained w o is_sound holds valid reads o'.0 l.maintained w.objects same-handles);
           does = does-at (NewFollower modes.ManagedCheckpoint managed skips) is o'.0 w.objects (record {
             result = Err e;
             replied = replied;
@@ -535,6 +558,7 @@ module _ (settings : Settings) (w : World) (o : Objects) (is_sound : IsSound o) 
     modelled = modelled;
     kept = objects;
     leads = over (unnamed target is none) (maintained-leads w o is_sound holds valid reads o' m);
+    onward = on (unnamed target is none) (onward-maintained w o is_sound holds valid reads o' m w.objects same-handles);
     does = does-at target is o' w.objects d;
   }
 
@@ -589,10 +613,16 @@ module _ (settings : Settings) (w : World) (o : Objects) (is_sound : IsSound o) 
   led-by (OfObject n) is d =
       led-on n (slice_get w.objects n) is refl (subst (λ found. ActsOn (by_objects (Some o)) settings n command (call_of command.action) made found s reply s') (get-map kept w.objects n) d)
 
+-- Each reader that stands beside a world stands beside the next one, and each log file was there before or has batches of the line
+-- that is stored then.
+abbrev pub BesideThen : Known (List Batch) → World → Known (List Batch) → World → Type 0
+BesideThen store w store' w' =
+    (o o' : Objects) (f : Follower) → store.objects ≡ Some o → store'.objects ≡ Some o' → (StandsBeside o w f → StandsBeside o' w' f) × LogsAre (OfLine w'.stored) o o'
+
 -- from a world that is represented, a command leads to one that is
-pub leads : (settings : Settings) (live live' : Live) (store store' : Known (List Batch)) (w : World) (command : Command) (made : ℕ) (reply : Reply) → Represents live store w → Does (by_objects store.objects) settings made (running live store) command reply (running live' store') →
-    (w' : World) × Next settings w command reply w' × Represents live' store' w'
-leads settings live live' store store' w command made reply r d =
+pub leads-beside : (settings : Settings) (live live' : Live) (store store' : Known (List Batch)) (w : World) (command : Command) (made : ℕ) (reply : Reply) → Represents live store w → Does (by_objects store.objects) settings made (running live store) command reply (running live' store') →
+    (w' : World) × Next settings w command reply w' × Represents live' store' w' × BesideThen store w store' w'
+leads-beside settings live live' store store' w command made reply r d =
     let o = (r.held).0 in
     let state : running live store ≡ record { objects = map kept w.objects; writes = w.writes; store = holding o w.faults } =
     ap (λ x. record { objects = x; writes = live.writes; store = store }) r.objects
@@ -613,4 +643,17 @@ leads settings live live' store store' w command made reply r d =
         writes = refl;
         valid = record { line = subst IsLine lead.content (lead.sound).line; followers = lead.followers; handles = lead.handles; snapshots = snapshots-kept settings w (world settings w o (r.held).2 (r.held).3 r.valid (r.held).4 command made reply live'.objects live'.writes store' l.after l.objects) command reply r.valid (record { made = made; does = l.does; stored = refl }); named = lead.named; past = lead.past; distinct = lead.distinct };
       },
+      λ first second f at at'.
+          let is_first : o ≡ first = (let there = (r.held).1 in cc) in
+          let is_second : l.after ≡ second = (let there = l.modelled in cc) in
+          let w' = world settings w o (r.held).2 (r.held).3 r.valid (r.held).4 command made reply live'.objects live'.writes store' l.after l.objects in
+          subst (λ x. (StandsBeside x w f → StandsBeside second w' f) × LogsAre (OfLine w'.stored) x second) is_first
+          (subst (λ x. (StandsBeside o w f → StandsBeside x w' f) × LogsAre (OfLine w'.stored) o x) is_second
+          (beside-onward w o w'.stored l.after l.objects live'.writes store'.faults (r.held).3 l.onward f, (l.onward).logs)),
     )
+
+pub leads : (settings : Settings) (live live' : Live) (store store' : Known (List Batch)) (w : World) (command : Command) (made : ℕ) (reply : Reply) → Represents live store w → Does (by_objects store.objects) settings made (running live store) command reply (running live' store') →
+    (w' : World) × Next settings w command reply w' × Represents live' store' w'
+leads settings live live' store store' w command made reply r d =
+    let l = leads-beside settings live live' store store' w command made reply r d in
+    (l.0, l.1, l.2)

@@ -1,4 +1,5 @@
 // Laws for programs that hold handles and readers of their own, beside a store and without a `LiveState`.
+ghost use Rattle.slate_live.specs.Beside.{OthersLeaveThem, PollsBegin, ReadersStand, StepsStand};
 ghost use Rattle.slate_live.specs.Laws.{CallsAreSteps, NoneRepresentsTheStart, ReadTheirLines};
 
 /// The calls of handles and readers that a program holds over an honest store are steps of one world, as the commands of a run
@@ -10,4 +11,18 @@ pub fn calls_are_steps()
     ensures begins { NoneRepresentsTheStart }
     ensures steps { CallsAreSteps }
     ensures rows { ReadTheirLines }
+{}
+
+/// A reader that a program holds beside the objects that commands name, and a poll of it by single calls, keep their promises
+/// whatever others do between two of its calls. One that was opened and is an object of the world stands beside that world: what
+/// it sees begins the line that is stored, in whole batches, and the tables of its manifest read as that. It may begin a poll. A
+/// call of others leaves it and its begun poll standing beside the next world. And a step of the poll leads to a world with the
+/// same stored line, in which the poll stands while there is another call, and else the reader that the answer left: also where
+/// the poll goes by a manifest that others have replaced since, reads log files that a sweep removes, or puts its manifest under
+/// an id that a sweep left free.
+pub fn begun_polls_stand()
+    ensures readers { ReadersStand }
+    ensures begin { PollsBegin }
+    ensures others { OthersLeaveThem }
+    ensures steps { StepsStand }
 {}

@@ -12,7 +12,7 @@ mod scans;
 mod sessions;
 mod states;
 
-pub use laws::calls_are_steps;
+pub use laws::{begun_polls_stand, calls_are_steps};
 pub use runs::run;
 pub use sessions::{Finished, Outcome, session};
 pub use slate_receivers::{

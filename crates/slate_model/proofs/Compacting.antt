@@ -2,6 +2,7 @@
 use Rattle.std.proofs.Common.{◌≡◌, ℕ, zero, suc, ◌+◌, ◌<◌, ◌≤◌, ◌⊎◌, inl, inr, List, [], ◌∷◌, length, take, cond, flat_map, Some, None, Result, Ok, Err, Bool, true, false, refl, sym, subst, ap, ◌∙◌, arith, ltb}
 use Rattle.std.proofs.lemmas.Bool.{ltb-false}
 use Rattle.slate_types.specs.Line.{Line}
+use Rattle.slate_types.specs.declared.batches.Batch.{Batch}
 use Rattle.slate_store.proofs.Compacted.{compaction-keeps, joined-committed}
 use Rattle.slate_store.specs.Compaction.{compact_changes, compact_changes_by, compacted, tables_at, with_table}
 use Rattle.slate_store.specs.Content.{IsSound, content}
@@ -18,7 +19,7 @@ use Rattle.slate_model.specs.Stores.{JoinFault, by_objects}
 use Rattle.slate_model.specs.Valid.{AreBefore, IsValidHandle, ReadsLine}
 use Rattle.slate_model.proofs.Adding.{AreAdded, Lasts, compact-puts, one-put, other-table}
 use Rattle.slate_model.proofs.Flushed.{part_le}
-use Rattle.slate_model.proofs.Logging.{KeepLogs, LogsStay, logs-same, part-logs, stay-follow}
+use Rattle.slate_model.proofs.Logging.{KeepLogs, logs-are_same, logs-same, LogsAre, LogsStay, OfLine, part-are, part-logs, PutLogs, puts-part, stay-follow}
 use Rattle.slate_model.proofs.Moving.{Follows, Moved, none-known}
 use Rattle.slate_model.proofs.Prefixes.{prefix-same}
 use Rattle.slate_model.proofs.Reduced.{whole}
@@ -47,6 +48,12 @@ compacted-mark id latest = by (ltb (length latest.manifest.tables) 2) where
 compaction-keeps-logs : (mark last : ℕ) (id : TableId) (o : Objects) (latest : VersionedManifest) → KeepLogs mark last (compact_changes_by (flat_map (λ bs. bs)) id o (Some latest))
 compaction-keeps-logs mark last id o latest = by (ltb (length latest.manifest.tables) 2) where
   by : (few : Bool) → KeepLogs mark last (cond few [] (PutTable id (flat_map (λ bs. bs) (tables_at o latest.manifest.tables)) ∷ PutManifest (with_table id latest).id (with_table id latest).manifest ∷ []))
+  by true = tt
+  by false = tt
+
+compaction-put_logs : (P : List Batch → Type 0) (id : TableId) (o : Objects) (latest : VersionedManifest) → PutLogs P (compact_changes_by (flat_map (λ bs. bs)) id o (Some latest))
+compaction-put_logs P id o latest = by (ltb (length latest.manifest.tables) 2) where
+  by : (few : Bool) → PutLogs P (cond few [] (PutTable id (flat_map (λ bs. bs) (tables_at o latest.manifest.tables)) ∷ PutManifest (with_table id latest).id (with_table id latest).manifest ∷ []))
   by true = tt
   by false = tt
 
@@ -145,6 +152,7 @@ module _ (stored : Line) (o o' : Objects) (latest : VersionedManifest) (h k : Ha
       tabled = omega (arith, number);
       logs = stay-follow o o' latest.manifest.replay_after_wal_id n'.manifest.replay_after_wal_id (sym mark)
           (subst (LogsStay latest.manifest.replay_after_wal_id (last_log latest.manifest.replay_after_wal_id o) o) (sym after) (part-logs latest.manifest.replay_after_wal_id (last_log latest.manifest.replay_after_wal_id o) made cs o (compaction-keeps-logs latest.manifest.replay_after_wal_id (last_log latest.manifest.replay_after_wal_id o) id o latest)));
+      logs_are = subst (LogsAre (OfLine stored) o) (sym after) (part-are (OfLine stored) made cs o (puts-part (OfLine stored) made cs (compaction-put_logs (OfLine stored) id o latest)));
     }
 
     moved-by : (n' : VersionedManifest) → latest_manifest o' ≡ Some n' → n'.manifest.writer_epoch ≡ latest.manifest.writer_epoch → n'.manifest.last_l0_seq ≡ latest.manifest.last_l0_seq → n'.manifest.replay_after_wal_id ≡ latest.manifest.replay_after_wal_id →
@@ -196,7 +204,7 @@ module _ (stored : Line) (o o' : Objects) (latest : VersionedManifest) (h k : Ha
   refresh-moved a counter =
       subst (Moved stored stored o o latest h) (sym same)
       (viewed-moved stored o o latest latest h k.counter k.view (fenced_result r) is live v reads
-      (record { sound = sound; content = holds; grows = prefix-same stored; latest_is = is; epochs = omega arith; tabled = omega arith; logs = stay-follow o o _ _ refl (logs-same _ _ o o refl) }) refl refl (views-by r a)
+      (record { sound = sound; content = holds; grows = prefix-same stored; latest_is = is; epochs = omega arith; tabled = omega arith; logs = stay-follow o o _ _ refl (logs-same _ _ o o refl); logs_are = logs-are_same (OfLine stored) o o refl }) refl refl (views-by r a)
       (λ q differ. refl) before (λ q low some. refl) (omega (arith, counter)) (λ index high. none-known (record { epoch = h.epoch; index = index }) o (v.unused index (omega (arith, counter, high))))) where
         views-by : (q : Result (Unit {0}) SlateError) → RefreshAnswer (kept_handle h) o q k.view → (k.view ≡ h.view) ⊎ ((k.view ≡ latest) × (latest.manifest.writer_epoch ≤ h.epoch))
         views-by (Ok x) a = inr (found-latest k.view a.0, found-current k.view a)

@@ -1,6 +1,9 @@
 -- A flush of a valid handle leaves sound objects and a valid handle, wherever it is broken off.
 use Rattle.std.proofs.Common.{◌≡◌, ℕ, zero, suc, ◌+◌, ◌<◌, ◌≤◌, ◌⊎◌, inl, inr, List, [], ◌∷◌, ◌++◌, length, map, take, cond, Some, None, Result, Ok, Err, Bool, true, false, refl, sym, subst, ap, ◌∙◌, arith}
-use Rattle.std.proofs.lemmas.Bool.{cases_lt, ltb-false, ltb-true, leb-true, leb-false, lt-leb}
+use Rattle.std.proofs.lemmas.Bool.{cases_lt, le-leb, ltb-false, ltb-true, leb-true, leb-false, lt-leb}
+use Rattle.std.proofs.lemmas.List.{append-nil}
+use Rattle.std.proofs.lemmas.List.Elements.{All-contains_itself, All-nil, Contains-append_right}
+use Rattle.std.specs.List.{Contains}
 use Rattle.std.specs.Prelude.{nat_le}
 use Rattle.slate_types.proofs.Lines.{above-none}
 use Rattle.slate_types.specs.Line.{IsLine, IsPrefix, Line, batches_above, extended}
@@ -25,7 +28,7 @@ use Rattle.slate_model.specs.Valid.{AreBefore, IsValidHandle, ReadsLine, up_to}
 use Rattle.slate_model.proofs.Adding.{AreAdded, Lasts, Stay, flush-puts, one-put, other-table, stay-added}
 use Rattle.slate_model.proofs.Flushed.{Leaves, flush-leaves, part_le}
 use Rattle.slate_model.proofs.Keeping.{changes-kept, view-kept}
-use Rattle.slate_model.proofs.Logging.{KeepLogs, LogsFollow, LogsStay, keep-append, mark-follow, part-logs, stay-follow}
+use Rattle.slate_model.proofs.Logging.{keep-append, KeepLogs, LogsAre, LogsFollow, LogsStay, mark-follow, OfLine, part-are, part-logs, PutLogs, puts-part, stay-follow}
 use Rattle.slate_store.proofs.LastLog.{at_least}
 use Rattle.slate_model.proofs.Moving.{Follows, Moved, known-none, none-known, still-reads}
 use Rattle.slate_model.proofs.Prefixes.{extended-nil, prefix-after, prefix-same, up_to-all}
@@ -77,6 +80,19 @@ flush-keeps-logs mark MemTable h latest last = by (has_untabled h latest.manifes
   by : (some : Bool) → KeepLogs mark last (cond some (log_changes (λ xs. xs) (to_log h) last ++ table_changes (λ xs. xs) h latest last) [])
   by true = keep-append mark last (log_changes (λ xs. xs) (to_log h) last) (table_changes (λ xs. xs) h latest last) (log-keeps-logs mark (to_log h) last) tt
   by false = tt
+
+-- and what it puts is such a log file, where it puts one
+log-put_logs : (P : List Batch → Type 0) (bs : List Batch) (last made : ℕ) (rest : List Change) → (0 < made → P bs) → PutLogs P rest → PutLogs P (take made (log_changes (λ xs. xs) bs last ++ rest))
+log-put_logs P [] last made rest such puts = puts-part P made rest puts
+log-put_logs P (b ∷ bs) last zero rest such puts = tt
+log-put_logs P (b ∷ bs) last (suc made) rest such puts = (such (omega arith), puts-part P made rest puts)
+
+flush-put_logs : (P : List Batch → Type 0) (t : FlushType) (h : Handle) (latest : VersionedManifest) (last made : ℕ) → (0 < made → P (to_log h)) → PutLogs P (take made (flush_changes_under (λ xs. xs) t h latest last))
+flush-put_logs P Wal h latest last made such = subst (λ cs. PutLogs P (take made cs)) (append-nil (log_changes (λ xs. xs) (to_log h) last)) (log-put_logs P (to_log h) last made [] such tt)
+flush-put_logs P MemTable h latest last made such = by (has_untabled h latest.manifest) where
+  by : (some : Bool) → PutLogs P (take made (cond some (log_changes (λ xs. xs) (to_log h) last ++ table_changes (λ xs. xs) h latest last) []))
+  by true = log-put_logs P (to_log h) last made (table_changes (λ xs. xs) h latest last) such tt
+  by false = puts-part P made [] tt
 
 -- where a flush has fewer changes than store the batches, there are none
 at-least-two : (bs : List Change) (c d : Change) → 1 < length (bs ++ c ∷ d ∷ [])
@@ -362,6 +378,19 @@ module _ (stored : Line) (o o' : Objects) (latest : VersionedManifest) (t : Flus
         ]
   ]
 
+  -- what goes to the log is stored then
+  logged-of : 0 < made → OfLine stored' (to_log h)
+  logged-of some = by h.keeps_log refl where
+    by : (b : Bool) → h.keeps_log ≡ b → OfLine stored' (to_log h)
+    by true is_b =
+        let all : nat_le (grows h) made ≡ true = subst (λ x. nat_le (cond x 1 2) made ≡ true) (sym is_b) (le-leb 1 made (omega (arith, some))) in
+        let logs : to_log h ≡ unstored h = ap (λ x. cond x (unstored h) []) is_b in
+        let line = grown-by true all in
+        subst (OfLine stored') (sym logs) (subst (λ l. OfLine l (unstored h)) (sym line) (λ k d less. Contains-append_right stored.batches (unstored h) _ (All-contains_itself (unstored h) k d less)))
+    by false is_b =
+        let logs : to_log h ≡ [] = ap (λ x. cond x (unstored h) []) is_b in
+        subst (OfLine stored') (sym logs) (All-nil (λ batch. Contains stored'.batches batch))
+
   follows : Follows stored stored' o o' latest n'
   follows = record {
     sound = newest.sound_after;
@@ -371,6 +400,7 @@ module _ (stored : Line) (o o' : Objects) (latest : VersionedManifest) (t : Flus
     epochs = (let e = next-epoch in omega (arith, e));
     tabled = next-number;
     logs = logs-follow;
+    logs_are = subst (LogsAre (OfLine stored') o) (sym after) (part-are (OfLine stored') made cs o (flush-put_logs (OfLine stored') t h latest last made logged-of));
   }
 
   alone : ((stored' ≡ stored) × (n'.manifest.last_l0_seq ≡ latest.manifest.last_l0_seq)) ⊎ Current

@@ -1,10 +1,12 @@
 pub mod Adding
 pub mod Carrying
 pub mod Catalogued
+pub mod Coming
 pub mod Compacting
 pub mod Flushed
 pub mod Flushing
 pub mod Free
+pub mod Fronts
 pub mod Keeping
 pub mod Leased
 pub mod Logging
@@ -15,9 +17,11 @@ pub mod Opening
 pub mod Planned
 pub mod Owing
 pub mod Prefixes
+pub mod Putting
 pub mod Reopened
 pub mod Reduced
 pub mod Serial
+pub mod Stale
 pub mod Tabled
 pub mod Viewing
 pub mod Writing

@@ -1,10 +1,12 @@
 -- What becomes of log files that a follower has seen.
-use Rattle.std.proofs.Common.{◌≡◌, ℕ, zero, suc, ◌<◌, ◌≤◌, List, [], ◌∷◌, ◌++◌, map, Some, Bool, true, false, cond, not, refl, sym, subst, ap, ◌∙◌, arith, ◌+◌, All, length, length-append, ltb}
-use Rattle.std.proofs.lemmas.Bool.{ltb-false}
+use Rattle.std.proofs.Common.{◌≡◌, ◌⊎◌, inl, inr, ℕ, zero, suc, ◌<◌, ◌≤◌, List, [], ◌∷◌, ◌++◌, map, take, Some, None, Bool, true, false, cond, not, refl, sym, subst, ap, ◌∙◌, arith, ◌+◌, All, length, length-append, ltb}
+use Rattle.std.proofs.lemmas.Bool.{cases_eq, ltb-false}
+use Rattle.std.proofs.lemmas.Map.Entries.{lookup-filter-keys}
 use Rattle.std.proofs.lemmas.Cmp.{nat_cmp_total}
 use Rattle.std.proofs.lemmas.List.Elements.{All-cons, All-head, All-nil, All-tail}
 use Rattle.std.proofs.lemmas.Option.{slice_get_within}
 use Rattle.std.specs.BTreeMap.{insert_entry, is_at}
+use Rattle.std.specs.List.{Contains}
 use Rattle.std.specs.Ordering.{match_ordering, nat_cmp}
 use Rattle.std.specs.declared.cmp.Ordering.{Ordering}
 use Rattle.std.specs.declared.cmp.Ordering.TheVariants.{Less, Equal, Greater}
@@ -16,7 +18,7 @@ use Rattle.slate_store.specs.Content.{IsSound, content, content_by, logged, numb
 use Rattle.slate_store.specs.Logs.{StandsIn}
 use Rattle.slate_store.specs.declared.objects.Manifest.{Manifest}
 use Rattle.slate_model.proofs.Reopened.{logs-by}
-use Rattle.slate_store.proofs.Entries.{apart, lookup-insert_other, lookup-without, same_number, tied}
+use Rattle.slate_store.proofs.Entries.{apart, lookup-insert_other, lookup-insert_same, lookup-without, same_number, tied}
 use Rattle.slate_store.proofs.LastLog.{at_least}
 use Rattle.slate_store.specs.Objects.{Change, Objects, PutLog, PutManifest, PutTable, RemoveLog, RemoveManifest, RemoveTable, changed, greatest, last_log, latest_manifest, log_at, without}
 use Rattle.slate_store.specs.declared.objects.VersionedManifest.{VersionedManifest}
@@ -114,6 +116,89 @@ part-logs mark last (suc made) [] o keep = logs-same mark last o o refl
 part-logs mark last (suc made) (c ∷ cs) o keep =
     let k = keep-first mark last c cs keep in
     logs-then mark last o (changed c o) (after_part made cs (changed c o)) (changed-logs mark last c o k.0) (part-logs mark last made cs (changed c o) k.1)
+
+-- ---- which log files there are after changes
+-- each log file that these changes put is such a one
+abbrev pub PutLogs : (List Batch → Type 0) → List Change → Type 0
+PutLogs P [] = Unit {0}
+PutLogs P (PutLog id log ∷ cs) = P log × PutLogs P cs
+PutLogs P (RemoveLog id ∷ cs) = PutLogs P cs
+PutLogs P (PutManifest id m ∷ cs) = PutLogs P cs
+PutLogs P (PutTable id table ∷ cs) = PutLogs P cs
+PutLogs P (RemoveManifest id ∷ cs) = PutLogs P cs
+PutLogs P (RemoveTable id ∷ cs) = PutLogs P cs
+
+-- each log file that is there then was there before, or is such a one
+abbrev pub LogsAre : (List Batch → Type 0) → Objects → Objects → Type 0
+LogsAre P o o' = (id : ℕ) (batches : List Batch) → log_at id o' ≡ Some batches → (log_at id o ≡ Some batches) ⊎ P batches
+
+-- its batches are of a line
+abbrev pub OfLine : Line → List Batch → Type 0
+OfLine line batches = All (λ batch. Contains line.batches batch) batches
+
+pub puts-first : (P : List Batch → Type 0) (c : Change) (cs : List Change) → PutLogs P (c ∷ cs) → PutLogs P (c ∷ []) × PutLogs P cs
+puts-first P (PutLog id log) cs puts = ((puts.0, tt), puts.1)
+puts-first P (RemoveLog id) cs puts = (tt, puts)
+puts-first P (PutManifest id m) cs puts = (tt, puts)
+puts-first P (PutTable id table) cs puts = (tt, puts)
+puts-first P (RemoveManifest id) cs puts = (tt, puts)
+puts-first P (RemoveTable id) cs puts = (tt, puts)
+
+puts-more : (P : List Batch → Type 0) (c : Change) (cs : List Change) → PutLogs P (c ∷ []) → PutLogs P cs → PutLogs P (c ∷ cs)
+puts-more P (PutLog id log) cs first rest = (first.0, rest)
+puts-more P (RemoveLog id) cs first rest = rest
+puts-more P (PutManifest id m) cs first rest = rest
+puts-more P (PutTable id table) cs first rest = rest
+puts-more P (RemoveManifest id) cs first rest = rest
+puts-more P (RemoveTable id) cs first rest = rest
+
+-- a part of such changes
+pub puts-part : (P : List Batch → Type 0) (made : ℕ) (cs : List Change) → PutLogs P cs → PutLogs P (take made cs)
+puts-part P zero cs puts = tt
+puts-part P (suc made) [] puts = tt
+puts-part P (suc made) (c ∷ cs) puts = let p = puts-first P c cs puts in puts-more P c (take made cs) p.0 (puts-part P made cs p.1)
+
+pub logs-are_same : (P : List Batch → Type 0) (o o' : Objects) → o'.logs ≡ o.logs → LogsAre P o o'
+logs-are_same P o o' same id batches at = inl (ap (λ logs. log_at id (record { manifests = o'.manifests; logs = logs; tables = o'.tables })) (sym same) ∙ at)
+
+changed-are : (P : List Batch → Type 0) (c : Change) (o : Objects) → PutLogs P (c ∷ []) → LogsAre P o (changed c o)
+changed-are P (PutLog id log) o puts q batches at = elim (cases_eq q id) [
+  | inl same ↦
+      let here : log_at id (changed (PutLog id log) o) ≡ Some batches = subst (λ n. log_at n (changed (PutLog id log) o) ≡ Some batches) same at in
+      let there : log_at id (changed (PutLog id log) o) ≡ Some log = lookup-insert_same nat_cmp_total id log o.logs in
+      let is : log ≡ batches = (cc) in
+      inr (subst P is puts.0)
+  | inr other ↦ inl (sym (lookup-insert_other nat_cmp_total q id log o.logs (apart q id other)) ∙ at)
+]
+changed-are P (RemoveLog id) o puts q batches at = by (is_at (nat_cmp id) q) refl where
+  by : (b : Bool) → is_at (nat_cmp id) q ≡ b → (log_at q o ≡ Some batches) ⊎ P batches
+  by true here =
+      let gone : log_at q (changed (RemoveLog id) o) ≡ None = lookup-filter-keys (is_at (nat_cmp q)) (λ key. not (is_at (nat_cmp id) key)) false
+      (λ key same. ap (λ k. not (is_at (nat_cmp id) k)) (sym (same_number q key (tied (nat_cmp q key) same))) ∙ ap not here) o.logs in
+      absurd (cc)
+  by false other = inl (sym (lookup-without nat_cmp_total q id o.logs other) ∙ at)
+changed-are P (PutManifest id m) o puts q batches at = inl at
+changed-are P (PutTable id table) o puts q batches at = inl at
+changed-are P (RemoveManifest id) o puts q batches at = inl at
+changed-are P (RemoveTable id) o puts q batches at = inl at
+
+-- after a part of changes, by what that puts
+pub part-are : (P : List Batch → Type 0) (made : ℕ) (cs : List Change) (o : Objects) → PutLogs P (take made cs) → LogsAre P o (after_part made cs o)
+part-are P zero cs o puts q batches at = inl at
+part-are P (suc made) [] o puts q batches at = inl at
+part-are P (suc made) (c ∷ cs) o puts q batches at =
+    let p = puts-first P c (take made cs) puts in
+    elim (part-are P made cs (changed c o) p.1 q batches at) [
+      | inl before ↦ changed-are P c o p.0 q batches before
+      | inr such ↦ inr such
+    ]
+
+-- where none is put, each was there before
+pub none-put_logs : (o o' : Objects) → LogsAre (λ batches. ⊥) o o' → (P : List Batch → Type 0) → LogsAre P o o'
+none-put_logs o o' are P id batches at = elim (are id batches at) [
+  | inl before ↦ inl before
+  | inr never ↦ absurd never
+]
 
 -- Objects whose log files go on from others: a replay begins no earlier, the last log file isn't lower, and each that it reads
 -- up to the last one of before is as it was.

@@ -40,14 +40,14 @@ use Rattle.slate_model.proofs.Reduced.{as_modelled, catalogued, holding, modelle
 use Rattle.slate_model.specs.Catalogue.{Span, catalogue_of}
 use Rattle.slate_model.specs.Changes.{PartMade, after_part}
 use Rattle.slate_model.specs.Maintain.{CheckpointAnswer, CheckpointCause, Checkpoints, CommitsCheckpoint, Sweeps, SweepsAnswer, SweepsCause, SweepsObjects, commit_changes}
-use Rattle.slate_model.proofs.Logging.{KeepLogs, LogsStay, part-logs}
+use Rattle.slate_model.proofs.Logging.{KeepLogs, LogsAre, LogsStay, PutLogs, part-are, part-logs, puts-part}
 use Rattle.slate_model.specs.Refusal.{error_of_refusal}
 use Rattle.slate_model.specs.Stores.{Stands, SweepFault, by_catalogue, by_objects}
 use Rattle.slate_model.specs.Write.{last_number}
 
 -- ---- what they leave of sound objects
 -- The objects stay sound, with the same content. The latest manifest has the same epoch, end of its tables and replay mark, and
--- each table is as it was, or gone, and each log file above the mark as it was.
+-- each table and each log file is as it was, or gone, and each log file above the mark as it was.
 pub record Maintained (o o' : Objects) : Type 0 where
   pub sound : IsSound o'
   pub content : content o' ≡ content o
@@ -57,6 +57,7 @@ pub record Maintained (o o' : Objects) : Type 0 where
   pub logs : (latest : VersionedManifest) → latest_manifest o ≡ Some latest → LogsStay latest.manifest.replay_after_wal_id (last_log latest.manifest.replay_after_wal_id o) o o'
   pub lasts : (q : TableId) → table_at q o' ≢ None → table_at q o' ≡ table_at q o
   pub unput : (q : TableId) → table_at q o ≡ None → table_at q o' ≡ None
+  pub logs_are : LogsAre (λ batches. ⊥) o o'
 
 -- a change puts no table
 abbrev PutsNoTable : Change → Type 0
@@ -105,8 +106,8 @@ HasNext latest o' =
 
 -- what changes leave that put no table
 maintained : (o o' : Objects) → IsSound o' → content o' ≡ content o → ((latest : VersionedManifest) → latest_manifest o ≡ Some latest → HasNext latest o') →
-    ((latest : VersionedManifest) → latest_manifest o ≡ Some latest → LogsStay latest.manifest.replay_after_wal_id (last_log latest.manifest.replay_after_wal_id o) o o') → LeavesTables o o' → Maintained o o'
-maintained o o' sound same next logs leaves = record {
+    ((latest : VersionedManifest) → latest_manifest o ≡ Some latest → LogsStay latest.manifest.replay_after_wal_id (last_log latest.manifest.replay_after_wal_id o) o o') → LeavesTables o o' → LogsAre (λ batches. ⊥) o o' → Maintained o o'
+maintained o o' sound same next logs leaves are = record {
   sound = sound;
   content = same;
   latest = next;
@@ -119,6 +120,7 @@ maintained o o' sound same next logs leaves = record {
     | inl gone ↦ gone
     | inr before ↦ before ∙ free
   ];
+  logs_are = are;
 }
 
 -- a manifest that is put after the latest one is the latest
@@ -190,6 +192,15 @@ module _ {A : Type 0} (plan : VersionedManifest → Plan A) (made : ℕ) (o : Ob
   after-logs mark last None = tt
   after-logs mark last (Some latest) = planned-logs mark last (plan latest)
 
+  planned-put_logs : (p : Plan A) → PutLogs (λ batches. ⊥) (planned p)
+  planned-put_logs (Ok (Some next, answer)) = tt
+  planned-put_logs (Ok (None, answer)) = tt
+  planned-put_logs (Err refusal) = tt
+
+  after-put_logs : (found : Option VersionedManifest) → PutLogs (λ batches. ⊥) (planned_after plan found)
+  after-put_logs None = tt
+  after-put_logs (Some latest) = planned-put_logs (plan latest)
+
   -- what a plan puts that keeps sound objects sound
   pub planned-maintains : ((latest : VersionedManifest) → Recheckpoints latest (plan latest)) → KeepsContent o (after_part made (checkpoint_changes plan o) o) → IsSound o → Maintained o (after_part made (checkpoint_changes plan o) o)
   planned-maintains puts keeps sound =
@@ -198,6 +209,7 @@ module _ {A : Type 0} (plan : VersionedManifest → Plan A) (made : ℕ) (o : Ob
       (λ latest is. subst (λ found. HasNext latest (after_part made (planned_after plan found) o)) (sym is) (planned-next latest sound is (plan latest) (puts latest)))
       (λ latest is. part-logs latest.manifest.replay_after_wal_id (last_log latest.manifest.replay_after_wal_id o) made (checkpoint_changes plan o) o (after-logs _ _ (latest_manifest o)))
       (part-leaves made (checkpoint_changes plan o) o (after-no_table (latest_manifest o)))
+      (part-are (λ batches. ⊥) made (checkpoint_changes plan o) o (puts-part (λ batches. ⊥) made (checkpoint_changes plan o) (after-put_logs (latest_manifest o))))
 
 -- a checkpoint that is committed, or not yet
 pub checkpoint-maintains : (lifetime : Option ℕ) (moment : ℤ) (made : ℕ) (o : Objects) → IsSound o → Maintained o (after_part made (commit_changes lifetime moment o) o)
@@ -226,6 +238,17 @@ spare-no_table latest o (RemoveTable id) spare = tt
 
 removals-no_table : (latest : VersionedManifest) (o : Objects) → All PutsNoTable (removals latest o)
 removals-no_table latest o k d less = spare-no_table latest o _ (removals-spare latest o k d less)
+
+spare-put_logs : (latest : VersionedManifest) (o : Objects) (cs : List Change) → All (IsSpare latest o) cs → PutLogs (λ batches. ⊥) cs
+spare-put_logs latest o [] spare = tt
+spare-put_logs latest o (c ∷ cs) spare = by c (All-head (IsSpare latest o) c cs spare) (spare-put_logs latest o cs (All-tail (IsSpare latest o) c cs spare)) where
+  by : (c : Change) → IsSpare latest o c → PutLogs (λ batches. ⊥) cs → PutLogs (λ batches. ⊥) (c ∷ cs)
+  by (PutManifest id manifest) spare rest = rest
+  by (PutLog id log) spare rest = absurd spare
+  by (PutTable id table) spare rest = rest
+  by (RemoveManifest id) spare rest = rest
+  by (RemoveLog id) spare rest = rest
+  by (RemoveTable id) spare rest = rest
 
 -- nor a log file above the replay mark
 spare-keep : (latest : VersionedManifest) (last : ℕ) (o : Objects) (cs : List Change) → All (IsSpare latest o) cs → KeepLogs latest.manifest.replay_after_wal_id last cs
@@ -277,6 +300,17 @@ module _ (moment : ℤ) (o : Objects) where
       let o1 = changed (PutManifest next.id next.manifest) o in
       All-cons PutsNoTable (PutManifest next.id next.manifest) (removals next o1) tt (removals-no_table next o1)
 
+  sweep_by-put_logs : (latest : VersionedManifest) (t : Bool) → PutLogs (λ batches. ⊥) (sweep_by latest t)
+  sweep_by-put_logs latest false = spare-put_logs latest o (removals latest o) (removals-spare latest o)
+  sweep_by-put_logs latest true =
+      let next = unexpired moment latest in
+      let o1 = changed (PutManifest next.id next.manifest) o in
+      spare-put_logs next o1 (removals next o1) (removals-spare next o1)
+
+  sweep-put_logs : (found : Option VersionedManifest) → PutLogs (λ batches. ⊥) (sweep_changes_by moment o found)
+  sweep-put_logs None = tt
+  sweep-put_logs (Some latest) = sweep_by-put_logs latest (has_expired moment latest)
+
   sweep-no_table : (found : Option VersionedManifest) → All PutsNoTable (sweep_changes_by moment o found)
   sweep-no_table None = All-nil PutsNoTable
   sweep-no_table (Some latest) = sweep_by-no_table latest (has_expired moment latest)
@@ -290,6 +324,7 @@ sweep-maintains moment made o sound =
     (λ latest is. part-logs latest.manifest.replay_after_wal_id (last_log latest.manifest.replay_after_wal_id o) made (sweep_changes moment o) o
     (subst (λ found. KeepLogs latest.manifest.replay_after_wal_id (last_log latest.manifest.replay_after_wal_id o) (sweep_changes_by moment o found)) (sym is) (sweep-keeps-logs moment o latest (last_log latest.manifest.replay_after_wal_id o) (has_expired moment latest))))
     (part-leaves made (sweep_changes moment o) o (sweep-no_table moment o (latest_manifest o)))
+    (part-are (λ batches. ⊥) made (sweep_changes moment o) o (puts-part (λ batches. ⊥) made (sweep_changes moment o) (sweep-put_logs moment o (latest_manifest o))))
 
 -- ---- what calls of a store do
 -- what a call answers to a command

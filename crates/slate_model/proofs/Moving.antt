@@ -12,7 +12,7 @@ use Rattle.slate_model.specs.Handle.{Handle, unstored}
 use Rattle.slate_model.specs.Tables.{AreStored}
 use Rattle.slate_model.specs.Valid.{IsValidHandle, ReadsLine, up_to}
 use Rattle.slate_model.proofs.Adding.{Lasts, lasting}
-use Rattle.slate_model.proofs.Logging.{LogsFollow, logs-same, stay-follow}
+use Rattle.slate_model.proofs.Logging.{LogsAre, LogsFollow, OfLine, logs-are_same, logs-same, stay-follow}
 use Rattle.slate_model.proofs.Catalogued.{table-known}
 use Rattle.slate_model.proofs.Prefixes.{prefix-same, prefix-then}
 
@@ -34,7 +34,7 @@ pub stored-known : (o : Objects) (ids : List TableId) → AreStored (catalogue_o
 stored-known o ids stored k d less none = stored k d less (known-none _ o none)
 
 -- Sound objects that follow others under which this line was stored, and this manifest was the latest: the line and the log
--- files go on, and neither the epoch nor the last number in tables falls.
+-- files go on, neither the epoch nor the last number in tables falls, and a log file that is new has batches of the line.
 pub record Follows (stored stored' : Line) (o o' : Objects) (latest latest' : VersionedManifest) : Type 0 where
   pub sound : IsSound o'
   pub content : content o' ≡ stored'
@@ -43,6 +43,7 @@ pub record Follows (stored stored' : Line) (o o' : Objects) (latest latest' : Ve
   pub epochs : latest.manifest.writer_epoch ≤ latest'.manifest.writer_epoch
   pub tabled : latest.manifest.last_l0_seq ≤ latest'.manifest.last_l0_seq
   pub logs : LogsFollow o o' latest.manifest.replay_after_wal_id latest'.manifest.replay_after_wal_id
+  pub logs_are : LogsAre (OfLine stored') o o'
 
 module _ (stored stored' : Line) (o o' : Objects) (latest latest' : VersionedManifest) (is : latest_manifest o ≡ Some latest) (f : Follows stored stored' o o' latest latest') where
   -- a handle that didn't change
@@ -94,7 +95,7 @@ pub record Moved (stored stored' : Line) (o o' : Objects) (latest : VersionedMan
 pub unmoved : (stored : Line) (o : Objects) (latest : VersionedManifest) (h new : Handle) → IsSound o → content o ≡ stored → latest_manifest o ≡ Some latest → new.epoch ≡ h.epoch → h.counter ≤ new.counter → new.view ≡ h.view → IsValidHandle stored (catalogue_of o) new → ReadsLine o new.view new.line → Moved stored stored o o latest h new
 unmoved stored o latest h new sound holds is epoch counter view mine reads = record {
   next = latest;
-  follows = record { sound = sound; content = holds; grows = prefix-same stored; latest_is = is; epochs = omega arith; tabled = omega arith; logs = stay-follow o o _ _ refl (logs-same _ _ o o refl) };
+  follows = record { sound = sound; content = holds; grows = prefix-same stored; latest_is = is; epochs = omega arith; tabled = omega arith; logs = stay-follow o o _ _ refl (logs-same _ _ o o refl); logs_are = logs-are_same (OfLine stored) o o refl };
   others = λ q differ. refl;
   lasts = λ q before some. refl;
   counter = counter;

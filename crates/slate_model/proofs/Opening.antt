@@ -1,7 +1,8 @@
 -- What an opening leaves of the handles of a world, and the handle that it gives.
 use Rattle.std.proofs.Common.{◌≡◌, ℕ, ◌+◌, ◌<◌, ◌≤◌, List, [], ◌∷◌, Some, None, Option, Bool, false, refl, sym, subst, ap, ◌∙◌, arith}
+use Rattle.std.specs.List.{Contains}
 use Rattle.std.proofs.lemmas.Bool.{false_from_ne_true}
-use Rattle.std.proofs.lemmas.List.Elements.{All-head, All-tail}
+use Rattle.std.proofs.lemmas.List.Elements.{All-head, All-nil, All-tail}
 use Rattle.std.specs.BTreeMap.{is_at}
 use Rattle.std.specs.List.{All}
 use Rattle.std.specs.Map.{lookup}
@@ -22,7 +23,7 @@ use Rattle.slate_model.specs.Segments.{Extractor, extractor_name}
 use Rattle.slate_model.specs.Open.{found_log, mark_of, next_manifest, open_changes, opened_handle, opened_manifest}
 use Rattle.slate_model.specs.Valid.{IsValidHandle, ReadsLine}
 use Rattle.slate_model.proofs.Adding.{none-put}
-use Rattle.slate_model.proofs.Logging.{part-logs, stay-follow}
+use Rattle.slate_model.proofs.Logging.{LogsAre, OfLine, part-are, part-logs, puts-part, stay-follow}
 use Rattle.slate_model.proofs.Moving.{Follows, known-none, still-valid}
 use Rattle.slate_model.proofs.Prefixes.{extended-nil, prefix-same, up_to-all}
 use Rattle.slate_model.proofs.Reopened.{opened}
@@ -62,6 +63,10 @@ module _ (x : Option Extractor) (stored : Line) (o : Objects) (made : ℕ) (soun
   before-fence : (latest : VersionedManifest) → latest_manifest o ≡ Some latest → last_log latest.manifest.replay_after_wal_id o < found_log o + 1
   before-fence latest is = let e = ap (λ x. last_log (mark_of x) o) is in omega (arith, e)
 
+  -- the fence has no batch
+  pub opened-logs_are : LogsAre (OfLine stored) o o'
+  opened-logs_are = part-are (OfLine stored) made (open_changes (extractor_name x) (λ xs. xs) o) o (puts-part (OfLine stored) made (open_changes (extractor_name x) (λ xs. xs) o) (All-nil (λ batch. Contains stored.batches batch), tt))
+
   pub opened-follows : (latest : VersionedManifest) → latest_manifest o ≡ Some latest → Follows stored stored o o' latest v
   opened-follows latest is =
       let b = opened (extractor_name x) o made sound some few in
@@ -76,6 +81,7 @@ module _ (x : Option Extractor) (stored : Line) (o : Objects) (made : ℕ) (soun
         epochs = omega (arith, epoch);
         tabled = omega (arith, number);
         logs = stay-follow o o' latest.manifest.replay_after_wal_id v.manifest.replay_after_wal_id (sym mark) (part-logs latest.manifest.replay_after_wal_id (last_log latest.manifest.replay_after_wal_id o) made (open_changes (extractor_name x) (λ xs. xs) o) o (before-fence latest is, tt));
+        logs_are = opened-logs_are;
       }
 
   -- a handle that was opened before is fenced

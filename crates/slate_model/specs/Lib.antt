@@ -23,6 +23,7 @@ pub mod Seen
 pub mod Serial
 pub mod Snapshot
 pub mod Status
+pub mod Stood
 pub mod Stores
 pub mod Tables
 pub mod Tasks

@@ -1,0 +1,618 @@
+-- A reader beside a world, and a begun poll of it, stand from call to call.
+use Rattle.std.proofs.Common.{◌≡◌, ◌∙◌, ◌⊎◌, ℕ, ℤ, ◌+◌, ◌-◌, ◌<◌, ◌≤◌, ◌++◌, ◌||◌, ◌==◌, max, inl, inr, Bool, true, false, cond, not, if◌then◌else◌, All, List, [], ◌∷◌, length, take, Option, Some, None, Result, Ok, Err, refl, sym, ap, subst, arith, rules}
+use Rattle.std.proofs.lemmas.Bool.{cases_lt}
+use Rattle.std.proofs.lemmas.List.{length-take}
+use Rattle.std.proofs.lemmas.List.Elements.{All-cons, All-contains_itself, All-nil}
+use Rattle.std.specs.List.{slice_get}
+use Rattle.std.specs.Option.{IsSomeAnd, MatchOption, is_some}
+use Rattle.slate_types.proofs.Lines.{above-all}
+use Rattle.slate_types.specs.Line.{AreNumberedFrom, IsLine, IsPrefix, Line, batches_above, end}
+use Rattle.slate_types.specs.declared.batches.Batch.{Batch}
+use Rattle.slate_types.specs.declared.store_errors.StoreFault.TheVariants.{Unavailable}
+use Rattle.slate_store.specs.Checkpoints.{with_checkpoints}
+use Rattle.slate_store.specs.Content.{IsSound, content}
+use Rattle.slate_store.specs.Logs.{HaveGap, HaveNoGap}
+use Rattle.slate_store.specs.Objects.{Objects, PutManifest, changed, entry_at, is_present, last_log, latest_manifest, log_at}
+use Rattle.slate_store.specs.declared.objects.VersionedManifest.{VersionedManifest}
+use Rattle.slate_store.specs.declared.reader_modes.DbReaderMode.TheVariants as modes
+use Rattle.slate_replay.specs.Replay.{ReplaysNext}
+use Rattle.slate_replay.specs.declared.replays.Replayed.{Replayed}
+use Rattle.slate_replay.specs.declared.replays.Replayed.TheVariants as replays
+use Rattle.slate_errors.specs.declared.errors.SlateError.{SlateError}
+use Rattle.slate_errors.specs.declared.errors.SlateError.TheVariants as errors
+use Rattle.slate_model.specs.Begun.{AsksLast, Begun, Breaks, Ended, Ends, Fails, Goes, Puts, ReadsAgain, ReadsLatest, ReadsLog, Stage, Turn, arrived, begun_at, committed, decided, reached_number, replayed, view_of}
+use Rattle.slate_model.specs.Catalogue.{Catalogue, catalogue_of}
+use Rattle.slate_model.specs.declared.answers.PollAnswer.{PollAnswer}
+use Rattle.slate_model.specs.declared.answers.PollAnswer.TheVariants as answers
+use Rattle.slate_model.specs.declared.leases.Lease.{Lease}
+use Rattle.slate_model.specs.Follower.{Follower, is_managed, is_pinned, kept_follower, number, unsegmented}
+use Rattle.slate_model.specs.Followed.{IsView, can_follow}
+use Rattle.slate_model.specs.Handle.{Handle, up_to}
+use Rattle.slate_model.specs.Known.{Known}
+use Rattle.slate_model.specs.Object.{Follower as AFollower, Object}
+use Rattle.slate_model.specs.Seen.{HasSeen}
+use Rattle.slate_model.specs.Stood.{IsPlanned, WasLatest}
+use Rattle.slate_model.specs.Tables.{AreStored}
+use Rattle.slate_model.proofs.Coming.{Come, Comes, IsStagedNext, Ways, again-comes, arrived-kept, asked-comes, committed-comes, decided-comes, overtaken-comes, planned-other, read-on, replayed-comes, restaged, start-comes}
+use Rattle.slate_model.proofs.Fronts.{fresh-within, front-begins, front-end, front-grown, numbered-take, reads-front, seen-as, seen-log, whole-front}
+use Rattle.slate_model.proofs.Keeping.{line_above-end}
+use Rattle.slate_model.proofs.Maintained.{Maintained}
+use Rattle.slate_model.proofs.Owing.{TablesBegin, tabled, view-tables}
+use Rattle.slate_model.proofs.Prefixes.{prefix-end}
+use Rattle.slate_model.proofs.Putting.{put-maintains}
+use Rattle.slate_model.proofs.Logging.{LogsAre, OfLine}
+use Rattle.slate_model.proofs.Stale.{latest-entry}
+use Rattle.slate_model.proofs.Reduced.{some-same}
+use Rattle.slate_follow.proofs.Following.{are-above, are-grown, begins-on, begins-rest, goes-on, log-begins, logs-of, no-gap-rises, others-keep}
+use Rattle.slate_follow.specs.Following.{AreOf, FollowsLine, IsReplaying, StandsAt}
+use Rattle.slate_follow.specs.Stepping.{FitsReader, FailsFrom, LeavesPut, Meets, MeetsAt, StepFails, Steps, log_turn, reads_latest, taken}
+use Rattle.slate_script.specs.declared.commands.Command.{Command}
+use Rattle.slate_script.specs.declared.replies.Reply.{Reply}
+use Rattle.slate_live.specs.Settings.{Settings}
+use Rattle.slate_live.specs.Beside.{IsStaged, OthersLeaveThem, PollStands, PollsBegin, ReadLast, ReadersStand, StandsAfter, StandsBeside, StepsStand, comes_to, placed, tabled_by}
+use Rattle.slate_live.specs.Represents.{AreOfPast, Holds, IsFollowerAt, IsHandleAt, IsHeld, IsReached, IsValid, Represents}
+use Rattle.slate_live.specs.State.{Live}
+use Rattle.slate_live.specs.World.{Next, World}
+use Rattle.slate_live.proofs.Following.{new-held, new-stored}
+use Rattle.slate_live.proofs.Chains.{reached}
+use Rattle.slate_live.proofs.Knowing.{unchanged-objects}
+use Rattle.slate_live.proofs.Leases.{entry-after, latest-after, nothing-spared}
+use Rattle.slate_live.proofs.Linking.{grows}
+use Rattle.slate_live.proofs.Representing.{leads-beside}
+use Rattle.slate_live.proofs.Leading.{stored-before, stored-past, valid-over}
+use Rattle.slate_live.proofs.Maintaining.{maintained-leads}
+use Rattle.slate_live.proofs.Onward.{beside-onward, onward-maintained}
+
+or-true : (b : Bool) → (b || true) ≡ true
+or-true true = refl
+or-true false = refl
+
+module _ (w : World) (o : Objects) (sound : IsSound o) (holds : Holds o w) (valid : IsValid w) (reads : (n : ℕ) (x : Object) → slice_get w.objects n ≡ Some x → IsHeld o x) (reader : Follower) (unpinned : is_pinned reader.mode ≡ false) where
+  abbrev P : Follower → Type 0
+  P f = StandsBeside o w f
+
+  abbrev kept : Follower
+  kept = kept_follower reader
+
+  -- ---- how one that stands goes on
+  pub ways : Ways w.stored valid.line o reader P
+  ways = record {
+    again = λ view n m n' m' lease lease' s low low' floor within leased fewer seen.
+        let count = length-take (n - w.stored.floor) w.stored.batches in
+        let here = front-end w.stored valid.line n' floor within in
+        record {
+          valid = (
+            front-begins n' w.stored,
+            λ skips free latest is. (let before = s.valid.1 skips free latest is in let few = fewer skips in omega (arith, count, here, before, few, floor, within)),
+            λ managed live. leased ∙ managed,
+          );
+          named = s.named;
+          past = s.past;
+          held = (reads-front w.stored valid.line o view n n' low low' s.held.0, λ free. seen);
+        };
+    seen = λ view n m lease s. s.held.1 unpinned;
+  }
+
+  -- ---- the latest manifest
+  module _ (l : VersionedManifest) (is : latest_manifest o ≡ Some l) where
+    abbrev tabled_at : ℕ
+    tabled_at = l.manifest.last_l0_seq
+
+    goes : IsView modes.FollowLatest false o l
+    goes = (l, is, or-true l.manifest.initialized, refl)
+
+    latest-low : w.stored.floor ≤ tabled_at
+    latest-low = subst (λ (x : Line). x.floor ≤ tabled_at) holds.stored (logs-of o l sound is).low
+
+    latest-high : tabled_at ≤ end w.stored
+    latest-high = subst (λ (x : Line). tabled_at ≤ end x) holds.stored (tabled o l.manifest (content o) (view-tables o modes.FollowLatest false l sound goes) sound.line)
+
+    latest-stands : (lease : Option Lease) → is_some lease ≡ is_managed reader.mode → P (tabled_by w.stored reader l lease)
+    latest-stands lease leased =
+        let stored = new-stored [] w.stored modes.FollowLatest true false o l sound holds.stored goes l.manifest.replay_after_wal_id refl in
+        let held = new-held [] w.stored modes.FollowLatest true false o l sound holds.stored goes l.manifest.replay_after_wal_id refl in
+        let here = front-end w.stored valid.line tabled_at latest-low latest-high in
+        record {
+          valid = (
+            front-begins tabled_at w.stored,
+            λ skips free found at.
+                let same : l ≡ found = some-same l found (sym is ∙ (ap latest_manifest holds.catalogue ∙ at)) in
+                let e = ap (λ (v : VersionedManifest). v.manifest.last_l0_seq) same in
+                omega (arith, here, e),
+            λ managed live. leased ∙ managed,
+          );
+          named = λ n a at. stored-before w.stored o a (valid-over w o sound holds valid reads n a at) l.manifest.tables stored;
+          past = subst (λ c. AreOfPast c l.manifest.tables) holds.catalogue (stored-past o l sound is l.manifest.tables stored);
+          held = (held.0, λ free. seen-as o _ (tabled_by w.stored reader l lease) refl (omega arith) (held.1 refl));
+        }
+
+    latest-read : (lease : Option Lease) → is_some lease ≡ is_managed reader.mode → WasLatest o l × (w.stored.floor ≤ tabled_at) × (tabled_at ≤ end w.stored) × P (tabled_by w.stored reader l lease)
+    latest-read lease leased = ((l, is, omega arith, λ same. refl), latest-low, latest-high, latest-stands lease leased)
+
+  -- ---- the reader itself
+  module _ (s : StandsBeside o w reader) (keeps : kept.line.floor ≡ reader.view.manifest.last_l0_seq) where
+    whole-is : reader.line ≡ up_to (number reader) w.stored
+    whole-is = whole-front reader.line w.stored s.valid.0
+
+    number-is : number kept ≡ number reader
+    number-is = line_above-end reader.view.manifest.last_l0_seq reader.line
+
+    number-within : number reader ≤ end w.stored
+    number-within = prefix-end reader.line w.stored s.valid.0
+
+    floor-is : reader.line.floor ≡ w.stored.floor
+    floor-is = ap (λ (l : Line). l.floor) whole-is
+
+    number-low : w.stored.floor ≤ number reader
+    number-low = let e = floor-is in omega (arith, e)
+
+    numbered-whole : AreNumberedFrom reader.line.floor reader.line.batches
+    numbered-whole = subst (λ (l : Line). AreNumberedFrom l.floor l.batches) (sym whole-is) (numbered-take w.stored.floor (number reader - w.stored.floor) w.stored.batches valid.line)
+
+    view-reached : reader.view.manifest.last_l0_seq ≤ number reader
+    view-reached = let e = number-is in omega (arith, e, keeps)
+
+    view-low : w.stored.floor ≤ reader.view.manifest.last_l0_seq
+    view-low = elim (cases_lt reader.view.manifest.last_l0_seq w.stored.floor) [
+      | inl less ↦
+          let e = floor-is in
+          let all = above-all reader.line.floor reader.view.manifest.last_l0_seq reader.line.batches numbered-whole (omega (arith, less, e)) in
+          let count = ap (λ (xs : List Batch). length xs) all in
+          absurd (omega (arith, less, e, count, keeps))
+      | inr over ↦ over
+    ]
+
+    whole-placed : P (placed w.stored reader reader.view (number reader) reader.mark reader.lease)
+    whole-placed =
+        let base : P (record reader { segments = [] }) = record {
+          valid = s.valid;
+          named = s.named;
+          past = s.past;
+          held = (s.held.0, λ free. seen-as o reader (record reader { segments = [] }) refl (omega arith) (s.held.1 free));
+        } in
+        subst (λ (l : Line). P (record reader { line = l; segments = [] })) whole-is base
+
+    pub begun-comes : (leased : is_some reader.lease ≡ is_managed reader.mode) (moment : ℤ) (overtaken : ℕ) → Come w.stored valid.line o reader P (WasLatest o) (begun_at moment overtaken kept)
+    begun-comes leased moment overtaken = start-comes w.stored valid.line o reader P (WasLatest o) ways leased number-is number-low number-within view-low view-reached whole-placed moment overtaken
+
+    pub latest-decided : (leased : is_some reader.lease ≡ is_managed reader.mode) (moment : ℤ) (overtaken : ℕ) (l : VersionedManifest) → latest_manifest o ≡ Some l →
+        Comes w.stored valid.line o reader P (WasLatest o) ways (decided kept l reader.lease (record (begun_at moment overtaken kept) { stage = Ended }))
+    latest-decided leased moment overtaken l is =
+        decided-comes w.stored valid.line o reader P (WasLatest o) ways leased number-is number-low number-within view-low view-reached whole-placed moment overtaken l (latest-read l is reader.lease leased)
+
+    -- ---- a begun poll
+    poll-comes : (begun : Begun) → PollStands o w reader begun → AreNumberedFrom begun.floor begun.fresh → Come w.stored valid.line o reader P (WasLatest o) begun
+    poll-comes begun p numbered =
+        let f = p.follows in
+        let begins = begins-rest w.stored valid.line begun.floor f.low begun.fresh numbered f.fresh in
+        record {
+          leased = (p.fits).leased;
+          after = (p.fits).after;
+          base = (p.fits).low;
+          reached = (p.fits).high;
+          low = f.low;
+          viewed = p.viewed;
+          fresh = (begins.0, ap (λ (l : Line). l.batches) begins.1);
+          within = p.within;
+          stands = p.comes;
+          read = p.read;
+        }
+
+    come-stands : (b : Begun) → Come w.stored valid.line o reader P (WasLatest o) b → IsStagedNext reader b b.stage → (b.stage ≡ ReadsLatest → b ≡ begun_at b.moment b.overtaken kept) → FollowsLine o w.stored kept b → PollStands o w reader b
+    come-stands b c staged anew follows = record {
+      reader_stands = s;
+      keeps = keeps;
+      follows = follows;
+      fits = record { leased = c.leased; after = c.after; low = c.base; high = c.reached };
+      viewed = c.viewed;
+      within = c.within;
+      comes = c.stands;
+      read = c.read;
+      staged = staged-as b.stage staged;
+      anew = anew;
+    }
+      where
+        staged-as : (stage : Stage) → IsStagedNext reader b stage → IsStaged reader b stage
+        staged-as (Puts next given replaces) staged = staged
+        staged-as AsksLast staged = staged
+        staged-as (ReadsLog last) staged = staged
+        staged-as ReadsAgain staged = staged
+        staged-as ReadsLatest staged = tt
+        staged-as Ended staged = tt
+
+-- ---- what a call finds, and leads to
+gap-rises : (from last : ℕ) (bs : List Batch) → HaveGap from last bs → from ≤ last
+gap-rises from last bs gap = no-gap-rises from last gap.front gap.no_gap
+
+no-gap-within : (from last : ℕ) (bs : List Batch) → HaveNoGap from last bs → All (λ b. b.number ≤ last) bs
+no-gap-within from last [] gap = All-nil (λ (b : Batch). b.number ≤ last)
+no-gap-within from last (b ∷ bs) gap =
+    let later = no-gap-rises (max from b.number) last bs gap.1 in
+    All-cons (λ (b : Batch). b.number ≤ last) b bs (omega (arith, later)) (no-gap-within (max from b.number) last bs gap.1)
+
+-- what was read last, from objects whose latest manifest it may follow: put again with other checkpoints
+put-read : (o : Objects) (w : World) (reader : Follower) (last next : VersionedManifest) (lease : Option Lease) (given : Lease) → IsPlanned last next → WasLatest o next → is_managed reader.mode ≡ true →
+    (w.stored.floor ≤ last.manifest.last_l0_seq) × (last.manifest.last_l0_seq ≤ end w.stored) × StandsBeside o w (tabled_by w.stored reader last lease) →
+    WasLatest o next × (w.stored.floor ≤ next.manifest.last_l0_seq) × (next.manifest.last_l0_seq ≤ end w.stored) × StandsBeside o w (tabled_by w.stored reader next (Some given))
+put-read o w reader last next lease given planned was managed (low, high, s) =
+    let other = planned-other last next planned in
+    let put = with_checkpoints other.0 last in
+    let there : (w.stored.floor ≤ put.manifest.last_l0_seq) × (put.manifest.last_l0_seq ≤ end w.stored) × StandsBeside o w (tabled_by w.stored reader put (Some given)) = (
+      low,
+      high,
+      record {
+        valid = (s.valid.0, s.valid.1, λ managed live. refl);
+        named = s.named;
+        past = s.past;
+        held = (s.held.0, λ free. seen-as o (tabled_by w.stored reader last lease) (tabled_by w.stored reader put (Some given)) refl (omega arith) (s.held.1 free));
+      },
+    ) in
+    let moved = subst (λ (v : VersionedManifest). (w.stored.floor ≤ v.manifest.last_l0_seq) × (v.manifest.last_l0_seq ≤ end w.stored) × StandsBeside o w (tabled_by w.stored reader v (Some given))) (sym other.1) there in
+    (was, moved.0, moved.1, moved.2)
+
+module _ (live : Live) (store store' : Known (List Batch)) (w : World) (o o' : Objects) (sound : IsSound o) (holds : Holds o w) (valid : IsValid w) (reads : (n : ℕ) (x : Object) → slice_get w.objects n ≡ Some x → IsHeld o x)
+    (r : Represents live store w) (at' : store'.objects ≡ Some o') (reader : Follower) (live_is : reader.result ≡ None) (unpinned : is_pinned reader.mode ≡ false) (begun : Begun) (p : PollStands o w reader begun) (numbered : AreNumberedFrom begun.floor begun.fresh) where
+  abbrev kept_one : Follower
+  kept_one = kept_follower reader
+
+  -- what stands by the stage
+  staged-at : (stage : Stage) → begun.stage ≡ stage → IsStaged reader begun stage
+  staged-at stage is = subst (IsStaged reader begun) is p.staged
+
+  -- ---- the objects go on
+  same-maintained : o' ≡ o → Maintained o o'
+  same-maintained same = unchanged-objects o o' sound same
+
+  left-maintained : (stage : Stage) → begun.stage ≡ stage → LeavesPut stage o o' → Maintained o o'
+  left-maintained (Puts next given replaces) is (inl same) = same-maintained same
+  left-maintained (Puts next given replaces) is (inr put) =
+      let staged = staged-at (Puts next given replaces) is in
+      let read = p.read staged.0 staged.1 in
+      subst (Maintained o) (sym put.1) (put-maintains o sound staged.0 next read.0 staged.3 put.0).0
+  left-maintained ReadsLatest is same = same-maintained same
+  left-maintained AsksLast is same = same-maintained same
+  left-maintained (ReadsLog last) is same = same-maintained same
+  left-maintained ReadsAgain is same = same-maintained same
+  left-maintained Ended is same = same-maintained same
+
+  meets-left : (stage : Stage) (turn : Turn) → MeetsAt stage kept_one begun o turn o' → LeavesPut stage o o'
+  meets-left ReadsLatest turn m = m.3
+  meets-left (Puts next given replaces) turn (inl m) = inr (m.0, m.2)
+  meets-left (Puts next given replaces) turn (inr m) = inl m.2
+  meets-left AsksLast turn m = m.1
+  meets-left (ReadsLog last) turn m = m.6
+  meets-left ReadsAgain turn m = m.3
+  meets-left Ended turn m = absurd m
+
+  fails-left : (stage : Stage) (e : SlateError) → FailsFrom stage kept_one begun o e o' → LeavesPut stage o o'
+  fails-left stage errors.LatestTransactionalObjectVersionMissing f = none-left stage f.0 f.2
+    where
+      none-left : (stage : Stage) → reads_latest stage ≡ true → o' ≡ o → LeavesPut stage o o'
+      none-left ReadsLatest reads same = same
+      none-left ReadsAgain reads same = same
+      none-left AsksLast reads same = same
+      none-left (ReadsLog last) reads same = same
+      none-left (Puts next given replaces) reads same = inl same
+      none-left Ended reads same = same
+  fails-left stage (errors.ObjectStoreError Unavailable) f = f
+  fails-left stage errors.NoMemory f = f
+  fails-left stage e f = meets-left stage (Fails e) f
+
+  step-fails-left : (e : SlateError) → StepFails e kept_one begun o o' → LeavesPut begun.stage o o'
+  step-fails-left errors.InvalidDBState (inl m) = meets-left begun.stage (Fails errors.InvalidDBState) m
+  step-fails-left errors.InvalidDBState (inr (last, inl m)) = meets-left begun.stage (Ends last) m
+  step-fails-left errors.InvalidDBState (inr (last, inr m)) = meets-left begun.stage (Breaks last) m
+  step-fails-left e f = fails-left begun.stage e f
+
+  -- ---- the world then
+  module _ (m : Maintained o o') where
+    abbrev w' : World
+    w' = record w { catalogue = catalogue_of o'; faults = store'.faults }
+
+    stands-then : (f : Follower) → StandsBeside o w f → StandsBeside o' w' f
+    stands-then f s = beside-onward w o w.stored o' w.objects w.writes store'.faults holds (onward-maintained w o sound holds valid reads o' m w.objects (λ n a at. at)) f s
+
+    holds-then : Holds o' w'
+    holds-then = record { stored = m.content ∙ holds.stored; catalogue = refl }
+
+    abbrev valid-then : IsValid w'
+    valid-then =
+        let l = maintained-leads w o sound holds valid reads o' m in
+        record { line = valid.line; followers = l.followers; handles = l.handles; snapshots = valid.snapshots; named = l.named; past = l.past; distinct = l.distinct }
+
+    reads-then : (n : ℕ) (x : Object) → slice_get w.objects n ≡ Some x → IsHeld o' x
+    reads-then = (maintained-leads w o sound holds valid reads o' m).reads
+
+    represents-then : Represents live store' w'
+    represents-then = record { held = (o', at', m.sound, holds-then, reads-then); faults = refl; objects = r.objects; writes = r.writes; valid = valid-then }
+
+    abbrev Q : Follower → Type 0
+    Q f = StandsBeside o' w' f
+
+    abbrev Came : Turn → Type 0
+    Came = Comes w.stored valid.line o' reader Q (WasLatest o') (ways w' o' m.sound holds-then valid-then reads-then reader unpinned)
+
+    abbrev CameTo : Begun → Type 0
+    CameTo = Come w.stored valid.line o' reader Q (WasLatest o')
+
+    reader-then : StandsBeside o' w' reader
+    reader-then = stands-then reader p.reader_stands
+
+    started : is_some reader.lease ≡ is_managed reader.mode → (moment : ℤ) (overtaken : ℕ) → CameTo (begun_at moment overtaken kept_one)
+    started leased moment overtaken = begun-comes w' o' m.sound holds-then valid-then reads-then reader unpinned reader-then p.keeps leased moment overtaken
+
+    -- what the poll had come to, where the manifest that it read last is still one that was the latest
+    begun-then : ((last : VersionedManifest) → begun.latest ≡ Some last → WasLatest o' last) → CameTo begun
+    begun-then was =
+        let c = poll-comes w o sound holds valid reads reader unpinned p.reader_stands p.keeps begun p numbered in
+        record {
+          leased = c.leased;
+          after = c.after;
+          base = c.base;
+          reached = c.reached;
+          low = c.low;
+          viewed = c.viewed;
+          fresh = c.fresh;
+          within = c.within;
+          stands = stands-then (comes_to w.stored reader begun) p.comes;
+          read = λ last at. let read = p.read last at in (was last at, read.1, read.2, stands-then (tabled_by w.stored reader last begun.lease) read.3);
+        }
+
+    was-same : o' ≡ o → (last : VersionedManifest) → begun.latest ≡ Some last → WasLatest o' last
+    was-same same last at = subst (λ x. WasLatest x last) (sym same) (p.read last at).0
+
+    latest-then : (l : VersionedManifest) → latest_manifest o' ≡ Some l → (lease : Option Lease) → is_some lease ≡ is_managed reader.mode →
+        WasLatest o' l × (w.stored.floor ≤ l.manifest.last_l0_seq) × (l.manifest.last_l0_seq ≤ end w.stored) × Q (tabled_by w.stored reader l lease)
+    latest-then l is lease leased = latest-read w' o' m.sound holds-then valid-then reads-then reader unpinned l is lease leased
+
+    -- a log file is read
+    module _ (l : VersionedManifest) (last : ℕ) (fresh : List Batch) (at_log : begun.stage ≡ ReadsLog last) (read : begun.latest ≡ Some l) (same : o' ≡ o) where
+      reads_is : reader.skips ≡ false
+      reads_is = staged-at (ReadsLog last) at_log
+
+      content-follows : FollowsLine o (content o) kept_one begun
+      content-follows = subst (λ (x : Line). FollowsLine o x kept_one begun) (sym holds.stored) p.follows
+
+      replaying-is : IsReplaying begun (content o) o
+      replaying-is = subst (λ (x : Stage). StandsAt x begun (content o) o) at_log content-follows.next
+
+      rest-then : (found : Replayed) → ReplaysNext (begun.mark + 1) begun.floor begun.fresh fresh o (Ok found) → (rest : List Batch) × (batches_above begun.floor w.stored.batches ≡ fresh ++ rest)
+      rest-then found n =
+          let begins = log-begins o sound kept_one begun numbered content-follows l fresh found (replaying-is l read) n in
+          (begins.0, ap (λ (x : Line). batches_above begun.floor x.batches) (sym holds.stored) ∙ ap (λ (x : Line). x.batches) begins.1)
+
+      c : CameTo begun
+      c = begun-then (was-same same)
+
+      number-at : (n mark : ℕ) → w.stored.floor ≤ n → n ≤ end w.stored → number (placed w.stored reader (view_of kept_one begun) n mark begun.lease) ≡ n
+      number-at n mark low within = front-end w.stored valid.line n low within
+
+      whole-read : ReplaysNext (begun.mark + 1) begun.floor begun.fresh fresh o (Ok replays.Whole) → Came (log_turn replays.Whole l last fresh (taken begun))
+      whole-read n = by-log (log_at (begun.mark + 1) o) refl n.ends
+        where
+          by-log : (log : Option (List Batch)) → log_at (begun.mark + 1) o ≡ log → IsSomeAnd log (HaveNoGap (begun.floor + length begun.fresh) (begun.floor + length fresh)) → Came (log_turn replays.Whole l last fresh (taken begun))
+          by-log None is gap = absurd gap
+          by-log (Some batches) is gap =
+              let up = no-gap-rises _ _ batches gap in
+              let rest = rest-then replays.Whole n in
+              let within = fresh-within w.stored valid.line begun.floor fresh rest.0 c.low (let w1 = c.within in omega (arith, w1)) rest.1 in
+              let low = c.low in
+              let here = number-at (reached_number begun) begun.mark (omega (arith, low)) c.within in
+              let there = number-at (begun.floor + length fresh) (begun.mark + 1) (omega (arith, low)) within in
+              let stored_is : log_at (begun.mark + 1) o' ≡ Some batches = ap (log_at (begun.mark + 1)) same ∙ is in
+              let seen : HasSeen o' (placed w.stored reader (view_of kept_one begun) (begun.floor + length fresh) (begun.mark + 1) begun.lease) =
+              seen-log o' (placed w.stored reader (view_of kept_one begun) (reached_number begun) begun.mark begun.lease) (placed w.stored reader (view_of kept_one begun) (begun.floor + length fresh) (begun.mark + 1) begun.lease) batches refl (omega (arith, here, there, up)) stored_is
+              (subst (λ k. All (λ (b : Batch). b.number ≤ k) batches) (sym there) (no-gap-within _ _ batches gap))
+              ((stands-then (comes_to w.stored reader begun) p.comes).held.1 unpinned) in
+              ends_by (begun.mark + 1 == last) (λ stage. read-on w.stored valid.line o' reader Q (WasLatest o') (ways w' o' m.sound holds-then valid-then reads-then reader unpinned) begun stage fresh (begun.mark + 1) c up rest within reads_is seen)
+            where
+              ends_by : (x : Bool) → ((stage : Stage) → CameTo (record begun { stage = stage; fresh = fresh; mark = begun.mark + 1 })) →
+                  Came (if x then replayed l (record begun { stage = Ended; fresh = fresh; mark = begun.mark + 1 }) else Goes (record begun { stage = ReadsLog last; fresh = fresh; mark = begun.mark + 1 }))
+              ends_by true come = replayed-comes w.stored valid.line o' reader Q (WasLatest o') (ways w' o' m.sound holds-then valid-then reads-then reader unpinned) l (record begun { stage = Ended; fresh = fresh; mark = begun.mark + 1 }) read (come Ended)
+              ends_by false come = (come (ReadsLog last), reads_is, λ other. absurd (cc))
+
+      cut-read : (id : ℕ) → ReplaysNext (begun.mark + 1) begun.floor begun.fresh fresh o (Ok (replays.Truncated id)) → Came (log_turn (replays.Truncated id) l last fresh (taken begun))
+      cut-read id n =
+          let up = rises (log_at (begun.mark + 1) o) n.ends in
+          let rest = rest-then (replays.Truncated id) n in
+          let within = fresh-within w.stored valid.line begun.floor fresh rest.0 c.low (let w1 = c.within in omega (arith, w1)) rest.1 in
+          let low = c.low in
+          let here = number-at (reached_number begun) begun.mark (omega (arith, low)) c.within in
+          let there = number-at (begun.floor + length fresh) begun.mark (omega (arith, low)) within in
+          let seen = seen-as o' (placed w.stored reader (view_of kept_one begun) (reached_number begun) begun.mark begun.lease) (placed w.stored reader (view_of kept_one begun) (begun.floor + length fresh) begun.mark begun.lease) refl (omega (arith, here, there, up))
+          ((stands-then (comes_to w.stored reader begun) p.comes).held.1 unpinned) in
+          read-on w.stored valid.line o' reader Q (WasLatest o') (ways w' o' m.sound holds-then valid-then reads-then reader unpinned) begun Ended fresh begun.mark c up rest within reads_is seen
+        where
+          rises : (log : Option (List Batch)) → MatchOption log (fresh ≡ begun.fresh) (HaveGap (begun.floor + length begun.fresh) (begun.floor + length fresh)) → begun.floor + length begun.fresh ≤ begun.floor + length fresh
+          rises None old = let e = ap (λ (xs : List Batch). length xs) old in omega (arith, e)
+          rises (Some batches) gap = gap-rises _ _ batches gap
+
+    -- each call leads to what stands
+    meets-came : (stage : Stage) (turn : Turn) → begun.stage ≡ stage → MeetsAt stage kept_one begun o turn o' → Came turn
+    meets-came ReadsLatest turn at (l, is, turn_is, same) =
+        let start = p.anew at in
+        let leased : is_some reader.lease ≡ is_managed reader.mode = subst (λ (b : Begun). is_some b.lease ≡ is_managed reader.mode) start (p.fits).leased in
+        let is' : latest_manifest o' ≡ Some l = ap latest_manifest same ∙ is in
+        let moment = begun.moment in
+        let overtaken = begun.overtaken in
+        let lease : begun.lease ≡ reader.lease = ap (λ (b : Begun). b.lease) start in
+        let taken_is : taken begun ≡ record (begun_at moment overtaken kept_one) { stage = Ended } = ap (λ (b : Begun). record b { stage = Ended }) start in
+        let whole : turn ≡ decided kept_one l reader.lease (record (begun_at moment overtaken kept_one) { stage = Ended }) = turn_is ∙ (ap (λ x. decided kept_one l x (taken begun)) lease ∙ ap (decided kept_one l reader.lease) taken_is) in
+        subst Came (sym whole) (latest-decided w' o' m.sound holds-then valid-then reads-then reader unpinned reader-then p.keeps leased moment overtaken l is')
+    meets-came (Puts next given replaces) turn at (inl (free, turn_is, put)) =
+        let staged = staged-at (Puts next given replaces) at in
+        let read = p.read staged.0 staged.1 in
+        let puts = put-maintains o sound staged.0 next read.0 staged.3 free in
+        let was = subst (λ x. WasLatest x next × WasLatest x staged.0) (sym put) (puts.1, puts.2) in
+        let managed : is_managed reader.mode ≡ true = sym (p.fits).leased ∙ staged.2 in
+        let c = begun-then (λ last is. subst (WasLatest o') (some-same staged.0 last (sym staged.1 ∙ is)) was.1) in
+        let next_read = put-read o' w' reader staged.0 next begun.lease given staged.3 was.0 managed (read.1, read.2, stands-then (tabled_by w.stored reader staged.0 begun.lease) read.3) in
+        subst Came (sym turn_is)
+        (committed-comes w.stored valid.line o' reader Q (WasLatest o') (ways w' o' m.sound holds-then valid-then reads-then reader unpinned) next given replaces (taken begun)
+        (restaged w.stored valid.line o' reader Q (WasLatest o') (ways w' o' m.sound holds-then valid-then reads-then reader unpinned) begun Ended begun.asked c) managed next_read)
+    meets-came (Puts next given replaces) turn at (inr (there, turn_is, same)) =
+        let staged = staged-at (Puts next given replaces) at in
+        let managed : is_managed reader.mode ≡ true = sym (p.fits).leased ∙ staged.2 in
+        let reader-leased : is_some reader.lease ≡ is_managed reader.mode = (p.reader_stands).valid.2 managed live_is ∙ sym managed in
+        subst Came (sym turn_is)
+        (overtaken-comes w.stored valid.line o' reader Q (WasLatest o') (ways w' o' m.sound holds-then valid-then reads-then reader unpinned) (taken begun) (started reader-leased))
+    meets-came AsksLast turn at (turn_is, same) =
+        subst Came (sym turn_is)
+        (asked-comes w.stored valid.line o' reader Q (WasLatest o') (ways w' o' m.sound holds-then valid-then reads-then reader unpinned) (last_log begun.mark o) begun (begun-then (was-same same)) (staged-at AsksLast at))
+    meets-came (ReadsLog last) turn at (l, fresh, replays.Whole, read, n, turn_is, same) = subst Came (sym turn_is) (whole-read l last fresh at read same n)
+    meets-came (ReadsLog last) turn at (l, fresh, (replays.Truncated id), read, n, turn_is, same) = subst Came (sym turn_is) (cut-read l last fresh at read same id n)
+    meets-came ReadsAgain turn at (l, is, turn_is, same) =
+        subst Came (sym turn_is)
+        (again-comes w.stored valid.line o' reader Q (WasLatest o') (ways w' o' m.sound holds-then valid-then reads-then reader unpinned) l begun (begun-then (was-same same)) (latest-then l (ap latest_manifest same ∙ is) begun.lease (p.fits).leased))
+    meets-came Ended turn at m = absurd m
+
+    goes-then : (after : Begun) → Meets kept_one begun o (Goes after) o' → PollStands o' w' reader after
+    goes-then after meets =
+        let t = meets-came begun.stage (Goes after) refl meets in
+        let follows = goes-on o sound kept_one begun numbered (subst (λ (x : Line). FollowsLine o x kept_one begun) (sym holds.stored) p.follows) after o' meets in
+        come-stands w' o' m.sound holds-then valid-then reads-then reader unpinned reader-then p.keeps after t.0 t.1 t.2 (subst (λ (x : Line). FollowsLine o' x kept_one after) holds.stored follows)
+
+    arrives-then : (last : Begun) (reader' : Follower) → CameTo last → unsegmented reader' ≡ arrived kept_one last → (whole : Follower) × (unsegmented reader' ≡ kept_follower whole) × Q whole
+    arrives-then last reader' c is = (
+      comes_to w.stored reader last,
+      is ∙ arrived-kept w.stored valid.line o' reader Q (WasLatest o') (ways w' o' m.sound holds-then valid-then reads-then reader unpinned)
+          (whole-is w' o' m.sound holds-then valid-then reads-then reader unpinned reader-then p.keeps)
+          (number-is w' o' m.sound holds-then valid-then reads-then reader unpinned reader-then p.keeps) last c,
+      c.stands,
+    )
+
+  -- ---- a step
+  step-stands : (reader' : Follower) (begun' : Begun) (result : Result (Option PollAnswer) SlateError) → Steps kept_one begun result o reader' begun' o' →
+      (w' : World) × Represents live store' w' × (w'.stored ≡ w.stored) × (w'.objects ≡ w.objects) × StandsAfter o' w' reader result reader' begun'
+  step-stands reader' begun' (Ok None) steps =
+      let m = left-maintained begun.stage refl (meets-left begun.stage (Goes begun') steps.0) in
+      (w' m, represents-then m, refl, refl, goes-then m begun' steps.0)
+  step-stands reader' begun' (Ok (Some (answers.Whole at))) steps =
+      let m = left-maintained begun.stage refl (meets-left begun.stage (Ends steps.0) steps.1) in
+      (w' m, represents-then m, refl, refl, arrives-then m steps.0 reader' (meets-came m begun.stage (Ends steps.0) refl steps.1) steps.2)
+  step-stands reader' begun' (Ok (Some (answers.Truncated at))) steps =
+      let m = left-maintained begun.stage refl (meets-left begun.stage (Breaks steps.0) steps.1) in
+      (w' m, represents-then m, refl, refl, arrives-then m steps.0 reader' (meets-came m begun.stage (Breaks steps.0) refl steps.1) steps.2)
+  step-stands reader' begun' (Err e) steps =
+      let m = left-maintained begun.stage refl (step-fails-left e steps) in
+      (w' m, represents-then m, refl, refl, reader-then m)
+
+-- ---- the laws
+module _ (live : Live) (store : Known (List Batch)) (w : World) (o : Objects) (r : Represents live store w) (at : store.objects ≡ Some o) where
+  -- what the objects that the store holds are to the world
+  abbrev HoldsAll : Objects → Type 0
+  HoldsAll x = IsSound x × Holds x w × ((n : ℕ) (y : Object) → slice_get w.objects n ≡ Some y → IsHeld x y)
+
+  all-held : HoldsAll o
+  all-held =
+      let same : (r.held).0 ≡ o = some-same (r.held).0 o (sym (r.held).1 ∙ at) in
+      subst HoldsAll same ((r.held).2, (r.held).3, (r.held).4)
+
+  reader-stands : (n : ℕ) (reader : Follower) → IsFollowerAt w.objects n reader → StandsBeside o w reader
+  reader-stands n reader there = record {
+    valid = (r.valid).followers n reader there;
+    named = λ i handle at_i. (r.valid).named i n handle (AFollower reader) at_i there;
+    past = (r.valid).past n (AFollower reader) there;
+    held = all-held.2 n (AFollower reader) there;
+  }
+
+  poll-begins : (reader : Follower) (moment : ℤ) → StandsBeside o w reader → is_pinned reader.mode ≡ false → is_some reader.lease ≡ is_managed reader.mode → (kept_follower reader).line.floor ≡ reader.view.manifest.last_l0_seq →
+      PollStands o w reader (begun_at moment 0 (kept_follower reader))
+  poll-begins reader moment s unpinned leased keeps =
+      let h = all-held in
+      let kept_one = kept_follower reader in
+      let start = begun_at moment 0 kept_one in
+      let number = number-is w o h.0 h.1 r.valid h.2 reader unpinned s keeps in
+      let low = number-low w o h.0 h.1 r.valid h.2 reader unpinned s keeps in
+      let own : AreOf kept_one.line.batches w.stored = own-of in
+      come-stands w o h.0 h.1 r.valid h.2 reader unpinned s keeps start (begun-comes w o h.0 h.1 r.valid h.2 reader unpinned s keeps leased moment 0) tt (λ is. refl)
+      (begins-on o w.stored kept_one moment 0 own (omega (arith, number, low)))
+    where
+      own-of : AreOf (kept_follower reader).line.batches w.stored
+      own-of = are-above reader.view.manifest.last_l0_seq reader.line.batches w.stored (are-grown reader.line.batches reader.line w.stored s.valid.0 (All-contains_itself reader.line.batches))
+
+-- ---- what others do
+module _ (settings : Settings) (w w' : World) (command : Command) (reply : Reply) (reached : IsReached w) (reached' : IsReached w') (next : Next settings w command reply w') (o o' : Objects) (sound_before : IsSound o) (holds : Holds o w) (holds' : Holds o' w') (sound' : IsSound o') where
+  -- a manifest that was the latest one still was
+  was-then : (last : VersionedManifest) → WasLatest o last → WasLatest o' last
+  was-then last (latest, is, low, same) =
+      let at = sym (ap latest_manifest holds.catalogue) ∙ is in
+      let c = latest-after settings w w' command reply reached reached' next (λ manifest. Unit {0}) latest at (nothing-spared w latest command) in
+      let is' : latest_manifest o' ≡ Some c.latest = ap latest_manifest holds'.catalogue ∙ c.is in
+      let up = c.up in (
+        c.latest,
+        is',
+        omega (arith, low, up),
+        λ ids. same (omega (arith, low, up, ids)) ∙ latest-same latest c.latest at (omega (arith, low, up, ids)) is',
+      )
+    where
+      latest-same : (latest latest' : VersionedManifest) → latest_manifest w.catalogue ≡ Some latest → latest.id ≡ latest'.id → latest_manifest o' ≡ Some latest' → latest ≡ latest'
+      latest-same latest latest' at ids is' =
+          let there : entry_at latest'.id o'.manifests ≡ Some latest'.manifest = latest-entry o' latest' sound' is' in
+          let here : entry_at latest.id w'.catalogue.manifests ≡ Some latest'.manifest = ap (λ (x : Catalogue). entry_at latest.id x.manifests) (sym holds'.catalogue) ∙ (ap (λ n. entry_at n o'.manifests) ids ∙ there) in
+          let o_latest : latest_manifest o ≡ Some latest = ap latest_manifest holds.catalogue ∙ at in
+          let before : entry_at latest.id w.catalogue.manifests ≡ Some latest.manifest = ap (λ (x : Catalogue). entry_at latest.id x.manifests) (sym holds.catalogue) ∙ latest-entry o latest sound_before o_latest in
+          elim (entry-after settings w w' command reply reached reached' next (λ manifest. Unit {0}) latest at (nothing-spared w latest command) latest.id (omega arith)) [
+            | inl gone ↦ absurd (cc (gone, here))
+            | inr kept ↦
+                let manifests : latest.manifest ≡ latest'.manifest = (cc (kept, here, before)) in
+                ap (λ m. record { id = latest.id; manifest = m }) manifests ∙ ap (λ n. record { id = n; manifest = latest'.manifest }) ids
+          ]
+
+  module _ (begun_beside : (f : Follower) → StandsBeside o w f → StandsBeside o' w' f) (logs : LogsAre (OfLine w'.stored) o o') (reader : Follower) (begun : Begun) (p : PollStands o w reader begun) where
+    line-grows : IsPrefix w.stored w'.stored
+    line-grows = grows settings w command reply w' next
+
+    floor-same : {n : ℕ} → w.stored.floor ≤ n → w'.stored.floor ≤ n
+    floor-same {n} low = subst (λ (l : Line). l.floor ≤ n) (sym line-grows.1) low
+
+    end-grows : end w.stored ≤ end w'.stored
+    end-grows = prefix-end w.stored w'.stored line-grows
+
+    placed-then : (view : VersionedManifest) (n mark : ℕ) (lease : Option Lease) → n ≤ end w.stored → StandsBeside o w (placed w.stored reader view n mark lease) → StandsBeside o' w' (placed w'.stored reader view n mark lease)
+    placed-then view n mark lease within s =
+        let then_stands = begun_beside (placed w.stored reader view n mark lease) s in
+        subst (λ (l : Line). StandsBeside o' w' (record reader { view = view; line = l; segments = []; mark = mark; lease = lease })) (sym (front-grown n w.stored w'.stored line-grows within)) then_stands
+
+    pub poll-then : PollStands o' w' reader begun
+    poll-then = record {
+      reader_stands = begun_beside reader p.reader_stands;
+      keeps = p.keeps;
+      follows = others-keep o o' w.stored w'.stored (kept_follower reader) begun line-grows logs p.follows;
+      fits = p.fits;
+      viewed = floor-same p.viewed;
+      within = (let low = p.within in let up = end-grows in omega (arith, low, up));
+      comes = placed-then (view_of reader begun) (reached_number begun) begun.mark begun.lease p.within p.comes;
+      read = λ last at.
+          let read = p.read last at in
+          let high = read.2 in
+          let up = end-grows in
+          (was-then last read.0, floor-same read.1, omega (arith, high, up), placed-then last last.manifest.last_l0_seq last.manifest.replay_after_wal_id begun.lease read.2 read.3);
+      staged = p.staged;
+      anew = p.anew;
+    }
+
+pub others_leave_them : OthersLeaveThem
+others_leave_them settings live live' store store' w command made reply r d =
+    let l = leads-beside settings live live' store store' w command made reply r d in (
+      l.0,
+      l.1,
+      l.2,
+      λ o o' at at'.
+          let h = all-held live store w o r at in
+          let h' = all-held live' store' l.0 o' l.2 at' in (
+            λ f s. (l.3 o o' f at at').0 s,
+            λ reader begun p. poll-then settings w l.0 command reply (reached live store w r) (reached live' store' l.0 l.2) l.1 o o' h.0 h.1 h'.1 h'.0 (λ f. (l.3 o o' f at at').0) (l.3 o o' reader at at').1 reader begun p,
+          ),
+    )
+
+pub readers_stand : ReadersStand
+readers_stand live store w o n reader r at there = reader-stands live store w o r at n reader there
+
+pub polls_begin : PollsBegin
+polls_begin live store w o reader moment r at s unpinned leased keeps = poll-begins live store w o r at reader moment s unpinned leased keeps
+
+pub steps_stand : StepsStand
+steps_stand live store store' w o o' reader reader' begun begun' result r at at' open_ unpinned p numbered steps =
+    let h = all-held live store w o r at in
+    step-stands live store store' w o o' h.0 h.1 r.valid h.2 r at' reader open_ unpinned begun p numbered reader' begun' result steps

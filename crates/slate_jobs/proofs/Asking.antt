@@ -1,9 +1,8 @@
 -- A call, from what its steps left.
-use Rattle.std.proofs.Common.{◌≡◌, ℕ, ℤ, ◌⊎◌, inl, inr, Option, Some, None, Result, Ok, Err, refl, sym, subst, ap, ◌∙◌}
+use Rattle.std.proofs.Common.{◌≡◌, ℕ, ℤ, inl, inr, Some, None, Result, Ok, Err, refl, sym, subst, ap, ◌∙◌}
 use Rattle.std.specs.Option.{IfSome}
 use Rattle.std.specs.Result.{IfOk, MatchResult}
 use Rattle.slate_types.specs.declared.batches.Batch.{Batch}
-use Rattle.slate_types.specs.declared.options.FlushType.TheVariants.{Wal}
 use Rattle.slate_store.specs.Content.{content}
 use Rattle.slate_store.specs.Objects.{Objects}
 use Rattle.std.specs.Prelude.{List}
@@ -15,11 +14,10 @@ use Rattle.slate_jobs.specs.declared.jobs.JobOp.{JobOp}
 use Rattle.slate_jobs.specs.declared.jobs.JobRefusal.{JobRefusal}
 use Rattle.slate_jobs.specs.declared.jobs.JobRefusal.TheVariants as refusals
 use Rattle.slate_jobs.specs.declared.jobs.JobReply.{JobReply}
-use Rattle.slate_jobs.specs.Calls.{Accepts, Calls, Leaves, RefusesBatch, Stands, Stores, Takes, failing_by, refused_by}
-use Rattle.slate_jobs.specs.Machine.{Machine, kept_reply, stepped}
+use Rattle.slate_jobs.specs.Calls.{Calls, Leaves, RefusesBatch, Stands, Stores, Takes, failing_by, refused_by}
+use Rattle.slate_jobs.specs.Machine.{kept_reply, stepped}
 use Rattle.slate_jobs.specs.Queue.{IsHeld, Queue, error_of, failing, refusal_of}
 use Rattle.slate_jobs.specs.Rows.{Holds}
-use Rattle.slate_jobs.proofs.Bytes.{some-same}
 use Rattle.slate_jobs.proofs.Calling.{IsStored, accept-held, leaves, steps-kept, steps-new}
 
 abbrev IsTick : Result (Unit {0}) JobRefusal → Type 0

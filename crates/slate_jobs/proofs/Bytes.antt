@@ -1,5 +1,5 @@
 -- What is read from bytes is spelled as they are.
-use Rattle.std.proofs.Common.{◌≡◌, ℕ, zero, suc, ◌+◌, ◌<◌, ◌≤◌, ◌^◌, ◌⊎◌, inl, inr, ◌==◌, ◌&&◌, List, [], ◌∷◌, ◌++◌, length, drop, take, get_or, Option, Some, None, Bool, true, false, cond, refl, sym, subst, ap, ◌∙◌, arith}
+use Rattle.std.proofs.Common.{◌≡◌, ℕ, zero, suc, ◌<◌, ◌≤◌, ◌^◌, ◌⊎◌, inl, inr, ◌==◌, ◌&&◌, List, [], ◌∷◌, ◌++◌, length, drop, take, Option, Some, None, Bool, true, false, cond, refl, sym, subst, ap, ◌∙◌, arith}
 use Rattle.std.specs.Prelude.{◌-◌, nat_lt, slice_index}
 use Rattle.std.specs.Option.{option_map}
 use Rattle.std.proofs.Math.Seq.{take-length}
@@ -9,12 +9,10 @@ use Rattle.std.proofs.lemmas.Bool.Decides.{Decides-eqb}
 use Rattle.std.proofs.lemmas.Int.{of_z-to_z}
 use Rattle.std.proofs.lemmas.List.{drop-drop, length-take-le, take-append-drop}
 use Rattle.std.proofs.lemmas.Nat.{be_bytes_8}
-use Rattle.std.specs.Int.{w64, cast_signed, cast_unsigned, from_be_bytes}
+use Rattle.std.specs.Int.{w64, from_be_bytes}
 use Rattle.slate_jobs.specs.declared.jobs.Job.{Job}
 use Rattle.slate_jobs.specs.declared.jobs.JobReply.{JobReply}
 use Rattle.slate_jobs.specs.declared.jobs.JobState.{JobState}
-use Rattle.slate_jobs.specs.declared.jobs.JobReply.TheVariants as replies
-use Rattle.slate_jobs.specs.declared.jobs.JobState.TheVariants.{Waiting, Claimed, Done}
 use Rattle.slate_jobs.specs.declared.rows.Cells.{Cells}
 use Rattle.slate_jobs.specs.declared.rows.RowName.{RowName}
 use Rattle.slate_jobs.specs.declared.rows.RowName.TheVariants as names

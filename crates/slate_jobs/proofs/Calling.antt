@@ -2,10 +2,10 @@
 use Rattle.std.proofs.Common.{◌≡◌, ℕ, ℤ, ◌+◌, ◌<◌, ◌≤◌, ◌^◌, ◌⊎◌, inl, inr, ◌==◌, List, [], ◌∷◌, ◌++◌, length, cond, Option, Some, None, Result, Ok, Err, Bool, true, false, refl, sym, subst, ap, ◌∙◌, arith}
 use Rattle.std.proofs.lemmas.List.{append-nil, append_assoc}
 use Rattle.std.proofs.lemmas.Option.{slice_get_within}
-use Rattle.std.specs.Option.{IfSome, is_some}
+use Rattle.std.specs.Option.{is_some}
 use Rattle.std.specs.Prelude.{slice_get}
 use Rattle.std.specs.Result.{IfErr, IfOk, IsErrAnd, OnOk}
-use Rattle.slate_types.specs.Line.{Line, end, extended}
+use Rattle.slate_types.specs.Line.{Line, extended}
 use Rattle.slate_types.specs.declared.batches.Batch.{Batch}
 use Rattle.slate_types.specs.declared.options.FlushType.TheVariants.{Wal}
 use Rattle.slate_store.specs.Content.{IsSound, content}
@@ -19,10 +19,7 @@ use Rattle.slate_model.specs.Flush.{CanFlush, Flushes, StoresBatches}
 use Rattle.slate_model.specs.Handle.{Handle, accepted, unstored}
 use Rattle.slate_model.specs.Known.{Known}
 use Rattle.slate_model.specs.Stores.{by_objects}
-use Rattle.slate_jobs.specs.declared.effects.Change.{Change}
-use Rattle.slate_jobs.specs.declared.effects.Change.TheVariants.{Adds, Moves, Keeps}
 use Rattle.slate_jobs.specs.declared.effects.Effect.{Effect}
-use Rattle.slate_jobs.specs.declared.failures.Failure.{Failure}
 use Rattle.slate_jobs.specs.declared.jobs.Job.{Job}
 use Rattle.slate_jobs.specs.declared.jobs.JobOp.{JobOp}
 use Rattle.slate_jobs.specs.declared.jobs.JobOp.TheVariants.{Enqueue, Claim, Complete}
@@ -31,9 +28,9 @@ use Rattle.slate_jobs.specs.declared.jobs.JobRefusal.TheVariants as refusals
 use Rattle.slate_jobs.specs.declared.jobs.JobReply.{JobReply}
 use Rattle.slate_jobs.specs.declared.jobs.JobState.{JobState}
 use Rattle.slate_jobs.specs.declared.jobs.JobState.TheVariants.{Waiting, Claimed, Done}
-use Rattle.slate_jobs.specs.Calls.{Accepts, Leaves, MayStep, RefusesBatch, Stands, Stores, Takes, failing_by, puts_for, refused_by}
+use Rattle.slate_jobs.specs.Calls.{Accepts, Leaves, MayStep, RefusesBatch, Stores, Takes, failing_by, puts_for, refused_by}
 use Rattle.slate_jobs.specs.Machine.{Machine, after, claim_at, jobs_after, claim_of, completion_by, completion_of, effect_of, first_claimable, kept_reply, stepped, stepped_by}
-use Rattle.slate_jobs.specs.Queue.{IsHeld, IsInStep, Queue, error_of, failing, failure_of, refusal_of}
+use Rattle.slate_jobs.specs.Queue.{IsHeld, IsInStep, Queue, failing, failure_of, refusal_of}
 use Rattle.slate_jobs.specs.Rows.{Holds, puts_of}
 use Rattle.std.specs.BTreeMap.{insert_entry}
 use Rattle.std.specs.Ordering.{nat_cmp}

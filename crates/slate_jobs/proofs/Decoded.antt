@@ -1,7 +1,7 @@
 -- Batches whose rows are read as a machine hold it.
-use Rattle.std.proofs.Common.{◌≡◌, ℕ, zero, suc, ◌<◌, ◌^◌, ◌⊎◌, inl, inr, ◌==◌, List, [], ◌∷◌, ◌++◌, length, get_or, Option, Some, None, Result, Ok, Err, Bool, true, false, cond, Contains, refl, sym, subst, ap, ◌∙◌, arith}
+use Rattle.std.proofs.Common.{◌≡◌, ℕ, zero, suc, ◌<◌, ◌^◌, ◌⊎◌, inl, inr, ◌==◌, List, [], ◌∷◌, ◌++◌, length, get_or, Option, Some, None, Result, Ok, Err, Bool, true, false, cond, refl, sym, subst, ap, ◌∙◌, arith}
 use Rattle.std.specs.Prelude.{slice_get}
-use Rattle.std.specs.Option.{IfSome, is_none, is_some, option_and_then, option_map}
+use Rattle.std.specs.Option.{IfSome, is_none, option_and_then, option_map}
 use Rattle.std.specs.Result.{IfOk}
 use Rattle.std.specs.BTreeMap.{insert_entry}
 use Rattle.std.specs.Ordering.{nat_cmp}
@@ -14,7 +14,7 @@ use Rattle.slate_types.specs.declared.batches.Op.{Op}
 use Rattle.slate_types.specs.declared.batches.Op.TheVariants as ops
 use Rattle.slate_types.specs.declared.read_faults.ReadFault.{ReadFault}
 use Rattle.slate_reads.specs.Read.{Version, and_then, fold_versions, history, read_at, row, row_after, since_base}
-use Rattle.slate_rows.specs.Scan.{IsScan, Rows, rows_of, with_found}
+use Rattle.slate_rows.specs.Scan.{Rows, rows_of, with_found}
 use Rattle.slate_store.specs.Objects.{entry_at}
 use Rattle.slate_jobs.specs.declared.jobs.Job.{Job}
 use Rattle.slate_jobs.specs.declared.jobs.JobReply.{JobReply}
@@ -23,8 +23,8 @@ use Rattle.slate_jobs.specs.declared.rows.RowName.{RowName}
 use Rattle.slate_jobs.specs.declared.rows.RowName.TheVariants as names
 use Rattle.slate_jobs.specs.Decoding.{AreOfBytes, AreRows, IsOfBytes, cells_at, job_in, machine_at, name_at, reply_in, with_cells, with_job, with_reply, with_row, with_rows}
 use Rattle.slate_jobs.specs.Machine.{Machine, empty, kept_reply}
-use Rattle.slate_jobs.specs.Rows.{Holds, IsOther, job_key, job_value, reply_key, reply_value, spelled, value_at, value_found}
-use Rattle.slate_jobs.proofs.Bytes.{if-some, job-spelled, key-of_job, key-of_reply, none-some, reply-spelled, some-same, value-of_cells}
+use Rattle.slate_jobs.specs.Rows.{Holds, job_key, job_value, reply_key, reply_value, spelled, value_at, value_found}
+use Rattle.slate_jobs.proofs.Bytes.{job-spelled, key-of_job, key-of_reply, none-some, reply-spelled, some-same, value-of_cells}
 use Rattle.slate_jobs.proofs.Entries.{entry-other, entry-put}
 use Rattle.slate_jobs.proofs.Keys.{jobs-same, kinds-differ, replies-same}
 use Rattle.slate_jobs.proofs.Slots.{added-last, added-other}

@@ -1,5 +1,5 @@
 -- Batches that hold a machine hold it after an effect, once the effect's batch follows them.
-use Rattle.std.proofs.Common.{◌≡◌, ℕ, ◌<◌, ◌^◌, ◌⊎◌, inl, inr, List, [], ◌∷◌, ◌++◌, length, Option, Some, None, Result, Ok, refl, sym, subst, ap, ◌∙◌, arith}
+use Rattle.std.proofs.Common.{◌≡◌, ℕ, ◌<◌, ◌^◌, ◌⊎◌, inl, inr, List, [], ◌∷◌, ◌++◌, length, Some, Ok, refl, sym, ap, ◌∙◌, arith}
 use Rattle.std.proofs.lemmas.Bool.{cases_order}
 use Rattle.std.specs.BTreeMap.{insert_entry}
 use Rattle.std.specs.Option.{option_map}
@@ -12,8 +12,8 @@ use Rattle.slate_jobs.specs.declared.effects.Change.TheVariants.{Adds, Moves, Ke
 use Rattle.slate_jobs.specs.declared.effects.Effect.{Effect}
 use Rattle.slate_jobs.specs.declared.jobs.Job.{Job}
 use Rattle.slate_jobs.specs.declared.jobs.JobReply.{JobReply}
-use Rattle.slate_jobs.specs.Machine.{Machine, after, jobs_after, kept_reply}
-use Rattle.slate_jobs.specs.Rows.{Holds, IsOther, job_key, job_puts, job_value, put, puts_of, reply_key, reply_value, value_at}
+use Rattle.slate_jobs.specs.Machine.{Machine, after, jobs_after}
+use Rattle.slate_jobs.specs.Rows.{Holds, job_key, job_puts, job_value, put, puts_of, reply_key, reply_value, value_at}
 use Rattle.slate_jobs.proofs.Entries.{entry-other, entry-put}
 use Rattle.slate_jobs.proofs.Keys.{jobs-same, kinds-differ, replies-same}
 use Rattle.slate_jobs.proofs.Slots.{added-last, added-other, set-other, set-there}

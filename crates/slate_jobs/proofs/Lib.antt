@@ -3,6 +3,7 @@ pub mod Bytes
 pub mod Decoded
 pub mod Entries
 pub mod Holding
+pub mod Noting
 pub mod Keys
 pub mod RowReading
 pub mod Slots
@@ -10,4 +11,5 @@ pub mod Values
 pub mod Calling
 pub mod Standing
 pub mod Opened
+pub mod Turning
 pub mod Ticking

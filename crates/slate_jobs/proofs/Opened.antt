@@ -1,5 +1,5 @@
 -- What an opening leaves of an honest store, and what its handle reads.
-use Rattle.std.proofs.Common.{◌≡◌, ℕ, zero, suc, ◌+◌, ◌<◌, ◌≤◌, ◌⊎◌, inl, inr, List, [], ◌∷◌, ◌++◌, length, Option, Some, None, Result, Ok, Err, Bool, true, refl, sym, subst, ap, ◌∙◌, arith}
+use Rattle.std.proofs.Common.{◌≡◌, ℕ, zero, suc, ◌≤◌, ◌⊎◌, inl, inr, List, [], ◌∷◌, ◌++◌, length, Option, Some, None, Result, Ok, Err, true, refl, sym, subst, ap, ◌∙◌, arith}
 use Rattle.std.specs.Prelude.{◌≢◌}
 use Rattle.std.proofs.lemmas.List.{append-nil}
 use Rattle.std.specs.Result.{IfErr, IfOk}
@@ -9,16 +9,16 @@ use Rattle.slate_types.specs.declared.batches.Batch.{Batch}
 use Rattle.slate_types.specs.declared.batches.KeyValue.{KeyValue}
 use Rattle.slate_types.specs.declared.read_faults.ReadFault.{ReadFault}
 use Rattle.slate_store.specs.Content.{IsSound, content, table_batches}
-use Rattle.slate_store.specs.Objects.{Objects, latest_manifest}
+use Rattle.slate_store.specs.Objects.{Objects}
 use Rattle.slate_store.specs.declared.objects.TableId.{TableId}
 use Rattle.slate_store.specs.declared.objects.VersionedManifest.{VersionedManifest}
 use Rattle.slate_errors.specs.declared.endings.TaskName.{TaskName}
 use Rattle.slate_errors.specs.declared.errors.SlateError.{SlateError}
-use Rattle.slate_model.specs.Handle.{Handle, accepted, kept_handle, unstored}
+use Rattle.slate_model.specs.Handle.{Handle, kept_handle, unstored}
 use Rattle.slate_model.specs.Changes.{after_part}
 use Rattle.slate_model.specs.Known.{Known}
 use Rattle.slate_model.specs.Object.{Handle as AHandle}
-use Rattle.slate_model.specs.Open.{IsFresh, OpenFault, Opens as IsOpening, OpensHandle, open_changes, opened_handle, opened_manifest}
+use Rattle.slate_model.specs.Open.{Opens as IsOpening, OpensHandle, open_changes, opened_handle, opened_manifest}
 use Rattle.slate_model.specs.Stores.{by_objects, kept_rows}
 use Rattle.slate_model.specs.Tables.{AreJoined}
 use Rattle.slate_model.proofs.Flushed.{part_le}
@@ -30,7 +30,7 @@ use Rattle.slate_jobs.specs.declared.jobs.JobRefusal.{JobRefusal}
 use Rattle.slate_jobs.specs.declared.jobs.JobRefusal.TheVariants as refusals
 use Rattle.slate_jobs.specs.Decoding.{AreOfBytes, AreRows, machine_at}
 use Rattle.slate_jobs.specs.Machine.{Machine}
-use Rattle.slate_jobs.specs.Queue.{AreForeign, IsHeld, IsInStep, Opens, OpensWriter, Queue}
+use Rattle.slate_jobs.specs.Queue.{IsInStep, Opens, OpensWriter, Queue}
 use Rattle.slate_jobs.specs.Rows.{Holds}
 use Rattle.slate_jobs.proofs.Decoded.{decoded-holds}
 

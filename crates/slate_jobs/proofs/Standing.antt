@@ -1,12 +1,10 @@
 -- A job store that an honest store holds is held after a request is accepted, and after a flush of the log.
-use Rattle.std.proofs.Common.{◌≡◌, ℕ, ℤ, zero, suc, ◌+◌, ◌<◌, ◌≤◌, ◌^◌, ◌⊎◌, inl, inr, List, [], ◌∷◌, ◌++◌, length, cond, Option, Some, None, Result, Ok, Err, Bool, true, false, refl, sym, subst, ap, ◌∙◌, arith}
+use Rattle.std.proofs.Common.{◌≡◌, ℕ, ℤ, zero, suc, ◌+◌, ◌≤◌, ◌⊎◌, inl, inr, List, [], ◌∷◌, ◌++◌, length, cond, Option, Some, None, Result, Ok, Err, false, refl, sym, subst, ap, ◌∙◌, arith}
 use Rattle.std.proofs.lemmas.Bool.{lt-leb}
-use Rattle.std.proofs.lemmas.List.{append-nil, append_assoc, length-append}
+use Rattle.std.proofs.lemmas.List.{length-append}
 use Rattle.std.specs.Prelude.{nat_le}
-use Rattle.std.specs.Result.{IfOk}
 use Rattle.slate_types.proofs.Lines.{above-none, above-push, numbered-push}
-use Rattle.slate_types.specs.Line.{AreNumberedFrom, IsLine, Line, batches_above, end, extended}
-use Rattle.slate_types.specs.Modelled.{WhereModelled}
+use Rattle.slate_types.specs.Line.{AreNumberedFrom, Line, batches_above, end, extended}
 use Rattle.slate_types.specs.declared.batches.Batch.{Batch}
 use Rattle.slate_types.specs.declared.batches.KeyOp.{KeyOp}
 use Rattle.slate_types.specs.declared.options.FlushType.TheVariants.{Wal}
@@ -17,17 +15,15 @@ use Rattle.slate_store.specs.declared.objects.VersionedManifest.{VersionedManife
 use Rattle.slate_errors.specs.declared.errors.SlateError.{SlateError}
 use Rattle.slate_errors.specs.declared.errors.SlateError.TheVariants as errors
 use Rattle.slate_model.specs.Changes.{PartMade, after_part}
-use Rattle.slate_model.specs.Flush.{CanFlush, DurableAfter, FlushAnswer, Flushes, FlushesOnly, IsCurrent, IsFlushed, StoresBatches, flush_changes, flush_changes_by, flush_result, grows, log_changes}
+use Rattle.slate_model.specs.Flush.{DurableAfter, FlushAnswer, FlushesOnly, IsCurrent, IsFlushed, StoresBatches, flush_changes, flush_changes_by, flush_result, grows, log_changes}
 use Rattle.slate_model.specs.Handle.{Handle, accepted, kept_handle, line_above, to_log, unstored}
-use Rattle.slate_model.specs.Known.{Known}
 use Rattle.slate_model.specs.Stores.{Stands as AreThere, by_objects}
 use Rattle.slate_model.specs.Write.{written}
 use Rattle.slate_model.proofs.Flushed.{part_le}
 use Rattle.slate_model.proofs.Keeping.{above-twice, line_above-end}
 use Rattle.slate_model.proofs.Prefixes.{extended-nil}
 use Rattle.slate_model.proofs.Tabled.{tables-within}
-use Rattle.slate_jobs.specs.Machine.{Machine}
-use Rattle.slate_jobs.specs.Queue.{IsInStep, failing}
+use Rattle.slate_jobs.specs.Queue.{IsInStep}
 use Rattle.slate_jobs.specs.Calls.{failing_by}
 
 -- the line doesn't end before the last number in tables

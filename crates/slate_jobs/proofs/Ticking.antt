@@ -1,5 +1,5 @@
 -- A flush refuses no moment.
-use Rattle.std.proofs.Common.{◌≡◌, ℕ, ℤ, Bool, true, false, Option, Some, None, Result, Ok, Err, refl, sym, subst, ◌∙◌}
+use Rattle.std.proofs.Common.{◌≡◌, ℕ, ℤ, Bool, true, false, Some, None, Result, Err, refl, sym, subst, ◌∙◌}
 use Rattle.std.specs.Option.{IfSome}
 use Rattle.slate_types.specs.declared.options.FlushType.TheVariants.{Wal}
 use Rattle.slate_errors.specs.Errors.{closed_error}
@@ -12,7 +12,6 @@ use Rattle.slate_model.specs.Known.{Known, Untouched}
 use Rattle.slate_writer.specs.Kinds.{IsOfFlush}
 use Rattle.slate_jobs.specs.declared.failures.Failure.{Failure}
 use Rattle.slate_jobs.specs.declared.failures.Failure.TheVariants.{Fault, Backpressure}
-use Rattle.slate_jobs.specs.declared.jobs.JobRefusal.{JobRefusal}
 use Rattle.slate_jobs.specs.declared.jobs.JobRefusal.TheVariants as refusals
 use Rattle.slate_jobs.specs.Queue.{error_of, failure_of, refusal_of}
 use Rattle.slate_jobs.proofs.Calling.{never-closed, never-fault}

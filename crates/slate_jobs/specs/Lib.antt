@@ -1,6 +1,9 @@
 pub mod Calls
 pub mod Decoding
+pub mod JobLists
 pub mod Laws
 pub mod Machine
 pub mod Queue
 pub mod Rows
+pub mod Turns
+pub mod TurnsFall

@@ -1,5 +1,5 @@
 -- A job store: its handle and its machine, and when they agree with what an honest store holds.
-use Rattle.std.specs.Prelude.{◌≡◌, ◌≢◌, ◌⊎◌, ℕ, ℤ, ◌+◌, ◌≤◌, true, List, [], ◌++◌, length, is_some, Option, Some, None, Result, Ok, Err, IfOk, IfErr, IfSome}
+use Rattle.std.specs.Prelude.{◌≡◌, ◌≢◌, ◌⊎◌, ◌+◌, ◌≤◌, true, List, [], ◌++◌, length, Option, Some, None, Result, Err, IfOk}
 use Rattle.slate_types.specs.declared.batches.Batch.{Batch}
 use Rattle.slate_types.specs.declared.batches.KeyValue.{KeyValue}
 use Rattle.slate_types.specs.declared.read_faults.ReadFault.{ReadFault}

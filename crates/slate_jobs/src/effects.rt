@@ -5,6 +5,7 @@ ghost use Rattle.std.specs.Vec.{vec_capacity};
 ghost use Rattle.slate_store.specs.Checkpoints.{lease_end};
 ghost use Rattle.slate_jobs.specs.Machine.{claim_at, completion_by, completion_of, effect_of, first_claimable, is_claimable, is_full, jobs_after};
 
+use crate::job_lists::JobList;
 use crate::jobs::{Job, JobOp, JobReply, JobState};
 use bytes::Bytes;
 use slate_types::NoMemory;
@@ -39,9 +40,15 @@ impl Effect {
     }
 
     /// What a request does that has no reply yet.
-    pub(crate) fn of(jobs: &[Job], request: u64, op: JobOp, moment: i64) -> Result<Effect, NoMemory>
-        ensures { IfOk result (λ effect. effect ≡ effect_of jobs.now request op moment) }
+    pub(crate) fn of(
+        list: &JobList,
+        request: u64,
+        op: JobOp,
+        moment: i64,
+    ) -> Result<Effect, NoMemory>
+        ensures { IfOk result (λ effect. effect ≡ effect_of list.now.items request op moment) }
     {
+        let jobs = list.as_slice();
         match op {
             JobOp::Enqueue(payload) => Ok(Effect {
                 change: Change::Adds(Job {
@@ -53,7 +60,7 @@ impl Effect {
                 },
             }),
             JobOp::Claim { lease_ms } => {
-                let place = first_claimable(jobs, moment);
+                let place = list.first_claimable(moment);
                 claim(jobs, request, lease_end(moment, lease_ms), place)
             }
             JobOp::Complete { job, token } => complete(job, token, job_at(jobs, job)),
@@ -72,9 +79,9 @@ fn is_claimable(state: JobState, moment: i64) -> bool
     }
 }
 
-/// The place of the least job that may be claimed at a moment.
+/// The place of the least job that may be claimed at a moment, by a pass over them.
 #[tactic(auto, unfolding(crate::specs::Machine::first_claimable))]
-fn first_claimable(jobs: &[Job], moment: i64) -> Option<usize>
+pub(crate) fn first_claimable(jobs: &[Job], moment: i64) -> Option<usize>
     ensures place { result ≡ first_claimable jobs.now moment }
     ensures within { IfSome result (λ place. place < length jobs.now) }
 {

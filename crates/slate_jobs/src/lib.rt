@@ -3,6 +3,7 @@
 
 mod effects;
 mod failures;
+mod job_lists;
 mod jobs;
 mod laws;
 mod reading;
@@ -10,6 +11,7 @@ mod rows;
 mod stores;
 #[cfg(test)]
 mod tests;
+mod turns;
 
 pub use jobs::{Job, JobOp, JobRefusal, JobReply, JobState};
 pub use laws::rows_and_machine_give_each_other;

@@ -5,6 +5,7 @@ ghost use Rattle.slate_jobs.specs.Decoding.{cells_at, is_bare, job_in, name_at, 
 ghost use Rattle.slate_jobs.specs.Rows.{eight, job_cells, job_key, job_value, put, puts_of, reply_cells, reply_key, reply_value, spelled};
 
 use crate::effects::{Change, Effect};
+use crate::job_lists::JobList;
 use crate::jobs::{Job, JobOp, JobReply, JobState};
 use bytes::Bytes;
 use slate_types::{KeyOp, NoMemory, Op, Seq, WriteBatch};
@@ -292,19 +293,19 @@ impl Plan {
     /// That of a request that has no reply yet.
     pub(crate) fn of(
         alloc: Global,
-        jobs: &[Job],
+        jobs: &JobList,
         request: u64,
         op: JobOp,
         moment: i64,
     ) -> Result<Plan, NoMemory>
-        ensures effect { IfOk result (λ plan. plan.effect ≡ effect_of jobs.now request op moment) }
-        ensures batch { IfOk result (λ plan. plan.batch.ops ≡ puts_of (length jobs.now) request plan.effect) }
+        ensures effect { IfOk result (λ plan. plan.effect ≡ effect_of jobs.now.items request op moment) }
+        ensures batch { IfOk result (λ plan. plan.batch.ops ≡ puts_of (length jobs.now.items) request plan.effect) }
         // What the types say.
-        ensures room { IfOk result (λ plan. length jobs.now < 2 ^ 64) }
+        ensures room { IfOk result (λ plan. length jobs.now.items < 2 ^ 64) }
         ensures fits { request < 2 ^ 64 }
     {
         let effect = Effect::of(jobs, request, op, moment)?;
-        let batch = batch_of(alloc, jobs.len() as u64, request, &effect)?;
+        let batch = batch_of(alloc, jobs.as_slice().len() as u64, request, &effect)?;
         Ok(Plan { effect, batch })
     }
 }

@@ -18,9 +18,10 @@ ghost use Rattle.slate_jobs.specs.Machine.{kept_reply};
 ghost use Rattle.slate_jobs.specs.Decoding.{AreOfBytes, AreRows, machine_at};
 ghost use Rattle.slate_jobs.specs.Queue.{IsHeld, Opens, OpensWriter};
 
-use crate::effects::{Effect, is_full, make};
+use crate::effects::{Effect, is_full};
 use crate::failures::{Failure, refuse};
-use crate::jobs::{Job, JobOp, JobRefusal, JobReply};
+use crate::job_lists::JobList;
+use crate::jobs::{JobOp, JobRefusal, JobReply};
 use crate::reading::{Kept, note_rows, read_machine};
 use crate::rows::Plan;
 use slate_errors::SlateError;
@@ -42,7 +43,7 @@ use std::marker::Model;
 /// replies in memory.
 pub struct JobStore {
     writer: WriterState,
-    jobs: Vec<Job>,
+    jobs: JobList,
     replies: BTreeMap<u64, JobReply>,
     failure: Option<Failure>,
 }
@@ -116,7 +117,7 @@ impl JobStore {
         let Kept { jobs, replies } = kept;
         Ok(JobStore {
             writer,
-            jobs,
+            jobs: JobList::of(jobs),
             replies,
             failure: None,
         })
@@ -136,8 +137,8 @@ impl JobStore {
     ///
     /// # Cost
     ///
-    /// Three calls of the store at most, and none for a request that is repeated once its reply is stored. A claim takes time
-    /// linear in the jobs before the one that it takes, each other request a logarithm of the requests.
+    /// Three calls of the store at most, and none for a request that is repeated once its reply is stored. A logarithm of the jobs
+    /// and the requests; for the first request after an opening, and after want of memory, time linear in the jobs.
     ///
     /// # What stands after
     ///
@@ -212,14 +213,14 @@ impl JobStore {
         if is_full(self.jobs.as_slice(), &op) {
             return Err(JobRefusal::Full);
         }
-        let plan = Plan::of(alloc, self.jobs.as_slice(), request, op, moment)?;
-        self.jobs.reserve(1).map_err(NoMemory::from)?;
+        self.jobs.prepare(alloc)?;
+        let plan = Plan::of(alloc, &self.jobs, request, op, moment)?;
         let Plan { effect, batch } = plan;
         let Effect { change, reply } = effect;
         keep_reply(&mut self.replies, request, reply)?;
         match write(&mut self.writer, alloc, batch, moment) {
             Ok(()) => {
-                make(&mut self.jobs, change);
+                self.jobs.make(alloc, change);
                 Ok(())
             }
             Err(error) => {

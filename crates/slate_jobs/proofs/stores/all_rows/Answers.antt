@@ -1,4 +1,4 @@
-use Rattle.std.proofs.Common.{◌≡◌, None, Option, List, subst}
+use Rattle.std.proofs.Common.{None, subst}
 use Rattle.slate_types.specs.declared.scan_options.IterationOrder.TheVariants.{Ascending}
 use Rattle.slate_rows.specs.Scan.{IsScan}
 use Rattle.slate_model.specs.Object.{Handle as AHandle}

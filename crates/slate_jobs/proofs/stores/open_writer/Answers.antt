@@ -1,5 +1,4 @@
-use Rattle.std.proofs.Common.{None, ap}
-use Rattle.slate_model.specs.Known.{known}
+use Rattle.std.proofs.Common.{None}
 use Rattle.slate_jobs.proofs.Opened.{handle-opens, refused-opens}
 use Rattle.slate_jobs.specs.declared.jobs.JobRefusal.TheVariants as refusals
 use Rattle.slate_jobs.proofs.stores.open_writer.Goals as goal

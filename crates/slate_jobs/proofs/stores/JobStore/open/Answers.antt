@@ -1,7 +1,5 @@
-use Rattle.std.proofs.Common.{◌≡◌, Some, None, Ok, Err, ap, sym, subst, ◌∙◌}
-use Rattle.slate_model.specs.Object.{Handle as AHandle}
-use Rattle.slate_model.specs.Stores.{kept_rows}
-use Rattle.slate_jobs.specs.Decoding.{AreOfBytes, AreRows}
+use Rattle.std.proofs.Common.{None, Err, ap, sym, subst, ◌∙◌}
+use Rattle.slate_jobs.specs.Decoding.{AreRows}
 use Rattle.slate_jobs.proofs.Opened.{fault-opens, of-rows-opens}
 use Rattle.slate_jobs.proofs.stores.JobStore.open.Goals as goal
 

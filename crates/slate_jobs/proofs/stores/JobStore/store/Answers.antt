@@ -2,7 +2,6 @@ use Rattle.std.proofs.Common.{◌≡◌, Err, inr, ap, subst, sym, ◌∙◌}
 use Rattle.slate_model.specs.Known.{known}
 use Rattle.slate_jobs.specs.Calls.{Stores}
 use Rattle.slate_jobs.specs.contracts.stores.JobStore.{the_view}
-use Rattle.slate_jobs.specs.declared.jobs.JobRefusal.{JobRefusal}
 use Rattle.slate_jobs.specs.declared.jobs.JobRefusal.TheVariants as refusals
 use Rattle.slate_errors.specs.declared.errors.SlateError.TheVariants as errors
 use Rattle.slate_jobs.proofs.Ticking.{never-tick}

@@ -1,0 +1,6 @@
+pub mod Answer
+pub mod Pieces
+pub mod Reading
+pub mod Refusal
+pub mod Stepping
+pub mod Taking

@@ -1,0 +1,13 @@
+//! A change feed: it hands out the stored batches of a database in their order, after a cursor that its owner keeps.
+#![tactic(auto)]
+
+mod feeds;
+mod machines;
+mod pieces;
+mod refusals;
+#[cfg(test)]
+mod tests;
+
+pub use feeds::Feed;
+pub use machines::{FeedMachine, FeedStep};
+pub use refusals::FeedRefusal;

@@ -5,6 +5,7 @@ use Rattle.std.proofs.lemmas.List.{append-nil}
 use Rattle.std.proofs.lemmas.List.Elements.{All-append, All-head, All-nil, All-weaker, Contains-append_left, Contains-append_right, filter-append}
 use Rattle.std.proofs.lemmas.Grind.{flat_map-append}
 use Rattle.std.specs.List.{All, Contains, range_with_len, slice_get}
+use Rattle.std.specs.Option.{IfSome}
 use Rattle.slate_types.specs.declared.batches.Batch.{Batch}
 use Rattle.slate_types.specs.Line.{AreNumberedFrom, batches_above}
 use Rattle.slate_store.specs.declared.objects.TableId.{TableId}
@@ -19,9 +20,9 @@ use Rattle.slate_feed.specs.declared.machines.Turn.{Turn}
 use Rattle.slate_feed.specs.declared.machines.Turn.TheVariants.{Goes, Ends, Breaks}
 use Rattle.slate_feed.specs.declared.refusals.FeedRefusal.{FeedRefusal}
 use Rattle.slate_feed.specs.declared.refusals.FeedRefusal.TheVariants as refusals
-use Rattle.slate_feed.specs.Answer.{Answers, Gives, Reads}
+use Rattle.slate_feed.specs.Answer.{Answers, Gives, HasNoneAbove, Reads, most_calls}
 use Rattle.slate_feed.specs.Pieces.{Piece, joined, log_piece, log_pieces, pieces, table_piece, tables_to_read}
-use Rattle.slate_feed.specs.Reading.{IsStaged, Reading, begun, going_by, log_stage, reached, table_stage, taken}
+use Rattle.slate_feed.specs.Reading.{IsGoing, IsStaged, Reading, begun, going_by, log_stage, made, reached, table_stage, taken}
 use Rattle.slate_feed.specs.Stepping.{LeadsOn, Meets, ReadsManifest, ReadsPiece, TakesAll}
 use Rattle.slate_feed.specs.Taking.{greatest_number, is_some_batch}
 
@@ -51,9 +52,14 @@ pub record Going (o : Objects) (cursor limit : ℕ) (r : Reading) : Type 0 where
   pub first : number_before (joined parts) cursor ≤ cursor
   pub end : r.end ≡ greatest_number r.tabled (joined parts)
 
+-- it knows the last log file where it reads one
+abbrev pub KnowsLast : Objects → (mark : ℕ) → Stage → Type 0
+KnowsLast o mark (ReadLog id last) = last ≡ last_log mark o
+KnowsLast o mark s = Unit {0}
+
 -- it is about to read the latest manifest, or goes by it
 abbrev pub Runs : Objects → (cursor limit : ℕ) → Reading → Type 0
-Runs o cursor limit r = (r ≡ begun cursor limit) ⊎ (Going o cursor limit r × (r.stage ≢ ReadLatest))
+Runs o cursor limit r = (r ≡ begun cursor limit) ⊎ (Going o cursor limit r × (r.stage ≢ ReadLatest) × KnowsLast o r.mark r.stage)
 
 -- ---- lists
 map-push : (parts : List (List Batch)) (bs : List Batch) (rest : List Piece) → map Some parts ++ (Some bs ∷ rest) ≡ map Some (parts ++ bs ∷ []) ++ rest
@@ -156,8 +162,8 @@ module _ (o : Objects) (cursor limit : ℕ) (r : Reading) (g : Going o cursor li
           }
 
       -- all is read
-      pub ends-all : AreNumberedFrom cursor r'.found → rest' ≡ [] → (r'.began ≡ false → r.tabled ≤ r.cursor) → Reads o cursor limit (Ok r'.found)
-      ends-all numbered none low =
+      pub ends-all : AreNumberedFrom cursor r'.found → rest' ≡ [] → length r'.found < limit → (r'.began ≡ false → r.tabled ≤ r.cursor) → Reads o cursor limit (Ok r'.found)
+      ends-all numbered none few low =
           record {
             latest = g.latest;
             is_latest = g.is_latest;
@@ -166,7 +172,19 @@ module _ (o : Objects) (cursor limit : ℕ) (r : Reading) (g : Going o cursor li
             read = read';
             gives = (numbered, from', λ _. before-or cursor g.latest.manifest.last_l0_seq (joined parts') first'
                 (λ nothing. subst (λ n. n ≤ cursor) g.tabled (subst (λ n. r.tabled ≤ n) g.at_cursor (low (began' ∙ nothing)))),
-            inr (none, no_gap'));
+            inr (few, none, no_gap'));
+          }
+
+      pub ends-none : rest' ≡ [] → r'.found ≡ [] → HasNoneAbove o cursor r'.end
+      ends-none none nothing =
+          let same : cursor + length r'.found ≡ cursor = let l = ap length nothing in omega (arith, l) in
+          record {
+            latest = g.latest;
+            is_latest = g.is_latest;
+            parts = parts';
+            read = read' ∙ (ap (λ xs. map Some parts' ++ xs) none ∙ append-nil (map Some parts'));
+            none = subst (λ n. HaveNoGap cursor n (joined parts')) same no_gap';
+            greatest = end' ∙ ap (λ n. greatest_number n (joined parts')) g.tabled;
           }
 
     -- as many as were asked for are found
@@ -284,6 +302,12 @@ table_stage-goes ids at = elim (nat_lt at (length ids)) as (λ t. cond t (ReadTa
 table_stage-later : (ids : List TableId) (at : ℕ) → table_stage ids at ≢ ReadLatest
 table_stage-later ids at = elim (nat_lt at (length ids)) as (λ t. cond t (ReadTable at) AskLast ≢ ReadLatest) [ true ↦ λ h. absurd (cc) | false ↦ λ h. absurd (cc) ]
 
+knows-table : (o : Objects) (mark : ℕ) (ids : List TableId) (at : ℕ) → KnowsLast o mark (table_stage ids at)
+knows-table o mark ids at = elim (nat_lt at (length ids)) as (λ t. KnowsLast o mark (cond t (ReadTable at) AskLast)) [ true ↦ tt | false ↦ tt ]
+
+knows-log : (o : Objects) (mark id last : ℕ) → last ≡ last_log mark o → KnowsLast o mark (log_stage id last)
+knows-log o mark id last is = elim (nat_lt id last) as (λ t. KnowsLast o mark (cond t (ReadLog (id + 1) last) Ended)) [ true ↦ is | false ↦ tt ]
+
 log_stage-later : (id last : ℕ) → log_stage id last ≢ ReadLatest
 log_stage-later id last = elim (nat_lt id last) as (λ t. cond t (ReadLog (id + 1) last) Ended ≢ ReadLatest) [ true ↦ λ h. absurd (cc) | false ↦ λ h. absurd (cc) ]
 
@@ -354,7 +378,15 @@ module _ (o : Objects) (cursor limit : ℕ) (r : Reading) (g : Going o cursor li
       let n = next-parts batches is in
       elim how as (λ _. Reads o cursor limit (Ok r'.found)) [
         | inl full ↦ ends-full o cursor limit r g batches n.parts' (ahead next o r) n.read' n.more r' on numbered (full ∙ g.to_limit)
-        | inr all ↦ ends-all o cursor limit r g batches n.parts' (ahead next o r) n.read' n.more r' on all.0 numbered (n.ended all.1) all.2
+        | inr all ↦ ends-all o cursor limit r g batches n.parts' (ahead next o r) n.read' n.more r' on all.0 numbered (n.ended all.1) (subst (λ k. length r'.found < k) g.to_limit all.2) all.3
+      ]
+
+  pub piece-none : (r' : Reading) → ReadsPiece piece next (taken r) (Ok Ends) r' → r'.found ≡ [] → HasNoneAbove o cursor r'.end
+  piece-none r' (batches, is, on, how) nothing =
+      let n = next-parts batches is in
+      elim how as (λ _. HasNoneAbove o cursor r'.end) [
+        | inl full ↦ let l = ap length nothing in let a = g.asked in let t = g.to_limit in absurd (omega (arith, full, l, a, t))
+        | inr all ↦ ends-none o cursor limit r g batches n.parts' (ahead next o r) n.read' n.more r' on all.0 (n.ended all.1) nothing
       ]
 
   pub piece-breaks : (r' : Reading) → ReadsPiece piece next (taken r) (Ok Breaks) r' → Reads o cursor limit (Err refusals.Moved)
@@ -389,18 +421,38 @@ module _ (o : Objects) (cursor limit : ℕ) (r : Reading) (g : Going o cursor li
   last-place is =
       (refl, ap (λ s. ahead s o r) is ∙ sym (ahead-logs o r r.mark (last_log r.mark o)), logs-ended o r r.mark (last_log r.mark o))
 
-  goes-to : (s : Stage) (r' : Reading) → r.stage ≡ s → IsStaged s r → s ≢ ReadLatest → Meets s o (taken r) (Ok Goes) r' → Going o cursor limit r' × (r'.stage ≢ ReadLatest)
-  goes-to ReadLatest r' is staged later m = absurd (later refl)
-  goes-to (ReadTable at) r' is staged later (id, found, m) =
-      (piece-goes o cursor limit r g (table_piece o id) (table_stage r.tables (at + 1)) (inl (table-place at id is found)) r' m,
-      λ h. table_stage-later r.tables (at + 1) (sym m.4 ∙ h))
-  goes-to AskLast r' is staged later m =
-      (piece-goes o cursor limit r g (Some []) (log_stage r.mark (last_log r.mark o)) (inr (last-place is)) r' m,
-      λ h. log_stage-later r.mark (last_log r.mark o) (sym m.4 ∙ h))
-  goes-to (ReadLog id last) r' is staged later m =
-      (piece-goes o cursor limit r g (log_piece r.tabled o id) (log_stage id last) (inl (log-place id last is staged.2)) r' m,
-      λ h. log_stage-later id last (sym m.4 ∙ h))
-  goes-to Ended r' is staged later m = absurd m
+  -- it goes on to a call
+  to-next : (next : Stage) (r' : Reading) → Going o cursor limit r' → r'.mark ≡ r.mark → r'.stage ≡ next → next ≢ ReadLatest → KnowsLast o r.mark next → Going o cursor limit r' × (r'.stage ≢ ReadLatest) × KnowsLast o r'.mark r'.stage
+  to-next next r' going mark at later knows =
+      (going, λ h. later (sym at ∙ h), subst (λ n. KnowsLast o n r'.stage) (sym mark) (subst (KnowsLast o r.mark) (sym at) knows))
+
+  goes-to : (s : Stage) (r' : Reading) → r.stage ≡ s → IsStaged s r → s ≢ ReadLatest → KnowsLast o r.mark s → Meets s o (taken r) (Ok Goes) r' → Going o cursor limit r' × (r'.stage ≢ ReadLatest) × KnowsLast o r'.mark r'.stage
+  goes-to ReadLatest r' is staged later knows m = absurd (later refl)
+  goes-to (ReadTable at) r' is staged later knows (id, found, m) =
+      to-next (table_stage r.tables (at + 1)) r' (piece-goes o cursor limit r g (table_piece o id) (table_stage r.tables (at + 1)) (inl (table-place at id is found)) r' m)
+      (ap (λ (x : Reading). x.mark) m.2.same) m.4 (table_stage-later r.tables (at + 1)) (knows-table o r.mark r.tables (at + 1))
+  goes-to AskLast r' is staged later knows m =
+      to-next (log_stage r.mark (last_log r.mark o)) r' (piece-goes o cursor limit r g (Some []) (log_stage r.mark (last_log r.mark o)) (inr (last-place is)) r' m)
+      (ap (λ (x : Reading). x.mark) m.2.same) m.4 (log_stage-later r.mark (last_log r.mark o)) (knows-log o r.mark r.mark (last_log r.mark o) refl)
+  goes-to (ReadLog id last) r' is staged later knows m =
+      to-next (log_stage id last) r' (piece-goes o cursor limit r g (log_piece r.tabled o id) (log_stage id last) (inl (log-place id last is staged.2)) r' m)
+      (ap (λ (x : Reading). x.mark) m.2.same) m.4 (log_stage-later id last) (knows-log o r.mark id last knows)
+  goes-to Ended r' is staged later knows m = absurd m
+
+  none-above : (s : Stage) (r' : Reading) → r.stage ≡ s → IsStaged s r → s ≢ ReadLatest → Meets s o (taken r) (Ok Ends) r' → r'.found ≡ [] → HasNoneAbove o cursor r'.end
+  none-above ReadLatest r' is staged later m = absurd (later refl)
+  none-above (ReadTable at) r' is staged later (id, found, m) = piece-none o cursor limit r g (table_piece o id) (table_stage r.tables (at + 1)) (inl (table-place at id is found)) r' m
+  none-above AskLast r' is staged later m = piece-none o cursor limit r g (Some []) (log_stage r.mark (last_log r.mark o)) (inr (last-place is)) r' m
+  none-above (ReadLog id last) r' is staged later m = piece-none o cursor limit r g (log_piece r.tabled o id) (log_stage id last) (inl (log-place id last is staged.2)) r' m
+  none-above Ended r' is staged later m = absurd m
+
+  -- how many steps were made, this one with them
+  steps-within : (s : Stage) → IsStaged s r → s ≢ ReadLatest → KnowsLast o r.mark s → IsGoing s → made s r + 1 ≤ 2 + length r.tables + (last_log r.mark o - r.mark)
+  steps-within ReadLatest staged later knows going = absurd (later refl)
+  steps-within (ReadTable at) staged later knows going = let less = staged.1 in omega (arith, less)
+  steps-within AskLast staged later knows going = omega arith
+  steps-within (ReadLog id last) staged later knows going = let within = staged.2 in omega (arith, within, knows)
+  steps-within Ended staged later knows going = absurd going
 
   ends-with : (s : Stage) (r' : Reading) → r.stage ≡ s → IsStaged s r → s ≢ ReadLatest → Meets s o (taken r) (Ok Ends) r' → AreNumberedFrom cursor r'.found → Reads o cursor limit (Ok r'.found)
   ends-with ReadLatest r' is staged later m = absurd (later refl)
@@ -452,10 +504,11 @@ module _ (o : Objects) (cursor limit : ℕ) (r : Reading) (g : Going o cursor li
 
 -- ---- the first step
 module _ (o : Objects) (cursor limit : ℕ) (r : Reading) (fresh : r ≡ begun cursor limit) where
-  start-goes : (r' : Reading) → ReadsManifest (latest_manifest o) (taken r) (Ok Goes) r' → Going o cursor limit r' × (r'.stage ≢ ReadLatest)
+  start-goes : (r' : Reading) → ReadsManifest (latest_manifest o) (taken r) (Ok Goes) r' → Going o cursor limit r' × (r'.stage ≢ ReadLatest) × KnowsLast o r'.mark r'.stage
   start-goes r' (latest, is_latest, asked, is) =
-      let going = going_by latest.manifest (taken (begun cursor limit)) in
-      let after : r' ≡ record going { stage = table_stage going.tables 0 } = subst (λ (x : Reading). r' ≡ (let y = going_by latest.manifest (taken x) in record y { stage = table_stage y.tables 0 })) fresh is in
+      let by = going_by latest.manifest (taken (begun cursor limit)) in
+      let going = record by { stage = table_stage by.tables 0 } in
+      let after : r' ≡ going = subst (λ (x : Reading). r' ≡ (let y = going_by latest.manifest (taken x) in record y { stage = table_stage y.tables 0 })) fresh is in
       let more : 0 < limit = subst (λ (x : Reading). 0 < x.limit) fresh asked in
       (subst (Going o cursor limit) (sym after) (record {
         latest = latest;
@@ -474,7 +527,8 @@ module _ (o : Objects) (cursor limit : ℕ) (r : Reading) (fresh : r ≡ begun c
         first = omega arith;
         end = refl;
       }),
-      λ h. table_stage-later going.tables 0 (sym (ap (λ (x : Reading). x.stage) after) ∙ h))
+      λ h. table_stage-later going.tables 0 (sym (ap (λ (x : Reading). x.stage) after) ∙ h),
+      subst (λ (x : Reading). KnowsLast o x.mark x.stage) (sym after) (knows-table o going.mark going.tables 0))
     where
       add-zero' : (n : ℕ) → n + 0 ≡ n
       add-zero' n = omega arith
@@ -514,7 +568,7 @@ module _ (o : Objects) (cursor limit : ℕ) (r : Reading) (staged : IsStaged r.s
   pub run-goes : (r' : Reading) → Meets r.stage o (taken r) (Ok Goes) r' → Runs o cursor limit r'
   run-goes r' m = elim runs as (λ _. Runs o cursor limit r') [
     | inl fresh ↦ inr (at-start (Ok Goes) r' fresh m (start-goes o cursor limit r fresh r'))
-    | inr g ↦ inr (goes-to o cursor limit r g.0 r.stage r' refl staged g.1 m)
+    | inr g ↦ inr (goes-to o cursor limit r g.0 r.stage r' refl staged g.1 g.2 m)
   ]
 
   pub run-ends : (r' : Reading) → Meets r.stage o (taken r) (Ok Ends) r' → AreNumberedFrom cursor r'.found → Answers o cursor limit (Ok r'.found)
@@ -534,3 +588,28 @@ module _ (o : Objects) (cursor limit : ℕ) (r : Reading) (staged : IsStaged r.s
     | inl fresh ↦ at-start (Err e) r' fresh m (start-fails o cursor limit r fresh r' e)
     | inr g ↦ fails-with o cursor limit r g.0 r.stage r' e refl staged g.1 m
   ]
+
+  pub run-none : (r' : Reading) → Meets r.stage o (taken r) (Ok Ends) r' → r'.found ≡ [] → 0 < limit → HasNoneAbove o cursor r'.end
+  run-none r' m nothing asked = elim runs as (λ _. HasNoneAbove o cursor r'.end) [
+    | inl fresh ↦ at-start (Ok Ends) r' fresh m (λ (h : ReadsManifest (latest_manifest o) (taken r) (Ok Ends) r').
+        let none = h.1 in let is = ap (λ (x : Reading). x.limit) fresh in absurd (omega (arith, asked, none, is)))
+    | inr g ↦ none-above o cursor limit r g.0 r.stage r' refl staged g.1 m nothing
+  ]
+
+  pub run-calls : IsGoing r.stage → made r.stage r + 1 ≤ most_calls cursor (latest_manifest o) o
+  run-calls going = elim runs as (λ _. made r.stage r + 1 ≤ most_calls cursor (latest_manifest o) o) [
+    | inl fresh ↦ subst (λ (x : Reading). made x.stage x + 1 ≤ most_calls cursor (latest_manifest o) o) (sym fresh) (one (latest_manifest o))
+    | inr g ↦
+        let within = steps-within o cursor limit r g.0 r.stage staged g.1 g.2 going in
+        subst (λ found. made r.stage r + 1 ≤ most_calls cursor found o) (sym g.0.is_latest)
+        (subst (λ m. made r.stage r + 1 ≤ 2 + length (tables_to_read cursor g.0.latest.manifest) + (last_log m o - m)) g.0.mark
+        (subst (λ ids. made r.stage r + 1 ≤ 2 + length ids + (last_log r.mark o - r.mark)) g.0.tables within))
+  ] where
+    one : (found : Option VersionedManifest) → 0 + 1 ≤ most_calls cursor found o
+    one None = omega arith
+    one (Some latest) = omega arith
+
+-- what is known of objects that are modelled
+pub known : {P Q R : Objects → Type 0} (a b : Option Objects) → b ≡ a → IfSome a P → IfSome b Q → ((o : Objects) → P o → Q o → R o) → IfSome a R
+known None b same p q f = tt
+known {P} {Q} {R} (Some x) b same p q f = f x p (subst (λ c. IfSome c Q) same q)

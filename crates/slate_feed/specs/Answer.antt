@@ -9,6 +9,7 @@ use Rattle.slate_store.specs.Objects.{Objects, last_log, latest_manifest}
 use Rattle.slate_feed.specs.declared.refusals.FeedRefusal.{FeedRefusal}
 use Rattle.slate_feed.specs.declared.refusals.FeedRefusal.TheVariants.{LatestTransactionalObjectVersionMissing, BeforeFloor, Ahead, ObjectStoreError, NoMemory, Moved}
 use Rattle.slate_feed.specs.Pieces.{Piece, joined, pieces, tables_to_read}
+use Rattle.slate_feed.specs.Taking.{greatest_number}
 
 -- What a call gives that has read these batches, while the rest of the pieces isn't read. It gives batches of those, numbered one after
 -- another from the cursor on: as many as were asked for, or all above the cursor, with nothing left to read. It refuses a cursor
@@ -16,7 +17,7 @@ use Rattle.slate_feed.specs.Pieces.{Piece, joined, pieces, tables_to_read}
 abbrev pub Gives : (tabled cursor limit : ℕ) → (read : List Batch) → (rest : List Piece) → Result (List Batch) FeedRefusal → Type 0
 Gives tabled cursor limit read rest (Ok batches) =
     AreNumberedFrom cursor batches × All (Contains read) batches × (0 < limit → number_before read tabled ≤ cursor)
-    × ((length batches ≡ limit) ⊎ ((rest ≡ []) × HaveNoGap cursor (cursor + length batches) read))
+    × ((length batches ≡ limit) ⊎ ((length batches < limit) × (rest ≡ []) × HaveNoGap cursor (cursor + length batches) read))
 Gives tabled cursor limit read rest (Err (BeforeFloor at floor)) =
     (at ≡ cursor) × (cursor < floor) × (floor ≡ number_before read tabled) × (read ≡ [] → rest ≡ []) × (0 < limit)
 Gives tabled cursor limit read rest (Err Moved) =
@@ -54,10 +55,21 @@ Delivers objects cursor limit (Err ObjectStoreError) = Unit {0}
 Delivers objects cursor limit (Err NoMemory) = Unit {0}
 Delivers objects cursor limit (Err refusal) = ⊥
 
+-- All that a call reads is read, and has no batch above the cursor; this is the greatest number, or the last in tables.
+pub record HasNoneAbove (objects : Objects) (cursor last : ℕ) : Type 0 where
+  pub latest : VersionedManifest
+  pub is_latest : latest_manifest objects ≡ Some latest
+  pub parts : List (List Batch)
+  pub read : pieces cursor latest.manifest objects ≡ map Some parts
+  pub none : HaveNoGap cursor cursor (joined parts)
+  pub greatest : last ≡ greatest_number latest.manifest.last_l0_seq (joined parts)
+
 -- what an opening answers over any objects: it reads as a call for one batch does, and compares the end where there is none
 abbrev pub Opens : Objects → (after : ℕ) → Result ℕ FeedRefusal → Type 0
-Opens objects after (Ok cursor) = (cursor ≡ after) × ((batches : List Batch) × Answers objects after 1 (Ok batches))
-Opens objects after (Err (Ahead at last)) = (at ≡ after) × (last < after) × Answers objects after 1 (Ok [])
+Opens objects after (Ok cursor) =
+    (cursor ≡ after)
+    × ((batches : List Batch) × Answers objects after 1 (Ok batches) × (batches ≡ [] → (last : ℕ) × HasNoneAbove objects after last × (after ≤ last)))
+Opens objects after (Err (Ahead at last)) = (at ≡ after) × (last < after) × Answers objects after 1 (Ok []) × HasNoneAbove objects after last
 Opens objects after (Err refusal) = Answers objects after 1 (Err refusal)
 
 -- and where what is stored is a line: its cursor isn't below the floor, nor above the end

@@ -45,7 +45,7 @@ ReadsPiece piece next reading (Ok Goes) reading' =
 ReadsPiece piece next reading (Ok Ends) reading' =
     (batches : List Batch) × (piece ≡ Some batches) × LeadsOn batches reading reading'
     × ((length reading'.found ≡ reading.limit)
-    ⊎ (TakesAll batches reading reading' × (next ≡ Ended) × (reading'.began ≡ false → reading.tabled ≤ reading.cursor)))
+    ⊎ (TakesAll batches reading reading' × (next ≡ Ended) × (length reading'.found < reading.limit) × (reading'.began ≡ false → reading.tabled ≤ reading.cursor)))
 ReadsPiece piece next reading (Ok Breaks) reading' =
     (piece ≡ None)
     ⊎ ((batches : List Batch) × (end : ℕ) × (piece ≡ Some batches) × HaveGap (reached reading) end batches

@@ -37,6 +37,17 @@ impl Feed {
         ensures faults { CountsFaults (S.faults store.old) (S.faults store.new) result }
         ensures calls { IfSome (S.objects store.old) (λ o. S.calls store.new ≤ S.calls store.old + most_calls after (latest_manifest o) o) }
     {
+        Feed::open_at(alloc, store, after)
+    }
+
+    /// Opens a feed, and says of it what is read.
+    fn open_at<S: Store>(alloc: Global, store: &mut S, after: u64) -> Result<Feed, FeedRefusal>
+        ensures opened { IfOk result (λ feed. feed ≡ after) }
+        ensures opens { IfSome (S.objects store.old) (λ o. Opens o after result) }
+        ensures kept { S.objects store.new ≡ S.objects store.old }
+        ensures faults { CountsFaults (S.faults store.old) (S.faults store.new) result }
+        ensures calls { IfSome (S.objects store.old) (λ o. S.calls store.new ≤ S.calls store.old + most_calls after (latest_manifest o) o) }
+    {
         let mut machine = FeedMachine::new(alloc, after, 1);
         let batches = machine.run(alloc, store)?;
         let end = machine.end();

@@ -4,7 +4,7 @@ ghost use Rattle.slate_types.specs.Counts.{one_more};
 ghost use Rattle.slate_types.specs.declared.batches.Batch.{Batch as ABatch};
 ghost use Rattle.slate_types.specs.Line.{AreNumberedFrom, batches_above};
 ghost use Rattle.slate_store.specs.Objects.{latest_manifest};
-ghost use Rattle.slate_feed.specs.Answer.{Answers, most_calls};
+ghost use Rattle.slate_feed.specs.Answer.{Answers, HasNoneAbove, most_calls};
 ghost use Rattle.slate_feed.specs.declared.machines.Stage.TheVariants.{AskLast, Ended, ReadLatest};
 ghost use Rattle.slate_feed.specs.Pieces.{tables_to_read};
 ghost use Rattle.slate_feed.specs.Reading.{CanFollow, IsGoing, IsStaged, begun, log_stage, made, table_stage, taken};
@@ -150,6 +150,7 @@ impl FeedMachine {
     ) -> Result<Seq<Batch>, FeedRefusal>
         requires begun { self.old ≡ begun self.old.cursor self.old.limit }
         ensures answers { IfSome (S.objects store.old) (λ o. Answers o self.old.cursor self.old.limit result) }
+        ensures none { result ≡ Ok [] → 0 < self.old.limit → IfSome (S.objects store.old) (λ o. HasNoneAbove o self.old.cursor self.new.end) }
         ensures numbered { IfOk result (AreNumberedFrom self.old.cursor) }
         ensures kept { S.objects store.new ≡ S.objects store.old }
         ensures faults { CountsFaults (S.faults store.old) (S.faults store.new) result }

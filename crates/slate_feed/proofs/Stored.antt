@@ -216,14 +216,14 @@ module _ (o : Objects) (sound : IsSound o) (latest : VersionedManifest) (is_late
   abbrev contents : (cursor : ℕ) → List Batch
   contents cursor = cond (nat_lt cursor tabled) tables [] ++ logs
 
-  tables-joined : (cursor : ℕ) → joined (map (λ id. unwrap_or (table_piece o id) []) (tables_to_read cursor latest.manifest)) ≡ cond (nat_lt cursor tabled) tables []
+  pub tables-joined : (cursor : ℕ) → joined (map (λ id. unwrap_or (table_piece o id) []) (tables_to_read cursor latest.manifest)) ≡ cond (nat_lt cursor tabled) tables []
   tables-joined cursor =
       elim (nat_lt cursor tabled) as (λ t. joined (map (λ id. unwrap_or (table_piece o id) []) (cond t latest.manifest.tables [])) ≡ cond t tables []) [
         | true ↦ above-joined 0 (λ id. table_at id o) latest.manifest.tables ∙ above-all floor 0 tables (numbered-front floor tables logs numbered) (omega arith)
         | false ↦ refl
       ]
 
-  logs-joined : joined (map (λ id. unwrap_or (log_piece tabled o id) []) ids) ≡ logs
+  pub logs-joined : joined (map (λ id. unwrap_or (log_piece tabled o id) []) ids) ≡ logs
   logs-joined =
       let count : last_log mark o + 1 - (mark + 1) ≡ last_log mark o - mark = omega arith in
       above-joined tabled (λ id. log_at id o) ids
@@ -245,7 +245,7 @@ module _ (o : Objects) (sound : IsSound o) (latest : VersionedManifest) (is_late
         ∙ sym (filter-append (λ b. ltb cursor b.number) tables logs))
   ]
 
-  contents-in : (cursor : ℕ) (b : Batch) → Contains (contents cursor) b → Contains (tables ++ logs) b
+  pub contents-in : (cursor : ℕ) (b : Batch) → Contains (contents cursor) b → Contains (tables ++ logs) b
   contents-in cursor b = elim (nat_lt cursor tabled) as (λ t. Contains (cond t tables [] ++ logs) b → Contains (tables ++ logs) b) [
     | true ↦ λ there. there
     | false ↦ λ there. Contains-append_right tables logs b there

@@ -1,4 +1,6 @@
 pub mod Answer
+pub mod Delivered
+pub mod Following
 pub mod Pieces
 pub mod Reading
 pub mod Refusal

@@ -95,10 +95,16 @@ CanFollow AskLast reading = Unit {0}
 CanFollow (ReadLog id last) reading = (reading.mark < id) × (id ≤ last) × (last < 2 ^ 64)
 CanFollow Ended reading = Unit {0}
 
--- how many steps were made before the one in this stage
+-- How many steps were made before the one in this stage: one for the manifest, one for each table, one to ask for the last log file,
+-- and one for each log file.
 abbrev pub made : Stage → Reading → ℕ
 made ReadLatest reading = 0
 made (ReadTable at) reading = 1 + at
 made AskLast reading = 1 + length reading.tables
 made (ReadLog id last) reading = 1 + length reading.tables + (id - reading.mark)
 made Ended reading = 0
+
+-- and how many there may be at most before the one that ends
+abbrev pub most_made : Stage → Reading → ℕ
+most_made (ReadLog id last) reading = length reading.tables + (last - reading.mark) + 1
+most_made stage reading = length reading.tables + 1

@@ -2,6 +2,7 @@
 #![tactic(auto)]
 
 mod feeds;
+mod laws;
 mod machines;
 mod pieces;
 mod refusals;
@@ -9,5 +10,6 @@ mod refusals;
 mod tests;
 
 pub use feeds::Feed;
+pub use laws::{begun_calls_follow_the_line, feeds_deliver_the_line};
 pub use machines::{FeedMachine, FeedStep};
 pub use refusals::FeedRefusal;

@@ -3,11 +3,13 @@ ghost use Rattle.std.specs.Prelude.{◌≡◌, ◌≢◌, ◌+◌, ◌-◌, ◌<
 ghost use Rattle.slate_types.specs.Counts.{one_more};
 ghost use Rattle.slate_types.specs.declared.batches.Batch.{Batch as ABatch};
 ghost use Rattle.slate_types.specs.Line.{AreNumberedFrom, batches_above};
+ghost use Rattle.slate_store.specs.Content.{IsSound, content};
 ghost use Rattle.slate_store.specs.Objects.{latest_manifest};
 ghost use Rattle.slate_feed.specs.Answer.{Answers, HasNoneAbove, most_calls};
 ghost use Rattle.slate_feed.specs.declared.machines.Stage.TheVariants.{AskLast, Ended, ReadLatest};
+ghost use Rattle.slate_feed.specs.Following.{FollowsLine, FollowsOn};
 ghost use Rattle.slate_feed.specs.Pieces.{tables_to_read};
-ghost use Rattle.slate_feed.specs.Reading.{CanFollow, IsGoing, IsStaged, begun, log_stage, made, table_stage, taken};
+ghost use Rattle.slate_feed.specs.Reading.{CanFollow, IsGoing, IsStaged, begun, log_stage, made, most_made, table_stage, taken};
 ghost use Rattle.slate_feed.specs.Stepping.{CountsFaults, GoesBy, GoesTo, IsStagedBy, Meets, ReadsPiece, Steps, delivered};
 
 use crate::pieces::{Found, Taken, take_next};
@@ -124,6 +126,10 @@ impl FeedMachine {
         requires going { IsGoing self.old.stage }
         requires cursor { feed.old ≡ self.old.cursor }
         ensures steps { IfSome (S.objects store.old) (λ o. Steps o self.old result self.new) }
+        // Over an honest store, whatever others did to it since the step before.
+        ensures follows { IfSome (S.objects store.old) (λ o. IsSound o → FollowsLine o (content o) self.old → FollowsOn o (content o) self.old.cursor result self.new) }
+        ensures counts { result ≡ Ok FeedStep.More → made self.new.stage self.new ≡ made self.old.stage self.old + 1 }
+        ensures most { made self.old.stage self.old ≤ most_made self.old.stage self.old }
         ensures numbered { IfOk result (λ step. (batches : List ABatch) → step ≡ FeedStep.Batches batches → AreNumberedFrom feed.old batches) }
         ensures cursor { feed.new ≡ feed.old + length (delivered result) }
         ensures going { result ≡ Ok FeedStep.More → IsGoing self.new.stage }
@@ -188,6 +194,7 @@ impl FeedMachine {
         ensures meets { IfSome (S.objects store.old) (λ o. Meets self.old.stage o (taken self.old) result self.new) }
         ensures counts { result ≡ Ok Turn.Goes → made self.new.stage self.new ≡ made self.old.stage self.old + 1 }
         ensures bounded { made self.old.stage self.old ≤ 2 ^ 65 }
+        ensures most { made self.old.stage self.old ≤ most_made self.old.stage self.old }
         ensures fits { IsStaged self.old.stage self.old }
         ensures cursor { self.new.cursor ≡ self.old.cursor }
         ensures staged { IsStagedBy result self.new.stage }

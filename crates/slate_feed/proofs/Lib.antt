@@ -1,0 +1,5 @@
+pub mod Delivering
+pub mod Following
+pub mod Leading
+pub mod Running
+pub mod Stored

@@ -1,5 +1,6 @@
 // Tests of a publisher and its readers: what is viewed by turns, beside each other and at the end, and what is read.
-ghost use Rattle.std.specs.Prelude.{◌≡◌, [], IfOk};
+ghost use Rattle.std.specs.Prelude.{◌≡◌, ◌≤◌, [], IfOk, length};
+ghost use Rattle.slate_published.specs.States.{last_of};
 ghost use Rattle.std.specs.Arc.{arc_value};
 ghost use Rattle.slate_published.specs.Published.{Published};
 
@@ -12,7 +13,7 @@ use slate_types::{Batch, ByteRange, ConcatOperator, IterationOrder, KeyOp, NoMem
 use std::alloc::Global;
 use std::sync::{Arc, Barrier, Wait};
 use std::test::Fail;
-use std::thread::join;
+use std::thread::{Threads, join};
 
 /// A state with this number, and nothing else.
 fn state(alloc: Global, number: u64) -> Result<Arc<PublishedState, Global>, NoMemory>
@@ -28,11 +29,11 @@ fn views_by_turns<R: Wait>(
     rt: &R,
     alloc: Global,
     publisher: &mut FollowerPublisher,
-    mut first: FollowerReader,
-    mut second: FollowerReader,
+    first: &mut FollowerReader,
+    second: &mut FollowerReader,
 ) -> Result<[u64; 6], NoMemory>
     requires new { publisher.old.states ≡ [] }
-    requires one { (first.origin ≡ publisher.old.origin) × (second.origin ≡ publisher.old.origin) }
+    requires one { (first.old.origin ≡ publisher.old.origin) × (second.old.origin ≡ publisher.old.origin) }
 {
     let before = first.view().number();
     let news = publisher.publish(rt, state(alloc, 3)?)?;
@@ -45,19 +46,23 @@ fn views_by_turns<R: Wait>(
     Ok([before, one, two, three, four, second.count()])
 }
 
-#[test]
-fn readers_view_what_they_learn_and_what_is_shown(rt: HostRuntime) -> Result<(), Fail> {
-    let (mut publisher, mut readers) = follower_readers(&rt, rt.alloc(), 2)?;
+/// The same of two new readers.
+fn views_of_two<R: Wait>(rt: &R, alloc: Global) -> Result<[u64; 6], NoMemory> {
+    let (mut publisher, mut readers) = follower_readers(rt, alloc, 2)?;
     let seen = match (readers.pop(), readers.pop()) {
-        (Some(first), Some(second)) => {
-            views_by_turns(&rt, rt.alloc(), &mut publisher, first, second)
+        (Some(mut first), Some(mut second)) => {
+            views_by_turns(rt, alloc, &mut publisher, &mut first, &mut second)
         }
         _ => Err(NoMemory),
     };
-    let count = publisher.count();
-    publisher.end(&rt);
-    assert!(rt; seen? == [0, 3, 3, 5, 5, 2]);
-    assert!(rt; count == 2);
+    publisher.end(rt);
+    seen
+}
+
+#[test]
+fn readers_view_what_they_learn_and_what_is_shown(rt: HostRuntime) -> Result<(), Fail> {
+    let seen = views_of_two(&rt, rt.alloc())?;
+    assert!(rt; seen == [0, 3, 3, 5, 5, 2]);
     Ok(())
 }
 
@@ -99,33 +104,53 @@ fn follow<R: Wait>(rt: &R, gate: &Barrier, mut reader: FollowerReader) -> (u64, 
     (falls, last)
 }
 
-// The gate holds each of the three threads until the others have begun, and both readers until each has viewed once.
-#[test]
-fn readers_meet_beside_the_publisher(rt: HostRuntime) -> Result<(), Fail> {
-    let (mut publisher, mut readers) = follower_readers(&rt, rt.alloc(), 2)?;
-    let (Some(first), Some(second)) = (readers.pop(), readers.pop()) else {
-        publisher.end(&rt);
-        return Err(Fail::from("two readers"));
-    };
+/// Publishes all beside two readers that follow: whether all was published, and what each reader answers. The gate holds each of
+/// the three threads until the others have begun, and both readers until each has viewed once.
+fn meet<R: Threads + Wait + Sync>(
+    rt: &R,
+    alloc: Global,
+    publisher: &mut FollowerPublisher,
+    first: FollowerReader,
+    second: FollowerReader,
+) -> (bool, (u64, u64), (u64, u64))
+    requires { publisher.old.states ≡ [] }
+{
     let all = Barrier::new(3);
-    let (gate, waiting, alloc) = (&all, &rt, rt.alloc());
-    let lent = &mut publisher;
+    let gate = &all;
     let (published, (one, two)) = join(
-        &rt,
+        rt,
         move ||
-            requires { lent.now.states ≡ [] }
-        { publish_all(waiting, alloc, gate, lent) },
+            requires { publisher.now.states ≡ [] }
+        { publish_all(rt, alloc, gate, publisher) },
         move || {
             join(
-                waiting,
-                move || follow(waiting, gate, first),
-                move || follow(waiting, gate, second),
+                rt,
+                move || follow(rt, gate, first),
+                move || follow(rt, gate, second),
             )
         },
     );
-    publisher.end(&rt);
-    assert!(rt; published.is_ok());
-    assert!(rt; one == (0, LAST) && two == (0, LAST));
+    (published.is_ok(), one, two)
+}
+
+/// The same of two new readers.
+fn meeting<R: Threads + Wait + Sync>(
+    rt: &R,
+    alloc: Global,
+) -> Result<(bool, (u64, u64), (u64, u64)), NoMemory> {
+    let (mut publisher, mut readers) = follower_readers(rt, alloc, 2)?;
+    let met = match (readers.pop(), readers.pop()) {
+        (Some(first), Some(second)) => Ok(meet(rt, alloc, &mut publisher, first, second)),
+        _ => Err(NoMemory),
+    };
+    publisher.end(rt);
+    met
+}
+
+#[test]
+fn readers_meet_beside_the_publisher(rt: HostRuntime) -> Result<(), Fail> {
+    let met = meeting(&rt, rt.alloc())?;
+    assert!(rt; met == (true, (0, LAST), (0, LAST)));
     Ok(())
 }
 

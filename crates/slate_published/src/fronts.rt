@@ -7,7 +7,7 @@ use crate::PublishedState;
 use logbook::{Gain, Plain, Play, Rule, Seen};
 use std::marker::Model;
 
-/// The rule of the list: its word is its length, and numbers never fall along it.
+/// The rule of the list: numbers never fall along it, and who has the right to the next state's cell adds that state.
 pub(crate) struct NumbersNeverFall;
 
 impl Rule<PublishedState, u64> for NumbersNeverFall {
@@ -37,6 +37,24 @@ impl Gain<PublishedState, u64> for Nothing {
     ghost after = { λ names about answer. ftrue };
 }
 
+/// A step that adds a cell. It asks for no state.
+pub(crate) struct AddCell;
+
+impl Play<PublishedState, u64> for AddCell {
+    ghost use Rattle.slate_published.specs.Adding.{AddsCell};
+
+    ghost then = { AddsCell };
+}
+
+impl Plain<(), PublishedState, u64> for AddCell {
+    ghost use Rattle.std.specs.Prelude.{None};
+    ghost use Rattle.slate_published.specs.States.{nothing_published};
+
+    ghost ask = { λ _. nothing_published };
+
+    ghost state = { λ _. None };
+}
+
 /// A step that adds a state.
 pub(crate) struct Add;
 
@@ -51,14 +69,26 @@ impl Plain<PublishedState, PublishedState, u64> for Add {
 
     ghost ask = { λ state. state };
 
-    ghost state = { λ state. None };
+    ghost state = { λ _. None };
 }
+
+/// A step that sees the whole list.
+pub(crate) struct SeeAll;
+
+impl Play<PublishedState, u64> for SeeAll {
+    ghost use Rattle.slate_published.specs.Adding.{SeesAll};
+
+    ghost then = { SeesAll };
+}
+
+/// A token of the list, without bytes.
+pub(crate) type Token = Seen<PublishedState, u64, NumbersNeverFall>;
 
 /// A beginning of the list that is known: how many states it has, and a token of it without bytes.
 #[derive(Drop)]
 pub(crate) struct Front {
-    pub(crate) count: u64,
-    pub(crate) seen: Seen<PublishedState, u64, NumbersNeverFall>,
+    count: u64,
+    seen: Token,
 }
 
 impl Model for Front {
@@ -74,6 +104,15 @@ impl Model for Front {
 }
 
 impl Front {
+    /// So many states, which a token knows.
+    pub(crate) fn of(count: u64, seen: Token) -> Front
+        requires count { count ≡ length seen.log }
+        requires rising { AreRising seen.log }
+        ensures { result ≡ record { origin = seen.book; states = seen.log } }
+    {
+        Front { count, seen }
+    }
+
     /// How many states are known.
     pub(crate) fn count(&self) -> u64
         ensures count { result ≡ length self.now.states }
@@ -90,6 +129,24 @@ impl Front {
             count: self.count,
             seen: self.seen.again(),
         }
+    }
+
+    /// A token of what is known. It takes no memory.
+    pub(crate) fn token(&self) -> Token
+        ensures { (result.book ≡ self.now.origin) × (result.log ≡ self.now.states) }
+    {
+        self.seen.again()
+    }
+
+    /// A token of what two of one origin know together. It takes no memory.
+    pub(crate) fn joined(&self, other: &Front) -> Token
+        requires { other.now.origin ≡ self.now.origin }
+        ensures book { result.book ≡ self.now.origin }
+        ensures begins { IsPrefix self.now.states result.log × IsPrefix other.now.states result.log }
+    {
+        let mut both = self.seen.again();
+        both.learn(&other.seen);
+        both
     }
 
     /// Whether the other one knows more states. Of two of one origin, the one with fewer begins the other.

@@ -26,7 +26,7 @@ pub fn follower_readers<R: Wait>(
     ensures publisher { IfOk result (λ made. made.0.states ≡ []) }
     ensures readers { IfOk result (λ made. (length made.1.items ≡ count) × All (λ reader. reader ≡ made.0) made.1.items) }
 {
-    let list = StateList::open();
+    let list = StateList::open().ok_or(NoMemory)?;
     let state = Arc::new(alloc, PublishedState::nothing(alloc))?;
     let empty = Edition::of(state, list.front().again());
     let mut copies = open_copies(rt, alloc, &empty, count)?;

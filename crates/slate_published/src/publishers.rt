@@ -1,13 +1,14 @@
 // The publisher of states.
 ghost use Rattle.std.specs.Prelude.{◌≡◌, ◌-◌, ◌^◌, ◌<◌, ◌≤◌, ◌++◌, ◌∷◌, [], drop, length, IfOk, OnOk, OnErr, Some};
 ghost use Rattle.std.specs.Arc.{arc_value};
+ghost use mathlib.Core.List.{IsPrefix};
 ghost use Rattle.left_right.specs.Sides.{view as known_at};
-ghost use Rattle.slate_published.specs.States.{last_of};
+ghost use Rattle.slate_published.specs.States.{AreRising, last_of};
 ghost use Rattle.slate_published.specs.Copies.{AreOfOrigin};
 
 use crate::editions::{Edition, Origin, SameOrigin, Show};
 use crate::lists::StateList;
-use crate::{FollowerNews, PublishedState};
+use crate::{FollowerNews, FollowerReader, PublishedState};
 use left_right::writer::Writer;
 use slate_types::NoMemory;
 use std::alloc::Global;
@@ -35,17 +36,17 @@ impl Model for FollowerPublisher {
 
     ghost Value = { Beginning };
 
-    ghost view = { λ p. p.list.front };
+    ghost view = { λ p. p.list };
 
-    ghost invariant = { λ p. IfSome p.copies (λ c. (known_at c.desk.place ≡ Some p.list.front.origin) × AreOfOrigin p.list.front.origin c.desk.shown.value (drop c.behind c.log.items)) };
+    ghost invariant = { λ p. IfSome p.copies (λ c. (known_at c.desk.place ≡ Some p.list.origin) × AreOfOrigin p.list.origin c.desk.shown.value (drop c.behind c.log.items)) };
 }
 
 impl FollowerPublisher {
     /// The publisher of a list that shows its states in these copies.
     pub(crate) fn of(list: StateList, copies: Copies) -> FollowerPublisher
-        requires knows { known_at copies.desk.place ≡ Some list.front.origin }
-        requires one { AreOfOrigin list.front.origin copies.desk.shown.value (drop copies.behind copies.log.items) }
-        ensures { result ≡ list.front }
+        requires knows { known_at copies.desk.place ≡ Some list.origin }
+        requires one { AreOfOrigin list.origin copies.desk.shown.value (drop copies.behind copies.log.items) }
+        ensures { result ≡ list }
     {
         FollowerPublisher {
             list,
@@ -55,7 +56,9 @@ impl FollowerPublisher {
 
     /// How many states it published. It takes constant time and no memory.
     pub fn count(&self) -> u64
-        ensures { result ≡ length self.now.states }
+        ensures count { result ≡ length self.now.states }
+        // Numbers never fall along what was published.
+        ensures rising { AreRising self.now.states }
     {
         self.list.front().count()
     }
@@ -92,6 +95,16 @@ impl FollowerPublisher {
             copies.take(rt);
         }
         Ok(FollowerNews::of(news))
+    }
+
+    /// Shows that what a reader that was made with it has seen begins what it published. It changes nothing, takes constant
+    /// time and no memory, and doesn't wait.
+    pub fn has_published(&mut self, reader: &FollowerReader)
+        requires { reader.now.origin ≡ self.old.origin }
+        ensures same { self.new ≡ self.old }
+        ensures begins { IsPrefix reader.now.states self.old.states }
+    {
+        self.list.covers(reader.front());
     }
 
     /// Ends it. Its readers keep the last state that they saw or were told of. It waits until no reader copies a state out.

@@ -4,9 +4,11 @@ ghost use Rattle.std.specs.Borrow.{sem, follows_so};
 ghost use mathlib.Core.List.{IsPrefix};
 ghost use mathlib.Core.Option.{none};
 ghost use Rattle.left_right.specs.Sides.{view as known_at};
+ghost use Rattle.slate_published.specs.States.{AreRising};
 
 use crate::ReaderView;
 use crate::editions::{Edition, Origin, SameOrigin, Show};
+use crate::fronts::Front;
 use left_right::reader::Reader;
 use slate_types::NoMemory;
 use std::marker::Model;
@@ -88,9 +90,18 @@ impl FollowerReader {
 
     /// How many states it has seen. It takes constant time and no memory.
     pub fn count(&self) -> u64
-        ensures { result ≡ length self.now.states }
+        ensures count { result ≡ length self.now.states }
+        // Numbers never fall along what it has seen.
+        ensures rising { AreRising self.now.states }
     {
         self.edition.front().count()
+    }
+
+    /// The beginning of what was published that it has seen.
+    pub(crate) fn front(&self) -> &Front
+        ensures { result.now ≡ self.now }
+    {
+        self.edition.front()
     }
 
     /// Takes in news of the publisher that was made with it: from now on it has seen what they tell. It takes constant time

@@ -13,6 +13,7 @@ mod leases;
 mod machines;
 mod options;
 mod polls;
+mod published;
 mod reads;
 mod rebuilds;
 mod scans;
@@ -26,5 +27,8 @@ pub use laws::begun_polls_follow_the_line;
 pub use machines::PollMachine;
 pub use options::DbReaderOptions;
 pub use slate_model::PollAnswer;
+pub use slate_published::{
+    FollowerNews, FollowerPublisher, FollowerReader, PublishedState, ReaderView, follower_readers,
+};
 pub use slate_store::DbReaderMode;
 pub use states::FollowerState;

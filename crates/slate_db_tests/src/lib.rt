@@ -1,5 +1,5 @@
 //! Tests from outside: of databases and readers that threads share, their snapshots and transactions, of statuses that threads
-//! share, of the handles of writes, of clocks, and of the board of a handle.
+//! share, of the handles of writes, of clocks, of the board of a handle, and of the states that a reader publishes.
 #![tactic(auto)]
 
 #[cfg(test)]
@@ -10,6 +10,8 @@ mod clocks;
 mod databases;
 #[cfg(test)]
 mod handles;
+#[cfg(test)]
+mod published;
 #[cfg(test)]
 mod shares;
 #[cfg(test)]

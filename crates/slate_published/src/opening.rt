@@ -16,8 +16,8 @@ use std::sync::{Arc, Wait};
 /// copy that isn't shown lacks.
 const ROOM: usize = 4;
 
-/// A publisher, which has published nothing, and so many readers. It takes time and memory for each reader, and makes all
-/// room that publishing takes. For want of memory it may wait, for no one else.
+/// A publisher, which has published nothing, and so many readers. It takes time and memory for each reader, and makes the
+/// room that publishing takes. It waits for nobody: where memory runs out it ends what it began, which takes a runtime.
 pub fn follower_readers<R: Wait>(
     rt: &R,
     alloc: Global,

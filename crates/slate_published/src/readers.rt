@@ -104,8 +104,8 @@ impl FollowerReader {
         self.edition.front()
     }
 
-    /// Takes in news of the publisher that was made with it: from now on it has seen what they tell. It takes constant time
-    /// and no memory.
+    /// Takes in news of the publisher that was made with it: from now on it has seen what they tell. It takes no memory, and
+    /// constant time, but for that of dropping the last copy of a state.
     pub fn learn(&mut self, news: FollowerNews)
         requires { news.origin ≡ self.old.origin }
         ensures origin { self.new.origin ≡ self.old.origin }
@@ -121,7 +121,7 @@ impl FollowerReader {
     /// A view of one published state: the last one that was published, or where it has seen or was told of a later one, that
     /// one; before any is published, the state with number 0. It has then seen the states up to this one. Where the publisher
     /// has ended, or there are as many copies of the state as there may be, it is the last one that it has seen. It takes
-    /// constant time and no memory.
+    /// no memory, and constant time, but for that of dropping the last copy of the state that it saw before.
     pub fn view(&mut self) -> ReaderView<'_>
         ensures origin { (viewed result).origin ≡ self.old.origin }
         ensures begins { IsPrefix self.old.states (viewed result).states }

@@ -78,7 +78,7 @@ impl PublishedState {
         ensures some { self.now.tables ≡ [] → result ≡ Err (SlateError.ObjectStoreError NotFound) → ⊥ }
     {
         let mut tables = read_tables(alloc, store, self.tables())?;
-        share(&mut tables, self.memory.as_slice())?;
+        share(&mut tables, self.memory())?;
         Ok(tables)
     }
 }

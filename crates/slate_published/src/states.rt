@@ -17,9 +17,9 @@ use std::marker::Model;
 pub struct PublishedState {
     number: u64,
     manifest_id: u64,
-    pub(crate) tables: Seq<TableId>,
+    tables: Seq<TableId>,
     last_l0_seq: u64,
-    pub(crate) memory: Vec<Table>,
+    memory: Vec<Table>,
 }
 
 impl Model for PublishedState {
@@ -84,5 +84,12 @@ impl PublishedState {
         ensures { result ≡ self.now.last_l0_seq }
     {
         self.last_l0_seq
+    }
+
+    /// The tables with the batches above it, oldest first. Copies of them share the batches.
+    pub fn memory(&self) -> &[Table]
+        ensures { rows_of result.now ≡ self.now.memory }
+    {
+        self.memory.as_slice()
     }
 }

@@ -9,7 +9,9 @@ pub mod RowReading
 pub mod Slots
 pub mod Values
 pub mod Calling
+pub mod Causing
 pub mod Standing
+pub mod Openable
 pub mod Opened
 pub mod Turning
 pub mod Ticking

@@ -8,7 +8,7 @@ use Rattle.slate_types.specs.Line.{AreNumberedFrom, Line, batches_above, end}
 use Rattle.slate_types.specs.declared.batches.Batch.{Batch}
 use Rattle.slate_types.specs.declared.batches.KeyValue.{KeyValue}
 use Rattle.slate_types.specs.declared.read_faults.ReadFault.{ReadFault}
-use Rattle.slate_store.specs.Content.{IsSound, content, table_batches}
+use Rattle.slate_store.specs.Content.{AreStored, IsSound, content, table_batches}
 use Rattle.slate_store.specs.Objects.{Objects}
 use Rattle.slate_store.specs.declared.objects.TableId.{TableId}
 use Rattle.slate_store.specs.declared.objects.VersionedManifest.{VersionedManifest}
@@ -22,6 +22,7 @@ use Rattle.slate_model.specs.Open.{Opens as IsOpening, OpensHandle, open_changes
 use Rattle.slate_model.specs.Stores.{by_objects, kept_rows}
 use Rattle.slate_model.specs.Tables.{AreJoined}
 use Rattle.slate_model.proofs.Flushed.{part_le}
+use Rattle.slate_model.proofs.Flushing.{latest-stored}
 use Rattle.slate_model.proofs.Keeping.{above-twice, line_above-end}
 use Rattle.slate_model.proofs.Prefixes.{extended-nil}
 use Rattle.slate_model.proofs.Reopened.{Opened, opened}
@@ -93,7 +94,7 @@ pub refused-opens : (o : Objects) (before after : Known (List Batch)) (made limi
 refused-opens o before after made limit tasks e refusal is sound opens other =
     let got = opens.opens.some o is in
     let kept = opening-keeps o sound _ (Err e) made got.0 got.2 in
-    (got.0, got.1, record { sound = kept.sound; kept = kept.kept; step = tt; whole = tt; reads = tt; foreign = λ no. other (let both = no in cc) })
+    (got.0, got.1, record { sound = kept.sound; kept = kept.kept; step = tt; whole = tt; tabled = tt; reads = tt; foreign = λ no. other (let both = no in cc) })
 
 -- and one that gives a handle
 pub handle-opens : (o : Objects) (before after : Known (List Batch)) (made limit : ℕ) (tasks : List TaskName) (h : Handle) → before.objects ≡ Some o → IsSound o →
@@ -111,6 +112,7 @@ handle-opens o before after made limit tasks h is sound opens =
         kept = left.content;
         step = subst (IsInStep got.0) (sym same) (fresh-step o sound limit tasks got.0 left tabled);
         whole = ap unstored same ∙ none-unstored o sound limit tasks got.0 left tabled;
+        tabled = subst (λ (x : Handle). AreStored got.0 x.view.manifest.tables) (sym same) (latest-stored got.0 (opened_manifest None o) left.sound left.latest);
         reads = λ rows reads. fresh-reads o sound limit tasks got.0 left tabled rows (subst (λ (x : Handle). kept_rows (Some got.0) (AHandle x) rows) same reads);
         foreign = λ no. absurd (let both = no in cc);
       },

@@ -1,4 +1,5 @@
 pub mod Calls
+pub mod Causes
 pub mod Decoding
 pub mod JobLists
 pub mod Laws

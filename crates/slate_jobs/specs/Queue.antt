@@ -4,7 +4,7 @@ use Rattle.slate_types.specs.declared.batches.Batch.{Batch}
 use Rattle.slate_types.specs.declared.batches.KeyValue.{KeyValue}
 use Rattle.slate_types.specs.declared.read_faults.ReadFault.{ReadFault}
 use Rattle.slate_types.specs.Line.{AreNumberedFrom, end}
-use Rattle.slate_store.specs.Content.{IsSound, content}
+use Rattle.slate_store.specs.Content.{AreStored, IsSound, content}
 use Rattle.slate_store.specs.Objects.{Objects, latest_manifest}
 use Rattle.slate_store.specs.declared.objects.VersionedManifest.{VersionedManifest}
 use Rattle.slate_errors.specs.declared.closing.CloseFault.TheVariants as faults
@@ -100,5 +100,6 @@ pub record OpensWriter (objects objects' : Objects) (result : Result Handle JobR
   pub kept : content objects' ≡ content objects
   pub step : IfOk result (IsInStep objects')
   pub whole : IfOk result (λ handle. unstored handle ≡ [])
+  pub tabled : IfOk result (λ handle. AreStored objects' handle.view.manifest.tables)
   pub reads : IfOk result (λ handle. (rows : List Batch) → kept_rows (Some objects') (AHandle handle) rows → rows ≡ (content objects).batches)
   pub foreign : result ≢ Err refusals.Foreign

@@ -62,7 +62,7 @@ fn failing(error: &SlateError) -> Option<Failure>
 }
 
 /// The refusal of an error that ends no job store.
-fn passing(error: SlateError) -> JobRefusal
+pub(crate) fn passing(error: SlateError) -> JobRefusal
     ensures { result ≡ refusal_by None error }
 {
     match error {

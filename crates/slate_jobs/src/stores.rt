@@ -1,11 +1,12 @@
 // The job store: its opening, and its calls.
-ghost use Rattle.std.specs.Prelude.{◌≡◌, ◌⊎◌, ◌≤◌, ◌+◌, ℕ, ℤ, List, [], length, Some, None, is_some, Ok, Err, IfOk, IfErr, IfSome, OnOk, OnErr, MatchResult};
+ghost use Rattle.std.specs.Prelude.{◌≡◌, ◌⊎◌, ◌≤◌, ◌+◌, ℕ, ℤ, List, [], length, Some, None, is_some, Ok, Err, IfOk, IfErr, IfSome, IsSome, OnOk, OnErr, MatchResult};
 ghost use Rattle.std.specs.BTreeMap.{insert_entry};
 ghost use Rattle.std.specs.Ordering.{nat_cmp};
 ghost use Rattle.slate_types.specs.declared.batches.Batch.{Batch as ABatch};
 ghost use Rattle.slate_types.specs.declared.batches.KeyValue.{KeyValue as ARow};
 ghost use Rattle.slate_types.specs.declared.read_faults.ReadFault.{ReadFault as AFault};
 ghost use Rattle.slate_errors.specs.declared.errors.SlateError.TheVariants.{InvalidClockTick, NoMemory as OutOfMemory};
+ghost use Rattle.slate_store.specs.Calls.{HasRisen};
 ghost use Rattle.slate_store.specs.Content.{IsSound};
 ghost use Rattle.slate_store.specs.Objects.{Objects, entry_at};
 ghost use Rattle.slate_model.specs.Known.{known};
@@ -14,12 +15,13 @@ ghost use Rattle.slate_model.specs.Stores.{kept_rows};
 ghost use Rattle.slate_model.specs.Write.{write_refusal, written};
 ghost use Rattle.slate_jobs.specs.declared.jobs.JobReply.{JobReply as AReply};
 ghost use Rattle.slate_jobs.specs.Calls.{Accepts, Calls, RefusesBatch, Stands, Stores, Takes};
+ghost use Rattle.slate_jobs.specs.Causes.{IsCallRefusal, IsReady, IsScanRefusal, OpensFor, TakesBatches};
 ghost use Rattle.slate_jobs.specs.Machine.{kept_reply};
 ghost use Rattle.slate_jobs.specs.Decoding.{AreOfBytes, AreRows, machine_at};
 ghost use Rattle.slate_jobs.specs.Queue.{IsHeld, Opens, OpensWriter};
 
 use crate::effects::{Effect, is_full};
-use crate::failures::{Failure, refuse};
+use crate::failures::{Failure, passing, refuse};
 use crate::job_lists::JobList;
 use crate::jobs::{JobOp, JobRefusal, JobReply};
 use crate::reading::{Kept, note_rows, read_machine};
@@ -75,8 +77,12 @@ impl JobStore {
     /// error | when
     /// ---|---
     /// `Foreign` | a row isn't one of a job or of a kept reply, the jobs' numbers have a gap, or a key has operands to merge
-    /// `Writer` | the writer isn't opened, or its rows aren't read, with the errors of `WriterState::open` and `scan`
+    /// `Writer(SegmentExtractorMismatch)` | the latest manifest names an extractor
+    /// `Writer(InvalidDBState)` | the latest manifest isn't initialised, or its tracker isn't sound; or the next manifest, epoch or log file would pass the greatest number
+    /// `Writer(ObjectStoreError)` | the store failed
     /// `NoMemory` | want of memory
+    ///
+    /// Over a store that more than handles wrote, any error of `WriterState::open` and `scan` may come as `Writer`.
     ///
     /// # Cost
     ///
@@ -88,6 +94,8 @@ impl JobStore {
     /// The store holds what it held. Unless the writer was refused, handles and job stores that were opened before are fenced.
     pub fn open<S: Store>(alloc: Global, store: &mut S) -> Result<JobStore, JobRefusal>
         ensures opens { (o : Objects) → S.objects store.old ≡ Some o → IsSound o → (o' : Objects) × (S.objects store.new ≡ Some o') × Opens o o' result }
+        ensures causes { (o : Objects) → S.objects store.old ≡ Some o → IsSound o → OpensFor (HasRisen (S.faults store.old) (S.faults store.new)) o result }
+        ensures ready { IfOk result IsReady }
         ensures faults { S.faults store.old ≤ S.faults store.new }
     {
         let writer = match open_writer(alloc, store) {
@@ -132,7 +140,11 @@ impl JobStore {
     /// ---|---
     /// `Full` | an enqueued job would have the greatest number
     /// `Writer(InvalidClockTick)` | the moment is below that of an earlier request that was accepted
-    /// `Writer` | the writer refused the batch or its flush, or had refused an earlier one
+    /// `Writer(Backpressure)` | as many bytes wait as can be counted
+    /// `Writer(InvalidDBState)` | the next batch or log file would pass the greatest number
+    /// `Writer(Fenced)` | the store was opened since, as a job store or by a handle
+    /// `Writer(ObjectStoreError)` | the store failed
+    /// `Writer` | the writer refused an earlier request: with the same error
     /// `NoMemory` | want of memory
     ///
     /// # Cost
@@ -157,6 +169,11 @@ impl JobStore {
         ensures answers { Calls request op moment self.old result self.new }
         // Over an honest store that held it, which nobody else opened since.
         ensures stands { (o : Objects) → S.objects store.old ≡ Some o → IsHeld o self.old → (o' : Objects) × (S.objects store.new ≡ Some o') × Stands o o' self.new result }
+        // A job store is ready from its opening on, until a refusal of the writer ends it.
+        ensures causes { (o : Objects) → S.objects store.old ≡ Some o → IsSound o → IsReady self.old →
+            IfErr result (IsCallRefusal (HasRisen (S.faults store.old) (S.faults store.new)) o self.old op moment) }
+        ensures ready { IsReady self.old → self.new.failure ≡ None → IsReady self.new }
+        ensures ended { IsSome self.old.failure → store.new ≡ store.old }
         ensures faults { S.faults store.old ≤ S.faults store.new }
         ensures calls { S.calls store.new ≤ S.calls store.old + 3 }
     {
@@ -303,7 +320,8 @@ fn write(
 /// Opens the handle of a job store: with a log, and without a limit or a task of its own.
 fn open_writer<S: Store>(alloc: Global, store: &mut S) -> Result<WriterState, JobRefusal>
     ensures opens { (o : Objects) → S.objects store.old ≡ Some o → IsSound o → (o' : Objects) × (S.objects store.new ≡ Some o') × OpensWriter o o' result }
-    ensures unclosed { IfOk result (λ handle. handle.result ≡ None) }
+    ensures causes { (o : Objects) → S.objects store.old ≡ Some o → IsSound o → OpensFor (HasRisen (S.faults store.old) (S.faults store.new)) o result }
+    ensures takes { IfOk result TakesBatches }
     ensures faults { S.faults store.old ≤ S.faults store.new }
 {
     let options = WriterOptions {
@@ -315,8 +333,7 @@ fn open_writer<S: Store>(alloc: Global, store: &mut S) -> Result<WriterState, Jo
     };
     match WriterState::open(alloc, store, &options, None::<&FixedPrefix>) {
         Ok(writer) => Ok(writer),
-        Err(SlateError::NoMemory) => Err(JobRefusal::NoMemory),
-        Err(error) => Err(JobRefusal::Writer(error)),
+        Err(error) => Err(passing(error)),
     }
 }
 
@@ -330,6 +347,7 @@ fn all_rows<S: Store>(
     ensures rows { IfOk result (λ rows. (batches : List ABatch) × kept_rows (S.objects store.old) (AHandle writer.now) batches × AreRows batches rows None) }
     ensures foreign { result ≡ Err JobRefusal.Foreign → (batches : List ABatch) × kept_rows (S.objects store.old) (AHandle writer.now) batches
         × (rows : List ARow) × (fault : AFault) × AreRows batches rows (Some fault) }
+    ensures refused { IfErr result (IsScanRefusal (HasRisen (S.faults store.old) (S.faults store.new)) (S.objects store.old) writer.now.view.manifest.tables) }
     ensures kept { S.objects store.new ≡ S.objects store.old }
     ensures faults { S.faults store.old ≤ S.faults store.new }
 {
@@ -348,8 +366,7 @@ fn all_rows<S: Store>(
         None::<&ConcatOperator>,
     ) {
         Ok(rows) => rest_of(alloc, rows),
-        Err(SlateError::NoMemory) => Err(JobRefusal::NoMemory),
-        Err(error) => Err(JobRefusal::Writer(error)),
+        Err(error) => Err(passing(error)),
     }
 }
 
@@ -357,6 +374,7 @@ fn all_rows<S: Store>(
 fn rest_of(alloc: Global, rows: DbIterator) -> Result<Seq<KeyValue>, JobRefusal>
     ensures rows { IfOk result (λ all. (rows.rows ≡ all) × (rows.fault ≡ None)) }
     ensures foreign { result ≡ Err JobRefusal.Foreign → (fault : AFault) × (rows.fault ≡ Some fault) }
+    ensures refused { IfErr result (λ refusal. (refusal ≡ JobRefusal.NoMemory) ⊎ (refusal ≡ JobRefusal.Foreign)) }
 {
     match rows.into_rows(alloc) {
         Ok(rows) => Ok(rows),

@@ -1,20 +1,24 @@
 use Rattle.std.proofs.Common.{None}
+use Rattle.std.proofs.Common.{refl, sym, ◌∙◌}
+use Rattle.slate_jobs.proofs.Openable.{fresh-takes, passing-foreign, writer-fits, writer-refused}
 use Rattle.slate_jobs.proofs.Opened.{handle-opens, refused-opens}
-use Rattle.slate_jobs.specs.declared.jobs.JobRefusal.TheVariants as refusals
 use Rattle.slate_jobs.proofs.stores.open_writer.Goals as goal
 
 pub returns-in-Ok-clause-opens : goal.returns-in-Ok-clause-opens
 returns-in-Ok-clause-opens g c = λ o is sound. let d = c.in-Ok.ensures.opens None tt in handle-opens o _ _ d.0 _ _ c.in-Ok.writer is sound d.1
 
-pub returns-in-Ok-clause-unclosed : goal.returns-in-Ok-clause-unclosed
-returns-in-Ok-clause-unclosed g c = (c.in-Ok.ensures.opens None tt).1.fresh.unclosed
+pub returns-in-Ok-clause-causes : goal.returns-in-Ok-clause-causes
+returns-in-Ok-clause-causes g c = λ o is sound. let d = c.in-Ok.ensures.opens None tt in writer-fits o sound _ _ is d.0 _ _ c.in-Ok.writer d.1
 
-pub returns-in-Err-NoMemory-clause-opens : goal.returns-in-Err-NoMemory-clause-opens
-returns-in-Err-NoMemory-clause-opens g c = λ o is sound. let d = c.in-Err-NoMemory.ensures.opens None tt in refused-opens o _ _ d.0 _ _ _ refusals.NoMemory is sound d.1 (λ no. cc)
+pub returns-in-Ok-clause-takes : goal.returns-in-Ok-clause-takes
+returns-in-Ok-clause-takes g c = fresh-takes _ _ c.in-Ok.writer refl (c.in-Ok.ensures.opens None tt).1.fresh
 
-pub returns-in-Err : goal.returns-in-Err
-returns-in-Err g c = record {
-  opens = λ o is sound. let d = c.in-Err.ensures.opens None tt in refused-opens o _ _ d.0 _ _ c.in-Err.error (refusals.Writer c.in-Err.error) is sound d.1 (λ no. cc);
-  unclosed = tt;
-  faults = c.open.ensures.faults;
-}
+pub returns-in-Err-clause-opens : goal.returns-in-Err-clause-opens
+returns-in-Err-clause-opens g c = λ o is sound.
+    let d = c.in-Err.ensures.opens None tt in
+    refused-opens o _ _ d.0 _ _ c.in-Err.error c.passing.result is sound d.1 (λ no. passing-foreign c.in-Err.error (sym c.passing.ensures ∙ no))
+
+pub returns-in-Err-clause-causes : goal.returns-in-Err-clause-causes
+returns-in-Err-clause-causes g c = λ o is sound.
+    let d = c.in-Err.ensures.opens None tt in
+    writer-refused o sound _ _ is d.0 _ _ c.in-Err.error d.1 c.passing.result c.passing.ensures

@@ -1,5 +1,6 @@
 use Rattle.std.proofs.Common.{None, Err, ap, sym, subst, ◌∙◌}
 use Rattle.slate_jobs.specs.Decoding.{AreRows}
+use Rattle.slate_jobs.proofs.Openable.{rows-fit, rows-ready, rows-refused}
 use Rattle.slate_jobs.proofs.Opened.{fault-opens, of-rows-opens}
 use Rattle.slate_jobs.proofs.stores.JobStore.open.Goals as goal
 
@@ -21,3 +22,14 @@ returns-in-Err-all_rows-clause-opens g c = λ o is sound.
       fault-opens o w.0 c.in-Ok.writer w.2 (g.S.Store.objects c.open_writer.new.store) w.1 c.in-Err-all_rows.refusal
           (λ same. c.in-Err-all_rows.ensures.foreign (ap Err same)),
     )
+
+pub returns-in-Ok-all_rows-clause-causes : goal.returns-in-Ok-all_rows-clause-causes
+returns-in-Ok-all_rows-clause-causes g c = λ o is sound. rows-fit o _ (c.in-Ok.ensures.causes o is sound).fits _ _ c.of_rows.result c.of_rows.ensures.queue c.of_rows.ensures.refused
+
+pub returns-in-Ok-all_rows-clause-ready : goal.returns-in-Ok-all_rows-clause-ready
+returns-in-Ok-all_rows-clause-ready g c = rows-ready c.in-Ok.writer c.in-Ok.ensures.takes _ c.of_rows.result c.of_rows.ensures.queue
+
+pub returns-in-Err-all_rows-clause-causes : goal.returns-in-Err-all_rows-clause-causes
+returns-in-Err-all_rows-clause-causes g c = λ o is sound.
+    let w = c.in-Ok.ensures.opens o is sound in
+    rows-refused o w.0 _ _ _ c.open_writer.ensures.faults c.in-Ok.writer.view.manifest.tables w.2.tabled (g.S.Store.objects c.open_writer.new.store) w.1 (c.in-Ok.ensures.causes o is sound).fits c.in-Err-all_rows.refusal c.in-Err-all_rows.ensures.refused

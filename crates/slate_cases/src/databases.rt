@@ -1,6 +1,7 @@
 // The subject `database`: a store that fails as told, and what is opened over it, by script lines and by calls.
 use crate::answers::Answer;
 use crate::call_line::CallLine;
+use crate::feeds::SteppedFeed;
 use crate::object_calls::{call_checkpoints, call_objects};
 use crate::operators::{Cuts, Refusing, extractor_of, operator_of};
 use crate::polled::PolledReader;
@@ -29,6 +30,7 @@ enum Call {
     Handle,
     Transaction,
     Reader,
+    Feed,
     Put,
     Replay,
     Restart,
@@ -44,6 +46,7 @@ const CALLS: &[(&[u8], Call)] = &[
     (b"handle", Call::Handle),
     (b"transaction", Call::Transaction),
     (b"reader", Call::Reader),
+    (b"feed", Call::Feed),
     (b"put", Call::Put),
     (b"replay", Call::Replay),
     (b"restart", Call::Restart),
@@ -52,7 +55,7 @@ const CALLS: &[(&[u8], Call)] = &[
     (b"watch", Call::Watch),
 ];
 
-/// A store, the objects of a session over it, and one handle and one reader beside these.
+/// A store, the objects of a session over it, and one handle, one reader and one feed beside these.
 pub struct Database {
     pub store: ToldStore,
     pub operator: Option<Refusing>,
@@ -64,6 +67,7 @@ pub struct Database {
     /// The transactions of the handle in the order in which they began, but for those that ended.
     pub transactions: Vec<Option<Transaction>>,
     pub reader: Option<PolledReader>,
+    pub feed: Option<SteppedFeed>,
     checkpoints: Vec<Uuid>,
 }
 
@@ -78,6 +82,7 @@ impl Drop for Database {
             watch: _,
             transactions: _,
             reader: _,
+            feed: _,
             checkpoints: _,
         } = self;
     }
@@ -95,6 +100,7 @@ impl Database {
             watch: None,
             transactions: Vec::new(alloc),
             reader: None,
+            feed: None,
             checkpoints: Vec::new(alloc),
         }
     }
@@ -135,6 +141,7 @@ impl Subject for Database {
             Some(Call::Handle) => self.call_handle(line),
             Some(Call::Transaction) => self.call_transaction(line),
             Some(Call::Reader) => self.call_reader(line),
+            Some(Call::Feed) => self.call_feed(line),
             Some(Call::Put) => self.put(line),
             Some(Call::Replay) => replay_twice(&mut self.store, line),
             Some(Call::Restart) => self.live = LiveState::new(line.alloc(), &OPTIONS),

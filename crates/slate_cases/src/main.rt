@@ -17,6 +17,7 @@ mod ending_files;
 mod errors;
 mod executors;
 mod failures;
+mod feeds;
 mod folders;
 mod handles;
 mod keys;

@@ -74,9 +74,10 @@ delivers-line cursor line (call ∷ calls) is h =
     let rest = delivers-line (cursor + length call.batches) call.line calls h.1 h.3 in
     let b = begins-longer cursor call.line last call.batches ends.1 h.2 in
     let more = delivered_by calls in
-    let count : cursor + length call.batches + length more ≡ cursor + length (call.batches ++ more) = let l = length-append call.batches more in omega (arith, l) in
-    (numbered-append cursor call.batches more b.numbered rest.0,
-    b.begins
-    ∙ (ap (λ xs. call.batches ++ xs) (rest-above cursor last call.batches ends.0 b ∙ rest.1)
-    ∙ (sym (append_assoc call.batches more (batches_above (cursor + length call.batches + length more) last.batches))
-    ∙ ap (λ n. (call.batches ++ more) ++ batches_above n last.batches) count)))
+    let count : cursor + length call.batches + length more ≡ cursor + length (call.batches ++ more) = let l = length-append call.batches more in omega (arith, l) in (
+      numbered-append cursor call.batches more b.numbered rest.0,
+      b.begins
+          ∙ (ap (λ xs. call.batches ++ xs) (rest-above cursor last call.batches ends.0 b ∙ rest.1)
+          ∙ (sym (append_assoc call.batches more (batches_above (cursor + length call.batches + length more) last.batches))
+          ∙ ap (λ n. (call.batches ++ more) ++ batches_above n last.batches) count)),
+    )

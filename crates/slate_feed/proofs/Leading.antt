@@ -116,16 +116,18 @@ module _ (cursor : ℕ) (piece so_far later : List Batch) (old now : Found) (b :
       | inl passed ↦ rest passed.1 (subst (λ xs. AreNumberedFrom cursor xs) (sym passed.1) s.numbered)
           (subst (λ xs. Grows piece (items old) xs) (sym passed.1) s.grows)
           (subst (λ xs. HaveNoGap (cursor + length (items old)) (cursor + length xs) (so_far ++ b ∷ [])) (sym passed.1)
-              (no_gap-passed (cursor + length (items old)) (cursor + length (items now)) so_far b s.no_gap passed.0))
+          (no_gap-passed (cursor + length (items old)) (cursor + length (items now)) so_far b s.no_gap passed.0))
           (omega (arith, passed.0))
       | inr next ↦ let long : cursor + length (items now) + 1 ≡ cursor + length (items now ++ b ∷ []) = simp length-append (omega arith) in
           rest next.1 (subst (λ xs. AreNumberedFrom cursor xs) (sym next.1) (numbered-push cursor (items now) b s.numbered (omega (arith, next.0))))
-          (subst (λ xs. Grows piece (items old) xs) (sym next.1)
-              (s.grows.0 ++ b ∷ [], ap (λ xs. xs ++ b ∷ []) s.grows.1 ∙ append_assoc (items old) s.grows.0 (b ∷ []),
-              All-append (Contains piece) s.grows.0 (b ∷ []) s.grows.2 (All-cons (Contains piece) b [] has (All-nil (Contains piece)))))
+          (subst (λ xs. Grows piece (items old) xs) (sym next.1) (
+            s.grows.0 ++ b ∷ [],
+            ap (λ xs. xs ++ b ∷ []) s.grows.1 ∙ append_assoc (items old) s.grows.0 (b ∷ []),
+            All-append (Contains piece) s.grows.0 (b ∷ []) s.grows.2 (All-cons (Contains piece) b [] has (All-nil (Contains piece))),
+          ))
           (subst (λ xs. HaveNoGap (cursor + length (items old)) (cursor + length xs) (so_far ++ b ∷ [])) (sym next.1)
-              (subst (λ e. HaveNoGap (cursor + length (items old)) e (so_far ++ b ∷ [])) long
-                  (no_gap-next (cursor + length (items old)) (cursor + length (items now)) so_far b s.no_gap next.0)))
+          (subst (λ e. HaveNoGap (cursor + length (items old)) e (so_far ++ b ∷ [])) long
+          (no_gap-next (cursor + length (items old)) (cursor + length (items now)) so_far b s.no_gap next.0)))
           (omega (arith, next.0))
     ] where
       rest : {Q : Type 0} → Q → AreNumberedFrom cursor (items now') → Grows piece (items old) (items now') →
@@ -176,15 +178,20 @@ module _ (cursor : ℕ) (piece so_far later : List Batch) (old now : Found) (b :
       neither : (x y : Bool) → (x || y) ≡ false → (x ≡ false) × (y ≡ false)
       neither false y h = (refl, h)
       neither true y h = absurd (cc)
+
       both : (old.began ≡ false) × (is_some_batch so_far ≡ false)
       both = neither old.began (is_some_batch so_far) (sym s.began ∙ t.0)
+
       old_fresh : old.began ≡ false
       old_fresh = both.0
+
       nothing : items now ≡ []
       nothing = s.fresh t.0
+
       nil : (xs : List Batch) → is_some_batch xs ≡ false → xs ≡ []
       nil [] h = refl
       nil (x ∷ xs) h = absurd (cc)
+
       none : so_far ≡ []
       none = nil so_far both.1
 
@@ -192,8 +199,11 @@ module _ (cursor : ℕ) (piece so_far later : List Batch) (old now : Found) (b :
 pub all-taken : (cursor limit n : ℕ) (all : List Batch) (old now : Found) → SoFar cursor (batches_above n all) (batches_above n (take (length all) all)) old now → Takes cursor limit (batches_above n all) old (Ok Whole) now
 all-taken cursor limit n all old now s =
     let same : take (length all) all ≡ all = take_all (length all) all (omega arith) in
-    inr (subst (λ xs. HaveNoGap (cursor + length (items old)) (cursor + length (items now)) (batches_above n xs)) same s.no_gap,
-    s.began ∙ ap (λ xs. old.began || is_some_batch (batches_above n xs)) same, s.end ∙ ap (λ xs. greatest_number old.end (batches_above n xs)) same)
+    inr (
+      subst (λ xs. HaveNoGap (cursor + length (items old)) (cursor + length (items now)) (batches_above n xs)) same s.no_gap,
+      s.began ∙ ap (λ xs. old.began || is_some_batch (batches_above n xs)) same,
+      s.end ∙ ap (λ xs. greatest_number old.end (batches_above n xs)) same,
+    )
 
 -- the number of the last of batches that are numbered one after another
 pub last-number : (floor : ℕ) (bs : List Batch) (b : Batch) → AreNumberedFrom floor bs → slice_get bs (length bs - 1) ≡ Some b → b.number ≡ floor + length bs

@@ -78,6 +78,7 @@ greatest-append n xs ys = go xs where
   over : (m k : ℕ) (zs : List Batch) → max k (greatest_number m zs) ≡ greatest_number (max k m) zs
   over m k [] = refl
   over m k (z ∷ zs) = let more = over m k zs in omega (arith, more)
+
   go : (xs : List Batch) → greatest_number n (xs ++ ys) ≡ greatest_number (greatest_number n xs) ys
   go [] = refl
   go (x ∷ xs) = ap (max x.number) (go xs) ∙ over (greatest_number n xs) x.number ys
@@ -131,7 +132,7 @@ module _ (o : Objects) (cursor limit : ℕ) (r : Reading) (g : Going o cursor li
       no_gap' : HaveNoGap cursor (cursor + length r'.found) (joined parts')
       no_gap' =
           let here : HaveNoGap (cursor + length r.found) (cursor + length r'.found) batches =
-              subst (λ n. HaveNoGap (n + length r.found) (cursor + length r'.found) batches) g.at_cursor (subst (λ n. HaveNoGap (r.cursor + length r.found) (n + length r'.found) batches) same_cursor all.no_gap) in
+          subst (λ n. HaveNoGap (n + length r.found) (cursor + length r'.found) batches) g.at_cursor (subst (λ n. HaveNoGap (r.cursor + length r.found) (n + length r'.found) batches) same_cursor all.no_gap) in
           subst (λ xs. HaveNoGap cursor (cursor + length r'.found) xs) (sym more)
           (no_gap-append cursor (cursor + length r.found) (cursor + length r'.found) (joined g.parts) batches g.no_gap here)
 
@@ -170,9 +171,13 @@ module _ (o : Objects) (cursor limit : ℕ) (r : Reading) (g : Going o cursor li
             parts = parts';
             rest = rest';
             read = read';
-            gives = (numbered, from', λ _. before-or cursor g.latest.manifest.last_l0_seq (joined parts') first'
-                (λ nothing. subst (λ n. n ≤ cursor) g.tabled (subst (λ n. r.tabled ≤ n) g.at_cursor (low (began' ∙ nothing)))),
-            inr (few, none, no_gap'));
+            gives = (
+              numbered,
+              from',
+              λ _. before-or cursor g.latest.manifest.last_l0_seq (joined parts') first'
+                  (λ nothing. subst (λ n. n ≤ cursor) g.tabled (subst (λ n. r.tabled ≤ n) g.at_cursor (low (began' ∙ nothing)))),
+              inr (few, none, no_gap'),
+            );
           }
 
       pub ends-none : rest' ≡ [] → r'.found ≡ [] → HasNoneAbove o cursor r'.end
@@ -214,14 +219,17 @@ module _ (o : Objects) (cursor limit : ℕ) (r : Reading) (g : Going o cursor li
         parts = parts';
         rest = rest';
         read = read';
-        gives = (λ some. before-or cursor g.latest.manifest.last_l0_seq (joined parts') low (λ nothing. absurd (some (nil-from_none (joined parts') nothing))),
-        inr (end, later));
+        gives = (
+          λ some. before-or cursor g.latest.manifest.last_l0_seq (joined parts') low (λ nothing. absurd (some (nil-from_none (joined parts') nothing))),
+          inr (end, later),
+        );
       }
     where
       low : number_before (joined parts') cursor ≤ cursor
       low =
           subst (λ xs. number_before xs cursor ≤ cursor) (sym more)
           (first-append cursor (joined g.parts) batches g.first (λ none. subst (λ n. number_before batches n ≤ n) g.at_cursor (first (unbegun none))))
+
       later : HaveGap cursor end (joined parts')
       later =
           let no_gap : HaveNoGap (cursor + length r.found) end gap.front = subst (λ n. HaveNoGap (n + length r.found) end gap.front) g.at_cursor gap.no_gap in
@@ -245,9 +253,13 @@ module _ (o : Objects) (cursor limit : ℕ) (r : Reading) (g : Going o cursor li
         parts = parts';
         rest = rest';
         read = read';
-        gives = (is ∙ g.at_cursor, subst (λ n. n < floor) g.at_cursor less,
-        before ∙ (ap (number_before batches) g.tabled ∙ ap (λ xs. number_before xs g.latest.manifest.last_l0_seq) (sym all)),
-        λ none. left (sym all ∙ none), g.asked);
+        gives = (
+          is ∙ g.at_cursor,
+          subst (λ n. n < floor) g.at_cursor less,
+          before ∙ (ap (number_before batches) g.tabled ∙ ap (λ xs. number_before xs g.latest.manifest.last_l0_seq) (sym all)),
+          λ none. left (sym all ∙ none),
+          g.asked,
+        );
       }
 
 -- a piece isn't stored
@@ -343,7 +355,6 @@ ahead-same o r r' Ended tables tabled mark = refl
 -- ---- what reading a piece leads to, where it is the next of those that are left, or none is read
 module _ (o : Objects) (cursor limit : ℕ) (r : Reading) (g : Going o cursor limit r) (piece : Piece) (next : Stage)
     (place : ((ahead r.stage o r ≡ piece ∷ ahead next o r) × (next ≡ Ended → ahead next o r ≡ [])) ⊎ ((piece ≡ Some []) × (ahead r.stage o r ≡ ahead next o r) × (next ≡ Ended → ahead next o r ≡ []))) where
-
   -- the parts that are read then
   record Next (batches : List Batch) : Type 0 where
     parts' : List (List Batch)
@@ -509,26 +520,27 @@ module _ (o : Objects) (cursor limit : ℕ) (r : Reading) (fresh : r ≡ begun c
       let by = going_by latest.manifest (taken (begun cursor limit)) in
       let going = record by { stage = table_stage by.tables 0 } in
       let after : r' ≡ going = subst (λ (x : Reading). r' ≡ (let y = going_by latest.manifest (taken x) in record y { stage = table_stage y.tables 0 })) fresh is in
-      let more : 0 < limit = subst (λ (x : Reading). 0 < x.limit) fresh asked in
-      (subst (Going o cursor limit) (sym after) (record {
-        latest = latest;
-        is_latest = is_latest;
-        at_cursor = refl;
-        to_limit = refl;
-        asked = more;
-        tables = refl;
-        tabled = refl;
-        mark = refl;
-        parts = [];
-        read = sym (ahead-tables o going 0);
-        from = All-nil (Contains {X = Batch} []);
-        no_gap = add-zero' cursor;
-        began = refl;
-        first = omega arith;
-        end = refl;
-      }),
-      λ h. table_stage-later going.tables 0 (sym (ap (λ (x : Reading). x.stage) after) ∙ h),
-      subst (λ (x : Reading). KnowsLast o x.mark x.stage) (sym after) (knows-table o going.mark going.tables 0))
+      let more : 0 < limit = subst (λ (x : Reading). 0 < x.limit) fresh asked in (
+        subst (Going o cursor limit) (sym after) (record {
+          latest = latest;
+          is_latest = is_latest;
+          at_cursor = refl;
+          to_limit = refl;
+          asked = more;
+          tables = refl;
+          tabled = refl;
+          mark = refl;
+          parts = [];
+          read = sym (ahead-tables o going 0);
+          from = All-nil (Contains {X = Batch} []);
+          no_gap = add-zero' cursor;
+          began = refl;
+          first = omega arith;
+          end = refl;
+        }),
+        λ h. table_stage-later going.tables 0 (sym (ap (λ (x : Reading). x.stage) after) ∙ h),
+        subst (λ (x : Reading). KnowsLast o x.mark x.stage) (sym after) (knows-table o going.mark going.tables 0),
+      )
     where
       add-zero' : (n : ℕ) → n + 0 ≡ n
       add-zero' n = omega arith
@@ -537,8 +549,10 @@ module _ (o : Objects) (cursor limit : ℕ) (r : Reading) (fresh : r ≡ begun c
   start-ends r' (some, none, same) = go (latest_manifest o) refl some where
     nothing : r'.found ≡ []
     nothing = same ∙ ap (λ (x : Reading). x.found) fresh
+
     zero_is : 0 ≡ limit
     zero_is = sym (sym (ap (λ (x : Reading). x.limit) fresh) ∙ none)
+
     go : (found : Option VersionedManifest) → latest_manifest o ≡ found → found ≢ None → Reads o cursor limit (Ok r'.found)
     go None is some = absurd (some refl)
     go (Some latest) is some =

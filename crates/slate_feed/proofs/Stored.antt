@@ -332,6 +332,7 @@ module _ (o : Objects) (sound : IsSound o) (latest : VersionedManifest) (is_late
       stays : (others : List (List Batch)) (more : List Piece) → map Some others ≡ None ∷ more → ⊥
       stays [] more h = absurd (cc)
       stays (x ∷ others) more h = absurd (cc)
+
       nonempty : (xs : List Batch) (b : Batch) (ys : List Batch) → xs ++ b ∷ ys ≡ [] → ⊥
       nonempty [] b ys h = absurd (cc)
       nonempty (x ∷ xs) b ys h = absurd (cc)
@@ -375,11 +376,12 @@ module _ (o : Objects) (sound : IsSound o) (latest : VersionedManifest) (is_late
 pub delivers : (o : Objects) (cursor limit : ℕ) (result : Result (List Batch) FeedRefusal) → IsSound o → Answers o cursor limit result → Delivers o cursor limit result
 delivers o cursor limit (Ok batches) sound a =
     let at = content-is o sound a.latest a.is_latest in
-    let g = given o sound a.latest a.is_latest cursor a.parts a.rest a.read limit batches a.gives in
-    (λ none. let h = sym a.is_latest ∙ none in absurd (cc),
-    subst (λ (l : Line). 0 < limit → l.floor ≤ cursor) (sym at) g.0,
-    subst (λ (l : Line). batches ≡ take limit (batches_above cursor l.batches)) (sym at) g.1,
-    subst (λ (l : Line). length batches ≡ min limit (lines.end l - cursor)) (sym at) g.2)
+    let g = given o sound a.latest a.is_latest cursor a.parts a.rest a.read limit batches a.gives in (
+      λ none. let h = sym a.is_latest ∙ none in absurd (cc),
+      subst (λ (l : Line). 0 < limit → l.floor ≤ cursor) (sym at) g.0,
+      subst (λ (l : Line). batches ≡ take limit (batches_above cursor l.batches)) (sym at) g.1,
+      subst (λ (l : Line). length batches ≡ min limit (lines.end l - cursor)) (sym at) g.2,
+    )
 delivers o cursor limit (Err refusals.LatestTransactionalObjectVersionMissing) sound a = a
 delivers o cursor limit (Err (refusals.BeforeFloor at from)) sound a =
     let line = content-is o sound a.latest a.is_latest in
@@ -404,14 +406,14 @@ opens o after (Ok cursor) sound (is, (batches, a, end)) =
     let d = delivers o after 1 (Ok batches) sound a in
     let low = d.1 (omega arith) in
     (is, d.0, low, go batches refl) where
-  go : (bs : List Batch) → batches ≡ bs → after ≤ lines.end (content o)
-  go [] none =
-      let d = delivers o after 1 (Ok batches) sound a in
-      let e = end none in
-      let at = end-is o after e.0 sound (d.1 (omega arith)) e.1 in let within = e.2 in omega (arith, at, within)
-  go (b ∷ bs) some =
-      let d = delivers o after 1 (Ok batches) sound a in
-      let count = d.3 in let long = ap length some in omega (arith, count, long)
+      go : (bs : List Batch) → batches ≡ bs → after ≤ lines.end (content o)
+      go [] none =
+          let d = delivers o after 1 (Ok batches) sound a in
+          let e = end none in
+          let at = end-is o after e.0 sound (d.1 (omega arith)) e.1 in let within = e.2 in omega (arith, at, within)
+      go (b ∷ bs) some =
+          let d = delivers o after 1 (Ok batches) sound a in
+          let count = d.3 in let long = ap length some in omega (arith, count, long)
 opens o after (Err (refusals.Ahead at last)) sound (is, less, a, none) =
     let d = delivers o after 1 (Ok []) sound a in
     let end = end-is o after last sound (d.1 (omega arith)) none in

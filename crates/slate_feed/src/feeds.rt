@@ -12,8 +12,11 @@ use slate_types::{Batch, Seq};
 use std::alloc::Global;
 use std::marker::Model;
 
+/// A feed of the stored batches of a database, without the store: it hands them out in the order of their numbers. A contract
+/// sees its cursor.
 #[derive(Clone, Copy, Debug, PartialEq, Eq)]
 pub struct Feed {
+    /// The number of the last batch that was delivered, or the one after which the feed was opened.
     cursor: u64,
 }
 
@@ -28,6 +31,23 @@ impl Model for Feed {
 }
 
 impl Feed {
+    /// Opens a feed of the batches after a number: 0 for all of them, or the cursor that another feed has reached, which its
+    /// caller kept. It reads until it finds a batch above that number or knows that there is none.
+    ///
+    /// # Errors
+    ///
+    /// error | when
+    /// ---|---
+    /// `LatestTransactionalObjectVersionMissing` | no manifest is stored
+    /// `BeforeFloor` | the number is below the floor, the number before the first stored batch
+    /// `Ahead` | it is above the end, the number of the last stored batch
+    /// `ObjectStoreError` | a read of the store failed
+    /// `Moved` | what was to be read isn't stored; it never comes over an honest store
+    /// `NoMemory` | want of memory
+    ///
+    /// # Cost
+    ///
+    /// The calls and the time of `next_batches` with the limit 1.
     pub fn open<S: Store>(alloc: Global, store: &mut S, after: u64) -> Result<Feed, FeedRefusal>
         ensures opened { IfOk result (λ feed. feed ≡ after) }
         ensures opens { IfSome (S.objects store.old) (λ o. Opens o after result) }
@@ -57,12 +77,30 @@ impl Feed {
         Ok(Feed { cursor: after })
     }
 
+    /// The number of the last batch that was delivered, or the one after which the feed was opened. A feed that is opened after
+    /// it goes on from there.
     pub fn cursor(&self) -> u64
         ensures { result ≡ self.now }
     {
         self.cursor
     }
 
+    /// Delivers the stored batches right above the cursor, at most `limit`, each once and whole; the cursor is the last one's
+    /// number then. Over an honest store it delivers as many as there are up to the limit, whatever others flushed, compacted
+    /// and swept since the last call. What a handle holds and didn't flush isn't stored.
+    ///
+    /// # Errors
+    ///
+    /// As of `open`, but for `Ahead`: a cursor above the end, of another database, is answered with no batch. `BeforeFloor`
+    /// comes only where a batch is asked for. The cursor stays then, and so does the store.
+    ///
+    /// # Cost
+    ///
+    /// It reads the latest manifest; where the cursor is below the last number in tables, the tables, oldest first, until
+    /// `limit` batches above the cursor are found; and, while fewer are, it asks for the last log file and reads those above the
+    /// replay mark. Each of these is one call of the store. A table doesn't tell its numbers before it is read, so those below
+    /// the cursor are read too: a database that is compacted has few. Time linear in the batches that it passes, a step for
+    /// each, and in the operations of those that it delivers, whose lists it copies: no key and no value.
     pub fn next_batches<S: Store>(
         &mut self,
         alloc: Global,

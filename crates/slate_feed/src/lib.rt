@@ -6,8 +6,6 @@ mod laws;
 mod machines;
 mod pieces;
 mod refusals;
-#[cfg(test)]
-mod tests;
 
 pub use feeds::Feed;
 pub use laws::{begun_calls_follow_the_line, feeds_deliver_the_line};

@@ -36,15 +36,10 @@ pub enum FeedStep {
 pub(crate) enum Stage {
     ReadLatest,
     /// Of the table at this place.
-    ReadTable {
-        at: usize,
-    },
+    ReadTable { at: usize },
     AskLast,
     /// Of the log file with this id; another one is the last.
-    ReadLog {
-        id: u64,
-        last: u64,
-    },
+    ReadLog { id: u64, last: u64 },
     Ended,
 }
 
@@ -56,13 +51,17 @@ pub(crate) enum Turn {
     Breaks,
 }
 
-/// A call of `Feed::next_batches` by single calls of the store.
+/// A call of `Feed::next_batches` by single calls of the store: each step makes one, and others may use the store between two
+/// of them, whatever they do there. The feed stays as it is until the step that delivers.
 pub struct FeedMachine {
     cursor: u64,
     limit: u32,
     stage: Stage,
+    /// The tables that it reads, oldest first.
     tables: Seq<TableId>,
+    /// The last number in tables.
     tabled: u64,
+    /// The replay mark: log files up to it are in tables.
     mark: u64,
     found: Found,
 }
@@ -92,6 +91,7 @@ impl Model for FeedMachine {
 }
 
 impl FeedMachine {
+    /// Begins a call of a feed, which is done by `step`. It makes no call of the store, and takes no memory.
     pub fn begin(alloc: Global, feed: &Feed, limit: u32) -> FeedMachine
         ensures { result ≡ begun feed.now limit }
     {
@@ -117,6 +117,26 @@ impl FeedMachine {
         }
     }
 
+    /// Makes the next call of the store. It answers `More` while there is another to make, and then, once, the batches or that
+    /// what it was to read was moved. The feed must be as it was at `begin`, and the call mustn't have ended.
+    ///
+    /// It delivers whole batches right above the cursor, and over an honest store those of the line that is stored then,
+    /// whatever others did between its steps. They are as many as there are up to the limit, as long as nobody flushes to a
+    /// table meanwhile; else they may be fewer. There are at most as many `More` as the manifest has tables and as there are
+    /// log files from its replay mark to the last, and one besides.
+    ///
+    /// # Errors
+    ///
+    /// answer | when
+    /// ---|---
+    /// `Moved` | a table or a log file isn't there any more, since others flushed or compacted and then swept, or a batch is past the next number; another call goes by a new manifest
+    /// those of `next_batches`, but for `Moved` | as there
+    ///
+    /// After any of these the cursor is as it was, and the call has ended.
+    ///
+    /// # Cost
+    ///
+    /// One call of the store, and the time of `next_batches` for what it reads.
     pub fn step<S: Store>(
         &mut self,
         alloc: Global,
@@ -149,6 +169,7 @@ impl FeedMachine {
         }
     }
 
+    /// Makes all steps one after another.
     pub(crate) fn run<S: Store>(
         &mut self,
         alloc: Global,
@@ -214,11 +235,7 @@ impl FeedMachine {
     }
 
     /// Reads the latest manifest.
-    fn call_latest<S: Store>(
-        &mut self,
-        alloc: Global,
-        store: &mut S,
-    ) -> Result<Turn, FeedRefusal>
+    fn call_latest<S: Store>(&mut self, alloc: Global, store: &mut S) -> Result<Turn, FeedRefusal>
         requires ended { self.old.stage ≡ Ended }
         requires fresh { (self.old.found ≡ []) × (self.old.began ≡ false) }
         ensures meets { IfSome (S.objects store.old) (λ o. Meets ReadLatest o self.old result self.new) }

@@ -55,9 +55,10 @@ returns-in-Gap-clause-takes c =
     let n = c.args.above in
     let b = c.batch-item.result in
     let split = above-split n i all b c.loop-batch-test.true c.batch-item.is c.if-batch-above.false in
-    let one = rw c.in-Gap.is at c.in_ok-take_one.ensures.takes in
-    (c.args.cursor + length c.loop-batch.found.batches.items,
-    gap c.args.cursor (batches_above n all) (batches_above n (take i all)) (batches_above n (drop (i + 1) all)) c.args.found.now c.loop-batch.found b split c.loop-batch.invariant.so_far c.take_one.new.found one)
+    let one = rw c.in-Gap.is at c.in_ok-take_one.ensures.takes in (
+      c.args.cursor + length c.loop-batch.found.batches.items,
+      gap c.args.cursor (batches_above n all) (batches_above n (take i all)) (batches_above n (drop (i + 1) all)) c.args.found.now c.loop-batch.found b split c.loop-batch.invariant.so_far c.take_one.new.found one,
+    )
 
 pub returns-in-Below-clause-takes : goal.returns-in-Below-clause-takes
 returns-in-Below-clause-takes c =

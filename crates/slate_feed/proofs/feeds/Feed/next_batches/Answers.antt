@@ -12,7 +12,7 @@ returns-in_err-batches-clause-delivers g c =
     let p = err_from_is_err_and c.from_residual.result c.from_residual.ensures.1 in
     let refusal = c.in_err-batches.field-0.0 in
     rw (p.1, p.2) (subst (λ (r : Reading). IfSome (g.S.Store.objects c.args.store.now) (λ o. IsSound o → Delivers o r.cursor r.limit (Err refusal))) c.begin-machine.ensures
-        (delivered-where _ c.begin-machine.result.cursor c.begin-machine.result.limit (Err refusal) c.in_err-batches.ensures.answers))
+    (delivered-where _ c.begin-machine.result.cursor c.begin-machine.result.limit (Err refusal) c.in_err-batches.ensures.answers))
 
 pub returns-clause-delivers : goal.returns-clause-delivers
 returns-clause-delivers g c =

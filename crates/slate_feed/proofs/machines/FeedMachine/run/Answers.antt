@@ -38,7 +38,7 @@ returns-in-Ends-clause-answers g c =
     let i = c.loop-self.invariant in
     let e = c.in_ok-call.ensures in
     let numbered : AreNumberedFrom c.args.self.now.cursor c.call.new.self.found =
-        subst (λ n. AreNumberedFrom n c.call.new.self.found) (e.cursor ∙ i.cursor) (subst (λ (bs : List Batch). AreNumberedFrom c.call.new.self.cursor bs) c.take_found.ensures.found c.take_found.ensures.numbered) in
+    subst (λ n. AreNumberedFrom n c.call.new.self.found) (e.cursor ∙ i.cursor) (subst (λ (bs : List Batch). AreNumberedFrom c.call.new.self.cursor bs) c.take_found.ensures.found c.take_found.ensures.numbered) in
     known _ _ i.kept i.runs e.meets (λ o runs m. rw c.take_found.ensures.found (run-ends o c.args.self.now.cursor c.args.self.now.limit c.loop-self.self e.fits runs c.call.new.self (rw c.in-Ends.is at m) numbered))
 
 pub returns-in-Ends-clause-none : goal.returns-in-Ends-clause-none

@@ -10,5 +10,10 @@ returns-in-Gap-clause-reads c =
     let t = rw c.in-Gap.is at c.in_ok-take_next.ensures.takes in
     let f = rw c.in-Gap.is at c.in_ok-take_next.ensures.first in
     let piece = batches_above c.args.above c.args.batches.now in
-    inr (piece, t.0, refl, subst (λ (r : Reading). HaveGap (reached r) t.0 piece) c.self.view_is t.1,
-    subst (λ (r : Reading). r.began ≡ false → number_before piece r.cursor ≤ r.cursor) c.self.view_is (f tt))
+    inr (
+      piece,
+      t.0,
+      refl,
+      subst (λ (r : Reading). HaveGap (reached r) t.0 piece) c.self.view_is t.1,
+      subst (λ (r : Reading). r.began ≡ false → number_before piece r.cursor ≤ r.cursor) c.self.view_is (f tt),
+    )

@@ -1,5 +1,5 @@
 // What a handle does to its own store.
-ghost use Rattle.std.specs.Prelude.{◌≡◌, ◌⊎◌, ◌+◌, ◌≤◌, ℕ, None, if◌then◌else◌, IfErr, IfOk, IfSome};
+ghost use Rattle.std.specs.Prelude.{◌≡◌, ◌⊎◌, ◌+◌, ◌≤◌, ℕ, [], None, if◌then◌else◌, IfErr, IfOk, IfSome};
 ghost use Rattle.slate_errors.specs.declared.errors.SlateError.TheVariants.{WalDisabled};
 ghost use Rattle.slate_model.specs.Close.{Closes};
 ghost use Rattle.slate_model.specs.Flush.{CanFlush, Flushes};
@@ -8,7 +8,7 @@ ghost use Rattle.slate_model.specs.Refresh.{Refreshes};
 ghost use Rattle.slate_model.specs.Stores.{by_objects};
 ghost use Rattle.slate_writer.specs.Board.{words_of};
 ghost use Rattle.slate_writer.specs.Kinds.{IsOfFlush, IsOfLooking};
-ghost use Rattle.slate_writer.specs.Puts.{flush_calls};
+ghost use Rattle.slate_writer.specs.Puts.{IsDecided, calls_of, flush_calls};
 
 use crate::Held;
 use slate_errors::{Ended, SlateError};
@@ -24,6 +24,8 @@ impl<S: Store> Held<S> {
         ensures kind { CanFlush flush_type self.old.handle → IfErr result IsOfFlush }
         ensures count { S.faults self.old.store ≤ S.faults self.new.store }
         ensures calls { S.calls self.new.store ≤ S.calls self.old.store + flush_calls flush_type }
+        ensures counted { S.calls self.new.store ≤ S.calls self.old.store + calls_of flush_type self.old.handle }
+        ensures first { IfSome (S.objects self.old.store) (λ o. IsDecided flush_type self.old.handle o → S.calls self.new.store ≤ S.calls self.old.store + 1) }
         ensures untouched { (CanFlush flush_type self.old.handle → ⊥) → self.new.store ≡ self.old.store }
     {
         self.writer.flush(alloc, &mut self.store, flush_type)
@@ -44,6 +46,8 @@ impl<S: Store> Held<S> {
     pub fn close(&mut self, alloc: Global, options: &CloseOptions) -> Ended
         ensures does { (made : ℕ) × Closes (by_objects (S.objects self.old.store)) made options.now.flush_type self.old.handle (known S.objects S.faults self.old.store) result self.new.handle (known S.objects S.faults self.new.store) }
         ensures kind { self.old.handle.result ≡ None → IfSome result.fault (λ error. (error ≡ WalDisabled) ⊎ IsOfFlush error) }
+        ensures tasks { result.tasks ≡ self.old.handle.tasks }
+        ensures ended { self.new.handle.tasks ≡ [] }
         ensures count { S.faults self.old.store ≤ S.faults self.new.store }
         ensures calls { IfSome options.now.flush_type (λ t. S.calls self.new.store ≤ S.calls self.old.store + flush_calls t) }
         ensures untouched { IfSome options.now.flush_type (λ t. (CanFlush t self.old.handle → ⊥) → self.new.store ≡ self.old.store) }
@@ -51,6 +55,7 @@ impl<S: Store> Held<S> {
     {
         self.writer.close(alloc, &mut self.store, options)
     }
+
     /// The type of a flush for which none is given: to the log where the handle keeps one, and else to a table.
     pub fn flush_type(&self) -> FlushType
         ensures { result ≡ (if self.now.handle.keeps_log then FlushType.Wal else FlushType.MemTable) }

@@ -1,24 +1,26 @@
 // A reader and its store, as one value.
-ghost use Rattle.std.specs.Prelude.{◌≡◌, ◌≢◌, ◌+◌, ◌*◌, ◌≤◌, ℕ, true, false, None, Some, Ok, Err, Option, IfErr, IfOk, IfSome, MatchResult, length};
+ghost use Rattle.std.specs.Prelude.{◌≡◌, ◌≢◌, ◌+◌, ◌*◌, ◌≤◌, ◌⊎◌, ℕ, true, false, None, Some, Ok, Err, Option, IfErr, IfOk, IfSome, IsSome, MatchResult, length};
 ghost use Rattle.std.specs.Option.{option_copied};
 ghost use Rattle.slate_errors.specs.Errors.{closed_error};
+ghost use Rattle.slate_types.specs.Line.{Line};
 ghost use Rattle.slate_types.specs.Operator.{Merge};
+ghost use Rattle.slate_store.specs.Objects.{Objects};
 ghost use Rattle.slate_reads.specs.Read.{IsOperator, read_at};
 ghost use Rattle.slate_model.specs.Close.{closed_follower, ended, recorded_fault};
 ghost use Rattle.slate_model.specs.Follow.{Polls, Rebuilds, unseen};
-ghost use Rattle.slate_model.specs.Followed.{followed_logs};
+ghost use Rattle.slate_model.specs.Followed.{RefusesLatest, followed_logs};
 ghost use Rattle.slate_model.specs.Follower.{is_managed, is_pinned, number};
-ghost use Rattle.slate_model.specs.Known.{known};
-ghost use Rattle.slate_model.specs.Managed.{ClosesManaged, OpensManaged, PollsManaged};
+ghost use Rattle.slate_model.specs.Known.{FaultsRise, IsContent, known};
+ghost use Rattle.slate_model.specs.Managed.{ClosesManaged, OpensManaged, PollsManaged, poll_result};
 ghost use Rattle.slate_model.specs.Object.{Follower};
 ghost use Rattle.slate_model.specs.Open.{replayed_logs};
 ghost use Rattle.slate_model.specs.Read.{Gives, Reads, ReadsByAny};
 ghost use Rattle.slate_model.specs.Segments.{Extractor, IsExtractor};
 ghost use Rattle.slate_model.specs.Status.{follower_status};
-ghost use Rattle.slate_model.specs.Stores.{by_objects, kept_rows};
+ghost use Rattle.slate_model.specs.Stores.{by_objects, kept_rows, kept_seen};
 ghost use Rattle.slate_follow.specs.Answering.{IsOfOpening, IsOfPoll};
 ghost use Rattle.slate_follow.specs.Keeping.{CallsKeeping};
-ghost use Rattle.slate_follow.specs.Rebuilding.{CallsContinuing, CallsOpening, CallsRebuilding};
+ghost use Rattle.slate_follow.specs.Rebuilding.{CallsContinuing, CallsOpening, CallsRebuilding, Truncates};
 ghost use Rattle.slate_follow.specs.Scanned.{BeginsFrontOf, BeginsScanOf};
 
 use slate_errors::{CloseFault, Ended, SlateError};
@@ -78,6 +80,11 @@ impl<S: Store> HeldReader<S> {
         ensures calls { is_managed mode ≡ false → IfOk result (λ p. IfSome (S.objects store) (λ o. CallsOpening mode options.now.skip_wal_replay o (S.calls store) (S.calls p.0.store))) }
         ensures managed_calls { is_managed mode ≡ true → IfOk result (λ p. IfSome (S.objects store) (λ o. S.calls p.0.store ≤ S.calls store + (followed_logs mode options.now.skip_wal_replay o + 17))) }
         ensures faults { IfOk result (λ p. S.faults store ≤ S.faults p.0.store) }
+        ensures handed { (x : Option Extractor) → IsExtractor E.may_name E.may_extract (option_copied extractor.entry) x → is_managed mode ≡ false → is_pinned mode ≡ false →
+            IfOk result (λ p. (o : Objects) (line : Line) → S.objects store ≡ Some o → IsContent (S.objects store) line → kept_seen p.0.follower o line) }
+        ensures truncates { IfOk result (λ p. IfSome (S.objects p.0.store) (λ o. Truncates o p.0.follower p.1)) }
+        ensures decided { (x : Option Extractor) → IsExtractor E.may_name E.may_extract (option_copied extractor.entry) x → is_managed mode ≡ true → result ≡ Err SlateError.InvalidDBState →
+            IfSome (S.objects store) (λ o. RefusesLatest x true o (Some SlateError.InvalidDBState) ⊎ RefusesLatest x true o None) }
     {
         let (reader, answer) = FollowerState::open(
             alloc, &mut store, mode, options, extractor, moment,
@@ -193,6 +200,16 @@ impl<S: Store> HeldReader<S> {
         ensures left { is_managed self.old.follower.mode ≡ false → IfErr result (λ _. self.new.follower ≡ self.old.follower) }
         ensures untouched { self.old.follower.result ≢ None → self.new ≡ self.old }
         ensures stays { is_pinned self.old.follower.mode ≡ true → self.new ≡ self.old }
+        ensures faults { self.old.follower.result ≡ None → FaultsRise (S.faults self.old.store) (S.faults self.new.store) result }
+        ensures truncates { IfOk result (λ a. IfSome (S.objects self.old.store) (λ o. Truncates o self.new.follower a)) }
+        ensures left_managed { is_managed self.old.follower.mode ≡ true → self.old.follower.result ≡ None →
+            IfErr result (λ error. self.new.follower ≡ record self.old.follower { lease = self.new.follower.lease; result = poll_result error }) }
+        ensures handed { (x : Option Extractor) → IsExtractor E.may_name E.may_extract (option_copied extractor.entry) x → is_managed self.old.follower.mode ≡ false → is_pinned self.old.follower.mode ≡ false → (o : Objects) (line : Line) →
+            S.objects self.old.store ≡ Some o → IsContent (S.objects self.old.store) line → kept_seen self.old.follower o line → kept_seen self.new.follower o line }
+        ensures handed_managed { (x : Option Extractor) → IsExtractor E.may_name E.may_extract (option_copied extractor.entry) x → is_managed self.old.follower.mode ≡ true → (o o' : Objects) (line : Line) →
+            S.objects self.old.store ≡ Some o → S.objects self.new.store ≡ Some o' → IsContent (S.objects self.old.store) line → kept_seen self.old.follower o line → kept_seen self.new.follower o' line }
+        ensures segmented { (x : Option Extractor) → IsExtractor E.may_name E.may_extract (option_copied extractor.entry) x → self.old.follower.result ≡ None → is_managed self.old.follower.mode ≡ false →
+            result ≡ Err SlateError.InvalidDBState → IsSome x }
     {
         self.reader.poll(alloc, &mut self.store, extractor, moment)
     }

@@ -5,13 +5,14 @@ ghost use Rattle.slate_seqtrack.specs.Lookup.{IsPartner};
 ghost use Rattle.slate_seqtrack.specs.Tracker.{numbers_of, times_of};
 ghost use Rattle.slate_store.specs.Calls.{WhereModelled};
 ghost use Rattle.slate_store.specs.Checkpoints.{to_write};
-ghost use Rattle.slate_store.specs.Compaction.{compact_calls};
-ghost use Rattle.slate_store.specs.Refusals.{CountsFaults, CountsTries, FollowsPlan, IsOfCommit, KeepsContent};
+ghost use Rattle.slate_store.specs.Compaction.{HasTablesToJoin, compact_calls};
+ghost use Rattle.slate_store.specs.Refusals.{CountsFaults, CountsTries, FollowsPlan, IsOfCommit, IsOfSweep, KeepsContent};
 ghost use Rattle.slate_store.specs.Sweeps.{Sweeps, sweep_calls};
 ghost use Rattle.slate_model.specs.Known.{known};
 ghost use Rattle.slate_model.specs.Refresh.{Compacts};
 ghost use Rattle.slate_model.specs.Stores.{by_objects};
 ghost use Rattle.slate_model.specs.Unflushed.{unflushed};
+ghost use Rattle.slate_writer.specs.Kinds.{IsOfCompacting};
 
 use crate::Held;
 use slate_errors::SlateError;
@@ -23,6 +24,8 @@ impl<S: Store> Held<S> {
     /// Joins the tables of the latest manifest into one, as `WriterState::compact` does.
     pub fn compact(&mut self, alloc: Global) -> Result<(), SlateError>
         ensures does { (made : ℕ) × Compacts (by_objects (S.objects self.old.store)) made self.old.handle (known S.objects S.faults self.old.store) result self.new.handle (known S.objects S.faults self.new.store) }
+        ensures kind { self.old.handle.result ≡ None → IfErr result IsOfCompacting }
+        ensures read { IfOk result (λ _. IfSome (S.objects self.old.store) HasTablesToJoin) }
         ensures count { S.faults self.old.store ≤ S.faults self.new.store }
         ensures calls { IfSome (S.objects self.old.store) (λ o. S.calls self.new.store ≤ S.calls self.old.store + compact_calls o) }
         ensures untouched { (self.old.handle.result ≡ None → ⊥) → self.new.store ≡ self.old.store }
@@ -54,6 +57,7 @@ impl<S: Store> Held<S> {
         ensures sound { WhereModelled KeepsContent (S.objects self.old.store) (S.objects self.new.store) }
         ensures faults { CountsFaults (S.faults self.old.store) (S.faults self.new.store) result }
         ensures calls { IfSome (S.objects self.old.store) (λ o. S.calls self.new.store ≤ S.calls self.old.store + sweep_calls moment o) }
+        ensures kind { IfErr result IsOfSweep }
         ensures kept { self.new.handle ≡ self.old.handle }
     {
         sweep(alloc, &mut self.store, moment)

@@ -1,5 +1,5 @@
 // Writes to a handle with its store.
-ghost use Rattle.std.specs.Prelude.{◌≡◌, ℤ, IfErr, None, Err, Option, OnOk};
+ghost use Rattle.std.specs.Prelude.{◌≡◌, ℤ, [], IfErr, IfSome, None, Err, Option, OnOk};
 ghost use Rattle.std.specs.Option.{option_copied};
 ghost use Rattle.slate_model.specs.Segments.{Extractor, IsExtractor};
 ghost use Rattle.slate_model.specs.Write.{Writes, WritesByAny};
@@ -28,6 +28,7 @@ impl<S: Store> Held<S> {
         ensures does { (x : Option Extractor) → IsExtractor E.may_name E.may_extract (option_copied extractor.entry) x →
             (second : Option ℤ) × IsSecond (F.post again) x self.old.handle batch.ops moment second
             × Writes x self.old.handle batch.ops moment second (answer_of result) self.new.handle }
+        ensures by_any { (second : Option ℤ) × IfSome second (F.post again) × WritesByAny [] self.old.handle batch.ops moment second (answer_of result) self.new.handle }
         ensures store { self.new.store ≡ self.old.store }
         ensures handed_back { IfErr result (λ r. r.batch ≡ batch) }
     {

@@ -67,8 +67,7 @@ impl FollowerPublisher {
     /// doesn't view an older state from then on. Others view it, too, at their next view.
     ///
     /// It waits until no reader copies the state before the last one out, and takes time for each reader that there may be.
-    /// For want of memory nothing is published, and it answers so before all else; the state is shared, and none of it
-    /// copied.
+    /// The state is shared, and none of it copied. For want of memory nothing is published.
     pub fn publish<R: Wait>(
         &mut self,
         rt: &R,

@@ -19,7 +19,7 @@ use Rattle.slate_jobs.proofs.Keys.{jobs-same, kinds-differ, replies-same}
 use Rattle.slate_jobs.proofs.Slots.{added-last, added-other, set-other, set-there}
 use Rattle.slate_jobs.proofs.Values.{first-put, one-other, one-put, second-put, two-other}
 
-same_or_not : (a b : ℕ) → (a ≡ b) ⊎ (a ≡ b → ⊥)
+pub same_or_not : (a b : ℕ) → (a ≡ b) ⊎ (a ≡ b → ⊥)
 same_or_not a b = elim (cases_order a b) [
   | inl same ↦ inl same
   | inr unlike ↦ elim unlike [

@@ -5,6 +5,7 @@ pub mod Entries
 pub mod Holding
 pub mod Noting
 pub mod Keys
+pub mod Lasting
 pub mod RowReading
 pub mod Slots
 pub mod Values

@@ -1,6 +1,7 @@
 pub mod Calls
 pub mod Causes
 pub mod Decoding
+pub mod Histories
 pub mod JobLists
 pub mod Laws
 pub mod Machine

@@ -14,5 +14,5 @@ mod tests;
 mod turns;
 
 pub use jobs::{Job, JobOp, JobRefusal, JobReply, JobState};
-pub use laws::rows_and_machine_give_each_other;
+pub use laws::{each_request_has_one_reply, rows_and_machine_give_each_other};
 pub use stores::JobStore;

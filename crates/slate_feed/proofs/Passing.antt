@@ -1,16 +1,16 @@
 -- Batches that are passed unread, since one after them is at or below the cursor: what is taken of the rest is taken of all.
-use Rattle.std.proofs.Common.{◌≡◌, ◌≢◌, ℕ, zero, suc, ◌+◌, ◌-◌, ◌<◌, ◌≤◌, ◌⊎◌, ◌||◌, inl, inr, max, Bool, true, false, List, [], ◌∷◌, ◌++◌, length, take, drop, cond, refl, sym, subst, ap, ◌∙◌, arith, append_assoc, ltb}
+use Rattle.std.proofs.Common.{◌≡◌, ◌≢◌, ℕ, zero, suc, ◌+◌, ◌-◌, ◌<◌, ◌≤◌, ◌⊎◌, ◌||◌, inl, inr, max, true, List, [], ◌∷◌, ◌++◌, length, take, drop, cond, refl, sym, subst, ap, ◌∙◌, arith, append_assoc, ltb}
 use Rattle.std.proofs.lemmas.Bool.{cases_lt, le-ltb, lt-ltb}
 use Rattle.std.proofs.lemmas.List.{take-append-drop}
 use Rattle.std.proofs.lemmas.List.Elements.{All-weaker, Contains-append_right, filter-append}
-use Rattle.std.specs.List.{All, AllByRecursion, Contains, slice_get}
+use Rattle.std.specs.List.{AllByRecursion, Contains, slice_get}
 use Rattle.std.specs.Prelude.{Some, Result, Ok, Err}
 use Rattle.slate_types.specs.declared.batches.Batch.{Batch}
 use Rattle.slate_types.specs.declared.memory.NoMemory.{NoMemory}
 use Rattle.slate_types.specs.Line.{batches_above}
 use Rattle.slate_reads.specs.Index.{AreRising}
 use Rattle.slate_store.specs.Content.{number_before}
-use Rattle.slate_store.specs.Logs.{HaveGap, HaveNoGap}
+use Rattle.slate_store.specs.Logs.{HaveNoGap}
 use Rattle.slate_store.proofs.Logs.{no_gap-append}
 use Rattle.slate_feed.specs.declared.pieces.Found.{Found}
 use Rattle.slate_feed.specs.declared.pieces.Taken.{Taken}

@@ -1,4 +1,4 @@
-use Rattle.std.proofs.Common.{◌≡◌, ◌≤◌, ◌-◌, ◌<◌, length}
+use Rattle.std.proofs.Common.{◌≤◌, ◌-◌, length}
 use Rattle.slate_feed.specs.Taking.{IsThrough}
 use Rattle.slate_feed.proofs.pieces.last_through.Given as goal
 

@@ -1,8 +1,8 @@
 -- A begun call follows the line that is stored, step by step, and whatever others do between two steps.
-use Rattle.std.proofs.Common.{◌≡◌, ◌≢◌, ℕ, zero, suc, ◌+◌, ◌-◌, ◌<◌, ◌≤◌, ◌⊎◌, inl, inr, Bool, true, false, List, [], ◌∷◌, ◌++◌, length, map, cond, Option, Some, None, unwrap_or, Result, Ok, Err, refl, sym, subst, ap, ◌∙◌, arith, nat_lt}
+use Rattle.std.proofs.Common.{◌≡◌, ℕ, zero, suc, ◌+◌, ◌-◌, ◌<◌, ◌≤◌, ◌⊎◌, inl, inr, List, [], ◌∷◌, ◌++◌, map, cond, Option, Some, None, unwrap_or, Ok, refl, sym, subst, ap, arith, nat_lt}
 use Rattle.std.proofs.lemmas.Bool.{cases_lt}
 use Rattle.std.proofs.lemmas.List.Elements.{All-append, All-contains, All-contains_itself, All-filter, All-head, All-nil, All-weaker, Contains-append_left, Contains-append_right}
-use Rattle.std.specs.List.{All, Contains, range_with_len, slice_get}
+use Rattle.std.specs.List.{Contains, range_with_len, slice_get}
 use Rattle.std.specs.Option.{IfSome, option_map}
 use Rattle.slate_types.specs.declared.batches.Batch.{Batch}
 use Rattle.slate_types.specs.Line.{AreNumberedFrom, IsLine, IsPrefix, Line, batches_above}
@@ -15,13 +15,11 @@ use Rattle.slate_store.specs.Objects.{Objects, last_log, latest_manifest, log_at
 use Rattle.slate_store.proofs.Entries.{absent}
 use Rattle.slate_feed.specs.declared.machines.Stage.{Stage}
 use Rattle.slate_feed.specs.declared.machines.Stage.TheVariants.{ReadLatest, ReadTable, AskLast, ReadLog, Ended}
-use Rattle.slate_feed.specs.declared.machines.Turn.{Turn}
-use Rattle.slate_feed.specs.declared.machines.Turn.TheVariants.{Goes, Ends, Breaks}
-use Rattle.slate_feed.specs.declared.refusals.FeedRefusal.{FeedRefusal}
+use Rattle.slate_feed.specs.declared.machines.Turn.TheVariants.{Goes, Ends}
 use Rattle.slate_feed.specs.Delivered.{BeginsAbove}
 use Rattle.slate_feed.specs.Following.{AreOf, BegunCallsFollow, FollowsLine, GoesOnBy, OthersKeepIt, ReadsOf}
 use Rattle.slate_feed.specs.Pieces.{Piece, joined, log_piece, table_piece, tables_to_read}
-use Rattle.slate_feed.specs.Reading.{IsStaged, Reading, begun, going_by, log_stage, table_stage, taken}
+use Rattle.slate_feed.specs.Reading.{IsStaged, Reading, log_stage, table_stage, taken}
 use Rattle.slate_feed.specs.Stepping.{LeadsOn, Meets, ReadsPiece}
 use Rattle.slate_feed.proofs.Stored.{begin-above, contents-in, content-is, logs-joined, tables-joined}
 

@@ -1,23 +1,20 @@
 -- Taking the batches of a piece one by one: what is found leads on without a gap.
-use Rattle.std.proofs.Common.{◌≡◌, ℕ, zero, suc, ◌+◌, ◌-◌, ◌<◌, ◌≤◌, ◌⊎◌, ◌||◌, inl, inr, max, Bool, true, false, List, [], ◌∷◌, ◌++◌, length, take, drop, get_or, map, cond, refl, sym, subst, ap, ◌∙◌, arith, add-one, append_assoc, length-append, ltb}
+use Rattle.std.proofs.Common.{◌≡◌, ℕ, zero, suc, ◌+◌, ◌-◌, ◌<◌, ◌≤◌, ◌||◌, inl, inr, max, Bool, true, false, List, [], ◌∷◌, ◌++◌, length, take, drop, get_or, cond, refl, sym, subst, ap, ◌∙◌, arith, add-one, append_assoc, length-append, ltb}
 use Rattle.std.proofs.Math.Seq.{drop-cons}
 use Rattle.std.proofs.lemmas.Bool.{lt-ltb, le-ltb}
 use Rattle.std.proofs.lemmas.List.{append-nil, take-append-drop, take_more, take_all}
 use Rattle.std.proofs.lemmas.List.Elements.{All-append, All-cons, All-nil, filter-append}
-use Rattle.std.specs.List.{All, Contains}
-use Rattle.std.specs.Prelude.{Option, Some, Result, Ok, Err, slice_get}
+use Rattle.std.specs.List.{Contains}
+use Rattle.std.specs.Prelude.{Some, Ok, slice_get}
 use Rattle.slate_types.proofs.Lines.{above-push, numbered-push}
 use Rattle.slate_types.specs.declared.batches.Batch.{Batch}
-use Rattle.slate_types.specs.declared.memory.NoMemory.{NoMemory}
 use Rattle.slate_types.specs.Line.{AreNumberedFrom, batches_above}
 use Rattle.slate_store.specs.Content.{number_before}
 use Rattle.slate_store.specs.Logs.{HaveGap, HaveNoGap}
-use Rattle.slate_store.specs.Objects.{greatest}
 use Rattle.slate_store.proofs.Logs.{no_gap-next, no_gap-passed}
 use Rattle.slate_feed.specs.declared.pieces.Found.{Found}
-use Rattle.slate_feed.specs.declared.pieces.Taken.{Taken}
 use Rattle.slate_feed.specs.declared.pieces.Taken.TheVariants.{Whole, Gap, Below}
-use Rattle.slate_feed.specs.Taking.{Grows, IsNoneBelow, Takes, TakesOne, greatest_number, is_some_batch}
+use Rattle.slate_feed.specs.Taking.{Grows, Takes, TakesOne, greatest_number, is_some_batch}
 
 abbrev items : Found → List Batch
 items found = found.batches.items

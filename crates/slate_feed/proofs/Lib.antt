@@ -1,5 +1,6 @@
 pub mod Delivering
 pub mod Following
 pub mod Leading
+pub mod Passing
 pub mod Running
 pub mod Stored

@@ -1,18 +1,18 @@
 -- A call that makes its steps one after another, with nobody else at work: what it has read, and what it answers.
-use Rattle.std.proofs.Common.{◌≡◌, ◌≢◌, ℕ, zero, suc, ◌+◌, ◌-◌, ◌<◌, ◌≤◌, ◌⊎◌, ◌||◌, inl, inr, max, Bool, true, false, List, [], ◌∷◌, ◌++◌, length, drop, map, cond, get_or, Option, Some, None, Result, Ok, Err, refl, sym, subst, ap, ◌∙◌, arith, append_assoc, length-append, ltb, nat_lt}
+use Rattle.std.proofs.Common.{◌≡◌, ◌≢◌, ℕ, zero, suc, ◌+◌, ◌-◌, ◌<◌, ◌≤◌, ◌⊎◌, ◌||◌, inl, inr, max, true, false, List, [], ◌∷◌, ◌++◌, length, drop, map, cond, Option, Some, None, Result, Ok, Err, refl, sym, subst, ap, ◌∙◌, arith, append_assoc, nat_lt}
 use Rattle.std.proofs.lemmas.Bool.{cases_lt, le-ltb, lt-ltb}
 use Rattle.std.proofs.lemmas.List.{append-nil}
-use Rattle.std.proofs.lemmas.List.Elements.{All-append, All-head, All-nil, All-weaker, Contains-append_left, Contains-append_right, filter-append}
+use Rattle.std.proofs.lemmas.List.Elements.{All-append, All-head, All-nil, All-weaker, Contains-append_left, Contains-append_right}
 use Rattle.std.proofs.lemmas.Grind.{flat_map-append}
 use Rattle.std.specs.List.{All, Contains, range_with_len, slice_get}
 use Rattle.std.specs.Option.{IfSome}
 use Rattle.slate_types.specs.declared.batches.Batch.{Batch}
-use Rattle.slate_types.specs.Line.{AreNumberedFrom, batches_above}
+use Rattle.slate_types.specs.Line.{AreNumberedFrom}
 use Rattle.slate_store.specs.declared.objects.TableId.{TableId}
 use Rattle.slate_store.specs.declared.objects.VersionedManifest.{VersionedManifest}
 use Rattle.slate_store.specs.Content.{number_before}
 use Rattle.slate_store.specs.Logs.{HaveGap, HaveNoGap}
-use Rattle.slate_store.specs.Objects.{Objects, greatest, last_log, latest_manifest}
+use Rattle.slate_store.specs.Objects.{Objects, last_log, latest_manifest}
 use Rattle.slate_store.proofs.Logs.{no_gap-append}
 use Rattle.slate_feed.specs.declared.machines.Stage.{Stage}
 use Rattle.slate_feed.specs.declared.machines.Stage.TheVariants.{ReadLatest, ReadTable, AskLast, ReadLog, Ended}

@@ -1,9 +1,9 @@
 -- What a call answers over sound objects: the batches of the stored line above its cursor.
-use Rattle.std.proofs.Common.{◌≡◌, ◌≢◌, ℕ, zero, suc, ◌+◌, ◌-◌, ◌<◌, ◌≤◌, ◌⊎◌, inl, inr, max, min, Bool, true, false, List, [], ◌∷◌, ◌++◌, length, drop, take, map, cond, Option, Some, None, unwrap_or, Result, Ok, Err, refl, sym, subst, ap, ◌∙◌, arith, append_assoc, length-append, length-drop, ltb, nat_lt}
+use Rattle.std.proofs.Common.{◌≡◌, ◌≢◌, ℕ, zero, suc, ◌+◌, ◌-◌, ◌<◌, ◌≤◌, ◌⊎◌, inl, inr, min, true, false, List, [], ◌∷◌, ◌++◌, length, drop, take, map, cond, Option, Some, None, unwrap_or, Result, Ok, Err, refl, sym, subst, ap, ◌∙◌, arith, append_assoc, length-append, length-drop, ltb, nat_lt}
 use Rattle.std.proofs.lemmas.Bool.{cases_lt, le-ltb, lt-ltb}
 use Rattle.std.proofs.lemmas.List.{append-nil, take_all}
 use Rattle.std.proofs.lemmas.Grind.{flat_map-append}
-use Rattle.std.proofs.lemmas.List.Elements.{All-contains, All-head, All-nil, All-tail, All-weaker, Contains-append_left, Contains-append_right, filter-append}
+use Rattle.std.proofs.lemmas.List.Elements.{All-contains, All-head, All-tail, All-weaker, Contains-append_left, Contains-append_right, filter-append}
 use Rattle.std.specs.List.{All, Contains, flat_map, range_with_len, slice_get}
 use Rattle.std.specs.Option.{IfSome, option_map}
 use Rattle.slate_types.proofs.Lines.{above-all, above-drop, above-none, numbered-drop}
@@ -13,13 +13,13 @@ use Rattle.slate_types.specs.Line as lines
 use Rattle.slate_store.specs.declared.objects.TableId.{TableId}
 use Rattle.slate_store.specs.declared.objects.VersionedManifest.{VersionedManifest}
 use Rattle.slate_store.specs.Content.{HasItsObjects, IsSound, StoresTable, content, content_by, logged, logs_above, number_before, table_batches}
-use Rattle.slate_store.specs.Logs.{HaveGap, HaveNoGap, StandsIn, batches_between}
+use Rattle.slate_store.specs.Logs.{HaveNoGap, StandsIn}
 use Rattle.slate_store.specs.Objects.{Objects, last_log, latest_manifest, log_at, table_at}
 use Rattle.slate_store.proofs.Gapless.{between-gapless, gapless-greatest, stored-gapless}
 use Rattle.slate_store.proofs.Logs.{no_gap-end, no_gap-numbered, no_gap-parts, numbered-stand}
 use Rattle.slate_feed.specs.declared.refusals.FeedRefusal.{FeedRefusal}
 use Rattle.slate_feed.specs.declared.refusals.FeedRefusal.TheVariants as refusals
-use Rattle.slate_feed.specs.Answer.{Answers, Delivers, Gives, HasNoneAbove, Opens, OpensWithin, Reads}
+use Rattle.slate_feed.specs.Answer.{Answers, Delivers, Gives, HasNoneAbove, Opens, OpensWithin}
 use Rattle.slate_feed.specs.Pieces.{Piece, joined, log_piece, log_pieces, pieces, table_piece, tables_to_read}
 use Rattle.slate_feed.specs.Taking.{greatest_number}
 

@@ -1,7 +1,7 @@
 -- What a call of a feed answers, over any objects and over sound ones.
 use Rattle.std.specs.Prelude.{◌≡◌, ◌≢◌, ℕ, ◌+◌, ◌-◌, ◌<◌, ◌≤◌, ◌⊎◌, min, All, Contains, List, [], ◌∷◌, ◌++◌, length, map, take, Option, Some, None, Result, Ok, Err}
 use Rattle.slate_types.specs.declared.batches.Batch.{Batch}
-use Rattle.slate_types.specs.Line.{AreNumberedFrom, Line, batches_above, end}
+use Rattle.slate_types.specs.Line.{AreNumberedFrom, batches_above, end}
 use Rattle.slate_store.specs.declared.objects.VersionedManifest.{VersionedManifest}
 use Rattle.slate_store.specs.Content.{content, number_before}
 use Rattle.slate_store.specs.Logs.{HaveGap, HaveNoGap}

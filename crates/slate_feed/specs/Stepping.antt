@@ -1,5 +1,5 @@
 -- What a step of a begun call of a feed finds, and what it leads to.
-use Rattle.std.specs.Prelude.{◌≡◌, ◌≢◌, ℕ, ◌+◌, ◌<◌, ◌≤◌, ◌⊎◌, ◌||◌, true, false, All, Contains, List, [], ◌∷◌, ◌++◌, length, slice_get, Option, Some, None, Result, Ok, Err}
+use Rattle.std.specs.Prelude.{◌≡◌, ◌≢◌, ℕ, ◌+◌, ◌<◌, ◌≤◌, ◌⊎◌, ◌||◌, false, All, Contains, List, [], ◌++◌, length, slice_get, Option, Some, None, Result, Ok, Err}
 use Rattle.slate_types.specs.declared.batches.Batch.{Batch}
 use Rattle.slate_types.specs.Counts.{HasRisen}
 use Rattle.slate_store.specs.declared.objects.Manifest.{Manifest}

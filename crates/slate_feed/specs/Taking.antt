@@ -1,5 +1,5 @@
 -- How the batches of a piece lead on from those that were found.
-use Rattle.std.specs.Prelude.{◌≡◌, ℕ, ◌+◌, ◌-◌, ◌<◌, ◌≤◌, ◌⊎◌, ◌||◌, max, Bool, true, false, All, Contains, List, [], ◌∷◌, ◌++◌, length, map, Result, Ok, Err}
+use Rattle.std.specs.Prelude.{◌≡◌, ℕ, ◌+◌, ◌-◌, ◌<◌, ◌≤◌, ◌⊎◌, ◌||◌, max, Bool, true, false, All, Contains, List, [], ◌∷◌, ◌++◌, length, map, slice_get, Some, Result, Ok, Err}
 use Rattle.slate_types.specs.declared.batches.Batch.{Batch}
 use Rattle.slate_types.specs.declared.memory.NoMemory.{NoMemory}
 use Rattle.slate_store.specs.Logs.{HaveGap, HaveNoGap}
@@ -54,3 +54,8 @@ abbrev pub IsNoneBelow : Result Taken NoMemory → Type 0
 IsNoneBelow (Ok Whole) = Unit {0}
 IsNoneBelow (Ok Gap) = Unit {0}
 IsNoneBelow result = ⊥
+
+-- a place in batches: the first, or that of a batch at or below a number
+abbrev pub IsThrough : (number place : ℕ) → List Batch → Type 0
+IsThrough number place batches =
+    (place ≡ 0) ⊎ ((batch : Batch) × (slice_get batches place ≡ Some batch) × (batch.number ≤ number))

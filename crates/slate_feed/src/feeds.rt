@@ -69,9 +69,9 @@ impl Feed {
         ensures calls { IfSome (S.objects store.old) (λ o. S.calls store.new ≤ S.calls store.old + most_calls after (latest_manifest o) o) }
     {
         let mut machine = FeedMachine::new(alloc, after, 1);
-        let batches = machine.run(alloc, store)?;
+        let above = machine.run(alloc, store)?;
         let end = machine.end();
-        if batches.as_slice().len() == 0 && end < after {
+        if above.as_slice().len() == 0 && end < after {
             return Err(FeedRefusal::Ahead { cursor: after, end });
         }
         Ok(Feed { cursor: after })

@@ -3,6 +3,7 @@ ghost use Rattle.std.specs.Prelude.{◌≡◌, ◌≢◌, ◌+◌, ◌-◌, ◌<
 ghost use Rattle.slate_types.specs.Counts.{one_more};
 ghost use Rattle.slate_types.specs.declared.batches.Batch.{Batch as ABatch};
 ghost use Rattle.slate_types.specs.Line.{AreNumberedFrom, batches_above};
+ghost use Rattle.slate_reads.specs.Index.{AreRising};
 ghost use Rattle.slate_store.specs.Content.{IsSound, content};
 ghost use Rattle.slate_store.specs.Objects.{latest_manifest};
 ghost use Rattle.slate_feed.specs.Answer.{Answers, HasNoneAbove, most_calls};
@@ -10,9 +11,10 @@ ghost use Rattle.slate_feed.specs.declared.machines.Stage.TheVariants.{AskLast, 
 ghost use Rattle.slate_feed.specs.Following.{FollowsLine, FollowsOn};
 ghost use Rattle.slate_feed.specs.Pieces.{tables_to_read};
 ghost use Rattle.slate_feed.specs.Reading.{CanFollow, IsGoing, IsStaged, begun, log_stage, made, most_made, table_stage, taken};
+ghost use Rattle.slate_feed.specs.Taking.{IsThrough};
 ghost use Rattle.slate_feed.specs.Stepping.{CountsFaults, GoesBy, GoesTo, IsStagedBy, Meets, ReadsPiece, Steps, delivered};
 
-use crate::pieces::{Found, Taken, take_next};
+use crate::pieces::{Found, Taken, last_through, take_from};
 use crate::{Feed, FeedRefusal};
 use slate_store::{Manifest, Store, StoreError, TableId};
 use slate_types::{Batch, Seq};
@@ -301,7 +303,10 @@ impl FeedMachine {
     {
         let id = self.table(at);
         match store.read_table(alloc, id) {
-            Ok(table) => self.take(0, table.batches(), self.from_table(at + 1)),
+            Ok(table) => {
+                let from = last_through(table.batches(), self.cursor);
+                self.take(0, table.batches(), from, self.from_table(at + 1))
+            }
             Err(StoreError::NotFound) => Ok(Turn::Breaks),
             Err(error) => Err(FeedRefusal::of_call(error)),
         }
@@ -352,14 +357,23 @@ impl FeedMachine {
         ensures calls { S.calls store.new ≡ one_more (S.calls store.old) }
     {
         match store.read_log(alloc, id) {
-            Ok(log) => self.take(self.tabled, log.batches(), log_after(id, last)),
+            Ok(log) => self.take(self.tabled, log.batches(), 0, log_after(id, last)),
             Err(StoreError::NotFound) => Ok(Turn::Breaks),
             Err(error) => Err(FeedRefusal::of_call(error)),
         }
     }
 
-    /// Takes the batches of a piece that are above a number, and goes on to this call.
-    fn take(&mut self, above: u64, batches: &[Batch], next: Stage) -> Result<Turn, FeedRefusal>
+    /// Takes the batches of a piece that are above a number, from a place on, and goes on to this call.
+    fn take(
+        &mut self,
+        above: u64,
+        batches: &[Batch],
+        from: usize,
+        next: Stage,
+    ) -> Result<Turn, FeedRefusal>
+        requires within { from ≤ length batches.now }
+        requires passed { IsThrough self.old.cursor from batches.now }
+        requires rising { from ≢ 0 → AreRising batches.now }
         requires ended { self.old.stage ≡ Ended }
         requires room { length self.old.found < self.old.limit }
         requires next { CanFollow next self.old }
@@ -368,7 +382,14 @@ impl FeedMachine {
         ensures staged { IsStagedBy result self.new.stage }
         ensures unfailed { result ≢ Err FeedRefusal.ObjectStoreError }
     {
-        match take_next(&mut self.found, self.cursor, self.limit, above, batches)? {
+        match take_from(
+            &mut self.found,
+            self.cursor,
+            self.limit,
+            above,
+            batches,
+            from,
+        )? {
             Taken::Whole => {
                 if self.found.batches.len() >= self.limit as usize {
                     return Ok(Turn::Ends);

@@ -1,8 +1,9 @@
 // Taking the batches that come next out of a table or a log file.
-ghost use Rattle.std.specs.Prelude.{◌≡◌, ◌≢◌, ◌+◌, ◌<◌, ◌≤◌, ◌^◌, [], ℕ, false, true, Ok, length, IfOk};
+ghost use Rattle.std.specs.Prelude.{◌≡◌, ◌≢◌, ◌+◌, ◌<◌, ◌≤◌, ◌^◌, [], ℕ, false, length};
 ghost use Rattle.slate_types.specs.Line.{AreNumberedFrom, batches_above};
 ghost use Rattle.slate_store.specs.Content.{number_before};
-ghost use Rattle.slate_feed.specs.Taking.{IsNoneBelow, Grows, Takes, TakesOne};
+ghost use Rattle.slate_reads.specs.Index.{AreRising};
+ghost use Rattle.slate_feed.specs.Taking.{IsNoneBelow, IsThrough, Grows, Takes, TakesOne};
 
 use slate_types::{Batch, NoMemory};
 
@@ -74,6 +75,51 @@ pub(crate) fn take_next(
         }
     }
     Ok(Taken::Whole)
+}
+
+/// Does what `take_next` does, and passes the batches before a place unread: that place is the first, or that of a batch at
+/// or below the cursor among batches whose numbers rise.
+pub(crate) fn take_from(
+    found: &mut Found,
+    cursor: u64,
+    limit: u32,
+    above: u64,
+    batches: &[Batch],
+    from: usize,
+) -> Result<Taken, NoMemory>
+    requires numbered { AreNumberedFrom cursor found.old.batches.items }
+    requires fits { cursor + length found.old.batches.items < 2 ^ 64 }
+    requires fresh { found.old.began ≡ false → found.old.batches.items ≡ [] }
+    requires room { length found.old.batches.items < limit }
+    requires within { from ≤ length batches.now }
+    requires passed { IsThrough cursor from batches.now }
+    requires rising { from ≢ 0 → AreRising batches.now }
+    ensures numbered { AreNumberedFrom cursor found.new.batches.items }
+    ensures fits { cursor + length found.new.batches.items < 2 ^ 64 }
+    ensures fresh { found.new.began ≡ false → found.new.batches.items ≡ [] }
+    ensures within { length found.new.batches.items ≤ limit }
+    ensures grows { Grows (batches_above above batches.now) found.old.batches.items found.new.batches.items }
+    ensures first { IsNoneBelow result → found.old.began ≡ false → number_before (batches_above above batches.now) cursor ≤ cursor }
+    ensures takes { Takes cursor limit (batches_above above batches.now) found.old result found.new }
+{
+    take_next(found, cursor, limit, above, &batches[from..])
+}
+
+/// The place of the last batch at or below a number, or 0 where there is none.
+pub(crate) fn last_through(batches: &[Batch], number: u64) -> usize
+    ensures within { result ≤ length batches.now }
+    ensures through { IsThrough number result batches.now }
+{
+    let (mut low, mut high) = (0, batches.len());
+    while high - low > 1 {
+        let middle = low + (high - low) / 2;
+        if batches[middle].number <= number {
+            low = middle;
+        } else {
+            high = middle;
+        }
+    }
+    low
 }
 
 /// Takes a batch that comes next, or passes one that came before.

@@ -1,6 +1,6 @@
-use Rattle.std.proofs.Common.{◌+◌, inl, ap, arith, drop, length, subst, sym, take}
+use Rattle.std.proofs.Common.{◌+◌, inl, arith, drop, length, take}
 use Rattle.slate_types.specs.Line.{batches_above}
-use Rattle.slate_feed.proofs.Leading.{SoFar, above-next, above-split, below, filled, first-gap, first-whole, gap, took, within}
+use Rattle.slate_feed.proofs.Leading.{above-next, above-split, below, filled, first-gap, first-whole, gap, took}
 use Rattle.slate_feed.proofs.pieces.take_next.Goals as goal
 
 pub loop-batch-preserved : goal.loop-batch-preserved

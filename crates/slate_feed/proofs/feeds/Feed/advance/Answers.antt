@@ -1,4 +1,4 @@
-use Rattle.std.proofs.Common.{sym, ◌∙◌}
+use Rattle.std.proofs.Common.{sym}
 use Rattle.slate_feed.proofs.Leading.{last-number}
 use Rattle.slate_feed.proofs.feeds.Feed.advance.Goals as goal
 

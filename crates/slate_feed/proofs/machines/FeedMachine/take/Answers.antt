@@ -7,8 +7,8 @@ use Rattle.slate_feed.proofs.machines.FeedMachine.take.Goals as goal
 
 pub returns-in-Gap-clause-reads : goal.returns-in-Gap-clause-reads
 returns-in-Gap-clause-reads c =
-    let t = rw c.in-Gap.is at c.in_ok-take_next.ensures.takes in
-    let f = rw c.in-Gap.is at c.in_ok-take_next.ensures.first in
+    let t = rw c.in-Gap.is at c.in_ok-take_from.ensures.takes in
+    let f = rw c.in-Gap.is at c.in_ok-take_from.ensures.first in
     let piece = batches_above c.args.above c.args.batches.now in
     inr (
       piece,

@@ -29,11 +29,11 @@ use Rattle.slate_jobs.proofs.Entries.{entry-other, entry-put}
 use Rattle.slate_jobs.proofs.Keys.{jobs-same, kinds-differ, replies-same}
 use Rattle.slate_jobs.proofs.Slots.{added-last, added-other}
 
-abbrev Found : Type 0
+abbrev pub Found : Type 0
 Found = Result (Option KeyValue) ReadFault
 
 -- a read gives a row under its key
-abbrev IsKeyed : List ℕ → Found → Type 0
+abbrev pub IsKeyed : List ℕ → Found → Type 0
 IsKeyed key found = IfOk found (λ x. IfSome x (λ r. r.key ≡ key))
 
 keyed : (key : List ℕ) (before : Option KeyValue) (vs : List Version) → IfSome before (λ r. r.key ≡ key) → IsKeyed key (fold_versions None key before vs)
@@ -43,6 +43,10 @@ keyed key before (v ∷ vs) h = by (λ after. keyed key after vs) v.op where
   by rest (ops.Put value expire) = rest (Some (row key v expire value)) refl
   by rest ops.Delete = rest None tt
   by rest (ops.Merge operand expire) = tt
+
+-- so is what a read finds
+pub keyed-read : (bs : List Batch) (key : List ℕ) → IsKeyed key (read_at None bs None key)
+keyed-read bs key = keyed key None (since_base (history bs None key)) tt
 
 -- ---- rows and keys by their places
 abbrev Among : List KeyValue → KeyValue → Type 0
@@ -109,7 +113,7 @@ module _ (bs : List Batch) (rows : List KeyValue) (scan : AreRows bs rows None) 
   reads key = read_at None bs None key
 
   reads-keyed : (key : List ℕ) → IsKeyed key (reads key)
-  reads-keyed key = keyed key None (since_base (history bs None key)) tt
+  reads-keyed key = keyed-read bs key
 
   value-found : (r : KeyValue) → Among rows r → value_at bs r.key ≡ Ok (Some r.value)
   value-found r among = ap value_found (row-read reads reads-keyed scan.keys rows scan.taken r among)

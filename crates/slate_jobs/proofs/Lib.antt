@@ -6,6 +6,7 @@ pub mod Holding
 pub mod Noting
 pub mod Keys
 pub mod Lasting
+pub mod Reread
 pub mod RowReading
 pub mod Slots
 pub mod Values

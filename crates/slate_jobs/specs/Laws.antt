@@ -5,6 +5,7 @@ use Rattle.slate_types.specs.declared.batches.KeyValue.{KeyValue}
 use Rattle.slate_jobs.specs.declared.jobs.JobOp.{JobOp}
 use Rattle.slate_jobs.specs.Decoding.{AreOfBytes, AreRows, machine_at}
 use Rattle.slate_jobs.specs.Machine.{Machine, after, effect_of, kept_reply}
+use Rattle.slate_jobs.specs.Queue.{AreForeign}
 use Rattle.slate_jobs.specs.Rows.{Holds, job_value, puts_of, reply_value}
 
 -- batches hold the machine that their rows are read as
@@ -25,3 +26,7 @@ HeldIsOne =
     (batches : List Batch) (machine other : Machine) → Holds batches machine → Holds batches other → (number : ℕ) → number < 2 ^ 64 →
     (option_map job_value (slice_get machine.jobs number) ≡ option_map job_value (slice_get other.jobs number))
     × (option_map reply_value (kept_reply machine number) ≡ option_map reply_value (kept_reply other number))
+
+-- the rows of batches that hold a machine are those of one
+abbrev pub HeldIsRead : Type 0
+HeldIsRead = (batches : List Batch) (machine : Machine) → Holds batches machine → AreForeign batches → ⊥

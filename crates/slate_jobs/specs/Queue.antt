@@ -1,5 +1,5 @@
 -- A job store: its handle and its machine, and when they agree with what an honest store holds.
-use Rattle.std.specs.Prelude.{◌≡◌, ◌≢◌, ◌⊎◌, ◌+◌, ◌≤◌, true, List, [], ◌++◌, length, Option, Some, None, Result, Err, IfOk}
+use Rattle.std.specs.Prelude.{ℕ, ◌≡◌, ◌≢◌, ◌⊎◌, ◌+◌, ◌≤◌, true, List, [], ◌++◌, length, Option, Some, None, Result, Ok, Err, IfOk}
 use Rattle.slate_types.specs.declared.batches.Batch.{Batch}
 use Rattle.slate_types.specs.declared.batches.KeyValue.{KeyValue}
 use Rattle.slate_types.specs.declared.read_faults.ReadFault.{ReadFault}
@@ -11,6 +11,8 @@ use Rattle.slate_errors.specs.declared.closing.CloseFault.TheVariants as faults
 use Rattle.slate_errors.specs.declared.errors.SlateError.{SlateError}
 use Rattle.slate_errors.specs.declared.errors.SlateError.TheVariants as errors
 use Rattle.slate_errors.specs.Errors.{error_of_fault}
+use Rattle.slate_model.specs.Changes.{after_part}
+use Rattle.slate_model.specs.Open.{open_changes}
 use Rattle.slate_model.specs.Handle.{Handle, accepted, unstored}
 use Rattle.slate_model.specs.Object.{Handle as AHandle}
 use Rattle.slate_model.specs.Stores.{kept_rows}
@@ -85,11 +87,22 @@ pub record IsHeld (objects : Objects) (queue : Queue) : Type 0 where
   pub handle : IsInStep objects queue.handle
   pub holds : Holds ((content objects).batches ++ unstored queue.handle) queue.machine
 
+-- how many of its two puts, a manifest with the next epoch and then an empty log file, an opening made: both, where the rows were read
+abbrev pub OpeningPuts : {A : Type 0} → Result A JobRefusal → (made : ℕ) → Type 0
+OpeningPuts (Ok opened) made = made ≡ 2
+OpeningPuts (Err refusals.Foreign) made = made ≡ 2
+OpeningPuts (Err refusal) made = made ≤ 2
+
+-- nothing else changed
+abbrev pub PutsOpening : {A : Type 0} → Objects → Objects → Result A JobRefusal → Type 0
+PutsOpening objects objects' result = (made : ℕ) × OpeningPuts result made × (objects' ≡ after_part made (open_changes None (λ batches. batches) objects) objects)
+
 -- An opening over an honest store leaves what it holds. The job store that it gives has the machine of that; it answers
 -- Foreign only where that is none.
 pub record Opens (objects objects' : Objects) (result : Result Queue JobRefusal) : Type 0 where
   pub sound : IsSound objects'
   pub kept : content objects' ≡ content objects
+  pub puts : PutsOpening objects objects' result
   pub held : IfOk result (IsHeld objects')
   pub found : IfOk result (λ queue. Holds (content objects).batches queue.machine)
   pub foreign : result ≡ Err refusals.Foreign → AreForeign (content objects).batches
@@ -98,6 +111,7 @@ pub record Opens (objects objects' : Objects) (result : Result Queue JobRefusal)
 pub record OpensWriter (objects objects' : Objects) (result : Result Handle JobRefusal) : Type 0 where
   pub sound : IsSound objects'
   pub kept : content objects' ≡ content objects
+  pub puts : PutsOpening objects objects' result
   pub step : IfOk result (IsInStep objects')
   pub whole : IfOk result (λ handle. unstored handle ≡ [])
   pub tabled : IfOk result (λ handle. AreStored objects' handle.view.manifest.tables)

@@ -7,7 +7,7 @@ ghost use Rattle.slate_types.specs.declared.batches.KeyValue.{KeyValue as ARow};
 ghost use Rattle.slate_types.specs.declared.read_faults.ReadFault.{ReadFault as AFault};
 ghost use Rattle.slate_errors.specs.declared.errors.SlateError.TheVariants.{InvalidClockTick, NoMemory as OutOfMemory};
 ghost use Rattle.slate_store.specs.Calls.{HasRisen};
-ghost use Rattle.slate_store.specs.Content.{IsSound};
+ghost use Rattle.slate_store.specs.Content.{IsSound, content};
 ghost use Rattle.slate_store.specs.Objects.{Objects, entry_at};
 ghost use Rattle.slate_model.specs.Known.{known};
 ghost use Rattle.slate_model.specs.Object.{Handle as AHandle};
@@ -16,7 +16,8 @@ ghost use Rattle.slate_model.specs.Write.{write_refusal, written};
 ghost use Rattle.slate_jobs.specs.declared.jobs.JobReply.{JobReply as AReply};
 ghost use Rattle.slate_jobs.specs.Calls.{Accepts, Calls, RefusesBatch, Stands, Stores, Takes};
 ghost use Rattle.slate_jobs.specs.Causes.{IsCallRefusal, IsReady, IsScanRefusal, OpensFor, TakesBatches};
-ghost use Rattle.slate_jobs.specs.Machine.{kept_reply};
+ghost use Rattle.slate_jobs.specs.Machine.{Machine as AMachine, kept_reply};
+ghost use Rattle.slate_jobs.specs.Rows.{Holds};
 ghost use Rattle.slate_jobs.specs.Decoding.{AreOfBytes, AreRows, machine_at};
 ghost use Rattle.slate_jobs.specs.Queue.{IsHeld, Opens, OpensWriter};
 
@@ -91,10 +92,12 @@ impl JobStore {
     ///
     /// # What stands after
     ///
-    /// The store holds what it held. Unless the writer was refused, handles and job stores that were opened before are fenced.
+    /// The store holds what it held, and at most a manifest with the next epoch and an empty log file more: after Ok and `Foreign`
+    /// both. Then handles and job stores that were opened before are fenced. A store that holds a job store isn't `Foreign`.
     pub fn open<S: Store>(alloc: Global, store: &mut S) -> Result<JobStore, JobRefusal>
         ensures opens { (o : Objects) → S.objects store.old ≡ Some o → IsSound o → (o' : Objects) × (S.objects store.new ≡ Some o') × Opens o o' result }
         ensures causes { (o : Objects) → S.objects store.old ≡ Some o → IsSound o → OpensFor (HasRisen (S.faults store.old) (S.faults store.new)) o result }
+        ensures known { (o : Objects) (machine : AMachine) → S.objects store.old ≡ Some o → IsSound o → Holds (content o).batches machine → result ≡ Err JobRefusal.Foreign → ⊥ }
         ensures ready { IfOk result IsReady }
         ensures faults { S.faults store.old ≤ S.faults store.new }
     {

@@ -157,7 +157,8 @@ impl FeedMachine {
         ensures most { made self.old.stage self.old ≤ most_made self.old.stage self.old }
         ensures numbered { IfOk result (λ step. (batches : List ABatch) → step ≡ FeedStep.Batches batches → AreNumberedFrom feed.old batches) }
         ensures cursor { feed.new ≡ feed.old + length (delivered result) }
-        ensures going { result ≡ Ok FeedStep.More → IsGoing self.new.stage }
+        // Then the next step may be made.
+        ensures again { result ≡ Ok FeedStep.More → IsGoing self.new.stage × (feed.new ≡ self.new.cursor) }
         ensures ended { result ≢ Ok FeedStep.More → self.new.stage ≡ Ended }
         ensures kept { S.objects store.new ≡ S.objects store.old }
         ensures faults { CountsFaults (S.faults store.old) (S.faults store.new) result }

@@ -126,7 +126,7 @@ others-stored (x ∷ all) (p ∷ parts) rest is =
     let r = others-stored all parts rest tail in
     (r.0, ap (λ y. y ∷ all) same ∙ ap (λ ys. p ∷ ys) r.1, r.2)
 
-numbered-front : (floor : ℕ) (xs ys : List Batch) → AreNumberedFrom floor (xs ++ ys) → AreNumberedFrom floor xs
+pub numbered-front : (floor : ℕ) (xs ys : List Batch) → AreNumberedFrom floor (xs ++ ys) → AreNumberedFrom floor xs
 numbered-front floor [] ys h = tt
 numbered-front floor (x ∷ xs) ys h = (h.0, numbered-front (floor + 1) xs ys h.1)
 
@@ -163,10 +163,10 @@ module _ (o : Objects) (sound : IsSound o) (latest : VersionedManifest) (is_late
   pub content-is : content o ≡ record { floor = floor; batches = tables ++ logs }
   content-is = ap (content_by o) is_latest
 
-  numbered : AreNumberedFrom floor (tables ++ logs)
+  pub numbered : AreNumberedFrom floor (tables ++ logs)
   numbered = subst (λ (l : Line). AreNumberedFrom l.floor l.batches) content-is sound.line
 
-  tables-end : floor + length tables ≡ tabled
+  pub tables-end : floor + length tables ≡ tabled
   tables-end = has.tables.joined
 
   logs-numbered : AreNumberedFrom tabled logs

@@ -2,6 +2,7 @@ pub mod Answer
 pub mod Delivered
 pub mod Following
 pub mod Pieces
+pub mod Reaching
 pub mod Reading
 pub mod Refusal
 pub mod Stepping

@@ -9,6 +9,7 @@ ghost use Rattle.slate_store.specs.Objects.{latest_manifest};
 ghost use Rattle.slate_feed.specs.Answer.{Answers, HasNoneAbove, most_calls};
 ghost use Rattle.slate_feed.specs.declared.machines.Stage.TheVariants.{AskLast, Ended, ReadLatest};
 ghost use Rattle.slate_feed.specs.Following.{FollowsLine, FollowsOn};
+ghost use Rattle.slate_feed.specs.Reaching.{StepReaches};
 ghost use Rattle.slate_feed.specs.Pieces.{tables_to_read};
 ghost use Rattle.slate_feed.specs.Reading.{CanFollow, IsGoing, IsStaged, begun, log_stage, made, most_made, table_stage, taken};
 ghost use Rattle.slate_feed.specs.Taking.{IsThrough};
@@ -150,11 +151,14 @@ impl FeedMachine {
         ensures steps { IfSome (S.objects store.old) (λ o. Steps o self.old result self.new) }
         // Over an honest store, whatever others did to it since the step before.
         ensures follows { IfSome (S.objects store.old) (λ o. IsSound o → FollowsLine o (content o) self.old → FollowsOn o (content o) self.old.cursor result self.new) }
+        // While the tables that it goes by and the log files above its replay mark stay stored.
+        ensures reaches { IfSome (S.objects store.old) (λ o. StepReaches o self.old result self.new) }
         ensures counts { result ≡ Ok FeedStep.More → made self.new.stage self.new ≡ made self.old.stage self.old + 1 }
         ensures most { made self.old.stage self.old ≤ most_made self.old.stage self.old }
         ensures numbered { IfOk result (λ step. (batches : List ABatch) → step ≡ FeedStep.Batches batches → AreNumberedFrom feed.old batches) }
         ensures cursor { feed.new ≡ feed.old + length (delivered result) }
-        ensures going { result ≡ Ok FeedStep.More → IsGoing self.new.stage }
+        // Then the next step may be made.
+        ensures again { result ≡ Ok FeedStep.More → IsGoing self.new.stage × (feed.new ≡ self.new.cursor) }
         ensures ended { result ≢ Ok FeedStep.More → self.new.stage ≡ Ended }
         ensures kept { S.objects store.new ≡ S.objects store.old }
         ensures faults { CountsFaults (S.faults store.old) (S.faults store.new) result }

@@ -124,9 +124,9 @@ impl FeedMachine {
     /// what it was to read was moved. The feed must be as it was at `begin`, and the call mustn't have ended.
     ///
     /// It delivers whole batches right above the cursor, and over an honest store those of the line that is stored then,
-    /// whatever others did between its steps. They are as many as there are up to the limit, as long as nobody flushes to a
-    /// table meanwhile; else they may be fewer. There are at most as many `More` as the manifest has tables and as there are
-    /// log files from its replay mark to the last, and one besides.
+    /// whatever others did between its steps. They are as many as were stored at its first step, up to the limit, as long as
+    /// the tables and log files that it goes by stay stored; else they may be fewer. There are at most as many `More` as the
+    /// manifest has tables and as there are log files from its replay mark to the last, and one besides.
     ///
     /// # Errors
     ///
@@ -343,6 +343,7 @@ impl FeedMachine {
         }
     }
 
+    /// Reads a log file.
     fn call_log<S: Store>(
         &mut self,
         alloc: Global,
@@ -450,6 +451,7 @@ fn tables_to_read(alloc: Global, cursor: u64, manifest: Manifest) -> Seq<TableId
     } else {
         Seq::of(Vec::new(alloc))
     };
+    // For the proof alone: a list in memory has a length that is a number.
     let _count = tables.as_slice().len();
     tables
 }

@@ -53,7 +53,7 @@ close_options_of word = if bytes_eq word (codes "none") then Some (record { flus
   flush_type ← flush_type_of word
   Some (record { flush_type = Some flush_type }))
 
--- one number and no other field, as in refresh H, compact H, snapshot H, poll F, await W and status O
+-- one number and no other field, as in refresh H, compact H, snapshot H, poll F, begin F, step F, await W and status O
 abbrev pub one_number : List (List ℕ) → Option ℕ
 one_number (n ∷ []) = number_of n
 one_number fields = None
@@ -118,9 +118,11 @@ abbrev pub reader_of : List ℕ → List (List ℕ) → Option Action
 reader_of name fields =
     if bytes_eq name (codes "follow") then follow_form fields
     else (if bytes_eq name (codes "poll") then option_map (λ follower. actions.Poll follower) (one_number fields)
+    else (if bytes_eq name (codes "begin") then option_map (λ follower. actions.Begin follower) (one_number fields)
+    else (if bytes_eq name (codes "step") then option_map (λ follower. actions.Step follower) (one_number fields)
     else (if bytes_eq name (codes "await") then option_map (λ write. actions.Await write) (one_number fields)
     else (if bytes_eq name (codes "status") then option_map (λ object. actions.Status object) (one_number fields)
-    else lookup_of name fields)))
+    else lookup_of name fields)))))
 
 -- the command of a name and the fields behind it, where that neither writes nor reads keys
 abbrev pub other_of : List ℕ → List (List ℕ) → Option Action

@@ -102,6 +102,14 @@ pub enum Action {
     Poll {
         follower: u64,
     },
+    /// Begins a poll of a reader that goes on by single calls of the store.
+    Begin {
+        follower: u64,
+    },
+    /// Makes the next call of the store of the poll that was begun.
+    Step {
+        follower: u64,
+    },
     /// Asks whether a write is durable.
     Await {
         write: u64,

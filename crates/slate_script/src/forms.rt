@@ -226,6 +226,12 @@ fn read_reader(name: &[u8], fields: &[Bytes]) -> Option<Action>
     } else if name == b"poll".as_slice() {
         let follower = read_one_number(fields)?;
         Some(Action::Poll { follower })
+    } else if name == b"begin".as_slice() {
+        let follower = read_one_number(fields)?;
+        Some(Action::Begin { follower })
+    } else if name == b"step".as_slice() {
+        let follower = read_one_number(fields)?;
+        Some(Action::Step { follower })
     } else if name == b"await".as_slice() {
         let write = read_one_number(fields)?;
         Some(Action::Await { write })

@@ -283,6 +283,8 @@ fn write_words(out: &mut Vec<u8>, reply: &Reply) -> Result<(), NoMemory>
         Reply::Durable => write_text(out, "durable"),
         Reply::Pending => write_text(out, "pending"),
         Reply::Polled { whole, at } => write_poll(out, *whole, *at),
+        Reply::Begun => write_text(out, "begun"),
+        Reply::Stepped => write_text(out, "stepped"),
         Reply::Ended { fault, tasks } => write_ended(out, fault, tasks),
         Reply::Status(status) => write_status(out, status.as_ref()),
         Reply::Time(time) => write_time(out, *time),

@@ -54,6 +54,10 @@ pub enum Reply {
         whole: bool,
         at: u64,
     },
+    /// A poll was begun.
+    Begun,
+    /// A call of the store was made of a poll that was begun, and it wasn't the last one.
+    Stepped,
     /// An object was closed, and these tasks were ended. The fault is that of its closing flush, or why it could not
     /// be closed.
     Ended {

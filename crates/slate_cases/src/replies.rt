@@ -20,6 +20,8 @@ enum Plain {
     Swept,
     Durable,
     Pending,
+    Begun,
+    Stepped,
     Unknown,
     Memory,
 }
@@ -32,6 +34,8 @@ const PLAIN: &[(&[u8], Plain)] = &[
     (b"swept", Plain::Swept),
     (b"durable", Plain::Durable),
     (b"pending", Plain::Pending),
+    (b"begun", Plain::Begun),
+    (b"stepped", Plain::Stepped),
     (b"unknown", Plain::Unknown),
     (b"memory", Plain::Memory),
 ];
@@ -129,6 +133,8 @@ fn plain_reply(name: Plain) -> Reply {
         Plain::Swept => Reply::Swept,
         Plain::Durable => Reply::Durable,
         Plain::Pending => Reply::Pending,
+        Plain::Begun => Reply::Begun,
+        Plain::Stepped => Reply::Stepped,
         Plain::Unknown => Reply::Unknown,
         Plain::Memory => Reply::NoMemory,
     }

@@ -1,11 +1,11 @@
 -- A reader beside a world, and a begun poll of it, stand from call to call.
-use Rattle.std.proofs.Common.{◌≡◌, ◌∙◌, ◌⊎◌, ℕ, ℤ, ◌+◌, ◌-◌, ◌<◌, ◌≤◌, ◌++◌, ◌||◌, ◌==◌, max, inl, inr, Bool, true, false, cond, not, if◌then◌else◌, All, List, [], ◌∷◌, length, take, Option, Some, None, Result, Ok, Err, refl, sym, ap, subst, arith, rules}
+use Rattle.std.proofs.Common.{◌≡◌, ◌∙◌, ◌⊎◌, ℕ, ℤ, ◌+◌, ◌-◌, ◌<◌, ◌≤◌, ◌++◌, ◌||◌, ◌==◌, max, inl, inr, Bool, true, false, cond, not, if◌then◌else◌, All, List, [], ◌∷◌, drop, length, take, Option, Some, None, Result, Ok, Err, refl, sym, ap, subst, arith, rules}
 use Rattle.std.proofs.lemmas.Bool.{cases_lt}
 use Rattle.std.proofs.lemmas.List.{length-take}
 use Rattle.std.proofs.lemmas.List.Elements.{All-cons, All-contains_itself, All-nil}
 use Rattle.std.specs.List.{slice_get}
 use Rattle.std.specs.Option.{IsSomeAnd, MatchOption, is_some}
-use Rattle.slate_types.proofs.Lines.{above-all}
+use Rattle.slate_types.proofs.Lines.{above-all, above-drop, numbered-drop}
 use Rattle.slate_types.specs.Line.{AreNumberedFrom, IsLine, IsPrefix, Line, batches_above, end}
 use Rattle.slate_types.specs.declared.batches.Batch.{Batch}
 use Rattle.slate_types.specs.declared.store_errors.StoreFault.TheVariants.{Unavailable}
@@ -13,6 +13,7 @@ use Rattle.slate_store.specs.Checkpoints.{with_checkpoints}
 use Rattle.slate_store.specs.Content.{IsSound, content}
 use Rattle.slate_store.specs.Logs.{HaveGap, HaveNoGap}
 use Rattle.slate_store.specs.Objects.{Objects, PutManifest, changed, entry_at, is_present, last_log, latest_manifest, log_at}
+use Rattle.slate_store.specs.declared.objects.Manifest.{Manifest}
 use Rattle.slate_store.specs.declared.objects.VersionedManifest.{VersionedManifest}
 use Rattle.slate_store.specs.declared.reader_modes.DbReaderMode.TheVariants as modes
 use Rattle.slate_replay.specs.Replay.{ReplaysNext}
@@ -34,6 +35,7 @@ use Rattle.slate_model.specs.Seen.{HasSeen}
 use Rattle.slate_model.specs.Stood.{IsPlanned, WasLatest}
 use Rattle.slate_model.specs.Tables.{AreStored}
 use Rattle.slate_model.proofs.Coming.{Come, Comes, IsStagedNext, Ways, again-comes, arrived-kept, asked-comes, committed-comes, decided-comes, overtaken-comes, planned-other, read-on, replayed-comes, restaged, start-comes}
+use Rattle.slate_model.proofs.Free.{numbered-front}
 use Rattle.slate_model.proofs.Fronts.{fresh-within, front-begins, front-end, front-grown, numbered-take, reads-front, seen-as, seen-log, whole-front}
 use Rattle.slate_model.proofs.Keeping.{line_above-end}
 use Rattle.slate_model.proofs.Maintained.{Maintained}
@@ -41,7 +43,7 @@ use Rattle.slate_model.proofs.Owing.{TablesBegin, tabled, view-tables}
 use Rattle.slate_model.proofs.Prefixes.{prefix-end}
 use Rattle.slate_model.proofs.Putting.{put-maintains}
 use Rattle.slate_model.proofs.Logging.{LogsAre, OfLine}
-use Rattle.slate_model.proofs.Stale.{latest-entry}
+use Rattle.slate_model.proofs.Stale.{latest-entry, stale-latest}
 use Rattle.slate_model.proofs.Reduced.{some-same}
 use Rattle.slate_follow.proofs.Following.{are-above, are-grown, begins-on, begins-rest, goes-on, log-begins, logs-of, no-gap-rises, others-keep}
 use Rattle.slate_follow.specs.Following.{AreOf, FollowsLine, IsReplaying, StandsAt}
@@ -49,16 +51,21 @@ use Rattle.slate_follow.specs.Stepping.{FitsReader, FailsFrom, LeavesPut, Meets,
 use Rattle.slate_script.specs.declared.commands.Command.{Command}
 use Rattle.slate_script.specs.declared.replies.Reply.{Reply}
 use Rattle.slate_live.specs.Settings.{Settings}
-use Rattle.slate_live.specs.Beside.{IsStaged, OthersLeaveThem, PollStands, PollsBegin, ReadLast, ReadersStand, StandsAfter, StandsBeside, StepsStand, comes_to, placed, tabled_by}
-use Rattle.slate_live.specs.Represents.{AreOfPast, Holds, IsFollowerAt, IsHandleAt, IsHeld, IsReached, IsValid, Represents}
+use Rattle.slate_live.specs.Beside.{OthersLeaveThem, PollsBegin, ReadersStand, StandsAfter, StepsStand}
+use Rattle.slate_live.specs.Rising.{FollowerRises}
+use Rattle.slate_live.specs.Standing.{IsStaged, PollStands, ReadLast, StandsBeside, comes_to, placed, tabled_by}
+use Rattle.slate_live.specs.Represents.{AreOfPast, Holds, IsFollowerAt, IsHandleAt, IsHeld, IsReached, IsValid, RepresentsObjects}
 use Rattle.slate_live.specs.State.{Live}
-use Rattle.slate_live.specs.World.{Next, World}
+use Rattle.slate_live.specs.World.{NextWhole, World}
+use Rattle.slate_live.proofs.Advancing.{Advanced, Advances, IsAbove, again-advances, asked-advances, committed-advances, cut-advances, decided-advances, overtaken-advances, read-advances, start-advances}
+use Rattle.slate_live.proofs.Cases.{is-none}
 use Rattle.slate_live.proofs.Following.{new-held, new-stored}
 use Rattle.slate_live.proofs.Chains.{reached}
 use Rattle.slate_live.proofs.Knowing.{unchanged-objects}
 use Rattle.slate_live.proofs.Leases.{entry-after, latest-after, nothing-spared}
-use Rattle.slate_live.proofs.Linking.{grows}
-use Rattle.slate_live.proofs.Representing.{leads-beside}
+use Rattle.slate_live.proofs.Begun.{are-left, left_polls}
+use Rattle.slate_live.proofs.Growing.{grows}
+use Rattle.slate_live.proofs.Representing.{BesideThen, leads-beside}
 use Rattle.slate_live.proofs.Leading.{stored-before, stored-past, valid-over}
 use Rattle.slate_live.proofs.Maintaining.{maintained-leads}
 use Rattle.slate_live.proofs.Onward.{beside-onward, onward-maintained}
@@ -85,6 +92,7 @@ module _ (w : World) (o : Objects) (sound : IsSound o) (holds : Holds o w) (vali
             front-begins n' w.stored,
             λ skips free latest is. (let before = s.valid.1 skips free latest is in let few = fewer skips in omega (arith, count, here, before, few, floor, within)),
             λ managed live. leased ∙ managed,
+            s.valid.3,
           );
           named = s.named;
           past = s.past;
@@ -120,6 +128,10 @@ module _ (w : World) (o : Objects) (sound : IsSound o) (holds : Holds o w) (vali
                 let e = ap (λ (v : VersionedManifest). v.manifest.last_l0_seq) same in
                 omega (arith, here, e),
             λ managed live. leased ∙ managed,
+            λ free found at.
+                let same : l ≡ found = some-same l found (sym is ∙ (ap latest_manifest holds.catalogue ∙ at)) in
+                let e = ap (λ (v : VersionedManifest). v.manifest.last_l0_seq) same in
+                omega (arith, e),
           );
           named = λ n a at. stored-before w.stored o a (valid-over w o sound holds valid reads n a at) l.manifest.tables stored;
           past = subst (λ c. AreOfPast c l.manifest.tables) holds.catalogue (stored-past o l sound is l.manifest.tables stored);
@@ -198,8 +210,19 @@ module _ (w : World) (o : Objects) (sound : IsSound o) (holds : Holds o w) (vali
           read = p.read;
         }
 
-    come-stands : (b : Begun) → Come w.stored valid.line o reader P (WasLatest o) b → IsStagedNext reader b b.stage → (b.stage ≡ ReadsLatest → b ≡ begun_at b.moment b.overtaken kept) → FollowsLine o w.stored kept b → PollStands o w reader b
-    come-stands b c staged anew follows = record {
+    fresh-numbered : (b : Begun) → Come w.stored valid.line o reader P (WasLatest o) b → AreNumberedFrom b.floor b.fresh
+    fresh-numbered b c =
+        let low = c.low in
+        let within = c.within in
+        let k = b.floor - w.stored.floor in
+        let above : batches_above b.floor w.stored.batches ≡ drop k w.stored.batches = above-drop w.stored.floor b.floor k w.stored.batches valid.line (omega (arith, low)) in
+        let all : AreNumberedFrom b.floor (drop k w.stored.batches) =
+        subst (λ n. AreNumberedFrom n (drop k w.stored.batches)) (let e : w.stored.floor + k ≡ b.floor = omega (arith, low) in e)
+        (numbered-drop w.stored.floor k w.stored.batches valid.line (omega (arith, low, within))) in
+        numbered-front b.floor b.fresh (c.fresh).0 (subst (AreNumberedFrom b.floor) (sym above ∙ (c.fresh).1) all)
+
+    come-stands : (b : Begun) → Come w.stored valid.line o reader P (WasLatest o) b → IsStagedNext reader b b.stage → (b.stage ≡ ReadsLatest → b ≡ begun_at b.moment b.overtaken kept) → FollowsLine o w.stored kept b → Advances reader number-is b → PollStands o w reader b
+    come-stands b c staged anew follows advances = record {
       reader_stands = s;
       keeps = keeps;
       follows = follows;
@@ -210,6 +233,10 @@ module _ (w : World) (o : Objects) (sound : IsSound o) (holds : Holds o w) (vali
       read = c.read;
       staged = staged-as b.stage staged;
       anew = anew;
+      numbered = fresh-numbered b c;
+      risen = advances.risen;
+      above = advances.above;
+      tabled = advances.tabled;
     }
       where
         staged-as : (stage : Stage) → IsStagedNext reader b stage → IsStaged reader b stage
@@ -241,7 +268,7 @@ put-read o w reader last next lease given planned was managed (low, high, s) =
       low,
       high,
       record {
-        valid = (s.valid.0, s.valid.1, λ managed live. refl);
+        valid = (s.valid.0, s.valid.1, λ managed live. refl, s.valid.3);
         named = s.named;
         past = s.past;
         held = (s.held.0, λ free. seen-as o (tabled_by w.stored reader last lease) (tabled_by w.stored reader put (Some given)) refl (omega arith) (s.held.1 free));
@@ -250,8 +277,33 @@ put-read o w reader last next lease given planned was managed (low, high, s) =
     let moved = subst (λ (v : VersionedManifest). (w.stored.floor ≤ v.manifest.last_l0_seq) × (v.manifest.last_l0_seq ≤ end w.stored) × StandsBeside o w (tabled_by w.stored reader v (Some given))) (sym other.1) there in
     (was, moved.0, moved.1, moved.2)
 
+-- a manifest that was the latest one still was, after another is put that was planned after one that was
+pub was-put : (o : Objects) (sound : IsSound o) (last_one next : VersionedManifest) (was : WasLatest o last_one) (planned : IsPlanned last_one next) (free : is_present (PutManifest next.id next.manifest) o ≡ false) (last : VersionedManifest) → WasLatest o last → WasLatest (changed (PutManifest next.id next.manifest) o) last
+was-put o sound last_one next was planned free last (latest, is, low, same) =
+    let put = (put-maintains o sound last_one next was planned free).1 in
+    elim (cases_lt latest.id next.id) [
+      | inl above ↦ let up = put.2 in (put.0, put.1, omega (arith, low, above, up), λ ids. absurd (omega (arith, low, above, up, ids)))
+      | inr below ↦ elim (cases_lt next.id latest.id) [
+        | inl less ↦ (latest, stale-latest o sound latest is next.id next.manifest less unstored, low, same)
+        | inr over ↦
+            let here : next.id ≡ latest.id = omega (arith, below, over) in
+            let there = latest-entry o latest sound is in
+            absurd (let none = unstored in let some = subst (λ n. entry_at n o.manifests ≡ Some latest.manifest) (sym here) there in cc (none, some))
+      ]
+    ]
+  where
+    none-there : (entry : Option Manifest) → is_some entry ≡ false → entry ≡ None
+    none-there None free = refl
+    none-there (Some m) free = absurd (cc)
+
+    unstored : entry_at next.id o.manifests ≡ None
+    unstored = none-there (entry_at next.id o.manifests) free
+
 module _ (live : Live) (store store' : Known (List Batch)) (w : World) (o o' : Objects) (sound : IsSound o) (holds : Holds o w) (valid : IsValid w) (reads : (n : ℕ) (x : Object) → slice_get w.objects n ≡ Some x → IsHeld o x)
-    (r : Represents live store w) (at' : store'.objects ≡ Some o') (reader : Follower) (live_is : reader.result ≡ None) (unpinned : is_pinned reader.mode ≡ false) (begun : Begun) (p : PollStands o w reader begun) (numbered : AreNumberedFrom begun.floor begun.fresh) where
+    (r : RepresentsObjects live store w) (at' : store'.objects ≡ Some o') (reader : Follower) (live_is : reader.result ≡ None) (unpinned : is_pinned reader.mode ≡ false) (begun : Begun) (p : PollStands o w reader begun) where
+  numbered : AreNumberedFrom begun.floor begun.fresh
+  numbered = p.numbered
+
   abbrev kept_one : Follower
   kept_one = kept_follower reader
 
@@ -306,11 +358,11 @@ module _ (live : Live) (store store' : Known (List Batch)) (w : World) (o o' : O
 
   -- ---- the world then
   module _ (m : Maintained o o') where
-    abbrev w' : World
+    abbrev pub w' : World
     w' = record w { catalogue = catalogue_of o'; faults = store'.faults }
 
-    stands-then : (f : Follower) → StandsBeside o w f → StandsBeside o' w' f
-    stands-then f s = beside-onward w o w.stored o' w.objects w.writes store'.faults holds (onward-maintained w o sound holds valid reads o' m w.objects (λ n a at. at)) f s
+    pub stands-then : (f : Follower) → StandsBeside o w f → StandsBeside o' w' f
+    stands-then f s = beside-onward w o w.stored o' w.objects w.polls w.writes store'.faults holds (onward-maintained w o sound holds valid reads o' m w.objects (λ n a at. at)) f s
 
     holds-then : Holds o' w'
     holds-then = record { stored = m.content ∙ holds.stored; catalogue = refl }
@@ -323,7 +375,7 @@ module _ (live : Live) (store store' : Known (List Batch)) (w : World) (o o' : O
     reads-then : (n : ℕ) (x : Object) → slice_get w.objects n ≡ Some x → IsHeld o' x
     reads-then = (maintained-leads w o sound holds valid reads o' m).reads
 
-    represents-then : Represents live store' w'
+    represents-then : RepresentsObjects live store' w'
     represents-then = record { held = (o', at', m.sound, holds-then, reads-then); faults = refl; objects = r.objects; writes = r.writes; valid = valid-then }
 
     abbrev Q : Follower → Type 0
@@ -466,49 +518,129 @@ module _ (live : Live) (store store' : Known (List Batch)) (w : World) (o o' : O
         (again-comes w.stored valid.line o' reader Q (WasLatest o') (ways w' o' m.sound holds-then valid-then reads-then reader unpinned) l begun (begun-then (was-same same)) (latest-then l (ap latest_manifest same ∙ is) begun.lease (p.fits).leased))
     meets-came Ended turn at m = absurd m
 
+    -- and to no lower number
+    abbrev same_number : number kept_one ≡ number reader
+    same_number = number-is w o sound holds valid reads reader unpinned p.reader_stands p.keeps
+
+    advances : Advances reader same_number begun
+    advances = record { risen = p.risen; above = p.above; tabled = p.tabled }
+
+    -- the latest manifest is above what it has
+    latest-above : (l : VersionedManifest) → latest_manifest o ≡ Some l → IsAbove reader same_number begun l
+    latest-above l is =
+        let at : latest_manifest w.catalogue ≡ Some l = sym (ap latest_manifest holds.catalogue) ∙ is in
+        let viewed = p.comes.valid.3 unpinned l at in
+        let low = (p.fits).low in
+        (omega (arith, viewed, low), λ skips. p.reader_stands.valid.1 skips unpinned l at)
+
+    log-up : (found : Replayed) (fresh : List Batch) → ReplaysNext (begun.mark + 1) begun.floor begun.fresh fresh o (Ok found) → begun.floor + length begun.fresh ≤ begun.floor + length fresh
+    log-up replays.Whole fresh n = by (log_at (begun.mark + 1) o) n.ends
+      where
+        by : (log : Option (List Batch)) → IsSomeAnd log (HaveNoGap (begun.floor + length begun.fresh) (begun.floor + length fresh)) → begun.floor + length begun.fresh ≤ begun.floor + length fresh
+        by None gap = absurd gap
+        by (Some batches) gap = no-gap-rises _ _ batches gap
+    log-up (replays.Truncated id) fresh n = by (log_at (begun.mark + 1) o) n.ends
+      where
+        by : (log : Option (List Batch)) → MatchOption log (fresh ≡ begun.fresh) (HaveGap (begun.floor + length begun.fresh) (begun.floor + length fresh)) → begun.floor + length begun.fresh ≤ begun.floor + length fresh
+        by None old = let e = ap (λ (xs : List Batch). length xs) old in omega (arith, e)
+        by (Some batches) gap = gap-rises _ _ batches gap
+
+    meets-advances : (stage : Stage) (turn : Turn) → begun.stage ≡ stage → MeetsAt stage kept_one begun o turn o' → Advanced reader same_number turn
+    meets-advances ReadsLatest turn at (l, is, turn_is, same) =
+        let start = p.anew at in
+        let lease : begun.lease ≡ reader.lease = ap (λ (b : Begun). b.lease) start in
+        let taken_is : taken begun ≡ record (begun_at begun.moment begun.overtaken kept_one) { stage = Ended } = ap (λ (b : Begun). record b { stage = Ended }) start in
+        let whole : turn ≡ decided kept_one l reader.lease (record (begun_at begun.moment begun.overtaken kept_one) { stage = Ended }) = turn_is ∙ (ap (λ x. decided kept_one l x (taken begun)) lease ∙ ap (decided kept_one l reader.lease) taken_is) in
+        let l_at : latest_manifest w.catalogue ≡ Some l = sym (ap latest_manifest holds.catalogue) ∙ is in
+        subst (Advanced reader same_number) (sym whole)
+        (decided-advances reader same_number l begun.moment begun.overtaken reader.lease (p.reader_stands.valid.3 unpinned l l_at) (λ skips. p.reader_stands.valid.1 skips unpinned l l_at))
+    meets-advances (Puts next given replaces) turn at (inl (free, turn_is, put)) =
+        let staged = staged-at (Puts next given replaces) at in
+        let other = planned-other staged.0 next staged.3 in
+        let tabled : next.manifest.last_l0_seq ≡ (staged.0).manifest.last_l0_seq = ap (λ (v : VersionedManifest). v.manifest.last_l0_seq) other.1 in
+        let base = p.above staged.0 staged.1 in
+        subst (Advanced reader same_number) (sym turn_is)
+        (committed-advances reader same_number next given replaces (taken begun) p.risen (omega (arith, tabled, base), λ skips. let low = p.tabled skips staged.0 staged.1 in omega (arith, tabled, low)))
+    meets-advances (Puts next given replaces) turn at (inr (there, turn_is, same)) = subst (Advanced reader same_number) (sym turn_is) (overtaken-advances reader same_number (taken begun))
+    meets-advances AsksLast turn at (turn_is, same) = subst (Advanced reader same_number) (sym turn_is) (asked-advances reader same_number (last_log begun.mark o) begun advances)
+    meets-advances (ReadsLog last) turn at (l, fresh, replays.Whole, read, n, turn_is, same) = subst (Advanced reader same_number) (sym turn_is) (read-advances reader same_number l last fresh begun (log-up replays.Whole fresh n) advances)
+    meets-advances (ReadsLog last) turn at (l, fresh, (replays.Truncated id), read, n, turn_is, same) = subst (Advanced reader same_number) (sym turn_is) (cut-advances reader same_number fresh begun (log-up (replays.Truncated id) fresh n) advances)
+    meets-advances ReadsAgain turn at (l, is, turn_is, same) = subst (Advanced reader same_number) (sym turn_is) (again-advances reader same_number l begun advances (latest-above l is))
+    meets-advances Ended turn at m = absurd m
+
     goes-then : (after : Begun) → Meets kept_one begun o (Goes after) o' → PollStands o' w' reader after
     goes-then after meets =
         let t = meets-came begun.stage (Goes after) refl meets in
         let follows = goes-on o sound kept_one begun numbered (subst (λ (x : Line). FollowsLine o x kept_one begun) (sym holds.stored) p.follows) after o' meets in
         come-stands w' o' m.sound holds-then valid-then reads-then reader unpinned reader-then p.keeps after t.0 t.1 t.2 (subst (λ (x : Line). FollowsLine o' x kept_one after) holds.stored follows)
+        (let a = meets-advances begun.stage (Goes after) refl meets in record { risen = a.risen; above = a.above; tabled = a.tabled })
 
-    arrives-then : (last : Begun) (reader' : Follower) → CameTo last → unsegmented reader' ≡ arrived kept_one last → (whole : Follower) × (unsegmented reader' ≡ kept_follower whole) × Q whole
-    arrives-then last reader' c is = (
+    arrives-then : (last : Begun) (reader' : Follower) → CameTo last → Advances reader same_number last → unsegmented reader' ≡ arrived kept_one last → (whole : Follower) × (unsegmented reader' ≡ kept_follower whole) × Q whole × FollowerRises reader whole
+    arrives-then last reader' c a is = (
       comes_to w.stored reader last,
       is ∙ arrived-kept w.stored valid.line o' reader Q (WasLatest o') (ways w' o' m.sound holds-then valid-then reads-then reader unpinned)
           (whole-is w' o' m.sound holds-then valid-then reads-then reader unpinned reader-then p.keeps)
           (number-is w' o' m.sound holds-then valid-then reads-then reader unpinned reader-then p.keeps) last c,
       c.stands,
+      record {
+        mode = refl;
+        skips = refl;
+        number = (let low = c.low in let risen = a.risen in let here = front-end w.stored valid.line (reached_number last) (omega (arith, low)) c.within in omega (arith, risen, here));
+        result = is-none (λ q. reader.result ≡ Some q) reader.result live_is;
+      },
     )
 
   -- ---- a step
+  steps-left : (reader' : Follower) (begun' : Begun) (result : Result (Option PollAnswer) SlateError) → Steps kept_one begun result o reader' begun' o' → LeavesPut begun.stage o o'
+  steps-left reader' begun' (Ok None) steps = meets-left begun.stage (Goes begun') steps.0
+  steps-left reader' begun' (Ok (Some (answers.Whole at))) steps = meets-left begun.stage (Ends steps.0) steps.1
+  steps-left reader' begun' (Ok (Some (answers.Truncated at))) steps = meets-left begun.stage (Breaks steps.0) steps.1
+  steps-left reader' begun' (Err e) steps = step-fails-left e steps
+
+  pub steps-maintain : (reader' : Follower) (begun' : Begun) (result : Result (Option PollAnswer) SlateError) → Steps kept_one begun result o reader' begun' o' → Maintained o o'
+  steps-maintain reader' begun' result steps = left-maintained begun.stage refl (steps-left reader' begun' result steps)
+
+  pub steps-were : (reader' : Follower) (begun' : Begun) (result : Result (Option PollAnswer) SlateError) → Steps kept_one begun result o reader' begun' o' → (last : VersionedManifest) → WasLatest o last → WasLatest o' last
+  steps-were reader' begun' result steps last was = by begun.stage refl (steps-left reader' begun' result steps)
+    where
+      unchanged : o' ≡ o → WasLatest o' last
+      unchanged same = subst (λ x. WasLatest x last) (sym same) was
+
+      by : (stage : Stage) → begun.stage ≡ stage → LeavesPut stage o o' → WasLatest o' last
+      by (Puts next given replaces) is (inl same) = unchanged same
+      by (Puts next given replaces) is (inr put) =
+          let staged = staged-at (Puts next given replaces) is in
+          subst (λ x. WasLatest x last) (sym put.1) (was-put o sound staged.0 next (p.read staged.0 staged.1).0 staged.3 put.0 last was)
+      by ReadsLatest is same = unchanged same
+      by AsksLast is same = unchanged same
+      by (ReadsLog last) is same = unchanged same
+      by ReadsAgain is same = unchanged same
+      by Ended is same = unchanged same
+
+  pub steps-after : (m : Maintained o o') (reader' : Follower) (begun' : Begun) (result : Result (Option PollAnswer) SlateError) → Steps kept_one begun result o reader' begun' o' → StandsAfter o' (w' m) reader result reader' begun'
+  steps-after m reader' begun' (Ok None) steps = goes-then m begun' steps.0
+  steps-after m reader' begun' (Ok (Some (answers.Whole at))) steps = arrives-then m steps.0 reader' (meets-came m begun.stage (Ends steps.0) refl steps.1) (meets-advances m begun.stage (Ends steps.0) refl steps.1) steps.2
+  steps-after m reader' begun' (Ok (Some (answers.Truncated at))) steps = arrives-then m steps.0 reader' (meets-came m begun.stage (Breaks steps.0) refl steps.1) (meets-advances m begun.stage (Breaks steps.0) refl steps.1) steps.2
+  steps-after m reader' begun' (Err e) steps = reader-then m
+
   step-stands : (reader' : Follower) (begun' : Begun) (result : Result (Option PollAnswer) SlateError) → Steps kept_one begun result o reader' begun' o' →
-      (w' : World) × Represents live store' w' × (w'.stored ≡ w.stored) × (w'.objects ≡ w.objects) × StandsAfter o' w' reader result reader' begun'
-  step-stands reader' begun' (Ok None) steps =
-      let m = left-maintained begun.stage refl (meets-left begun.stage (Goes begun') steps.0) in
-      (w' m, represents-then m, refl, refl, goes-then m begun' steps.0)
-  step-stands reader' begun' (Ok (Some (answers.Whole at))) steps =
-      let m = left-maintained begun.stage refl (meets-left begun.stage (Ends steps.0) steps.1) in
-      (w' m, represents-then m, refl, refl, arrives-then m steps.0 reader' (meets-came m begun.stage (Ends steps.0) refl steps.1) steps.2)
-  step-stands reader' begun' (Ok (Some (answers.Truncated at))) steps =
-      let m = left-maintained begun.stage refl (meets-left begun.stage (Breaks steps.0) steps.1) in
-      (w' m, represents-then m, refl, refl, arrives-then m steps.0 reader' (meets-came m begun.stage (Breaks steps.0) refl steps.1) steps.2)
-  step-stands reader' begun' (Err e) steps =
-      let m = left-maintained begun.stage refl (step-fails-left e steps) in
-      (w' m, represents-then m, refl, refl, reader-then m)
+      (w' : World) × RepresentsObjects live store' w' × (w'.stored ≡ w.stored) × (w'.objects ≡ w.objects) × StandsAfter o' w' reader result reader' begun'
+  step-stands reader' begun' result steps =
+      let m = steps-maintain reader' begun' result steps in
+      (w' m, represents-then m, refl, refl, steps-after m reader' begun' result steps)
 
 -- ---- the laws
-module _ (live : Live) (store : Known (List Batch)) (w : World) (o : Objects) (r : Represents live store w) (at : store.objects ≡ Some o) where
+module _ (live : Live) (store : Known (List Batch)) (w : World) (o : Objects) (r : RepresentsObjects live store w) (at : store.objects ≡ Some o) where
   -- what the objects that the store holds are to the world
-  abbrev HoldsAll : Objects → Type 0
+  abbrev pub HoldsAll : Objects → Type 0
   HoldsAll x = IsSound x × Holds x w × ((n : ℕ) (y : Object) → slice_get w.objects n ≡ Some y → IsHeld x y)
 
-  all-held : HoldsAll o
+  pub all-held : HoldsAll o
   all-held =
       let same : (r.held).0 ≡ o = some-same (r.held).0 o (sym (r.held).1 ∙ at) in
       subst HoldsAll same ((r.held).2, (r.held).3, (r.held).4)
 
-  reader-stands : (n : ℕ) (reader : Follower) → IsFollowerAt w.objects n reader → StandsBeside o w reader
+  pub reader-stands : (n : ℕ) (reader : Follower) → IsFollowerAt w.objects n reader → StandsBeside o w reader
   reader-stands n reader there = record {
     valid = (r.valid).followers n reader there;
     named = λ i handle at_i. (r.valid).named i n handle (AFollower reader) at_i there;
@@ -516,7 +648,7 @@ module _ (live : Live) (store : Known (List Batch)) (w : World) (o : Objects) (r
     held = all-held.2 n (AFollower reader) there;
   }
 
-  poll-begins : (reader : Follower) (moment : ℤ) → StandsBeside o w reader → is_pinned reader.mode ≡ false → is_some reader.lease ≡ is_managed reader.mode → (kept_follower reader).line.floor ≡ reader.view.manifest.last_l0_seq →
+  pub poll-begins : (reader : Follower) (moment : ℤ) → StandsBeside o w reader → is_pinned reader.mode ≡ false → is_some reader.lease ≡ is_managed reader.mode → (kept_follower reader).line.floor ≡ reader.view.manifest.last_l0_seq →
       PollStands o w reader (begun_at moment 0 (kept_follower reader))
   poll-begins reader moment s unpinned leased keeps =
       let h = all-held in
@@ -526,13 +658,13 @@ module _ (live : Live) (store : Known (List Batch)) (w : World) (o : Objects) (r
       let low = number-low w o h.0 h.1 r.valid h.2 reader unpinned s keeps in
       let own : AreOf kept_one.line.batches w.stored = own-of in
       come-stands w o h.0 h.1 r.valid h.2 reader unpinned s keeps start (begun-comes w o h.0 h.1 r.valid h.2 reader unpinned s keeps leased moment 0) tt (λ is. refl)
-      (begins-on o w.stored kept_one moment 0 own (omega (arith, number, low)))
+      (begins-on o w.stored kept_one moment 0 own (omega (arith, number, low))) (start-advances reader number moment 0)
     where
       own-of : AreOf (kept_follower reader).line.batches w.stored
       own-of = are-above reader.view.manifest.last_l0_seq reader.line.batches w.stored (are-grown reader.line.batches reader.line w.stored s.valid.0 (All-contains_itself reader.line.batches))
 
 -- ---- what others do
-module _ (settings : Settings) (w w' : World) (command : Command) (reply : Reply) (reached : IsReached w) (reached' : IsReached w') (next : Next settings w command reply w') (o o' : Objects) (sound_before : IsSound o) (holds : Holds o w) (holds' : Holds o' w') (sound' : IsSound o') where
+module _ (settings : Settings) (w w' : World) (command : Command) (reply : Reply) (reached : IsReached w) (reached' : IsReached w') (next : NextWhole settings w command reply w') (o o' : Objects) (sound_before : IsSound o) (holds : Holds o w) (holds' : Holds o' w') (sound' : IsSound o') where
   -- a manifest that was the latest one still was
   was-then : (last : VersionedManifest) → WasLatest o last → WasLatest o' last
   was-then last (latest, is, low, same) =
@@ -590,20 +722,30 @@ module _ (settings : Settings) (w w' : World) (command : Command) (reply : Reply
           (was-then last read.0, floor-same read.1, omega (arith, high, up), placed-then last last.manifest.last_l0_seq last.manifest.replay_after_wal_id begun.lease read.2 read.3);
       staged = p.staged;
       anew = p.anew;
+      numbered = p.numbered;
+      risen = p.risen;
+      above = p.above;
+      tabled = p.tabled;
     }
+
+-- what others do leaves a begun poll standing
+pub polls-beside : (settings : Settings) (live live' : Live) (store store' : Known (List Batch)) (w w' : World) (command : Command) (reply : Reply) → RepresentsObjects live store w → NextWhole settings w command reply w' → RepresentsObjects live' store' w' → BesideThen store w store' w' →
+    (o o' : Objects) → store.objects ≡ Some o → store'.objects ≡ Some o' → (reader : Follower) (begun : Begun) → PollStands o w reader begun → PollStands o' w' reader begun
+polls-beside settings live live' store store' w w' command reply r next r' beside o o' at at' reader begun p =
+    let h = all-held live store w o r at in
+    let h' = all-held live' store' w' o' r' at' in
+    poll-then settings w w' command reply (reached live store w r) (reached live' store' w' r') next o o' h.0 h.1 h'.1 h'.0 (λ f. (beside o o' f at at').0) (beside o o' reader at at').1 reader begun p
 
 pub others_leave_them : OthersLeaveThem
 others_leave_them settings live live' store store' w command made reply r d =
-    let l = leads-beside settings live live' store store' w command made reply r d in (
+    let l = leads-beside settings live live' store store' w command made reply (left_polls command.action w.polls) (are-left command.action w.polls) r d in (
       l.0,
       l.1,
       l.2,
-      λ o o' at at'.
-          let h = all-held live store w o r at in
-          let h' = all-held live' store' l.0 o' l.2 at' in (
-            λ f s. (l.3 o o' f at at').0 s,
-            λ reader begun p. poll-then settings w l.0 command reply (reached live store w r) (reached live' store' l.0 l.2) l.1 o o' h.0 h.1 h'.1 h'.0 (λ f. (l.3 o o' f at at').0) (l.3 o o' reader at at').1 reader begun p,
-          ),
+      λ o o' at at'. (
+        λ f s. (l.3 o o' f at at').0 s,
+        λ reader begun p. polls-beside settings live live' store store' w l.0 command reply r l.1 l.2 l.3 o o' at at' reader begun p,
+      ),
     )
 
 pub readers_stand : ReadersStand
@@ -613,6 +755,6 @@ pub polls_begin : PollsBegin
 polls_begin live store w o reader moment r at s unpinned leased keeps = poll-begins live store w o r at reader moment s unpinned leased keeps
 
 pub steps_stand : StepsStand
-steps_stand live store store' w o o' reader reader' begun begun' result r at at' open_ unpinned p numbered steps =
+steps_stand live store store' w o o' reader reader' begun begun' result r at at' open_ unpinned p steps =
     let h = all-held live store w o r at in
-    step-stands live store store' w o o' h.0 h.1 r.valid h.2 r at' reader open_ unpinned begun p numbered reader' begun' result steps
+    step-stands live store store' w o o' h.0 h.1 r.valid h.2 r at' reader open_ unpinned begun p reader' begun' result steps

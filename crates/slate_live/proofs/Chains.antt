@@ -9,15 +9,14 @@ use Rattle.slate_store.specs.Objects.{Objects}
 use Rattle.slate_store.specs.Content.{IsSound}
 use Rattle.slate_model.specs.Known.{Known}
 use Rattle.slate_model.specs.Segments.{Extractor}
-use Rattle.slate_model.specs.Stores.{by_objects}
 use Rattle.slate_script.specs.declared.commands.Command.{Command}
 use Rattle.slate_script.specs.declared.options.Options.{Options}
 use Rattle.slate_script.specs.declared.replies.Reply.{Reply}
-use Rattle.slate_live.specs.State.{Live, State, running}
-use Rattle.slate_live.specs.Commands.{Does}
-use Rattle.slate_live.specs.Run.{DoAll, LeadsTo}
+use Rattle.slate_live.specs.State.{Live}
+use Rattle.slate_live.specs.Run.{AreWhole, DoAll, LeadsTo, none_live}
+use Rattle.slate_live.specs.Stepping.{IsDone}
 use Rattle.slate_live.specs.Settings.{Settings}
-use Rattle.slate_live.specs.Represents.{AreInSegments, IsReached, Represents}
+use Rattle.slate_live.specs.Represents.{AreInSegments, IsReached, Represents, RepresentsObjects}
 use Rattle.slate_live.specs.Steps.{Chain, Step, last_world}
 use Rattle.slate_live.specs.Valid.{Link}
 use Rattle.slate_live.specs.World.{World, start}
@@ -31,11 +30,12 @@ use Rattle.slate_live.proofs.Segmented.{segmented-start}
 use Rattle.slate_live.proofs.Statuses.{statuses_name}
 use Rattle.slate_live.proofs.Staying.{stay_confirmed}
 use Rattle.slate_live.proofs.Tracking.{trackers_stay}
+use Rattle.slate_live.proofs.Wholes.{WholeChain, chain-whole}
 
 -- no object yet, over sound objects, represents the world of their start
-pub stands_start : (o : Objects) (store : Known (List Batch)) (live : Live) → live.objects ≡ [] → live.writes ≡ [] → store.objects ≡ Some o → IsSound o → Represents live store (start o store.faults)
-stands_start o store live no_object no_write is sound =
-    record {
+pub stands_start : (o : Objects) (store : Known (List Batch)) (live : Live) → live.objects ≡ [] → live.polls ≡ [] → live.writes ≡ [] → store.objects ≡ Some o → IsSound o → Represents live store (start o store.faults)
+stands_start o store live no_object no_poll no_write is sound = record {
+  represents = record {
       held = (o, is, sound, record { stored = refl; catalogue = refl }, λ n h at. absurd (cc));
       faults = refl;
       objects = no_object;
@@ -49,7 +49,10 @@ stands_start o store live no_object no_write is sound =
         past = λ n x at. absurd (cc);
         distinct = λ m n a b at_m at_n epochs. absurd (cc);
       };
-    }
+  };
+  polls = no_poll;
+  begun = λ objects n begun there at. absurd (cc);
+}
 
 chain-push : (settings : Settings) (first : World) (steps : List Step) (step : Step) → Chain settings first steps → Link settings (last_world first steps) step.command step.reply step.world → Chain settings first (steps ++ step ∷ [])
 chain-push settings first [] step chain link = (link, tt)
@@ -67,7 +70,7 @@ pub record Done (settings : Settings) (first : World) (commands : List Command) 
   pub reached : All (λ step. IsReached step.world) steps
 
 -- a world that is represented may be reached
-pub reached : (live : Live) (store : Known (List Batch)) (w : World) → Represents live store w → IsReached w
+pub reached : (live : Live) (store : Known (List Batch)) (w : World) → RepresentsObjects live store w → IsReached w
 reached live store w stands = (stands.valid, (stands.held).0, (stands.held).2, (stands.held).3)
 
 -- no command, done
@@ -105,12 +108,12 @@ chain-grows settings first (s ∷ steps) chain =
 -- the world of sound objects, before any command, may be reached
 start-reached : (options : Options) (o : Objects) (faults : ℕ) → IsSound o → IsReached (start o faults)
 start-reached options o faults sound =
-    reached (record { options = options; objects = []; writes = [] }) (record { objects = Some o; faults = faults }) (start o faults) (stands_start o (record { objects = Some o; faults = faults }) (record { options = options; objects = []; writes = [] }) refl refl refl sound)
+    reached (none_live options) (record { objects = Some o; faults = faults }) (start o faults) (stands_start o (record { objects = Some o; faults = faults }) (none_live options) refl refl refl refl sound).represents
 
 -- where all of the commands are done
 pub leads_all : (settings : Settings) (commands : List Command) (i : ℕ) (replies : List Reply) (o : Objects) (faults : ℕ) (live : Live) (store : Known (List Batch)) (steps : List Step) → IsSound o → length commands ≤ i → Done settings (start o faults) (take i commands) replies steps → Represents live store (last_world (start o faults) steps) → LeadsTo settings commands replies o faults store
 leads_all settings commands i replies o faults live store steps sound all done stands =
-    let held = stands.held in
+    let held = (stands.represents).held in
     record {
       steps = steps;
       commands_are = done.commands_are ∙ take_all i commands all;
@@ -121,42 +124,52 @@ leads_all settings commands i replies o faults live store steps sound all done s
       is_last = refl;
       grows = chain-grows settings (start o faults) steps done.chain;
       confirmed = stay_confirmed settings (start o faults) steps refl done.chain;
-      leases = leases_hold settings (start o faults) steps refl (start-reached settings.options o faults sound) done.chain done.reached;
-      closings = list_tasks settings (start o faults) steps done.chain done.reached;
-      repeated = repeat_errors settings (start o faults) steps done.chain;
-      trackers = trackers_stay settings (start o faults) steps (start-reached settings.options o faults sound) done.chain done.reached;
-      statuses = statuses_name settings (start o faults) steps refl (start-reached settings.options o faults sound) done.chain done.reached;
-      polls = polls_fit settings (start o faults) steps refl (start-reached settings.options o faults sound) (segmented-start settings.extractor (start o faults) refl) done.chain done.reached;
       snapshots = snapshots_stay settings (start o faults) steps refl done.chain done.reached;
+      repeated = repeat_errors settings (start o faults) steps done.chain;
+      over = λ whole.
+          let chain : WholeChain settings (start o faults) steps = chain-whole settings (start o faults) steps (subst AreWhole (sym (done.commands_are ∙ take_all i commands all)) whole) done.chain in
+          let first = start-reached settings.options o faults sound in
+          record {
+            leases = leases_hold settings (start o faults) steps refl first chain done.reached;
+            closings = list_tasks settings (start o faults) steps chain done.reached;
+            trackers = trackers_stay settings (start o faults) steps first chain done.reached;
+            statuses = statuses_name settings (start o faults) steps refl first chain done.reached;
+            polls = polls_fit settings (start o faults) steps refl first (segmented-start settings.extractor (start o faults) refl) chain done.reached;
+          };
       after = held.0;
       modelled = held.1;
       sound = held.2;
       holds = held.3;
-      fault_count = stands.faults;
+      fault_count = (stands.represents).faults;
     }
 
 -- commands that are done one after another, and one more
-do-push : (settings : Settings) (s mid last : State (List Batch)) (commands : List Command) (replies : List Reply) (command : Command) (reply : Reply) (made : ℕ) → DoAll settings s commands replies mid → Does (by_objects mid.store.objects) settings made mid command reply last → DoAll settings s (commands ++ command ∷ []) (replies ++ reply ∷ []) last
-do-push settings s mid last [] [] command reply made all does = (made, last, subst (λ x. Does (by_objects x.store.objects) settings made x command reply last) all does, refl)
-do-push settings s mid last (c ∷ commands) (r ∷ replies) command reply made all does =
-    (all.0, all.1, all.2, do-push settings all.1 mid last commands replies command reply made all.3 does)
-do-push settings s mid last [] (r ∷ replies) command reply made all does = absurd all
-do-push settings s mid last (c ∷ commands) [] command reply made all does = absurd all
+do-push : (settings : Settings) (live mid last : Live) (store between store' : Known (List Batch)) (commands : List Command) (replies : List Reply) (command : Command) (reply : Reply) → DoAll settings live store commands replies mid between → IsDone settings mid between command reply last store' →
+    DoAll settings live store (commands ++ command ∷ []) (replies ++ reply ∷ []) last store'
+do-push settings live mid last store between store' [] [] command reply all does = (
+  last,
+  store',
+  subst (λ l. IsDone settings l store command reply last store') all.0 (subst (λ k. IsDone settings mid k command reply last store') all.1 does),
+  (refl, refl),
+)
+do-push settings live mid last store between store' (c ∷ commands) (r ∷ replies) command reply all does =
+    (all.0, all.1, all.2, do-push settings all.0 mid last all.1 between store' commands replies command reply all.3 does)
+do-push settings live mid last store between store' [] (r ∷ replies) command reply all does = absurd all
+do-push settings live mid last store between store' (c ∷ commands) [] command reply all does = absurd all
 
 -- no command was done yet
-pub do-none : (settings : Settings) (options : Options) (live : Live) (store : Known (List Batch)) (replies : List Reply) → replies ≡ [] → live ≡ record { options = options; objects = []; writes = [] } → DoAll settings (record { objects = []; writes = []; store = store }) [] replies (running live store)
-do-none settings options live store replies none fresh =
-    subst (λ rs. DoAll settings (record { objects = []; writes = []; store = store }) [] rs (running live store)) (sym none)
-    (ap (λ (l : Live). running l store) fresh)
+pub do-none : (settings : Settings) (live : Live) (store : Known (List Batch)) (replies : List Reply) → replies ≡ [] → live ≡ none_live settings.options → DoAll settings (none_live settings.options) store [] replies live store
+do-none settings live store replies none fresh = subst (λ rs. DoAll settings (none_live settings.options) store [] rs live store) (sym none) (fresh, refl)
 
 -- all commands were done
-pub do-all : (settings : Settings) (s last : State (List Batch)) (commands : List Command) (i : ℕ) (replies : List Reply) → length commands ≤ i → DoAll settings s (take i commands) replies last → DoAll settings s commands replies last
-do-all settings s last commands i replies behind all = subst (λ cs. DoAll settings s cs replies last) (take_all i commands behind) all
+pub do-all : (settings : Settings) (live last : Live) (store store' : Known (List Batch)) (commands : List Command) (i : ℕ) (replies : List Reply) → length commands ≤ i → DoAll settings live store (take i commands) replies last store' → DoAll settings live store commands replies last store'
+do-all settings live last store store' commands i replies behind all = subst (λ cs. DoAll settings live store cs replies last store') (take_all i commands behind) all
 
 -- the command at a place of a list, done after those before it
-pub do-next : (settings : Settings) (s mid last : State (List Batch)) (commands : List Command) (i : ℕ) (command : Command) (replies replies' : List Reply) (reply : Reply) (made : ℕ) → i < length commands → command ≡ get_or commands i command → replies' ≡ replies ++ reply ∷ [] → DoAll settings s (take i commands) replies mid → Does (by_objects mid.store.objects) settings made mid command reply last → DoAll settings s (take (i + 1) commands) replies' last
-do-next settings s mid last commands i command replies replies' reply made inside item pushed all does =
+pub do-next : (settings : Settings) (live mid last : Live) (store between store' : Known (List Batch)) (commands : List Command) (i : ℕ) (command : Command) (replies replies' : List Reply) (reply : Reply) → i < length commands → command ≡ get_or commands i command → replies' ≡ replies ++ reply ∷ [] → DoAll settings live store (take i commands) replies mid between → IsDone settings mid between command reply last store' →
+    DoAll settings live store (take (i + 1) commands) replies' last store'
+do-next settings live mid last store between store' commands i command replies replies' reply inside item pushed all does =
     let more : take (i + 1) commands ≡ take i commands ++ command ∷ [] = take_more commands i command inside ∙ ap (λ c. take i commands ++ c ∷ []) (sym item) in
-    subst (λ cs. DoAll settings s cs replies' last) (sym more)
-    (subst (λ rs. DoAll settings s (take i commands ++ command ∷ []) rs last) (sym pushed)
-    (do-push settings s mid last (take i commands) replies command reply made all does))
+    subst (λ cs. DoAll settings live store cs replies' last store') (sym more)
+    (subst (λ rs. DoAll settings live store (take i commands ++ command ∷ []) rs last store') (sym pushed)
+    (do-push settings live mid last store between store' (take i commands) replies command reply all does))

@@ -63,7 +63,7 @@ use Rattle.slate_script.specs.declared.commands.Command.{Command}
 use Rattle.slate_script.specs.declared.replies.Reply.{Reply}
 use Rattle.slate_script.specs.declared.replies.Reply.TheVariants as replies
 use Rattle.slate_live.specs.declared.states.Write.{Write}
-use Rattle.slate_live.specs.Calls.{Call, Write as WriteCall, Merge as MergeCall, Flush, Refresh, Compact, Get, Scan, Seek, Close, Poll, Status, FindTime, FindNumber, Nothing, call_of, Target, NewHandle, NewSnapshot, NewFollower, NewCheckpoint, WholeStore, OfWrite, OfObject, at_snapshot, target_of}
+use Rattle.slate_live.specs.Calls.{Whole, Call, Write as WriteCall, Merge as MergeCall, Flush, Refresh, Compact, Get, Scan, Seek, Close, Poll, Status, FindTime, FindNumber, Nothing, call_of, Target, NewHandle, NewSnapshot, NewFollower, NewCheckpoint, WholeStore, OfWrite, OfObject, at_snapshot, target_of}
 use Rattle.slate_live.specs.Commands.{ActsAt, ActsOn, DoesBy, OpensSnapshot, ReadsSnapshot, asked_reply, interval_of, lifetime_of, write_reply}
 use Rattle.slate_live.specs.Followers.{ClosesAs, FollowerActs, PollsAs}
 use Rattle.slate_live.specs.Handles.{HandleActs, MergesTo, WritesTo, flush_type_by, pending_reply}
@@ -71,8 +71,8 @@ use Rattle.slate_live.specs.Replies.{AnswersStatus, IsRead, closed_reply, ended_
 use Rattle.slate_live.specs.Represents.{AreInSegments, IsLeased, IsValid}
 use Rattle.slate_live.specs.Scans.{IsTaken, Takes, scanned, sought}
 use Rattle.slate_live.specs.Settings.{Settings}
-use Rattle.slate_live.specs.Valid.{AtHandle, AtObject, CanAsk, CanAskFollower, CanAskSnapshot, CanCheckpoint, CanClose, CanCompact, CanEnd, CanFollow, CanOpen, CanPoll, CanPut, CanRead, CanRefresh, CanReplay, CanStore, CanSweep, CanTake, CanWrite, IsDurable, IsOkOrNoMemory, IsValidAt, IsValidCommand}
-use Rattle.slate_live.specs.World.{Next, World, state_of}
+use Rattle.slate_live.specs.Valid.{AtHandle, AtObject, CanAsk, CanAskFollower, CanAskSnapshot, CanCheckpoint, CanClose, CanCompact, CanEnd, CanFollow, CanOpen, CanPoll, CanPut, CanRead, CanRefresh, CanReplay, CanStore, CanSweep, CanTake, CanWrite, IsDurable, IsOkOrNoMemory, IsValidAt, IsValidKind}
+use Rattle.slate_live.specs.World.{NextWhole, World, state_of}
 use Rattle.slate_live.proofs.Cases.{by-option, some-of}
 use Rattle.slate_live.proofs.Naming.{follower-did, handle-acted}
 use Rattle.slate_live.proofs.Rising.{managed-free, managed-mode}
@@ -604,5 +604,5 @@ module _ (settings : Settings) (w w' : World) (valid : IsValid w) (segments : Ar
   completes-at (OfObject n) d can = object-completes n (call_of command.action) can d
 
 -- a valid command that meets no fault is refused nothing
-pub completes : (settings : Settings) (w : World) (command : Command) (reply : Reply) (w' : World) → IsValid w → AreInSegments settings.extractor w → Next settings w command reply w' → IsValidCommand settings w command → (HasRisen w.faults w'.faults → ⊥) → IsOkOrNoMemory reply
+pub completes : (settings : Settings) (w : World) (command : Command) (reply : Reply) (w' : World) → IsValid w → AreInSegments settings.extractor w → NextWhole settings w command reply w' → IsValidKind Whole settings w command → (HasRisen w.faults w'.faults → ⊥) → IsOkOrNoMemory reply
 completes settings w command reply w' valid segments next can calm = completes-at settings w w' valid segments command next.made reply calm (target_of command.action) next.does can

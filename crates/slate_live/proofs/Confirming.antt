@@ -22,7 +22,7 @@ use Rattle.slate_live.specs.Represents.{IsHandleAt, IsValid, up_to}
 use Rattle.slate_live.specs.Settings.{Settings}
 use Rattle.slate_live.specs.State.{State}
 use Rattle.slate_live.specs.Valid.{IsConfirmed}
-use Rattle.slate_live.specs.World.{Next, World, state_of}
+use Rattle.slate_live.specs.World.{NextWhole, World, state_of}
 use Rattle.slate_live.proofs.Keeping.{stands-prefix}
 use Rattle.slate_live.proofs.Prefixes.{prefix-end}
 
@@ -53,13 +53,13 @@ stored-of : (w : World) (n : ℕ) (write : Option Write) → slice_get w.writes 
 stored-of w n None is durable = absurd (cc)
 stored-of w n (Some write) is durable = stored-at w n write (slice_get w.objects write.handle) is refl durable
 
-pub reported : (settings : Settings) (w : World) (command : Command) (reply : Reply) (w' : World) → Next settings w command reply w' → (n : ℕ) → command.action ≡ actions.Await n → reply ≡ replies.Durable → IsStoredOf w n
+pub reported : (settings : Settings) (w : World) (command : Command) (reply : Reply) (w' : World) → NextWhole settings w command reply w' → (n : ℕ) → command.action ≡ actions.Await n → reply ≡ replies.Durable → IsStoredOf w n
 reported settings w command reply w' next n is durable =
     let d = subst (λ a. DoesBy (by_catalogue w.stored w.catalogue) settings command (target_of a) next.made (state_of w) reply (state_of w')) is next.does in
     stored-of w n (slice_get w.writes n) refl (sym durable ∙ d.1)
 
 -- asking changes no object and no write
-pub asked-same : (settings : Settings) (w : World) (command : Command) (reply : Reply) (w' : World) → Next settings w command reply w' → (n : ℕ) → command.action ≡ actions.Await n → (w'.objects ≡ w.objects) × (w'.writes ≡ w.writes)
+pub asked-same : (settings : Settings) (w : World) (command : Command) (reply : Reply) (w' : World) → NextWhole settings w command reply w' → (n : ℕ) → command.action ≡ actions.Await n → (w'.objects ≡ w.objects) × (w'.writes ≡ w.writes)
 asked-same settings w command reply w' next n is =
     let d = subst (λ a. DoesBy (by_catalogue w.stored w.catalogue) settings command (target_of a) next.made (state_of w) reply (state_of w')) is next.does in
     (ap (λ (s : State Span). s.objects) d.2, ap (λ (s : State Span). s.writes) d.2)
@@ -87,7 +87,7 @@ stands-front batch line number low s =
     (s.0, get-take line.batches (number - line.floor) s.0 batch (omega (arith, low, is)) s.1, s.2)
 
 -- the batch of a write that is reported durable stands in what is stored
-pub confirms : (settings : Settings) (w : World) (command : Command) (reply : Reply) (w' : World) → IsValid w → Next settings w command reply w' → (n : ℕ) → command.action ≡ actions.Await n → reply ≡ replies.Durable → IsConfirmed w n
+pub confirms : (settings : Settings) (w : World) (command : Command) (reply : Reply) (w' : World) → IsValid w → NextWhole settings w command reply w' → (n : ℕ) → command.action ≡ actions.Await n → reply ≡ replies.Durable → IsConfirmed w n
 confirms settings w command reply w' valid next n is durable =
     let s = reported settings w command reply w' next n is durable in
     let low = s.durable in

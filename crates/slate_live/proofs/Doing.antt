@@ -28,10 +28,12 @@ use Rattle.slate_store.specs.declared.reader_modes.DbReaderMode.{DbReaderMode}
 use Rattle.slate_store.specs.declared.reader_modes.DbReaderMode.TheVariants as modes
 use Rattle.slate_errors.specs.declared.errors.SlateError.TheVariants as errors
 use Rattle.slate_model.specs.Follow.{FollowCause, Polls, Rebuilds, unseen}
-use Rattle.slate_model.specs.Follower.{Follower, is_managed}
+use Rattle.slate_model.specs.Begun.{Begun}
+use Rattle.slate_model.specs.Follower.{Follower, is_managed, is_pinned, number}
 use Rattle.slate_model.specs.Lease.{lease_refusal, to_take}
 use Rattle.slate_model.specs.Managed.{OpensManaged, PollsManaged, PutsPlanned, TakeRefusal, TakesLease}
 use Rattle.slate_model.specs.declared.answers.PollAnswer.{PollAnswer}
+use Rattle.slate_model.specs.declared.answers.PollAnswer.TheVariants.{Whole as AllRead}
 use Rattle.slate_model.specs.Knowledge.{Knowledge}
 use Rattle.slate_model.specs.Known.{Known, Untouched}
 use Rattle.slate_model.specs.Object.{Object, Handle as AHandle, Snapshot as ASnapshot, Follower as AFollower}
@@ -49,7 +51,8 @@ use Rattle.slate_model.specs.declared.snapshots.HandleSnapshot.{HandleSnapshot}
 use Rattle.slate_model.specs.Snapshot.{snapshot_number}
 use Rattle.std.specs.List.{slice_get}
 use Rattle.std.proofs.lemmas.List.{append-nil}
-use Rattle.slate_live.specs.State.{State}
+use Rattle.slate_live.specs.State.{Live, State}
+use Rattle.slate_live.specs.Stepping.{BeginsOf, BeginsOn, BeginsPoll, MakesCall, StepsObject, StepsOf, StepsOn, StepsPoll, StepsReader, poll_left, stepped_reply}
 
 -- an opening that finds no room touches no store
 pub opens-nothing : {L : Type 0} (k : Knowledge L) (extractor : Option Extractor) (keeps_log : Bool) (limit : ℕ) (tasks : List TaskName) (store : Known L) → OpensHandle k extractor 0 keeps_log limit tasks store (Err errors.NoMemory) store
@@ -299,3 +302,56 @@ refuses-snapshot n s old error reply is taken replied = subst (λ found. OpensSn
       (record { result = Err error; replied = replied; does = (inr (sym number_is), refl); objects = sym (append-nil s.objects); writes = refl }, refl)
   by (ASnapshot y) taken = absurd (cc)
   by (AFollower f) taken = absurd (cc)
+
+-- ---- polls by single calls
+pub some-if : {A : Type 0} (P : A → Type 0) (o : Option A) (a : A) → o ≡ Some a → P a → IfSome o P
+some-if P o a is have = subst (λ x. IfSome x P) (sym is) have
+
+-- a step, by what the call of the poll did
+pub steps-of : (x : Option Extractor) (reader : Follower) (begun : Begun) (before : Known (List Batch)) (result : Result (Option PollAnswer) SlateError) (new : Follower) (left : Begun) (after : Known (List Batch)) (reply : Reply) (poll' : Option Begun) →
+    reply ≡ reply_to stepped_reply result → poll' ≡ poll_left result left →
+    (is_pinned reader.mode ≡ true → (result ≡ Ok (Some (AllRead (number reader)))) × (new ≡ reader) × (after ≡ before)) → (is_pinned reader.mode ≡ false → MakesCall x reader begun before result new left after) → StepsOf x reader begun before reply new poll' after
+steps-of x reader begun before result new left after reply poll' replied leaves pinned makes = record {
+  result = result;
+  replied = replied;
+  left = left;
+  steps = by (is_pinned reader.mode) refl;
+  leaves = leaves;
+}
+  where
+    by : (stays : Bool) → is_pinned reader.mode ≡ stays → StepsReader stays x reader begun before result new left after
+    by true stays = pinned stays
+    by false stays = makes stays
+
+-- live states are one where their parts are
+live-same : (a : Live) (b : Live) → a.options ≡ b.options → a.objects ≡ b.objects → a.polls ≡ b.polls → a.writes ≡ b.writes → a ≡ b
+live-same a b options objects polls writes =
+    ap (λ x. record { options = x; objects = a.objects; polls = a.polls; writes = a.writes }) options
+    ∙ (ap (λ (x : List Object). record { options = b.options; objects = x; polls = a.polls; writes = a.writes }) objects
+    ∙ (ap (λ (x : List (Option Begun)). record { options = b.options; objects = b.objects; polls = x; writes = a.writes }) polls
+    ∙ ap (λ (x : List Write). record { options = b.options; objects = b.objects; polls = b.polls; writes = x }) writes))
+
+-- the object at a place begins a poll
+pub begins-poll : (n : ℕ) (moment : ℤ) (old new : Object) (poll poll' : Option Begun) (live live' : Live) (reply : Reply) → slice_get live.objects n ≡ Some old → slice_get live.polls n ≡ Some poll → new ≡ old → BeginsOf moment old poll reply poll' →
+    live'.objects ≡ set live.objects n new → live'.polls ≡ set live.polls n poll' → live'.options ≡ live.options → live'.writes ≡ live.writes → BeginsPoll n moment live reply live'
+begins-poll n moment old new poll poll' live live' reply at there same begins objects polls options writes =
+    subst (λ found. BeginsOn n moment found live reply live') (sym at) (record {
+      poll = poll;
+      poll' = poll';
+      there = there;
+      begins = begins;
+      same = live-same live' (record live { polls = set live.polls n poll' }) options (objects ∙ (ap (set live.objects n) same ∙ set-same live.objects n old at)) polls writes;
+    })
+
+-- or makes a step of its own
+pub steps-poll : (x : Option Extractor) (n : ℕ) (old new : Object) (poll poll' : Option Begun) (live live' : Live) (before after : Known (List Batch)) (reply : Reply) → slice_get live.objects n ≡ Some old → slice_get live.polls n ≡ Some poll → StepsObject x old poll before reply new poll' after →
+    live'.objects ≡ set live.objects n new → live'.polls ≡ set live.polls n poll' → live'.options ≡ live.options → live'.writes ≡ live.writes → StepsPoll x n live before reply live' after
+steps-poll x n old new poll poll' live live' before after reply at there does objects polls options writes =
+    subst (λ found. StepsOn x n found live before reply live' after) (sym at) (record {
+      poll = poll;
+      object' = new;
+      poll' = poll';
+      there = there;
+      does = does;
+      same = live-same live' (record live { objects = set live.objects n new; polls = set live.polls n poll' }) options objects polls writes;
+    })

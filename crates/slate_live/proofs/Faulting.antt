@@ -43,7 +43,7 @@ use Rattle.slate_live.specs.Scans.{IsTaken, Takes}
 use Rattle.slate_live.specs.Settings.{Settings}
 use Rattle.slate_live.specs.State.{State}
 use Rattle.slate_live.specs.Valid.{IsStoreFault}
-use Rattle.slate_live.specs.World.{Next, World, state_of}
+use Rattle.slate_live.specs.World.{NextWhole, World, state_of}
 use Rattle.slate_live.proofs.Cases.{by-option, close-by, compact-by, flush-by, refresh-by, some-of}
 use Rattle.slate_live.proofs.Naming.{follower-did, handle-acted}
 
@@ -251,5 +251,5 @@ module _ (settings : Settings) (w : World) (valid : IsValid w) (command : Comman
   shows-by (OfObject n) d = on-shows n (slice_get w.objects n) refl d
 
 -- a command in which the count rises answers a fault of the store
-pub answers-faults : (settings : Settings) (w : World) (command : Command) (reply : Reply) (w' : World) → IsValid w → Next settings w command reply w' → (w'.faults ≡ w.faults) ⊎ IsStoreFault reply
+pub answers-faults : (settings : Settings) (w : World) (command : Command) (reply : Reply) (w' : World) → IsValid w → NextWhole settings w command reply w' → (w'.faults ≡ w.faults) ⊎ IsStoreFault reply
 answers-faults settings w command reply w' valid next = shows-by settings w valid command next.made reply (state_of w') (target_of command.action) next.does

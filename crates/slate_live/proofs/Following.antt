@@ -21,7 +21,7 @@ use Rattle.slate_model.specs.Valid.{IsHeld, ReadsLine}
 use Rattle.slate_model.proofs.Moving.{Follows}
 use Rattle.slate_model.proofs.Owing.{are-stored, ends, latest-view, owed-is, owed-reads, owed-seen, owed_line, view-tables}
 use Rattle.slate_model.proofs.Reduced.{its, its-line, owed-begins}
-use Rattle.slate_live.specs.Represents.{IsTabled, IsValidFollower, follows_all}
+use Rattle.slate_live.specs.Represents.{IsTabled, IsValidFollower, IsViewed, follows_all}
 use Rattle.slate_live.proofs.Prefixes.{prefix-end, prefix-then}
 
 -- what such a one is owed is all that is stored, or what is in tables
@@ -72,6 +72,12 @@ follower-follows stored stored' o o' latest latest' is f g v = (
       let up = f.tabled in
       omega (arith, e, before, up),
   v.2,
+  λ free found at.
+      let same : latest' ≡ found = (let b = f.latest_is in cc) in
+      let e = ap (λ (m : VersionedManifest). m.manifest.last_l0_seq) same in
+      let before = v.3 free latest is in
+      let up = f.tabled in
+      omega (arith, e, before, up),
 )
 
 -- a follower with these segments
@@ -111,8 +117,15 @@ module _ (segments : List (List ℕ)) (stored : Line) (mode : DbReaderMode) (ski
       let low = low-end mode skips few in
       omega (arith, e, low)
 
+  pub new-viewed : IsViewed (catalogue_of o) new
+  new-viewed free found at =
+      let is = latest-view mode opening o view free v in
+      let same : view ≡ found = (let b = at in cc) in
+      let e = ap (λ (m : VersionedManifest). m.manifest.last_l0_seq) same in
+      omega (arith, e)
+
   pub new-valid : is_managed mode ≡ false → IsValidFollower stored (catalogue_of o) new
-  new-valid unmanaged = (new-begins, new-tabled, λ managed live. absurd (cc))
+  new-valid unmanaged = (new-begins, new-tabled, λ managed live. absurd (cc), new-viewed)
 
   pub new-stored : AreStored o view.manifest.tables
   new-stored = are-stored o view.manifest (content o) (view-tables o mode opening view sound v) sound.line

@@ -34,7 +34,7 @@ use Rattle.slate_live.specs.Calls.{OfObject, WholeStore, target_of}
 use Rattle.slate_live.specs.Leases.{ComesBefore, closes, polls}
 use Rattle.slate_live.specs.Represents.{IsFollowerAt, IsReached}
 use Rattle.slate_live.specs.Settings.{Settings}
-use Rattle.slate_live.specs.World.{Next, World, state_of}
+use Rattle.slate_live.specs.World.{NextWhole, World, state_of}
 use Rattle.slate_live.proofs.Leases.{AreApart, HasCheckpoint, entry-after, nothing-spared, refreshed-id, rising, spared, still-has}
 use Rattle.slate_live.proofs.Carrying.{leased-is}
 use Rattle.slate_live.proofs.Distinct.{ids-differ, put-low}
@@ -114,7 +114,7 @@ is-sweep : (action : Action) → target_of action ≡ WholeStore → action ≡ 
 is-sweep actions.Sweep is = refl
 is-sweep action is = absurd (cc)
 
-module _ (settings : Settings) (w w' : World) (command : Command) (reply : Reply) (reached : IsReached w) (reached' : IsReached w') (next : Next settings w command reply w') (apart : AreApart w) (n lifetime : ℕ) (last : ℤ) (h : Holds n lifetime last w) where
+module _ (settings : Settings) (w w' : World) (command : Command) (reply : Reply) (reached : IsReached w) (reached' : IsReached w') (next : NextWhole settings w command reply w') (apart : AreApart w) (n lifetime : ℕ) (last : ℤ) (h : Holds n lifetime last w) where
   -- a command that neither polls nor closes it, and sweeps in time
   pub holds-still : polls n command.action ≡ false → closes n command.action ≡ false → (command.action ≡ actions.Sweep → ComesBefore lifetime last command.moment) → Holds n lifetime last w'
   holds-still unpolled unclosed before =

@@ -42,7 +42,7 @@ use Rattle.slate_live.specs.Represents.{IsHandleAt}
 use Rattle.slate_live.specs.Rising.{Rise, Rises}
 use Rattle.slate_live.specs.Settings.{Settings}
 use Rattle.slate_live.specs.State.{State}
-use Rattle.slate_live.specs.World.{Next, World, state_of}
+use Rattle.slate_live.specs.World.{NextWhole, World, state_of}
 use Rattle.slate_live.proofs.Places.{get-before, get-seam, get-set_same}
 use Rattle.slate_live.proofs.Rising.{rises}
 
@@ -124,15 +124,15 @@ module _ (xs ys : List Object) (rise : Rise xs ys) (ws vs : List Write) (reply :
         numbers = numbers;
       }
 
-numbers-by : (vs : List Write) {reply reply' : Reply} → reply ≡ reply' → Numbers vs reply' → Numbers vs reply
+pub numbers-by : (vs : List Write) {reply reply' : Reply} → reply ≡ reply' → Numbers vs reply' → Numbers vs reply
 numbers-by vs is numbers = subst (Numbers vs) (sym is) numbers
 
-numbers-refusal : (vs : List Write) (e : SlateError) → Numbers vs (refusal e)
+pub numbers-refusal : (vs : List Write) (e : SlateError) → Numbers vs (refusal e)
 numbers-refusal vs errors.NoMemory = tt
 numbers-refusal vs (errors.Backpressure unflushed limit) = tt
 numbers-refusal vs e = tt
 
-numbers-to : {A : Type 0} (vs : List Write) (done : A → Reply) (r : Result A SlateError) → ((x : A) → Numbers vs (done x)) → Numbers vs (reply_to done r)
+pub numbers-to : {A : Type 0} (vs : List Write) (done : A → Reply) (r : Result A SlateError) → ((x : A) → Numbers vs (done x)) → Numbers vs (reply_to done r)
 numbers-to vs done (Ok x) f = f x
 numbers-to vs done (Err e) f = numbers-refusal vs e
 
@@ -144,7 +144,7 @@ numbers-followed : (vs : List Write) (n : ℕ) (answer : PollAnswer) → Numbers
 numbers-followed vs n (Whole at) = tt
 numbers-followed vs n (Truncated at) = tt
 
-numbers-polled : (vs : List Write) (answer : PollAnswer) → Numbers vs (polled_reply answer)
+pub numbers-polled : (vs : List Write) (answer : PollAnswer) → Numbers vs (polled_reply answer)
 numbers-polled vs (Whole at) = tt
 numbers-polled vs (Truncated at) = tt
 
@@ -288,5 +288,5 @@ module _ (settings : Settings) (w w' : World) (command : Command) (made : ℕ) (
   keeps-target (OfObject n) d = on-keeps n (call_of command.action) (slice_get w.objects n) refl d
 
 -- what every command keeps, where no object goes back
-pub keeps : (settings : Settings) (w : World) (command : Command) (reply : Reply) (w' : World) → Rise w.objects w'.objects → Next settings w command reply w' → Keeps w.objects w.writes reply w'.objects w'.writes
+pub keeps : (settings : Settings) (w : World) (command : Command) (reply : Reply) (w' : World) → Rise w.objects w'.objects → NextWhole settings w command reply w' → Keeps w.objects w.writes reply w'.objects w'.writes
 keeps settings w command reply w' rise next = keeps-target settings w w' command next.made reply rise (target_of command.action) next.does

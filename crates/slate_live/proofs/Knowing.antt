@@ -606,6 +606,7 @@ module _ (stored : Line) (o o' : Objects) (f f' : ℕ) (made : ℕ) (writes writ
                 | inl old ↦ subst (λ l. is_some l ≡ true) (sym (old ∙ is)) refl
                 | inr given ↦ subst (λ l. is_some l ≡ true) (sym given.4) refl
               ],
+          v.3,
         );
         view = inl refl;
         holds_it = λ h. (h.0, λ free. let seen = h.1 free in record { mark = seen.mark; logs = seen.logs });
@@ -689,7 +690,7 @@ module _ (stored : Line) (o o' : Objects) (f f' : ℕ) (made : ℕ) (writes writ
     new = closed_follower g;
     kept = kept;
     maintained = m;
-    valid = λ v. (v.0, v.1, λ _ still. absurd (cc));
+    valid = λ v. (v.0, v.1, λ _ still. absurd (cc), v.3);
     view = inl refl;
     holds_it = λ h. (h.0, λ free. let seen = h.1 free in record { mark = seen.mark; logs = seen.logs });
     acts = (record { answer = answer; replied = replied; does = c }, same_writes);

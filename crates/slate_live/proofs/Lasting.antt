@@ -41,12 +41,12 @@ use Rattle.slate_live.specs.Leases.{AreInTime, ComesBefore, IsInTime, KeepsCheck
 use Rattle.slate_live.specs.Replies.{found_reply, refusal, reply_to}
 use Rattle.slate_live.specs.Represents.{IsReached}
 use Rattle.slate_live.specs.Settings.{Settings}
-use Rattle.slate_live.specs.Steps.{Chain, Step, last_world}
-use Rattle.slate_live.specs.Valid.{Link}
-use Rattle.slate_live.specs.World.{Next, World, state_of}
+use Rattle.slate_live.specs.Steps.{Step, last_world}
+use Rattle.slate_live.specs.World.{NextWhole, World, state_of}
 use Rattle.slate_live.proofs.Holding.{Holds, holds-lasts, holds-still}
 use Rattle.slate_live.proofs.Leases.{ArePast, AreApart, apart-after, kept-stored, past-after}
 use Rattle.slate_live.proofs.Turning.{opening-holds, poll-holds}
+use Rattle.slate_live.proofs.Wholes.{WholeChain, WholeLink}
 
 -- what holds of each world: sound objects hold it, and its readers' leases are of distinct checkpoints that were committed
 record IsReady (w : World) : Type 0 where
@@ -55,7 +55,7 @@ record IsReady (w : World) : Type 0 where
   apart : AreApart w
 
 module _ (settings : Settings) where
-  pub chain-halves : (w : World) (xs ys : List Step) → Chain settings w (xs ++ ys) → Chain settings w xs × Chain settings (last_world w xs) ys
+  pub chain-halves : (w : World) (xs ys : List Step) → WholeChain settings w (xs ++ ys) → WholeChain settings w xs × WholeChain settings (last_world w xs) ys
   chain-halves w [] ys chain = (tt, chain)
   chain-halves w (x ∷ xs) ys (link, chain) = let h = chain-halves x.world xs ys chain in ((link, h.0), h.1)
 
@@ -63,26 +63,26 @@ module _ (settings : Settings) where
   all-halves P [] ys all = (All-nil P, all)
   all-halves P (x ∷ xs) ys all = let h = all-halves P xs ys (All-tail P x (xs ++ ys) all) in (All-cons P x xs (All-head P x (xs ++ ys) all) h.0, h.1)
 
-  ready-step : (w : World) (s : Step) → IsReady w → Link settings w s.command s.reply s.world → IsReached s.world → IsReady s.world
+  ready-step : (w : World) (s : Step) → IsReady w → WholeLink settings w s.command s.reply s.world → IsReached s.world → IsReady s.world
   ready-step w s ready link reached' = record {
     reached = reached';
     past = past-after settings w s.world s.command s.reply ready.reached reached' link.next ready.past ready.apart;
     apart = apart-after settings w s.world s.command s.reply ready.reached reached' link.next ready.past ready.apart;
   }
 
-  ready-chain : (w : World) (steps : List Step) → IsReady w → Chain settings w steps → All (λ step. IsReached step.world) steps → IsReady (last_world w steps)
+  ready-chain : (w : World) (steps : List Step) → IsReady w → WholeChain settings w steps → All (λ step. IsReached step.world) steps → IsReady (last_world w steps)
   ready-chain w [] ready chain all = ready
   ready-chain w (s ∷ steps) ready (link, chain) all =
       ready-chain s.world steps (ready-step w s ready link (All-head (λ step. IsReached step.world) s steps all)) chain (All-tail (λ step. IsReached step.world) s steps all)
 
   -- a step, in time where it sweeps
-  holds-step : (w : World) (s : Step) (n lifetime : ℕ) (last : ℤ) → IsReady w → Link settings w s.command s.reply s.world → IsReached s.world → Holds n lifetime last w → (s.command.action ≡ actions.Sweep → IsInTime lifetime last s) → closes n s.command.action ≡ false → (polls n s.command.action ≡ true → is_whole s.reply ≡ true) → Holds n lifetime (turn n last s) s.world
+  holds-step : (w : World) (s : Step) (n lifetime : ℕ) (last : ℤ) → IsReady w → WholeLink settings w s.command s.reply s.world → IsReached s.world → Holds n lifetime last w → (s.command.action ≡ actions.Sweep → IsInTime lifetime last s) → closes n s.command.action ≡ false → (polls n s.command.action ≡ true → is_whole s.reply ≡ true) → Holds n lifetime (turn n last s) s.world
   holds-step w s n lifetime last ready link reached' h before unclosed whole = by (polls n s.command.action) refl where
     by : (b : Bool) → polls n s.command.action ≡ b → Holds n lifetime (if b then s.command.moment else last) s.world
     by true asks = poll-holds settings w s.world s.command s.reply ready.reached reached' link.next ready.apart n lifetime last h asks (whole asks)
     by false unpolled = holds-still settings w s.world s.command s.reply ready.reached reached' link.next ready.apart n lifetime last h unpolled unclosed before
 
-  holds-chain : (w : World) (steps : List Step) (n lifetime : ℕ) (last : ℤ) → IsReady w → Chain settings w steps → All (λ step. IsReached step.world) steps → Holds n lifetime last w → AreInTime n lifetime last steps → Holds n lifetime (last_turn n last steps) (last_world w steps)
+  holds-chain : (w : World) (steps : List Step) (n lifetime : ℕ) (last : ℤ) → IsReady w → WholeChain settings w steps → All (λ step. IsReached step.world) steps → Holds n lifetime last w → AreInTime n lifetime last steps → Holds n lifetime (last_turn n last steps) (last_world w steps)
   holds-chain w [] n lifetime last ready chain all h timely = h
   holds-chain w (s ∷ steps) n lifetime last ready (link, chain) all h (before, unclosed, whole, timely) =
       let reached' = All-head (λ step. IsReached step.world) s steps all in
@@ -149,7 +149,7 @@ scan-is taken (Ok it) r never (inl memory) is = absurd (let no : ◌≡◌ {A = 
 scan-is taken (Ok it) r never (inr all) is = absurd (never it (sym all ∙ is))
 scan-is taken (Err e) r never refused is = ap Err (let same : ◌≡◌ {A = Result (List KeyValue) SlateError} (Err e) (Err (errors.ObjectStoreError NotFound)) = sym refused ∙ is in let it : e ≡ errors.ObjectStoreError NotFound = cc in it)
 
-module _ (settings : Settings) (w w' : World) (command : Command) (reply : Reply) (next : Next settings w command reply w') (n lifetime : ℕ) (last : ℤ) (h : Holds n lifetime last w) (stored : AreStored w.catalogue h.follower.view.manifest.tables) (missing : reply ≡ refusal (errors.ObjectStoreError NotFound)) where
+module _ (settings : Settings) (w w' : World) (command : Command) (reply : Reply) (next : NextWhole settings w command reply w') (n lifetime : ℕ) (last : ℤ) (h : Holds n lifetime last w) (stored : AreStored w.catalogue h.follower.view.manifest.tables) (missing : reply ≡ refusal (errors.ObjectStoreError NotFound)) where
   abbrev k : Knowledge Span
   k = by_catalogue w.stored w.catalogue
 
@@ -179,10 +179,10 @@ module _ (settings : Settings) (w w' : World) (command : Command) (reply : Reply
   reads-find action is asks = absurd (cc)
 
 -- ---- the law
-pub leases_hold : (settings : Settings) (w : World) (steps : List Step) → w.objects ≡ [] → IsReached w → Chain settings w steps → All (λ step. IsReached step.world) steps → LeasesHold steps
+pub leases_hold : (settings : Settings) (w : World) (steps : List Step) → w.objects ≡ [] → IsReached w → WholeChain settings w steps → All (λ step. IsReached step.world) steps → LeasesHold steps
 leases_hold settings w steps empty reached chain all before later rest opened step n at managed skips is follows answered timely =
     let ready : IsReady w = record { reached = reached; past = λ m f lease there has. absurd (let no = subst (λ os. slice_get os m ≡ Some (AFollower f)) empty there in cc); apart = λ m i f g a b there here has_a has_b same. absurd (let no = subst (λ os. slice_get os m ≡ Some (AFollower f)) empty there in cc) } in
-    let halves = chain-halves settings w before (opened ∷ (later ++ step ∷ rest)) (subst (Chain settings w) is chain) in
+    let halves = chain-halves settings w before (opened ∷ (later ++ step ∷ rest)) (subst (WholeChain settings w) is chain) in
     let alls = all-halves settings (λ step. IsReached step.world) before (opened ∷ (later ++ step ∷ rest)) (subst (All (λ step. IsReached step.world)) is all) in
     let first = ready-chain settings w before ready halves.0 alls.0 in
     let link = halves.1.0 in

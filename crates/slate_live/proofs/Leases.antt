@@ -25,7 +25,7 @@ use Rattle.slate_live.specs.Calls.{OfObject, WholeStore, call_of, target_of}
 use Rattle.slate_live.proofs.Untouched.{Disturbs}
 use Rattle.slate_live.specs.Represents.{IsFollowerAt, IsReached}
 use Rattle.slate_live.specs.Settings.{Settings}
-use Rattle.slate_live.specs.World.{Next, World, state_of}
+use Rattle.slate_live.specs.World.{NextWhole, World, state_of}
 use Rattle.slate_live.proofs.Finding.{find-all, find-append, find-filter, find-map, found-id, has-other}
 use Rattle.slate_store.specs.Checkpoints.{checkpoint_id}
 use Rattle.slate_model.specs.Write.{last_number}
@@ -152,7 +152,7 @@ module _ (w : World) (reached : IsReached w) (id : List ℕ) (c : Checkpoint) (k
       (subst (λ (x : Catalogue). AreStored x its-pin.manifest.tables) (reached.3).catalogue (known-stored o its-pin.manifest.tables (stored-tables o its-pin.manifest its-pin.tables)))
 
 -- after a command that leaves it the checkpoint is there, and keeps what it kept
-module _ (settings : Settings) (w w' : World) (command : Command) (reply : Reply) (reached : IsReached w) (reached' : IsReached w') (next : Next settings w command reply w') where
+module _ (settings : Settings) (w w' : World) (command : Command) (reply : Reply) (reached : IsReached w) (reached' : IsReached w') (next : NextWhole settings w command reply w') where
   pub rising : AreRising (map (λ e. e.0) w.catalogue.manifests)
   rising = subst (λ (x : Catalogue). AreRising (map (λ e. e.0) x.manifests)) (reached.3).catalogue (reached.2).manifests
 
@@ -202,7 +202,7 @@ AreApart w =
 pub nothing-spared : (w : World) (latest : VersionedManifest) (command : Command) → Spares (λ manifest. Unit {0}) w latest command
 nothing-spared w latest command = record { kept = tt; flushed = λ handle last some. tt; compacted = λ table. tt; opened = λ name last. tt; swept = λ sweeps. tt; added = λ checkpoint. tt; polled = λ n f lease given next names asks at has gives. tt; closed = λ n f lease next flush_type names asks at live has gives. tt }
 
-module _ (settings : Settings) (w w' : World) (command : Command) (reply : Reply) (reached : IsReached w) (reached' : IsReached w') (next : Next settings w command reply w') (past : ArePast w) (apart : AreApart w) where
+module _ (settings : Settings) (w w' : World) (command : Command) (reply : Reply) (reached : IsReached w) (reached' : IsReached w') (next : NextWhole settings w command reply w') (past : ArePast w) (apart : AreApart w) where
   abbrev Fate : ℕ → Lease → Type 0
   Fate n lease = WasLease w n lease ⊎ NewLease w command (state_of w') n lease
 

@@ -1,5 +1,5 @@
 -- The whole follower of a reader that keeps a checkpoint of its own, of which the code keeps a part, once its plan was put.
-use Rattle.std.proofs.Common.{◌≡◌, ◌++◌, ℕ, Bool, true, false, inl, List, Option, Some, refl, sym, subst, ap, ◌∙◌}
+use Rattle.std.proofs.Common.{arith, ◌≡◌, ◌++◌, ℕ, Bool, true, false, inl, List, Option, Some, refl, sym, subst, ap, ◌∙◌}
 use Rattle.std.specs.Option.{is_some}
 use Rattle.slate_types.specs.Line.{Line, batches_above, end}
 use Rattle.slate_store.specs.Content.{IsSound, content, table_batches}
@@ -55,6 +55,11 @@ module _ (stored : Line) (skips opening : Bool) (o : Objects) (latest : Versione
     new-begins f.segments stored modes.ManagedCheckpoint skips opening o latest sound holds v f.mark mark,
     new-tabled f.segments stored modes.ManagedCheckpoint skips opening o latest sound holds v f.mark mark,
     λ managed live. leased,
+    λ free latest' at.
+        let same : latest ≡ latest' = (let b = at in cc) in
+        let e = ap (λ (m : VersionedManifest). m.manifest.last_l0_seq) same in
+        let view = alike.1 in
+        omega (arith, e, view),
   )
 
   pub leased-stored : AreStored o f.view.manifest.tables

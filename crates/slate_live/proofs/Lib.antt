@@ -1,3 +1,6 @@
+pub mod Advancing
+pub mod Beginning
+pub mod Begun
 pub mod Beside
 pub mod Carrying
 pub mod Cases
@@ -14,6 +17,7 @@ pub mod Fates
 pub mod Faulting
 pub mod Finding
 pub mod Following
+pub mod Growing
 pub mod Holding
 pub mod Keeping
 pub mod Knowing
@@ -28,6 +32,7 @@ pub mod Naming
 pub mod Onward
 pub mod Opening
 pub mod Places
+pub mod Polled
 pub mod Polling
 pub mod Prefixes
 pub mod Reading
@@ -40,9 +45,11 @@ pub mod Snapshots
 pub mod Statuses
 pub mod Staying
 pub mod Taking
+pub mod Stepped
 pub mod Tasked
 pub mod Tracking
 pub mod Turning
 pub mod Untouched
+pub mod Wholes
 pub mod Writing
 pub mod Lines

@@ -11,7 +11,7 @@ use Rattle.slate_model.specs.Object.{Object, Handle, Snapshot, Follower, batches
 use Rattle.slate_model.specs.Stores.{kept_rows}
 use Rattle.slate_model.specs.Tables.{AreJoined}
 use Rattle.slate_model.specs.Valid.{ReadsItsLine}
-use Rattle.slate_live.specs.Represents.{Represents}
+use Rattle.slate_live.specs.Represents.{RepresentsObjects}
 use Rattle.slate_live.specs.State.{Live}
 use Rattle.slate_live.specs.World.{World}
 
@@ -31,7 +31,7 @@ by-tables o (Follower follower) rows reads (stored, joined, same) =
     same ∙ (ap (λ front. front ++ batches_of (kept (Follower follower))) j.1 ∙ reads j.0)
 
 pub read-lines : (live : Live) (store : Known (List Batch)) (w : World) (n : ℕ) (object : Object) (rows : List Batch) →
-    Represents live store w → slice_get w.objects n ≡ Some object → kept_rows store.objects (kept object) rows → rows ≡ batches_of object
+    RepresentsObjects live store w → slice_get w.objects n ≡ Some object → kept_rows store.objects (kept object) rows → rows ≡ batches_of object
 read-lines live store w n object rows r at have =
     let held = r.held in
     by-tables held.0 object rows (held.4 n object at).0 (subst (λ t. kept_rows t (kept object) rows) held.1 have)

@@ -33,13 +33,13 @@ use Rattle.slate_live.specs.Leases.{closes}
 use Rattle.slate_live.specs.Replies.{followed_reply, refusal, reply_to}
 use Rattle.slate_live.specs.Represents.{IsFollowerAt, IsHandleAt, IsReached}
 use Rattle.slate_live.specs.Settings.{Settings, option_tasks}
-use Rattle.slate_live.specs.Steps.{Chain, Step, last_world}
-use Rattle.slate_live.specs.Valid.{Link}
-use Rattle.slate_live.specs.World.{Next, World, state_of}
+use Rattle.slate_live.specs.Steps.{Step, last_world}
+use Rattle.slate_live.specs.World.{NextWhole, World, state_of}
 use Rattle.slate_live.proofs.Cases.{by-option, some-of}
 use Rattle.slate_live.proofs.Lasting.{all-halves, chain-halves}
 use Rattle.slate_live.proofs.Places.{get-seam}
 use Rattle.slate_live.proofs.Tasked.{IsTasked, follower-after, follower-lists, handle-after, handle-lists}
+use Rattle.slate_live.proofs.Wholes.{WholeChain, WholeLink}
 
 -- an object of a world that has these tasks: a handle, or a reader
 data HasTasks (w : World) (n : ℕ) (tasks : List TaskName) : Type 0 where
@@ -62,7 +62,7 @@ followed-opens : (n m : ℕ) (mode : DbReaderMode) (managed : Option (ℕ × ℕ
 followed-opens n m mode managed skips (Whole at) is = eqb-true m n is
 followed-opens n m mode managed skips (Truncated at) is = eqb-true m n is
 
-module _ (settings : Settings) (w w' : World) (command : Command) (reply : Reply) (next : Next settings w command reply w') (n : ℕ) where
+module _ (settings : Settings) (w w' : World) (command : Command) (reply : Reply) (next : NextWhole settings w command reply w') (n : ℕ) where
   abbrev k : Knowledge Span
   k = by_catalogue w.stored w.catalogue
 
@@ -122,7 +122,7 @@ module _ (settings : Settings) (w w' : World) (command : Command) (reply : Reply
   opened-has action names is = absurd (cc)
 
 -- ---- after a step, and after steps
-step-has : (settings : Settings) (w : World) (step : Step) (n : ℕ) (tasks : List TaskName) → IsReached w → Link settings w step.command step.reply step.world → HasTasks w n tasks → HasTasks step.world n (cond (closes n step.command.action) [] tasks)
+step-has : (settings : Settings) (w : World) (step : Step) (n : ℕ) (tasks : List TaskName) → IsReached w → WholeLink settings w step.command step.reply step.world → HasTasks w n tasks → HasTasks step.world n (cond (closes n step.command.action) [] tasks)
 step-has settings w step n tasks reached link (OfHandle h at has) =
     let a = handle-after settings w step.command (link.next).made step.reply (state_of step.world) n h at (link.next).does in
     OfHandle a.0 a.1 (a.2 ∙ ap (cond (closes n step.command.action) []) has)
@@ -136,7 +136,7 @@ both true false tasks = refl
 both false true tasks = refl
 both false false tasks = refl
 
-listed : (settings : Settings) (w : World) (later rest : List Step) (closing : Step) (n : ℕ) (had : List TaskName) (fault : Option SlateError) (tasks : List TaskName) → IsReached w → Chain settings w (later ++ closing ∷ rest) → All (λ (step : Step). IsReached step.world) (later ++ closing ∷ rest) → HasTasks w n had →
+listed : (settings : Settings) (w : World) (later rest : List Step) (closing : Step) (n : ℕ) (had : List TaskName) (fault : Option SlateError) (tasks : List TaskName) → IsReached w → WholeChain settings w (later ++ closing ∷ rest) → All (λ (step : Step). IsReached step.world) (later ++ closing ∷ rest) → HasTasks w n had →
     closes n closing.command.action ≡ true → closing.reply ≡ replies.Ended fault tasks → tasks ≡ cond (list_any (λ (step : Step). closes n step.command.action) later) [] had
 listed settings w [] rest closing n had fault tasks reached chain all (OfHandle h at has) closes_it is = handle-lists settings w closing.world closing.command closing.reply (chain.0).next n fault tasks is h at closes_it ∙ has
 listed settings w [] rest closing n had fault tasks reached chain all (OfReader f at tasked has) closes_it is = follower-lists settings w closing.world closing.command closing.reply (chain.0).next n fault tasks is f at closes_it ∙ has
@@ -147,9 +147,9 @@ listed settings w (s ∷ later) rest closing n had fault tasks reached chain all
     ∙ both (closes n s.command.action) (list_any (λ (step : Step). closes n step.command.action) later) had
 
 -- ---- the law
-pub list_tasks : (settings : Settings) (w : World) (steps : List Step) → Chain settings w steps → All (λ step. IsReached step.world) steps → ListTasks settings.options steps
+pub list_tasks : (settings : Settings) (w : World) (steps : List Step) → WholeChain settings w steps → All (λ step. IsReached step.world) steps → ListTasks settings.options steps
 list_tasks settings w steps chain all before later rest opened closing n fault tasks is opens_it closes_it replied =
-    let halves = chain-halves settings w before (opened ∷ (later ++ closing ∷ rest)) (subst (Chain settings w) is chain) in
+    let halves = chain-halves settings w before (opened ∷ (later ++ closing ∷ rest)) (subst (WholeChain settings w) is chain) in
     let alls = all-halves settings (λ (step : Step). IsReached step.world) before (opened ∷ (later ++ closing ∷ rest)) (subst (All (λ (step : Step). IsReached step.world)) is all) in
     let link = halves.1.0 in
     let reached = All-head (λ (step : Step). IsReached step.world) opened (later ++ closing ∷ rest) alls.1 in

@@ -8,6 +8,7 @@ use Rattle.slate_store.specs.Content.{IsSound}
 use Rattle.slate_store.specs.Objects.{Objects, latest_manifest}
 use Rattle.slate_store.specs.declared.objects.TableId.{TableId}
 use Rattle.slate_store.specs.declared.objects.VersionedManifest.{VersionedManifest}
+use Rattle.slate_model.specs.Begun.{Begun}
 use Rattle.slate_model.specs.Catalogue.{catalogue_of}
 use Rattle.slate_model.specs.Changes.{after_part}
 use Rattle.slate_model.specs.Follower.{Follower}
@@ -21,7 +22,7 @@ use Rattle.slate_model.proofs.Moving.{Follows, Moved}
 use Rattle.slate_model.proofs.Opening.{opened-follows, opened-logs_are, same-table_at}
 use Rattle.slate_model.proofs.Prefixes.{prefix-same}
 use Rattle.slate_live.specs.declared.states.Write.{Write}
-use Rattle.slate_live.specs.Beside.{StandsBeside}
+use Rattle.slate_live.specs.Standing.{StandsBeside}
 use Rattle.slate_live.specs.Represents.{AreOfPast, Holds, IsHandleAt, IsHeld, IsValid, IsValidFollower}
 use Rattle.slate_live.specs.World.{World}
 use Rattle.slate_live.proofs.Following.{follower-follows}
@@ -40,9 +41,9 @@ module _ (w : World) (o : Objects) where
     pub logs : LogsAre (OfLine stored') o o'
 
   -- a reader that stood beside the world stands beside the next one
-  pub beside-onward : (stored' : Line) (o' : Objects) (objects : List Object) (writes : List Write) (faults : ℕ) → Holds o w → Onward stored' o' objects → (f : Follower) → StandsBeside o w f →
-      StandsBeside o' (record { stored = stored'; catalogue = catalogue_of o'; objects = objects; writes = writes; faults = faults }) f
-  beside-onward stored' o' objects writes faults holds on f s =
+  pub beside-onward : (stored' : Line) (o' : Objects) (objects : List Object) (polls : List (Option Begun)) (writes : List Write) (faults : ℕ) → Holds o w → Onward stored' o' objects → (f : Follower) → StandsBeside o w f →
+      StandsBeside o' (record { stored = stored'; catalogue = catalogue_of o'; objects = objects; polls = polls; writes = writes; faults = faults }) f
+  beside-onward stored' o' objects polls writes faults holds on f s =
       let past : AreOfPast (catalogue_of o) f.view.manifest.tables = subst (λ c. AreOfPast c f.view.manifest.tables) (sym holds.catalogue) s.past in
       let next = on.follows past.0 past.1 in
       let g = next.1 in

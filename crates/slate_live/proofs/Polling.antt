@@ -45,14 +45,15 @@ use Rattle.slate_live.specs.Replies.{polled_reply, refusal, reply_to}
 use Rattle.slate_live.specs.Represents.{AreInSegments, IsFollowerAt, IsReached}
 use Rattle.slate_live.specs.Settings.{Settings}
 use Rattle.slate_live.specs.Statuses.{IsFull, PollsFit}
-use Rattle.slate_live.specs.Steps.{Chain, Step}
-use Rattle.slate_live.specs.World.{Next, World, state_of}
+use Rattle.slate_live.specs.Steps.{Step}
+use Rattle.slate_live.specs.World.{NextWhole, World, state_of}
 use Rattle.slate_live.proofs.Cases.{by-bool, by-option, some-of}
 use Rattle.slate_live.proofs.Everywhere.{everywhere}
 use Rattle.slate_live.proofs.Leases.{latest-after, nothing-spared}
 use Rattle.slate_live.proofs.Naming.{follower-did, handle-acted}
 use Rattle.slate_live.proofs.Rising.{managed-mode}
 use Rattle.slate_live.proofs.Segmented.{none-lacks, segmented-next}
+use Rattle.slate_live.proofs.Wholes.{WholeChain}
 
 -- ---- a plan that has no id left
 put-full : {A : Type 0} (latest next : VersionedManifest) (answer : A) → puts_next latest next answer ≡ Err refusals.InvalidDBState → last_number ≤ latest.id
@@ -225,7 +226,7 @@ module _ (settings : Settings) (w : World) (reached : IsReached w) (segments : A
   follower-broken Nothing reply writes' a is = kept-broken a.1 is
 
 -- ---- a step
-module _ (settings : Settings) (w w' : World) (command : Command) (reply : Reply) (reached : IsReached w) (reached' : IsReached w') (next : Next settings w command reply w') (segments : AreInSegments settings.extractor w) (all : AllBroken w) where
+module _ (settings : Settings) (w w' : World) (command : Command) (reply : Reply) (reached : IsReached w) (reached' : IsReached w') (next : NextWhole settings w command reply w') (segments : AreInSegments settings.extractor w) (all : AllBroken w) where
   abbrev known : Knowledge Span
   known = by_catalogue w.stored w.catalogue
 
@@ -282,7 +283,7 @@ module _ (settings : Settings) (w w' : World) (command : Command) (reply : Reply
         full-after (on-poll (slice_get w.objects n) refl (subst (λ c. ActsOn known settings n command c next.made (slice_get w.objects n) (state_of w) reply (state_of w')) (ap call_of names) does))
 
 -- ---- the law
-fit-from : (settings : Settings) (w : World) (steps : List Step) → IsReached w → AreInSegments settings.extractor w → AllBroken w → Chain settings w steps → All (λ (step : Step). IsReached step.world) steps → PollsFit steps
+fit-from : (settings : Settings) (w : World) (steps : List Step) → IsReached w → AreInSegments settings.extractor w → AllBroken w → WholeChain settings w steps → All (λ (step : Step). IsReached step.world) steps → PollsFit steps
 fit-from settings w [] reached segments broken chain all i n step at names replied = absurd (cc)
 fit-from settings w (s ∷ steps) reached segments broken (link, chain) all zero n step at names replied =
     let is : s ≡ step = cc in
@@ -293,6 +294,6 @@ fit-from settings w (s ∷ steps) reached segments broken (link, chain) all (suc
     fit-from settings s.world steps reached' (segmented-next settings w s.world s.command s.reply reached reached' link.next segments)
     (step-broken settings w s.world s.command s.reply reached reached' link.next segments broken) chain (All-tail (λ (step : Step). IsReached step.world) s steps all) i n step at names replied
 
-pub polls_fit : (settings : Settings) (w : World) (steps : List Step) → w.objects ≡ [] → IsReached w → AreInSegments settings.extractor w → Chain settings w steps → All (λ step. IsReached step.world) steps → PollsFit steps
+pub polls_fit : (settings : Settings) (w : World) (steps : List Step) → w.objects ≡ [] → IsReached w → AreInSegments settings.extractor w → WholeChain settings w steps → All (λ step. IsReached step.world) steps → PollsFit steps
 polls_fit settings w steps none reached segments chain all =
     fit-from settings w steps reached segments (λ n object at. absurd (let gone = sym (ap (λ os. slice_get os n) none) ∙ at in cc)) chain all

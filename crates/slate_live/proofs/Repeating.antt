@@ -18,7 +18,7 @@ use Rattle.slate_script.specs.declared.commands.Action.TheVariants as actions
 use Rattle.slate_script.specs.declared.commands.Command.{Command}
 use Rattle.slate_script.specs.declared.replies.Reply.{Reply}
 use Rattle.slate_script.specs.declared.replies.Reply.TheVariants as replies
-use Rattle.slate_live.specs.Calls.{Close, call_of, flush_of_close, target_of}
+use Rattle.slate_live.specs.Calls.{Close, Whole, call_of, flush_of_close, kind_of, target_of}
 use Rattle.slate_live.specs.Closings.{IsClosedBy, RepeatErrors}
 use Rattle.slate_live.specs.Commands.{ActsOn, DoesBy}
 use Rattle.slate_live.specs.Followers.{ClosesAs}
@@ -27,10 +27,11 @@ use Rattle.slate_live.specs.Replies.{follower_ended_reply}
 use Rattle.slate_live.specs.Rising.{Rise, Rises}
 use Rattle.slate_live.specs.Settings.{Settings}
 use Rattle.slate_live.specs.Steps.{Chain, Step, last_world}
-use Rattle.slate_live.specs.World.{Next, World, state_of}
+use Rattle.slate_live.specs.World.{NextWhole, World, state_of}
 use Rattle.slate_live.proofs.Cases.{some-of}
-use Rattle.slate_live.proofs.Lasting.{chain-halves}
 use Rattle.slate_live.proofs.Naming.{follower-did}
+use Rattle.slate_live.proofs.Begun.{by-kind}
+use Rattle.slate_live.proofs.Wholes.{link-halves, next-whole}
 
 -- it stays so over a step, and over steps
 still-closed : (w w' : World) (n : ℕ) (fault : CloseFault) → Rise w.objects w'.objects → IsClosedBy w n fault → IsClosedBy w' n fault
@@ -45,7 +46,7 @@ closed-later settings w [] n fault chain closed = closed
 closed-later settings w (s ∷ steps) n fault (link, chain) closed = closed-later settings s.world steps n fault chain (still-closed w s.world n fault link.rises closed)
 
 -- ---- the close
-module _ (settings : Settings) (w w' : World) (command : Command) (reply : Reply) (next : Next settings w command reply w') (n : ℕ) (fault : CloseFault) (closed : IsClosedBy w n fault) where
+module _ (settings : Settings) (w w' : World) (command : Command) (reply : Reply) (next : NextWhole settings w command reply w') (n : ℕ) (fault : CloseFault) (closed : IsClosedBy w n fault) where
   abbrev k : Knowledge Span
   k = by_catalogue w.stored w.catalogue
 
@@ -65,9 +66,13 @@ module _ (settings : Settings) (w w' : World) (command : Command) (reply : Reply
       c.replied ∙ (ap (follower_ended_reply (closed.0).result) answer ∙ ap (λ (r : CloseResult). follower_ended_reply r (ended (closed.0).tasks (recorded_fault r))) closed.2)
   close-repeats action names closing = absurd (cc)
 
+-- a close makes a call whole
+closes-whole : (action : Action) (n : ℕ) → closes n action ≡ true → kind_of action ≡ Whole
+closes-whole action n is = by-kind (λ a. closes n a ≡ true) (λ m no. absurd (cc)) (λ m no. absurd (cc)) action is
+
 -- ---- the law
 pub repeat_errors : (settings : Settings) (first : World) (steps : List Step) → Chain settings first steps → RepeatErrors steps
 repeat_errors settings first steps chain before later rest failed closing n fault is closed closing_it =
-    let halves = chain-halves settings first before (failed ∷ (later ++ closing ∷ rest)) (subst (Chain settings first) is chain) in
-    let more = chain-halves settings failed.world later (closing ∷ rest) halves.1.1 in
-    close-repeats settings (last_world failed.world later) closing.world closing.command closing.reply more.1.0.next n fault (closed-later settings failed.world later n fault more.0 closed) closing.command.action refl closing_it
+    let halves = link-halves settings first before (failed ∷ (later ++ closing ∷ rest)) (subst (Chain settings first) is chain) in
+    let more = link-halves settings failed.world later (closing ∷ rest) halves.1.1 in
+    close-repeats settings (last_world failed.world later) closing.world closing.command closing.reply (next-whole settings (last_world failed.world later) closing.command closing.reply closing.world (closes-whole closing.command.action n closing_it) more.1.0.next) n fault (closed-later settings failed.world later n fault more.0 closed) closing.command.action refl closing_it

@@ -9,6 +9,7 @@ use Rattle.slate_types.specs.Line.{IsLine, Line}
 use Rattle.slate_store.specs.Content.{IsSound}
 use Rattle.slate_store.specs.Objects.{Objects, table_at}
 use Rattle.slate_errors.specs.declared.errors.SlateError.{SlateError}
+use Rattle.slate_model.specs.Begun.{Begun}
 use Rattle.slate_model.specs.Catalogue.{catalogue_of}
 use Rattle.slate_model.specs.declared.answers.PollAnswer.{PollAnswer}
 use Rattle.slate_model.specs.Follow.{Rebuilds, unseen}
@@ -32,15 +33,15 @@ use Rattle.slate_script.specs.declared.commands.Command.{Command}
 use Rattle.slate_script.specs.declared.replies.Reply.{Reply}
 use Rattle.slate_script.specs.declared.replies.Reply.TheVariants as replies
 use Rattle.slate_live.specs.declared.states.Write.{Write}
-use Rattle.slate_live.specs.Calls.{Call, Write as WriteCall, Merge as MergeCall, Flush, Refresh, Compact, Get, Scan, Seek, Close, Poll, Status, FindTime, FindNumber, Nothing, call_of, named, Target, NewHandle, NewSnapshot, NewFollower, NewCheckpoint, WholeStore, OfWrite, OfObject, at_snapshot, target_of}
+use Rattle.slate_live.specs.Calls.{ArePolls, Call, Write as WriteCall, Merge as MergeCall, Flush, Refresh, Compact, Get, Scan, Seek, Close, Poll, Status, FindTime, FindNumber, Nothing, call_of, named, Target, NewHandle, NewSnapshot, NewFollower, NewCheckpoint, WholeStore, OfWrite, OfObject, at_snapshot, target_of}
 use Rattle.slate_live.specs.Commands.{Acts, ActsAt, ActsOn, Adds, Does, DoesBy, DoesToStore, OpensSnapshot, ReadsSnapshot, added, asked_reply, interval_of, lifetime_of, write_reply}
 use Rattle.slate_live.specs.Maintenance.{CommitsTo, SweepsTo}
 use Rattle.slate_live.specs.Replies.{followed_reply, reply_to}
-use Rattle.slate_live.specs.Beside.{StandsBeside}
-use Rattle.slate_live.specs.Represents.{IsHandleAt, IsHeld, Holds, IsValid, Represents}
+use Rattle.slate_live.specs.Standing.{StandsBeside}
+use Rattle.slate_live.specs.Represents.{IsHandleAt, IsHeld, Holds, IsValid, RepresentsObjects}
 use Rattle.slate_live.specs.Settings.{Settings, option_tasks}
 use Rattle.slate_live.specs.State.{Live, State, running}
-use Rattle.slate_live.specs.World.{Next, World, grown_by, state_of, stored_after}
+use Rattle.slate_live.specs.World.{NextWhole, World, grown_by, state_of, stored_after}
 use Rattle.slate_live.proofs.Following.{new-held, new-stored, new-valid, seen-kept, seen-mark, with_segments}
 use Rattle.slate_live.proofs.Knowing.{AfterOf, follower-after, follower-led, handle-after, handle-led}
 use Rattle.slate_model.proofs.Owing.{owed_line}
@@ -53,6 +54,7 @@ use Rattle.slate_live.proofs.Maintaining.{after, after-holds, after-valid, maint
 use Rattle.slate_live.proofs.Taking.{Taken, taken, taken-after}
 use Rattle.slate_live.proofs.Onward.{Onward, before-added, beside-onward, onward-maintained, onward-moved, onward-opened, onward-same, onward-unopened}
 use Rattle.slate_live.proofs.Opening.{opened-leads, unopened-leads}
+use Rattle.slate_live.proofs.Begun.{are-left, left_polls}
 use Rattle.slate_live.proofs.Changing.{handles-set-follower}
 use Rattle.slate_live.proofs.Places.{get-map}
 use Rattle.slate_live.proofs.Snapshots.{snapshots-kept}
@@ -142,7 +144,7 @@ write-kept objects (Some write) =
     ap (λ found. asked_reply found write.number) (get-map kept objects write.handle) ∙ asked-kept (slice_get objects write.handle) write.number
 
 module _ (settings : Settings) (w : World) (o : Objects) (is_sound : IsSound o) (holds : Holds o w) (valid : IsValid w) (reads : (n : ℕ) (x : Object) → slice_get w.objects n ≡ Some x → IsHeld o x)
-    (command : Command) (made : ℕ) (reply : Reply) (live_objects : List Object) (writes : List Write) (store : Known (List Batch)) where
+    (command : Command) (made : ℕ) (reply : Reply) (live_objects : List Object) (polls : List (Option Begun)) (writes : List Write) (store : Known (List Batch)) where
   -- the state before, by the store's own objects and what is kept of the world's, and the one after
   abbrev s : State (List Batch)
   s = record { objects = map kept w.objects; writes = w.writes; store = holding o w.faults }
@@ -155,7 +157,7 @@ module _ (settings : Settings) (w : World) (o : Objects) (is_sound : IsSound o) 
 
   -- the world after, with these objects, where the store holds these
   abbrev world : Objects → List Object → World
-  world o' objects = record { stored = stored'; catalogue = catalogue_of o'; objects = objects; writes = writes; faults = store.faults }
+  world o' objects = record { stored = stored'; catalogue = catalogue_of o'; objects = objects; polls = polls; writes = writes; faults = store.faults }
 
   pub record Led : Type 0 where
     pub after : Objects
@@ -620,9 +622,9 @@ BesideThen store w store' w' =
     (o o' : Objects) (f : Follower) → store.objects ≡ Some o → store'.objects ≡ Some o' → (StandsBeside o w f → StandsBeside o' w' f) × LogsAre (OfLine w'.stored) o o'
 
 -- from a world that is represented, a command leads to one that is
-pub leads-beside : (settings : Settings) (live live' : Live) (store store' : Known (List Batch)) (w : World) (command : Command) (made : ℕ) (reply : Reply) → Represents live store w → Does (by_objects store.objects) settings made (running live store) command reply (running live' store') →
-    (w' : World) × Next settings w command reply w' × Represents live' store' w' × BesideThen store w store' w'
-leads-beside settings live live' store store' w command made reply r d =
+pub leads-beside : (settings : Settings) (live live' : Live) (store store' : Known (List Batch)) (w : World) (command : Command) (made : ℕ) (reply : Reply) (polls : List (Option Begun)) → ArePolls command.action w.polls polls → RepresentsObjects live store w → Does (by_objects store.objects) settings made (running live store) command reply (running live' store') →
+    (w' : World) × NextWhole settings w command reply w' × RepresentsObjects live' store' w' × BesideThen store w store' w' × (w'.polls ≡ polls)
+leads-beside settings live live' store store' w command made reply polls are r d =
     let o = (r.held).0 in
     let state : running live store ≡ record { objects = map kept w.objects; writes = w.writes; store = holding o w.faults } =
     ap (λ x. record { objects = x; writes = live.writes; store = store }) r.objects
@@ -632,28 +634,29 @@ leads-beside settings live live' store store' w command made reply r d =
     let by_held : Does (by_objects (Some o)) settings made (record { objects = map kept w.objects; writes = w.writes; store = holding o w.faults }) command reply (running live' store') =
     subst (λ objects. Does (by_objects objects) settings made (record { objects = map kept w.objects; writes = w.writes; store = holding o w.faults }) command reply (running live' store')) (r.held).1
     (subst (λ x. Does (by_objects store.objects) settings made x command reply (running live' store')) state d) in
-    let l = led-by settings w o (r.held).2 (r.held).3 r.valid (r.held).4 command made reply live'.objects live'.writes store' (target_of command.action) refl by_held in
+    let l = led-by settings w o (r.held).2 (r.held).3 r.valid (r.held).4 command made reply live'.objects polls live'.writes store' (target_of command.action) refl by_held in
     let lead = l.leads in (
-      world settings w o (r.held).2 (r.held).3 r.valid (r.held).4 command made reply live'.objects live'.writes store' l.after l.objects,
-      record { made = made; does = l.does; stored = refl },
+      world settings w o (r.held).2 (r.held).3 r.valid (r.held).4 command made reply live'.objects polls live'.writes store' l.after l.objects,
+      record { made = made; does = l.does; stored = refl; polls = are },
       record {
         held = (l.after, l.modelled, lead.sound, record { stored = lead.content; catalogue = refl }, lead.reads);
         faults = refl;
         objects = l.kept;
         writes = refl;
-        valid = record { line = subst IsLine lead.content (lead.sound).line; followers = lead.followers; handles = lead.handles; snapshots = snapshots-kept settings w (world settings w o (r.held).2 (r.held).3 r.valid (r.held).4 command made reply live'.objects live'.writes store' l.after l.objects) command reply r.valid (record { made = made; does = l.does; stored = refl }); named = lead.named; past = lead.past; distinct = lead.distinct };
+        valid = record { line = subst IsLine lead.content (lead.sound).line; followers = lead.followers; handles = lead.handles; snapshots = snapshots-kept settings w (world settings w o (r.held).2 (r.held).3 r.valid (r.held).4 command made reply live'.objects polls live'.writes store' l.after l.objects) command reply r.valid (record { made = made; does = l.does; stored = refl; polls = are }); named = lead.named; past = lead.past; distinct = lead.distinct };
       },
       λ first second f at at'.
           let is_first : o ≡ first = (let there = (r.held).1 in cc) in
           let is_second : l.after ≡ second = (let there = l.modelled in cc) in
-          let w' = world settings w o (r.held).2 (r.held).3 r.valid (r.held).4 command made reply live'.objects live'.writes store' l.after l.objects in
+          let w' = world settings w o (r.held).2 (r.held).3 r.valid (r.held).4 command made reply live'.objects polls live'.writes store' l.after l.objects in
           subst (λ x. (StandsBeside x w f → StandsBeside second w' f) × LogsAre (OfLine w'.stored) x second) is_first
           (subst (λ x. (StandsBeside o w f → StandsBeside x w' f) × LogsAre (OfLine w'.stored) o x) is_second
-          (beside-onward w o w'.stored l.after l.objects live'.writes store'.faults (r.held).3 l.onward f, (l.onward).logs)),
+          (beside-onward w o w'.stored l.after l.objects polls live'.writes store'.faults (r.held).3 l.onward f, (l.onward).logs)),
+      refl,
     )
 
-pub leads : (settings : Settings) (live live' : Live) (store store' : Known (List Batch)) (w : World) (command : Command) (made : ℕ) (reply : Reply) → Represents live store w → Does (by_objects store.objects) settings made (running live store) command reply (running live' store') →
-    (w' : World) × Next settings w command reply w' × Represents live' store' w'
+pub leads : (settings : Settings) (live live' : Live) (store store' : Known (List Batch)) (w : World) (command : Command) (made : ℕ) (reply : Reply) → RepresentsObjects live store w → Does (by_objects store.objects) settings made (running live store) command reply (running live' store') →
+    (w' : World) × NextWhole settings w command reply w' × RepresentsObjects live' store' w'
 leads settings live live' store store' w command made reply r d =
-    let l = leads-beside settings live live' store store' w command made reply r d in
+    let l = leads-beside settings live live' store store' w command made reply (left_polls command.action w.polls) (are-left command.action w.polls) r d in
     (l.0, l.1, l.2)

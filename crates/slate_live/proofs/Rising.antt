@@ -48,7 +48,7 @@ use Rattle.slate_live.specs.Represents.{IsValidFollower, IsValid}
 use Rattle.slate_live.specs.Rising.{FollowerRises, HandleRises, Rise, Rises, StaysClosed}
 use Rattle.slate_live.specs.Settings.{Settings}
 use Rattle.slate_live.specs.State.{State}
-use Rattle.slate_live.specs.World.{World, Next, state_of}
+use Rattle.slate_live.specs.World.{World, NextWhole, state_of}
 use Rattle.slate_live.proofs.Following.{owed-above, owed-not_below}
 use Rattle.slate_live.proofs.Cases.{by-option, close-by, compact-by, flush-by, is-none, refresh-by, some-of}
 use Rattle.slate_live.proofs.Places.{get-before, get-set_other, get-set_same}
@@ -159,7 +159,7 @@ handle-rises stored catalogue settings n moment second (FindTime number find) ma
 handle-rises stored catalogue settings n moment second (FindNumber seconds find) made h before writes reply h' after writes' low a = rises-same h h' a.1
 handle-rises stored catalogue settings n moment second Nothing made h before writes reply h' after writes' low a = rises-same h h' a.1
 
-follower-same : (f f' : Follower) → f' ≡ f → FollowerRises f f'
+pub follower-same : (f f' : Follower) → f' ≡ f → FollowerRises f f'
 follower-same f f' same = subst (FollowerRises f) (sym same) (record { mode = refl; skips = refl; number = omega arith; result = stays f.result })
 
 -- what a poll leaves: the follower as it was, or one that sees what it is owed
@@ -255,13 +255,13 @@ rises-refl (AHandle h) = rises-same h h refl
 rises-refl (ASnapshot x) = refl
 rises-refl (AFollower f) = follower-same f f refl
 
-rise-same : (xs ys : List Object) → ys ≡ xs → Rise xs ys
+pub rise-same : (xs ys : List Object) → ys ≡ xs → Rise xs ys
 rise-same xs ys same n old at = (old, subst (λ os. slice_get os n ≡ Some old) (sym same) at, rises-refl old)
 
 rise-push : (xs ys zs : List Object) → ys ≡ xs ++ zs → Rise xs ys
 rise-push xs ys zs is n old at = (old, subst (λ os. slice_get os n ≡ Some old) (sym is) (get-before xs zs n old at), rises-refl old)
 
-rise-set : (xs ys : List Object) (m : ℕ) (x y : Object) → slice_get xs m ≡ Some x → Rises x y → ys ≡ set xs m y → Rise xs ys
+pub rise-set : (xs ys : List Object) (m : ℕ) (x y : Object) → slice_get xs m ≡ Some x → Rises x y → ys ≡ set xs m y → Rise xs ys
 rise-set xs ys m x y at rises is n old at_old =
     elim (cases_eq n m) [
       | inl same ↦
@@ -317,5 +317,5 @@ module _ (settings : Settings) (w : World) (valid : IsValid w) (command : Comman
   does-rises (OfObject n) d = on-rises n (call_of command.action) (slice_get w.objects n) refl d
 
 -- whatever a command answers, no object goes back
-pub rises : (settings : Settings) (w : World) (command : Command) (reply : Reply) (w' : World) → IsValid w → Next settings w command reply w' → Rise w.objects w'.objects
+pub rises : (settings : Settings) (w : World) (command : Command) (reply : Reply) (w' : World) → IsValid w → NextWhole settings w command reply w' → Rise w.objects w'.objects
 rises settings w command reply w' valid next = does-rises settings w valid command next.made reply (state_of w') (target_of command.action) next.does

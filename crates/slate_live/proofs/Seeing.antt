@@ -39,7 +39,7 @@ use Rattle.slate_live.specs.Represents.{IsFollowerAt, IsLeased, IsValid, follows
 use Rattle.slate_live.proofs.Following.{owed-all}
 use Rattle.slate_live.specs.Replies.{followed_reply, polled_reply, refusal, reply_to}
 use Rattle.slate_live.specs.Settings.{Settings, option_tasks}
-use Rattle.slate_live.specs.World.{Next, World, state_of}
+use Rattle.slate_live.specs.World.{NextWhole, World, state_of}
 use Rattle.slate_live.proofs.Cases.{by-option, some-of}
 use Rattle.slate_live.proofs.Naming.{follower-did, handle-acted}
 use Rattle.slate_live.proofs.Places.{get-seam, get-set_same}
@@ -240,11 +240,13 @@ sees-action settings batch w w' valid command made (actions.Close n options) rep
 sees-action settings batch w w' valid command made (actions.Status n) reply is stands d = tt
 sees-action settings batch w w' valid command made (actions.Ts n number find) reply is stands d = tt
 sees-action settings batch w w' valid command made (actions.Seq n seconds find) reply is stands d = tt
+sees-action settings batch w w' valid command made (actions.Begin n) reply is stands d = tt
+sees-action settings batch w w' valid command made (actions.Step n) reply is stands d = tt
 sees-action settings batch w w' valid command made (actions.Snapshot n) reply is stands d = tt
 sees-action settings batch w w' valid command made (actions.Await n) reply is stands d = tt
 sees-action settings batch w w' valid command made (actions.Checkpoint lifetime) reply is stands d = tt
 sees-action settings batch w w' valid command made actions.Sweep reply is stands d = tt
 
 -- what is stored is seen by each opening and each poll
-pub sees : (settings : Settings) (w : World) (command : Command) (reply : Reply) (w' : World) → IsValid w → Next settings w command reply w' → (batch : Batch) → StandsIn batch w.stored → Sees batch command.action reply w'
+pub sees : (settings : Settings) (w : World) (command : Command) (reply : Reply) (w' : World) → IsValid w → NextWhole settings w command reply w' → (batch : Batch) → StandsIn batch w.stored → Sees batch command.action reply w'
 sees settings w command reply w' valid next batch stands = sees-action settings batch w w' valid command next.made command.action reply refl stands next.does

@@ -54,7 +54,7 @@ use Rattle.slate_live.specs.Represents.{AreInSegments, HaveSegments, IsHandleAt,
 use Rattle.slate_live.specs.Rising.{Rises}
 use Rattle.slate_live.specs.Settings.{Settings, option_tasks}
 use Rattle.slate_live.specs.State.{State}
-use Rattle.slate_live.specs.World.{Next, World, grown_by, state_of}
+use Rattle.slate_live.specs.World.{NextWhole, World, grown_by, state_of}
 use Rattle.slate_live.proofs.Carrying.{Spares}
 use Rattle.slate_live.proofs.Cases.{by-option, close-by, compact-by, flush-by, refresh-by, some-of}
 use Rattle.slate_live.proofs.Following.{owed-all}
@@ -261,7 +261,7 @@ free-of modes.FollowLatest skips all = refl
 free-of modes.ManagedCheckpoint skips all = refl
 
 -- ---- a command
-module _ (settings : Settings) (w w' : World) (command : Command) (reply : Reply) (reached : IsReached w) (reached' : IsReached w') (next : Next settings w command reply w') (segments : AreInSegments settings.extractor w) where
+module _ (settings : Settings) (w w' : World) (command : Command) (reply : Reply) (reached : IsReached w) (reached' : IsReached w') (next : NextWhole settings w command reply w') (segments : AreInSegments settings.extractor w) where
   abbrev x : Option Extractor
   x = settings.extractor
 

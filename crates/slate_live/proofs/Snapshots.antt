@@ -35,7 +35,7 @@ use Rattle.slate_script.specs.declared.commands.Command.{Command}
 use Rattle.slate_script.specs.declared.replies.Reply.{Reply}
 use Rattle.slate_script.specs.declared.replies.Reply.TheVariants as replies
 use Rattle.slate_live.specs.declared.states.Write.{Write}
-use Rattle.slate_live.specs.Calls.{Call, NewHandle, NewSnapshot, NewFollower, NewCheckpoint, WholeStore, OfWrite, OfObject, Target, at_snapshot, call_of, target_of}
+use Rattle.slate_live.specs.Calls.{Whole, kind_of, Call, NewHandle, NewSnapshot, NewFollower, NewCheckpoint, WholeStore, OfWrite, OfObject, Target, at_snapshot, call_of, target_of}
 use Rattle.slate_live.specs.Commands.{ActsAt, ActsOn, DoesBy, OpensSnapshot, ReadsSnapshot, added}
 use Rattle.slate_live.specs.Handles.{GetsFrom, HandleActs, TakesFrom, TakesSnapshot, cut}
 use Rattle.slate_live.specs.Replies.{found_reply, refusal, reply_to}
@@ -47,7 +47,7 @@ use Rattle.slate_live.specs.Snapshots.{SnapshotsStay, is_answer, reads_all}
 use Rattle.slate_live.specs.State.{State}
 use Rattle.slate_live.specs.Steps.{Chain, Step}
 use Rattle.slate_live.specs.Valid.{Link}
-use Rattle.slate_live.specs.World.{Next, World, state_of}
+use Rattle.slate_live.specs.World.{NextWhole, World, state_of}
 use Rattle.slate_live.proofs.Cases.{by-option, some-of}
 use Rattle.slate_live.proofs.Keeping.{keeps-handles}
 use Rattle.slate_live.proofs.Naming.{follower-did, handle-acted}
@@ -55,6 +55,8 @@ use Rattle.slate_live.proofs.Places.{get-push, get-set}
 use Rattle.slate_live.proofs.Prefixes.{prefix-end}
 use Rattle.slate_live.proofs.Reading.{front-read, scan-front}
 use Rattle.slate_live.proofs.Rising.{rises}
+use Rattle.slate_live.proofs.Begun.{by-kind}
+use Rattle.slate_live.proofs.Wholes.{next-whole}
 
 -- ---- each snapshot is of a handle
 accepted-then : (result : CloseResult) (at number : ℕ) → ◌≡◌ {A = Result ℕ SlateError} (Ok number) (unless_closed result at) → number ≡ at
@@ -142,7 +144,7 @@ risen-handle xs ys x rise (h, at, low, high) =
     let ends = prefix-end h.line (new.0).line new.2 in
     (new.0, new.1, omega (arith, floor, low), omega (arith, ends, high))
 
-pub snapshots-kept : (settings : Settings) (w w' : World) (command : Command) (reply : Reply) → IsValid w → Next settings w command reply w' → (n : ℕ) (x : HandleSnapshot) → slice_get w'.objects n ≡ Some (ASnapshot x) → IsOfHandle w'.objects x
+pub snapshots-kept : (settings : Settings) (w w' : World) (command : Command) (reply : Reply) → IsValid w → NextWhole settings w command reply w' → (n : ℕ) (x : HandleSnapshot) → slice_get w'.objects n ≡ Some (ASnapshot x) → IsOfHandle w'.objects x
 snapshots-kept settings w w' command reply valid next n x at =
     risen-handle w.objects w'.objects x (rises settings w command reply w' valid next)
     (were settings w valid command next.made reply (state_of w') (target_of command.action) next.does n x at)
@@ -260,6 +262,10 @@ read-names (actions.Scan m range order false) n is = let same : m ≡ n = cc in 
 read-names (actions.Seek m range count key order false) n is = let same : m ≡ n = cc in ap OfObject same
 read-names action n is = absurd (cc)
 
+-- and makes a call whole
+reads-whole : (action : Action) (n : ℕ) → reads_all action ≡ Some n → kind_of action ≡ Whole
+reads-whole action n is = by-kind (λ a. reads_all a ≡ Some n) (λ m no. absurd (cc)) (λ m no. absurd (cc)) action is
+
 unknown-not : (reply : Reply) → reply ≡ replies.Unknown → is_answer reply ≡ true → ⊥
 unknown-not reply is answered = absurd (let known = sym (ap is_answer is) ∙ answered in cc)
 
@@ -300,16 +306,17 @@ module _ (settings : Settings) where
       reads_all step.command.action ≡ Some n → is_answer step.reply ≡ true → Gives settings.merge step.command.action (up_to x.number h.line) step.reply
   step-gives w step n x h all link at there is answered =
       let c = step.command in
+      let next = next-whole settings w c step.reply step.world (reads-whole c.action n is) link.next in
       let k = by_catalogue w.stored w.catalogue in
-      let does = subst (λ t. DoesBy k settings c t link.next.made (state_of w) step.reply (state_of step.world)) (read-names c.action n is) link.next.does in
-      let read = subst (λ found. ActsOn k settings n c (call_of c.action) link.next.made found (state_of w) step.reply (state_of step.world)) at does in
-      let acts = subst (λ found. ReadsSnapshot k settings x c (call_of c.action) link.next.made found (state_of w) step.reply (state_of step.world)) there read in
-      let d = handle-acted k settings x.handle c (at_snapshot x.number (call_of c.action)) link.next.made (state_of w) step.reply (state_of step.world) h acts in
+      let does = subst (λ t. DoesBy k settings c t next.made (state_of w) step.reply (state_of step.world)) (read-names c.action n is) next.does in
+      let read = subst (λ found. ActsOn k settings n c (call_of c.action) next.made found (state_of w) step.reply (state_of step.world)) at does in
+      let acts = subst (λ found. ReadsSnapshot k settings x c (call_of c.action) next.made found (state_of w) step.reply (state_of step.world)) there read in
+      let d = handle-acted k settings x.handle c (at_snapshot x.number (call_of c.action)) next.made (state_of w) step.reply (state_of step.world) h acts in
       let mine = all.0 n x at in
       let same : mine.0 ≡ h = let other = mine.1 in cc in
       let low = subst (λ (a : Handle). a.line.floor ≤ x.number) same mine.2 in
       let high = subst (λ (a : Handle). x.number ≤ accepted a) same mine.3 in
-      asked-gives settings w.catalogue w.stored x h (all.1 x.handle h there) low high c.action n x.handle c.moment c.second link.next.made _ _ w.writes _ d.new step.reply is answered d.acts
+      asked-gives settings w.catalogue w.stored x h (all.1 x.handle h there) low high c.action n x.handle c.moment c.second next.made _ _ w.writes _ d.new step.reply is answered d.acts
 
   -- a later read of a snapshot that was there before
   later-gives : (w : World) (steps : List Step) (n : ℕ) (x : HandleSnapshot) (h : Handle) → Sampled w → Chain settings w steps → All (λ step. IsReached step.world) steps → slice_get w.objects n ≡ Some (ASnapshot x) → IsHandleAt w.objects x.handle h → x.number ≤ accepted h →
@@ -334,9 +341,10 @@ module _ (settings : Settings) where
     by : (found : Option Object) → slice_get w.objects n ≡ found → slice_get w.objects n ≡ Some (ASnapshot x)
     by None at =
         let c = step.command in
+        let next = next-whole settings w c step.reply step.world (reads-whole c.action n is) link.next in
         let k = by_catalogue w.stored w.catalogue in
-        let does = subst (λ t. DoesBy k settings c t link.next.made (state_of w) step.reply (state_of step.world)) (read-names c.action n is) link.next.does in
-        let only = subst (λ found. ActsOn k settings n c (call_of c.action) link.next.made found (state_of w) step.reply (state_of step.world)) at does in
+        let does = subst (λ t. DoesBy k settings c t next.made (state_of w) step.reply (state_of step.world)) (read-names c.action n is) next.does in
+        let only = subst (λ found. ActsOn k settings n c (call_of c.action) next.made found (state_of w) step.reply (state_of step.world)) at does in
         absurd (unknown-not step.reply only.1 answered)
     by (Some (AHandle h)) at = let new = link.rises n (AHandle h) at in absurd (not-handle h x new.0 new.2 (let there = new.1 in cc))
     by (Some (ASnapshot y)) at = let new = link.rises n (ASnapshot y) at in at ∙ ap (λ x. Some (ASnapshot x)) (same-snapshot y x new.0 new.2 (let there = new.1 in cc))

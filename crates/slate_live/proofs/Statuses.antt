@@ -54,12 +54,13 @@ use Rattle.slate_live.specs.Handles.{HandleActs, MergesTo, flush_type_by}
 use Rattle.slate_live.specs.Represents.{IsLeased, IsReached}
 use Rattle.slate_live.specs.Settings.{Settings}
 use Rattle.slate_live.specs.Statuses.{StatusesName, above_view}
-use Rattle.slate_live.specs.Steps.{Chain, Step}
-use Rattle.slate_live.specs.World.{Next, World, state_of}
+use Rattle.slate_live.specs.Steps.{Step}
+use Rattle.slate_live.specs.World.{NextWhole, World, state_of}
 use Rattle.slate_live.proofs.Cases.{by-bool, by-option, close-by, compact-by, flush-by, refresh-by, some-of}
 use Rattle.slate_live.proofs.Everywhere.{everywhere}
 use Rattle.slate_live.proofs.Naming.{follower-did, handle-acted}
 use Rattle.slate_live.proofs.Places.{get-set_same}
+use Rattle.slate_live.proofs.Wholes.{WholeChain}
 
 -- the segments that an object names are those of its line above its view
 abbrev HasIts : Option Extractor → Object → Type 0
@@ -271,7 +272,7 @@ opened-its settings w made keeps_log limit tasks h after line d =
     let view = opened_manifest (extractor_name settings.extractor) w.catalogue in
     same-its settings.extractor (opened_handle settings.extractor keeps_log limit tasks view w.stored) h (d.handle w.catalogue w.stored refl refl) (left-above settings.extractor view.manifest.last_l0_seq w.stored line)
 
-step-its : (settings : Settings) (w w' : World) (command : Command) (reply : Reply) → IsReached w → Next settings w command reply w' → AllHave settings.extractor w → AllHave settings.extractor w'
+step-its : (settings : Settings) (w w' : World) (command : Command) (reply : Reply) → IsReached w → NextWhole settings w command reply w' → AllHave settings.extractor w → AllHave settings.extractor w'
 step-its settings w w' command reply reached next have =
     everywhere settings w command next.made reply (state_of w') (HasIts settings.extractor) (record {
       old = have;
@@ -284,7 +285,7 @@ step-its settings w w' command reply reached next have =
     }) next.does
 
 -- ---- the status
-module _ (settings : Settings) (w w' : World) (command : Command) (reply : Reply) (next : Next settings w command reply w') (have : AllHave settings.extractor w) (n : ℕ) (names : command.action ≡ actions.Status n) (status : DbStatus) (replied : reply ≡ replies.Status status) where
+module _ (settings : Settings) (w w' : World) (command : Command) (reply : Reply) (next : NextWhole settings w command reply w') (have : AllHave settings.extractor w) (n : ℕ) (names : command.action ≡ actions.Status n) (status : DbStatus) (replied : reply ≡ replies.Status status) where
   abbrev known : Knowledge Span
   known = by_catalogue w.stored w.catalogue
 
@@ -324,7 +325,7 @@ module _ (settings : Settings) (w w' : World) (command : Command) (reply : Reply
       on-status (slice_get w.objects n) refl (subst (λ c. ActsOn known settings n command c next.made (slice_get w.objects n) (state_of w) reply (state_of w')) (ap call_of names) does)
 
 -- ---- the law
-named-from : (settings : Settings) (w : World) (steps : List Step) → IsReached w → Chain settings w steps → All (λ (step : Step). IsReached step.world) steps → AllHave settings.extractor w → StatusesName settings.extractor steps
+named-from : (settings : Settings) (w : World) (steps : List Step) → IsReached w → WholeChain settings w steps → All (λ (step : Step). IsReached step.world) steps → AllHave settings.extractor w → StatusesName settings.extractor steps
 named-from settings w [] reached chain all have i n step status at names replied = absurd (cc)
 named-from settings w (s ∷ steps) reached (link, chain) all have zero n step status at names replied =
     let is : s ≡ step = cc in
@@ -334,6 +335,6 @@ named-from settings w (s ∷ steps) reached (link, chain) all have (suc i) n ste
     named-from settings s.world steps (All-head (λ (step : Step). IsReached step.world) s steps all) chain (All-tail (λ (step : Step). IsReached step.world) s steps all)
     (step-its settings w s.world s.command s.reply reached link.next have) i n step status at names replied
 
-pub statuses_name : (settings : Settings) (w : World) (steps : List Step) → w.objects ≡ [] → IsReached w → Chain settings w steps → All (λ step. IsReached step.world) steps → StatusesName settings.extractor steps
+pub statuses_name : (settings : Settings) (w : World) (steps : List Step) → w.objects ≡ [] → IsReached w → WholeChain settings w steps → All (λ step. IsReached step.world) steps → StatusesName settings.extractor steps
 statuses_name settings w steps none reached chain all =
     named-from settings w steps reached chain all (λ n object at. absurd (let gone = sym (ap (λ os. slice_get os n) none) ∙ at in cc))

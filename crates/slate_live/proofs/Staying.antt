@@ -1,19 +1,31 @@
 -- A write that is reported durable is confirmed for good.
-use Rattle.std.proofs.Common.{◌≡◌, ◌<◌, ℕ, zero, suc, List, [], ◌∷◌, Some, sym, subst, ap, ◌∙◌, arith}
+use Rattle.std.proofs.Common.{◌≡◌, ◌<◌, ℕ, ℤ, zero, suc, List, [], ◌∷◌, Option, Some, None, refl, sym, subst, ap, ◌∙◌, arith}
 use Rattle.std.specs.List.{slice_get}
 use Rattle.slate_types.specs.declared.batches.Batch.{Batch}
-use Rattle.slate_model.specs.Handle.{Handle}
+use Rattle.slate_errors.specs.Errors.{closed_error}
+use Rattle.slate_model.specs.Begun.{Begun}
+use Rattle.slate_model.specs.Follower.{Follower}
+use Rattle.slate_model.specs.Handle.{CloseResult, Handle}
+use Rattle.slate_model.specs.Known.{Known}
+use Rattle.slate_model.specs.Object.{Object, Handle as AHandle, Snapshot as ASnapshot, Follower as AFollower}
+use Rattle.slate_model.specs.Segments.{Extractor}
+use Rattle.slate_model.specs.declared.answers.PollAnswer.{PollAnswer}
 use Rattle.slate_script.specs.declared.commands.Action.TheVariants as actions
 use Rattle.slate_script.specs.declared.replies.Reply.TheVariants as replies
 use Rattle.slate_live.specs.declared.states.Write.{Write}
+use Rattle.slate_live.specs.Calls.{Begins, Kind, Steps, Whole, kind_of}
 use Rattle.slate_live.specs.Confirmed.{IsBatchOf, Sees, StandsIn}
+use Rattle.slate_live.specs.Next.{NextBegun, NextBy, NextStep}
 use Rattle.slate_live.specs.Settings.{Settings}
 use Rattle.slate_live.specs.Represents.{IsHandleAt, up_to}
 use Rattle.slate_live.specs.Steps.{Chain, StayConfirmed, Step}
 use Rattle.slate_live.specs.Valid.{Link}
+use Rattle.slate_live.specs.State.{Live}
+use Rattle.slate_live.specs.Stepping.{BeginsOn, BeginsReader, StepsObject, StepsOn, stepped_reply}
 use Rattle.slate_live.specs.World.{World}
 use Rattle.slate_live.proofs.Confirming.{asked-same, reported, stands-front}
-use Rattle.slate_live.proofs.Keeping.{AreWritten, Keeps, Numbers, keeps, stands-prefix}
+use Rattle.slate_live.proofs.Keeping.{AreWritten, Keeps, Numbers, keeps, keeps-by, numbers-by, numbers-polled, numbers-refusal, numbers-to, stands-prefix}
+use Rattle.slate_live.proofs.Wholes.{next-whole}
 
 -- the batch of a write that is reported durable is stored
 pub record Confirms (w : World) (n : ℕ) : Type 0 where
@@ -23,8 +35,9 @@ pub record Confirms (w : World) (n : ℕ) : Type 0 where
 
 confirms-step : (settings : Settings) (w : World) (n : ℕ) (step : Step) → AreWritten w.objects w.writes → Link settings w step.command step.reply step.world → step.command.action ≡ actions.Await n → step.reply ≡ replies.Durable → Confirms step.world n
 confirms-step settings w n step written link is durable =
-    let s = reported settings w step.command step.reply step.world link.next n is durable in
-    let same = asked-same settings w step.command step.reply step.world link.next n is in
+    let next = next-whole settings w step.command step.reply step.world (ap kind_of is) link.next in
+    let s = reported settings w step.command step.reply step.world next n is durable in
+    let same = asked-same settings w step.command step.reply step.world next n is in
     let known = written n s.write s.is_write in
     let is_handle : known.0 ≡ s.handle = let there = known.2 in let here = s.is_handle in cc in
     let low = s.durable in
@@ -46,7 +59,50 @@ confirms-step settings w n step written link is durable =
     }
 
 kept : (settings : Settings) (w : World) (step : Step) → Link settings w step.command step.reply step.world → Keeps w.objects w.writes step.reply (step.world).objects (step.world).writes
-kept settings w step link = keeps settings w step.command step.reply step.world link.rises link.next
+kept settings w step link = by (kind_of step.command.action) refl
+  where
+    w' : World
+    w' = step.world
+
+    -- a command that writes nothing and answers no write
+    unwritten : w'.writes ≡ w.writes → Numbers w'.writes step.reply → Keeps w.objects w.writes step.reply w'.objects w'.writes
+    unwritten same numbers = keeps-by w.objects w'.objects link.rises w.writes w'.writes step.reply same numbers
+
+    begun-numbers : (closed : CloseResult) (moment : ℤ) (reader : Follower) (poll : Option Begun) → BeginsReader closed moment reader step.reply poll → Numbers w'.writes step.reply
+    begun-numbers None moment reader poll begins = numbers-by w'.writes begins.0 tt
+    begun-numbers (Some result) moment reader poll begins = numbers-by w'.writes begins.0 (numbers-refusal w'.writes (closed_error result))
+
+    begins-numbers : (n : ℕ) (moment : ℤ) (found : Option Object) (live live' : Live) → BeginsOn n moment found live step.reply live' → Numbers w'.writes step.reply
+    begins-numbers n moment None live live' at = numbers-by w'.writes at.0 tt
+    begins-numbers n moment (Some (AHandle h)) live live' at = numbers-by w'.writes at.begins.0 tt
+    begins-numbers n moment (Some (ASnapshot x)) live live' at = numbers-by w'.writes at.begins.0 tt
+    begins-numbers n moment (Some (AFollower f)) live live' at = begun-numbers f.result moment f at.poll' at.begins
+
+    answer-numbers : (answer : Option PollAnswer) → Numbers w'.writes (stepped_reply answer)
+    answer-numbers None = tt
+    answer-numbers (Some answer) = numbers-polled w'.writes answer
+
+    does-numbers : (x : Option Extractor) (object object' : Object) (poll poll' : Option Begun) (before after : Known (List Batch)) → StepsObject x object poll before step.reply object' poll' after → Numbers w'.writes step.reply
+    does-numbers x (AFollower f) (AFollower f') (Some b) poll' before after does = numbers-by w'.writes does.replied (numbers-to w'.writes stepped_reply does.result answer-numbers)
+    does-numbers x (AFollower f) (AHandle h) (Some b) poll' before after does = numbers-by w'.writes does.0 tt
+    does-numbers x (AFollower f) (ASnapshot y) (Some b) poll' before after does = numbers-by w'.writes does.0 tt
+    does-numbers x (AFollower f) object' None poll' before after does = numbers-by w'.writes does.0 tt
+    does-numbers x (AHandle h) object' poll poll' before after does = numbers-by w'.writes does.0 tt
+    does-numbers x (ASnapshot y) object' poll poll' before after does = numbers-by w'.writes does.0 tt
+
+    steps-keep : (x : Option Extractor) (n : ℕ) (found : Option Object) (live live' : Live) (before after : Known (List Batch)) → StepsOn x n found live before step.reply live' after → (live'.writes ≡ live.writes) × Numbers w'.writes step.reply
+    steps-keep x n None live live' before after at = (ap (λ (l : Live). l.writes) at.1, numbers-by w'.writes at.0 tt)
+    steps-keep x n (Some object) live live' before after at = (ap (λ (l : Live). l.writes) at.same, does-numbers x object at.object' at.poll at.poll' before after at.does)
+
+    by : (kind : Kind) → kind_of step.command.action ≡ kind → Keeps w.objects w.writes step.reply w'.objects w'.writes
+    by Whole kind = keeps settings w step.command step.reply w' link.rises (next-whole settings w step.command step.reply w' kind link.next)
+    by (Begins n) kind =
+        let next : NextBegun settings n w step.command step.reply w' = subst (λ k. NextBy k settings w step.command step.reply w') kind link.next in
+        unwritten (ap (λ (x : World). x.writes) next.same) (begins-numbers n (step.command).moment _ _ _ next.begins)
+    by (Steps n) kind =
+        let next : NextStep settings n w step.reply w' = subst (λ k. NextBy k settings w step.command step.reply w') kind link.next in
+        let keeps_all = steps-keep settings.extractor n _ _ _ _ _ next.steps in
+        unwritten keeps_all.0 keeps_all.1
 
 -- what is stored stays stored over steps
 stored-later : (settings : Settings) (batch : Batch) (w : World) (steps : List Step) → Chain settings w steps → StandsIn batch w.stored → (j : ℕ) (step : Step) → slice_get steps j ≡ Some step → StandsIn batch (step.world).stored

@@ -44,7 +44,7 @@ use Rattle.slate_live.specs.Replies.{closed_reply, follower_closed_reply, follow
 use Rattle.slate_live.specs.Represents.{IsFollowerAt, IsHandleAt, IsLeased}
 use Rattle.slate_live.specs.Settings.{Settings}
 use Rattle.slate_live.specs.State.{State}
-use Rattle.slate_live.specs.World.{Next, World, state_of}
+use Rattle.slate_live.specs.World.{NextWhole, World, state_of}
 use Rattle.slate_live.proofs.Cases.{by-bool, by-option, close-by, compact-by, flush-by, refresh-by, some-of}
 use Rattle.slate_live.proofs.Naming.{follower-did, handle-acted, handle-did}
 use Rattle.slate_live.proofs.Places.{get-before, get-set_other, get-set_same}
@@ -379,7 +379,7 @@ ended-lists : (r : CloseResult) (answer : Ended) (f : Option SlateError) (ts : L
 ended-lists None answer f ts is = cc
 ended-lists (Some q) answer f ts is = again-lists answer.fault answer.tasks f ts is
 
-module _ (settings : Settings) (w w' : World) (command : Command) (reply : Reply) (next : Next settings w command reply w') (n : ℕ) (fault : Option SlateError) (tasks : List TaskName) (is : reply ≡ replies.Ended fault tasks) where
+module _ (settings : Settings) (w w' : World) (command : Command) (reply : Reply) (next : NextWhole settings w command reply w') (n : ℕ) (fault : Option SlateError) (tasks : List TaskName) (is : reply ≡ replies.Ended fault tasks) where
   abbrev known : Knowledge Span
   known = by_catalogue w.stored w.catalogue
 

@@ -57,9 +57,9 @@ use Rattle.slate_live.specs.Represents.{IsHandleAt, IsReached}
 use Rattle.slate_live.specs.Rising.{Rise, Rises}
 use Rattle.slate_live.specs.Settings.{Settings, option_tasks}
 use Rattle.slate_live.specs.State.{State}
-use Rattle.slate_live.specs.Steps.{Chain, Step, last_world}
+use Rattle.slate_live.specs.Steps.{Step, last_world}
 use Rattle.slate_live.specs.Trackers.{Commits, TrackersStay, flushes}
-use Rattle.slate_live.specs.World.{Next, World, grown_by, state_of, stored_after}
+use Rattle.slate_live.specs.World.{NextWhole, World, grown_by, state_of, stored_after}
 use Rattle.slate_live.proofs.Carrying.{Spares}
 use Rattle.slate_live.proofs.Cases.{close-by, flush-by}
 use Rattle.slate_live.proofs.Lasting.{all-halves, chain-halves}
@@ -67,6 +67,7 @@ use Rattle.slate_live.proofs.Leases.{latest-after, rising}
 use Rattle.slate_live.proofs.Naming.{handle-did}
 use Rattle.slate_live.proofs.Places.{get-seam, get-set_same}
 use Rattle.slate_live.proofs.Prefixes.{extended-nil}
+use Rattle.slate_live.proofs.Wholes.{WholeChain}
 
 -- ---- the lists of a tracker that is read again
 paired-again : (ps : List TrackedSeq) → paired (map (λ (p : TrackedSeq). p.seq) ps) (map (λ (p : TrackedSeq). p.ts) ps) ≡ ps
@@ -130,7 +131,7 @@ reached-last : (w : World) (steps : List Step) → IsReached w → All (λ (step
 reached-last w [] reached all = reached
 reached-last w (s ∷ steps) reached all = reached-last s.world steps (All-head (λ (step : Step). IsReached step.world) s steps all) (All-tail (λ (step : Step). IsReached step.world) s steps all)
 
-keeps-chain : (settings : Settings) (number : ℕ) (t : Tracker) (w : World) (steps : List Step) → IsReached w → Chain settings w steps → All (λ (step : Step). IsReached step.world) steps → HasTracker number t w → HasTracker number t (last_world w steps)
+keeps-chain : (settings : Settings) (number : ℕ) (t : Tracker) (w : World) (steps : List Step) → IsReached w → WholeChain settings w steps → All (λ (step : Step). IsReached step.world) steps → HasTracker number t w → HasTracker number t (last_world w steps)
 keeps-chain settings number t w [] reached chain all h = h
 keeps-chain settings number t w (s ∷ steps) reached (link, chain) all h =
     let reached' = All-head (λ (step : Step). IsReached step.world) s steps all in
@@ -210,7 +211,7 @@ grown-end : (stored : Line) (batches : List Batch) (b : Bool) → end (cond b (e
 grown-end stored batches true = omega arith
 grown-end stored batches false = let l = length-append stored.batches batches in omega (arith, l)
 
-module _ (settings : Settings) (w w' : World) (command : Command) (reply : Reply) (reached : IsReached w) (reached' : IsReached w') (rises : Rise w.objects w'.objects) (next : Next settings w command reply w') (commits : Commits w w') where
+module _ (settings : Settings) (w w' : World) (command : Command) (reply : Reply) (reached : IsReached w) (reached' : IsReached w') (rises : Rise w.objects w'.objects) (next : NextWhole settings w command reply w') (commits : Commits w w') where
   abbrev k : Knowledge Span
   k = by_catalogue w.stored w.catalogue
 
@@ -328,7 +329,7 @@ module _ (settings : Settings) (w w' : World) (command : Command) (reply : Reply
     step-tracks action names is = absurd (cc)
 
 -- ---- the opening
-module _ (settings : Settings) (w w' : World) (command : Command) (reply : Reply) (reached : IsReached w) (next : Next settings w command reply w') (t : Tracker) (again : IsReadAgain t) (has : HasTracker (end w.stored) t w) where
+module _ (settings : Settings) (w w' : World) (command : Command) (reply : Reply) (reached : IsReached w) (next : NextWhole settings w command reply w') (t : Tracker) (again : IsReadAgain t) (has : HasTracker (end w.stored) t w) where
   abbrev known : Knowledge Span
   known = by_catalogue w.stored w.catalogue
 
@@ -375,9 +376,9 @@ module _ (settings : Settings) (w w' : World) (command : Command) (reply : Reply
         )
 
 -- ---- the law
-pub trackers_stay : (settings : Settings) (first : World) (steps : List Step) → IsReached first → Chain settings first steps → All (λ step. IsReached step.world) steps → TrackersStay first steps
+pub trackers_stay : (settings : Settings) (first : World) (steps : List Step) → IsReached first → WholeChain settings first steps → All (λ step. IsReached step.world) steps → TrackersStay first steps
 trackers_stay settings first steps reached chain all before later rest flushed opened m n keeps_log handle is flushes_it commits at unstored opens answered =
-    let halves = chain-halves settings first before (flushed ∷ (later ++ opened ∷ rest)) (subst (Chain settings first) is chain) in
+    let halves = chain-halves settings first before (flushed ∷ (later ++ opened ∷ rest)) (subst (WholeChain settings first) is chain) in
     let alls = all-halves settings (λ (step : Step). IsReached step.world) before (flushed ∷ (later ++ opened ∷ rest)) (subst (All (λ (step : Step). IsReached step.world)) is all) in
     let w = last_world first before in
     let link = halves.1.0 in

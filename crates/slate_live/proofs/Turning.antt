@@ -38,7 +38,7 @@ use Rattle.slate_live.specs.Leases.{is_whole, polls}
 use Rattle.slate_live.specs.Replies.{followed_reply, polled_reply, refusal, reply_to}
 use Rattle.slate_live.specs.Represents.{IsFollowerAt, IsReached}
 use Rattle.slate_live.specs.Settings.{Settings}
-use Rattle.slate_live.specs.World.{Next, World, state_of}
+use Rattle.slate_live.specs.World.{NextWhole, World, state_of}
 use Rattle.slate_live.proofs.Carrying.{leased-is, taken-is}
 use Rattle.slate_live.proofs.Cases.{by-option, some-of}
 use Rattle.slate_live.proofs.Distinct.{put-low}
@@ -57,7 +57,7 @@ refusal-not_whole errors.NoMemory whole = absurd (cc)
 refusal-not_whole (errors.Backpressure unflushed limit) whole = absurd (cc)
 refusal-not_whole e whole = absurd (cc)
 
-module _ (settings : Settings) (w w' : World) (command : Command) (reply : Reply) (reached : IsReached w) (reached' : IsReached w') (next : Next settings w command reply w') (apart : AreApart w) (n lifetime : ℕ) (last : ℤ) (h : Holds n lifetime last w) where
+module _ (settings : Settings) (w w' : World) (command : Command) (reply : Reply) (reached : IsReached w) (reached' : IsReached w') (next : NextWhole settings w command reply w') (apart : AreApart w) (n lifetime : ℕ) (last : ℤ) (h : Holds n lifetime last w) where
   abbrev k : Knowledge Span
   k = by_catalogue w.stored w.catalogue
 
@@ -96,7 +96,7 @@ followed-number : (m n at : ℕ) (answer : PollAnswer) → followed_reply m answ
 followed-number m n at (Whole k) is = cc
 followed-number m n at (Truncated k) is = absurd (cc)
 
-module _ (settings : Settings) (w w' : World) (command : Command) (reply : Reply) (reached : IsReached w) (reached' : IsReached w') (next : Next settings w command reply w') (managed : Option (ℕ × ℕ)) (skips : Bool) (n at : ℕ) (is : command.action ≡ actions.Follow modes.ManagedCheckpoint managed skips) (opened : reply ≡ replies.Follower n true at) where
+module _ (settings : Settings) (w w' : World) (command : Command) (reply : Reply) (reached : IsReached w) (reached' : IsReached w') (next : NextWhole settings w command reply w') (managed : Option (ℕ × ℕ)) (skips : Bool) (n at : ℕ) (is : command.action ≡ actions.Follow modes.ManagedCheckpoint managed skips) (opened : reply ≡ replies.Follower n true at) where
   abbrev known : Knowledge Span
   known = by_catalogue w.stored w.catalogue
 

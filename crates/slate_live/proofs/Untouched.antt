@@ -16,7 +16,7 @@ use Rattle.slate_script.specs.declared.commands.Action.TheVariants as actions
 use Rattle.slate_script.specs.declared.commands.Command.{Command}
 use Rattle.slate_script.specs.declared.replies.Reply.{Reply}
 use Rattle.slate_live.specs.declared.states.Write.{Write}
-use Rattle.slate_live.specs.Calls.{Call, Write as WriteCall, Merge as MergeCall, Flush, Refresh, Compact, Get, Scan, Seek, Close, Poll, Status, FindTime, FindNumber, Nothing, call_of, Target, NewHandle, NewSnapshot, NewFollower, NewCheckpoint, WholeStore, OfWrite, OfObject, at_snapshot, target_of}
+use Rattle.slate_live.specs.Calls.{drops, Call, Write as WriteCall, Merge as MergeCall, Flush, Refresh, Compact, Get, Scan, Seek, Close, Poll, Status, FindTime, FindNumber, Nothing, call_of, Target, NewHandle, NewSnapshot, NewFollower, NewCheckpoint, WholeStore, OfWrite, OfObject, at_snapshot, target_of}
 use Rattle.slate_live.specs.Commands.{ActsAt, ActsOn, DoesBy, OpensSnapshot, ReadsSnapshot}
 use Rattle.slate_live.specs.Followers.{FollowerActs}
 use Rattle.slate_live.specs.Leases.{closes, polls}
@@ -145,3 +145,31 @@ is-quiet n (actions.Seek m range take key order remote) unpolled unclosed names 
 is-quiet n (actions.Status m) unpolled unclosed names changes = changes
 is-quiet n (actions.Ts m number find) unpolled unclosed names changes = changes
 is-quiet n (actions.Seq m seconds find) unpolled unclosed names changes = changes
+is-quiet n (actions.Begin m) unpolled unclosed names changes = changes
+is-quiet n (actions.Step m) unpolled unclosed names changes = changes
+
+-- nor does one that drops no poll of it
+pub undropped : (n : ℕ) (action : Action) → drops n action ≡ false → (polls n action ≡ false) × (closes n action ≡ false)
+undropped n (actions.Poll m) never = (never, refl)
+undropped n (actions.Close m options) never = (refl, never)
+undropped n (actions.Open wal) never = (refl, refl)
+undropped n (actions.Snapshot m) never = (refl, refl)
+undropped n (actions.Follow mode managed skip) never = (refl, refl)
+undropped n (actions.Checkpoint lifetime) never = (refl, refl)
+undropped n actions.Sweep never = (refl, refl)
+undropped n (actions.Await m) never = (refl, refl)
+undropped n (actions.Put m key value expire) never = (refl, refl)
+undropped n (actions.Merge m key value expire) never = (refl, refl)
+undropped n (actions.Delete m key) never = (refl, refl)
+undropped n (actions.Batch m batch) never = (refl, refl)
+undropped n (actions.Flush m flush_type) never = (refl, refl)
+undropped n (actions.Refresh m) never = (refl, refl)
+undropped n (actions.Compact m) never = (refl, refl)
+undropped n (actions.Get m key remote) never = (refl, refl)
+undropped n (actions.Scan m range order remote) never = (refl, refl)
+undropped n (actions.Seek m range take key order remote) never = (refl, refl)
+undropped n (actions.Status m) never = (refl, refl)
+undropped n (actions.Ts m number find) never = (refl, refl)
+undropped n (actions.Seq m seconds find) never = (refl, refl)
+undropped n (actions.Begin m) never = (refl, refl)
+undropped n (actions.Step m) never = (refl, refl)

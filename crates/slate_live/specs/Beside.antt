@@ -1,84 +1,29 @@
--- A reader that a program holds beside a world, and a poll of it by single calls of the store.
-use Rattle.std.specs.Prelude.{◌≡◌, ℕ, ℤ, ◌≤◌, List, [], Option, Some, None, is_some, Result, Ok, Err, true, false}
-use Rattle.slate_types.specs.Line.{AreNumberedFrom, Line, end}
+-- Readers and begun polls beside a world stand from call to call.
+use Rattle.std.specs.Prelude.{◌≡◌, ℕ, ℤ, List, Option, Some, None, is_some, Result, Ok, Err, true, false}
 use Rattle.slate_types.specs.declared.batches.Batch.{Batch}
-use Rattle.slate_store.specs.declared.objects.VersionedManifest.{VersionedManifest}
 use Rattle.slate_store.specs.Objects.{Objects}
 use Rattle.slate_errors.specs.declared.errors.SlateError.{SlateError}
-use Rattle.slate_model.specs.Begun.{AsksLast, Begun, Puts, ReadsAgain, ReadsLatest, ReadsLog, Stage, begun_at, reached_number, view_of}
+use Rattle.slate_model.specs.Begun.{Begun, begun_at}
 use Rattle.slate_model.specs.declared.answers.PollAnswer.{PollAnswer}
-use Rattle.slate_model.specs.declared.leases.Lease.{Lease}
 use Rattle.slate_model.specs.Follower.{Follower, is_managed, is_pinned, kept_follower, unsegmented}
-use Rattle.slate_model.specs.Stood.{IsPlanned, WasLatest}
-use Rattle.slate_model.specs.Handle.{Handle, up_to}
 use Rattle.slate_model.specs.Known.{Known}
-use Rattle.slate_model.specs.Object.{Follower as AFollower}
 use Rattle.slate_model.specs.Stores.{by_objects}
-use Rattle.slate_follow.specs.Following.{FollowsLine}
-use Rattle.slate_follow.specs.Stepping.{FitsReader, Steps}
+use Rattle.slate_follow.specs.Stepping.{Steps}
 use Rattle.slate_script.specs.declared.commands.Command.{Command}
 use Rattle.slate_script.specs.declared.replies.Reply.{Reply}
 use Rattle.slate_live.specs.Commands.{Does}
-use Rattle.slate_live.specs.Represents.{AreBefore, AreOfPast, IsFollowerAt, IsHandleAt, IsHeld, IsValidFollower, Represents}
+use Rattle.slate_live.specs.Represents.{IsFollowerAt, RepresentsObjects}
+use Rattle.slate_live.specs.Rising.{FollowerRises}
 use Rattle.slate_live.specs.Settings.{Settings}
+use Rattle.slate_live.specs.Standing.{PollStands, StandsBeside}
 use Rattle.slate_live.specs.State.{Live, running}
-use Rattle.slate_live.specs.World.{Next, World}
-
--- It is none of the world's objects, and stands to the world and to the store's objects as a reader among them does: what it sees
--- begins the line that is stored, the tables of its view are, joined, the front of what it sees, and were put already, and it has
--- seen the log files up to its mark.
-pub record StandsBeside (objects : Objects) (w : World) (reader : Follower) : Type 0 where
-  pub valid : IsValidFollower w.stored w.catalogue reader
-  pub named : (n : ℕ) (handle : Handle) → IsHandleAt w.objects n handle → AreBefore handle reader.view.manifest.tables
-  pub past : AreOfPast w.catalogue reader.view.manifest.tables
-  pub held : IsHeld objects (AFollower reader)
-
--- ---- a begun poll of such a reader
--- the reader with another view, what is stored up to a number, another mark and another lease
-abbrev pub placed : (stored : Line) → Follower → VersionedManifest → (number mark : ℕ) → Option Lease → Follower
-placed stored reader view number mark lease = record reader { view = view; line = up_to number stored; segments = []; mark = mark; lease = lease }
-
--- what the reader becomes by its begun poll, as far as that has come
-abbrev pub comes_to : (stored : Line) → Follower → Begun → Follower
-comes_to stored reader begun = placed stored reader (view_of reader begun) (reached_number begun) begun.mark begun.lease
-
--- what it is with the tables of a manifest alone
-abbrev pub tabled_by : (stored : Line) → Follower → VersionedManifest → Option Lease → Follower
-tabled_by stored reader view lease = placed stored reader view view.manifest.last_l0_seq view.manifest.replay_after_wal_id lease
-
--- What it puts next is planned after the manifest that it read or put last; one that reads log files is of a reader that doesn't skip
--- them.
-abbrev pub IsStaged : Follower → Begun → Stage → Type 0
-IsStaged reader begun (Puts next given replaces) = (last : VersionedManifest) × (begun.latest ≡ Some last) × (is_some begun.lease ≡ true) × IsPlanned last next
-IsStaged reader begun AsksLast = reader.skips ≡ false
-IsStaged reader begun (ReadsLog last) = reader.skips ≡ false
-IsStaged reader begun ReadsAgain = reader.skips ≡ false
-IsStaged reader begun stage = Unit {0}
-
--- the manifest that it read or put last was the latest one, and the reader with its tables alone stands
-abbrev pub ReadLast : Objects → World → Follower → Begun → VersionedManifest → Type 0
-ReadLast objects w reader begun last =
-    WasLatest objects last × (w.stored.floor ≤ last.manifest.last_l0_seq) × (last.manifest.last_l0_seq ≤ end w.stored) × StandsBeside objects w (tabled_by w.stored reader last begun.lease)
-
--- A begun poll stands beside a world with its reader: it follows the line, what it has come to stands there, and so does the reader
--- with the tables of the manifest that it read or put last.
-pub record PollStands (objects : Objects) (w : World) (reader : Follower) (begun : Begun) : Type 0 where
-  pub reader_stands : StandsBeside objects w reader
-  pub keeps : (kept_follower reader).line.floor ≡ reader.view.manifest.last_l0_seq
-  pub follows : FollowsLine objects w.stored (kept_follower reader) begun
-  pub fits : FitsReader (kept_follower reader) begun
-  pub viewed : w.stored.floor ≤ (view_of reader begun).manifest.last_l0_seq
-  pub within : reached_number begun ≤ end w.stored
-  pub comes : StandsBeside objects w (comes_to w.stored reader begun)
-  pub read : (last : VersionedManifest) → begun.latest ≡ Some last → ReadLast objects w reader begun last
-  pub staged : IsStaged reader begun begun.stage
-  pub anew : begun.stage ≡ ReadsLatest → begun ≡ begun_at begun.moment begun.overtaken (kept_follower reader)
+use Rattle.slate_live.specs.World.{NextWhole, World}
 
 -- what stands beside a world after a step that answered so: the begun poll while there is another call, and else the reader
 abbrev pub StandsAfter : Objects → World → (reader : Follower) → Result (Option PollAnswer) SlateError → Follower → Begun → Type 0
 StandsAfter objects w reader (Ok None) reader' begun' = PollStands objects w reader begun'
 StandsAfter objects w reader (Ok (Some answer)) reader' begun' =
-    (whole : Follower) × (unsegmented reader' ≡ kept_follower whole) × StandsBeside objects w whole
+    (whole : Follower) × (unsegmented reader' ≡ kept_follower whole) × StandsBeside objects w whole × FollowerRises reader whole
 StandsAfter objects w reader (Err error) reader' begun' = StandsBeside objects w reader
 
 -- ---- what keeps them
@@ -86,8 +31,8 @@ StandsAfter objects w reader (Err error) reader' begun' = StandsBeside objects w
 abbrev pub OthersLeaveThem : Type 0
 OthersLeaveThem =
     (settings : Settings) (live live' : Live) (store store' : Known (List Batch)) (w : World) (command : Command) (made : ℕ) (reply : Reply) →
-    Represents live store w → Does (by_objects store.objects) settings made (running live store) command reply (running live' store') →
-    (w' : World) × Next settings w command reply w' × Represents live' store' w'
+    RepresentsObjects live store w → Does (by_objects store.objects) settings made (running live store) command reply (running live' store') →
+    (w' : World) × NextWhole settings w command reply w' × RepresentsObjects live' store' w'
     × ((o o' : Objects) → store.objects ≡ Some o → store'.objects ≡ Some o' →
     ((reader : Follower) → StandsBeside o w reader → StandsBeside o' w' reader)
     × ((reader : Follower) (begun : Begun) → PollStands o w reader begun → PollStands o' w' reader begun))
@@ -96,13 +41,13 @@ OthersLeaveThem =
 abbrev pub ReadersStand : Type 0
 ReadersStand =
     (live : Live) (store : Known (List Batch)) (w : World) (o : Objects) (n : ℕ) (reader : Follower) →
-    Represents live store w → store.objects ≡ Some o → IsFollowerAt w.objects n reader → StandsBeside o w reader
+    RepresentsObjects live store w → store.objects ≡ Some o → IsFollowerAt w.objects n reader → StandsBeside o w reader
 
 -- an open one that stands beside a world may begin a poll
 abbrev pub PollsBegin : Type 0
 PollsBegin =
     (live : Live) (store : Known (List Batch)) (w : World) (o : Objects) (reader : Follower) (moment : ℤ) →
-    Represents live store w → store.objects ≡ Some o → StandsBeside o w reader → is_pinned reader.mode ≡ false → is_some reader.lease ≡ is_managed reader.mode →
+    RepresentsObjects live store w → store.objects ≡ Some o → StandsBeside o w reader → is_pinned reader.mode ≡ false → is_some reader.lease ≡ is_managed reader.mode →
     (kept_follower reader).line.floor ≡ reader.view.manifest.last_l0_seq →
     PollStands o w reader (begun_at moment 0 (kept_follower reader))
 
@@ -110,6 +55,6 @@ PollsBegin =
 abbrev pub StepsStand : Type 0
 StepsStand =
     (live : Live) (store store' : Known (List Batch)) (w : World) (o o' : Objects) (reader reader' : Follower) (begun begun' : Begun) (result : Result (Option PollAnswer) SlateError) →
-    Represents live store w → store.objects ≡ Some o → store'.objects ≡ Some o' → reader.result ≡ None → is_pinned reader.mode ≡ false →
-    PollStands o w reader begun → AreNumberedFrom begun.floor begun.fresh → Steps (kept_follower reader) begun result o reader' begun' o' →
-    (w' : World) × Represents live store' w' × (w'.stored ≡ w.stored) × (w'.objects ≡ w.objects) × StandsAfter o' w' reader result reader' begun'
+    RepresentsObjects live store w → store.objects ≡ Some o → store'.objects ≡ Some o' → reader.result ≡ None → is_pinned reader.mode ≡ false →
+    PollStands o w reader begun → Steps (kept_follower reader) begun result o reader' begun' o' →
+    (w' : World) × RepresentsObjects live store' w' × (w'.stored ≡ w.stored) × (w'.objects ≡ w.objects) × StandsAfter o' w' reader result reader' begun'

@@ -1,5 +1,5 @@
 -- Where a command goes, what it asks of the object that it names, and how often it may call the store.
-use Rattle.std.specs.Prelude.{ℕ, ℤ, ◌+◌, ◌*◌, Bool, true, false, List, [], ◌∷◌, length, slice_get, Option, Some, None}
+use Rattle.std.specs.Prelude.{◌≡◌, ℕ, ℤ, ◌+◌, ◌*◌, ◌==◌, Bool, true, false, List, [], ◌∷◌, length, slice_get, Option, Some, None}
 use Rattle.slate_types.specs.declared.batches.KeyOp.{KeyOp}
 use Rattle.slate_types.specs.declared.batches.Op.TheVariants.{Put, Delete, Merge as MergeOperand}
 use Rattle.slate_types.specs.declared.options.CloseOptions.{CloseOptions}
@@ -13,6 +13,7 @@ use Rattle.slate_store.specs.Objects.{Objects}
 use Rattle.slate_store.specs.declared.reader_modes.DbReaderMode.{DbReaderMode}
 use Rattle.slate_store.specs.declared.reader_modes.DbReaderMode.TheVariants.{ManagedCheckpoint}
 use Rattle.slate_store.specs.Sweeps.{sweep_calls}
+use Rattle.slate_model.specs.Begun.{Begun}
 use Rattle.slate_model.specs.Followed.{followed_logs}
 use Rattle.slate_model.specs.Follower.{is_managed}
 use Rattle.slate_model.specs.Object.{Object, Handle, Snapshot, Follower, tables_of}
@@ -20,6 +21,7 @@ use Rattle.slate_model.specs.Open.{replayed_logs}
 use Rattle.slate_script.specs.declared.commands.Action.{Action}
 use Rattle.slate_script.specs.declared.commands.Action.TheVariants as actions
 use Rattle.slate_script.specs.declared.commands.Command.{Command}
+use Rattle.slate_live.specs.State.{IsBegunAt}
 
 -- Where a command goes: it opens a handle, which keeps a log or not, a snapshot of the handle with a number, or a follower in
 -- a mode, which skips log files or not, and has a lifetime and an interval where it keeps a checkpoint; it commits a checkpoint of the store, with a lifetime or without an end, sweeps the
@@ -55,6 +57,41 @@ target_of (actions.Poll n) = OfObject n
 target_of (actions.Status n) = OfObject n
 target_of (actions.Ts n number find) = OfObject n
 target_of (actions.Seq n seconds find) = OfObject n
+target_of (actions.Begin n) = OfObject n
+target_of (actions.Step n) = OfObject n
+
+-- Whether a command begins a poll of the reader with a number, makes the next call of one, or makes a call whole.
+pub data Kind : Type 0 where
+  Begins : (n : ℕ) → Kind
+  Steps : (n : ℕ) → Kind
+  Whole : Kind
+
+abbrev pub kind_of : Action → Kind
+kind_of (actions.Begin n) = Begins n
+kind_of (actions.Step n) = Steps n
+kind_of action = Whole
+
+-- whether a command that names a reader ends its begun poll: it polls or closes it
+abbrev pub ends_poll : Action → Bool
+ends_poll (actions.Poll n) = true
+ends_poll (actions.Close n options) = true
+ends_poll action = false
+
+-- whether a command that makes a call whole drops the begun poll of the object with this number: it polls or closes it
+abbrev pub drops : ℕ → Action → Bool
+drops n (actions.Poll m) = m == n
+drops n (actions.Close m options) = m == n
+drops n action = false
+
+-- the same polls are begun
+abbrev pub HaveSamePolls : (before after : List (Option Begun)) → Type 0
+HaveSamePolls before after = (n : ℕ) (begun : Begun) → (IsBegunAt after n begun → IsBegunAt before n begun) × (IsBegunAt before n begun → IsBegunAt after n begun)
+
+-- after it a poll is begun exactly where that was so before and it isn't dropped
+abbrev pub ArePolls : Action → (before after : List (Option Begun)) → Type 0
+ArePolls action before after =
+    (n : ℕ) (begun : Begun) → (IsBegunAt after n begun → IsBegunAt before n begun × (drops n action ≡ false))
+    × (IsBegunAt before n begun → drops n action ≡ false → IsBegunAt after n begun)
 
 abbrev pub put_op : List ℕ → List ℕ → Option ℤ → KeyOp
 put_op key value expire = record { key = key; op = Put value expire }
@@ -130,6 +167,7 @@ goes_by_extractor (actions.Merge n key value expire) = true
 goes_by_extractor (actions.Delete n key) = true
 goes_by_extractor (actions.Batch n batch) = true
 goes_by_extractor (actions.Poll n) = true
+goes_by_extractor (actions.Step n) = true
 goes_by_extractor action = false
 
 -- what a snapshot of a handle asks the handle: to read up to the snapshot's number
@@ -203,7 +241,12 @@ abbrev pub named : List Object → Target → Option Object
 named objects (OfObject n) = slice_get objects n
 named objects target = None
 
+abbrev pub most_by : Kind → Objects → List Object → Command → ℕ
+most_by (Begins n) objects live command = 0
+most_by (Steps n) objects live command = 1
+most_by Whole objects live command =
+    most_made objects (read_by live (named live (target_of command.action))) command.moment (target_of command.action) (call_of command.action)
+
 -- how often a command calls a store at most that holds these objects, in a run with these live ones
 abbrev pub most_calls : Objects → List Object → Command → ℕ
-most_calls objects live command =
-    most_made objects (read_by live (named live (target_of command.action))) command.moment (target_of command.action) (call_of command.action)
+most_calls objects live command = most_by (kind_of command.action) objects live command

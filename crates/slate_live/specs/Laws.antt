@@ -10,27 +10,27 @@ use Rattle.slate_script.specs.declared.commands.Command.{Command}
 use Rattle.slate_script.specs.declared.options.Options.{Options}
 use Rattle.slate_script.specs.declared.replies.Reply.{Reply}
 use Rattle.slate_live.specs.Commands.{Does}
-use Rattle.slate_live.specs.Represents.{Represents}
+use Rattle.slate_live.specs.Represents.{Represents, RepresentsObjects}
 use Rattle.slate_live.specs.Settings.{Settings}
 use Rattle.slate_live.specs.State.{Live, running}
-use Rattle.slate_live.specs.World.{Next, World, start}
+use Rattle.slate_live.specs.World.{NextWhole, World, start}
 
 -- before an object is opened, the store alone represents the world of the start
 abbrev pub NoneRepresentsTheStart : Type 0
 NoneRepresentsTheStart =
     (options : Options) (objects : Objects) (faults : ℕ) → IsSound objects →
-    Represents (record { options = options; objects = []; writes = [] }) (record { objects = Some objects; faults = faults }) (start objects faults)
+    Represents (record { options = options; objects = []; polls = []; writes = [] }) (record { objects = Some objects; faults = faults }) (start objects faults)
 
 -- What a call does to these objects and to the store, by the store's own objects, is a step of the world that they represent, and
 -- they represent the next one.
 abbrev pub CallsAreSteps : Type 0
 CallsAreSteps =
     (settings : Settings) (live live' : Live) (store store' : Known (List Batch)) (w : World) (command : Command) (made : ℕ) (reply : Reply) →
-    Represents live store w → Does (by_objects store.objects) settings made (running live store) command reply (running live' store') →
-    (w' : World) × Next settings w command reply w' × Represents live' store' w'
+    RepresentsObjects live store w → Does (by_objects store.objects) settings made (running live store) command reply (running live' store') →
+    (w' : World) × NextWhole settings w command reply w' × RepresentsObjects live' store' w'
 
 -- the batches that one of them reads are those of its line
 abbrev pub ReadTheirLines : Type 0
 ReadTheirLines =
     (live : Live) (store : Known (List Batch)) (w : World) (n : ℕ) (object : Object) (rows : List Batch) →
-    Represents live store w → slice_get w.objects n ≡ Some object → kept_rows store.objects (kept object) rows → rows ≡ batches_of object
+    RepresentsObjects live store w → slice_get w.objects n ≡ Some object → kept_rows store.objects (kept object) rows → rows ≡ batches_of object

@@ -25,3 +25,8 @@ pub mod Valid
 pub mod World
 pub mod Objects
 pub mod Laws
+pub mod Next
+pub mod Standing
+pub mod Stepping
+pub mod Worlds
+pub mod Readers

@@ -6,12 +6,13 @@ use Rattle.slate_types.specs.declared.batches.Batch.{Batch}
 use Rattle.slate_types.specs.Line.{IsPrefix}
 use Rattle.slate_store.specs.Content.{IsSound, content}
 use Rattle.slate_model.specs.Known.{Known}
-use Rattle.slate_model.specs.Stores.{by_objects}
 use Rattle.slate_script.specs.declared.commands.Command.{Command}
+use Rattle.slate_script.specs.declared.options.Options.{Options}
 use Rattle.slate_script.specs.declared.replies.Reply.{Reply}
+use Rattle.slate_live.specs.Calls.{Whole, kind_of}
 use Rattle.slate_live.specs.Closings.{ListTasks, RepeatErrors}
-use Rattle.slate_live.specs.Commands.{Does}
-use Rattle.slate_live.specs.State.{State}
+use Rattle.slate_live.specs.State.{Live}
+use Rattle.slate_live.specs.Stepping.{IsDone}
 use Rattle.slate_live.specs.Steps.{Chain, StayConfirmed, Step, last_world}
 use Rattle.slate_live.specs.Represents.{Holds, IsReached}
 use Rattle.slate_live.specs.Settings.{Settings}
@@ -21,24 +22,39 @@ use Rattle.slate_live.specs.Statuses.{PollsFit, StatusesName}
 use Rattle.slate_live.specs.Trackers.{TrackersStay}
 use Rattle.slate_live.specs.World.{World, start}
 
--- Over any store: the commands are done one after another, each with its reply, from a state to another.
-abbrev pub DoAll : Settings → State (List Batch) → List Command → List Reply → State (List Batch) → Type 0
-DoAll settings s [] [] last = last ≡ s
-DoAll settings s (command ∷ commands) (reply ∷ replies) last =
-    (made : ℕ) × (next : State (List Batch)) × Does (by_objects s.store.objects) settings made s command reply next × DoAll settings next commands replies last
-DoAll settings s commands replies last = ⊥
+-- Over any store: the commands are done one after another, each with its reply, from live objects to others.
+abbrev pub DoAll : Settings → Live → Known (List Batch) → List Command → List Reply → Live → Known (List Batch) → Type 0
+DoAll settings live store [] [] last store' = (last ≡ live) × (store' ≡ store)
+DoAll settings live store (command ∷ commands) (reply ∷ replies) last store' =
+    (next : Live) × (between : Known (List Batch)) × IsDone settings live store command reply next between × DoAll settings next between commands replies last store'
+DoAll settings live store commands replies last store' = ⊥
 
--- They are done so on this store, which is as this one then, from a state without an object on.
+-- no object is live yet
+abbrev pub none_live : Options → Live
+none_live options = record { options = options; objects = []; polls = []; writes = [] }
+
+-- They are done so on this store, which is as this one then, from no object on.
 abbrev pub DidAll : Settings → List Command → List Reply → Known (List Batch) → Known (List Batch) → Type 0
-DidAll settings commands replies store store' =
-    (last : State (List Batch)) × DoAll settings (record { objects = []; writes = []; store = store }) commands replies last × (last.store ≡ store')
+DidAll settings commands replies store store' = (last : Live) × DoAll settings (none_live settings.options) store commands replies last store'
 
--- The commands lead from the world of these objects, by one step each with its reply and each to a valid world, to one
--- that the store holds afterwards. What was stored before is stored afterwards, a write that is reported durable is confirmed for good, what a
--- snapshot gives stays, a reader whose polls are whole keeps its checkpoint while sweeps come in time, the first close of a handle
--- or a reader lists the tasks that its opening registered, a close of a reader that an error closed answers that, a handle that is
--- opened has the tracker of the one that flushed to a table before, a status names the segments above the view, and a poll finds no
--- key without a segment.
+-- each of these commands makes a call whole: none begins a poll by single calls, or makes a step of one
+abbrev pub AreWhole : List Command → Type 0
+AreWhole commands = All (λ command. kind_of command.action ≡ Whole) commands
+
+-- What holds over all of the steps from a world on: a reader whose polls are whole keeps its checkpoint while sweeps come in time, the
+-- first close of a handle or a reader lists the tasks that its opening registered, a handle that is opened has the tracker of the one
+-- that flushed to a table before, a status names the segments above the view, and a poll finds no key without a segment.
+pub record HoldsOver (settings : Settings) (first : World) (steps : List Step) : Type 0 where
+  pub leases : LeasesHold steps
+  pub closings : ListTasks settings.options steps
+  pub trackers : TrackersStay first steps
+  pub statuses : StatusesName settings.extractor steps
+  pub polls : PollsFit steps
+
+-- The commands lead from the world of these objects, by one step each with its reply and each to a valid world, to one that the store
+-- holds afterwards. What was stored before is stored afterwards, a write that is reported durable is confirmed for good, what a snapshot
+-- gives stays, and a close of a reader that an error closed answers that. What else is said over all of the steps is so where none of
+-- the commands begins or steps a poll by single calls.
 pub record LeadsTo (settings : Settings) (commands : List Command) (replies : List Reply) (before : Objects) (faults : ℕ) (store : Known (List Batch)) : Type 0 where
   pub steps : List Step
   pub commands_are : map (λ step. step.command) steps ≡ commands
@@ -50,12 +66,8 @@ pub record LeadsTo (settings : Settings) (commands : List Command) (replies : Li
   pub grows : IsPrefix (content before) last.stored
   pub confirmed : StayConfirmed steps
   pub snapshots : SnapshotsStay steps
-  pub leases : LeasesHold steps
-  pub closings : ListTasks settings.options steps
   pub repeated : RepeatErrors steps
-  pub trackers : TrackersStay (start before faults) steps
-  pub statuses : StatusesName settings.extractor steps
-  pub polls : PollsFit steps
+  pub over : AreWhole commands → HoldsOver settings (start before faults) steps
   pub after : Objects
   pub modelled : store.objects ≡ Some after
   pub sound : IsSound after

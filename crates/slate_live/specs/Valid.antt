@@ -39,7 +39,7 @@ use Rattle.slate_live.specs.Confirmed.{IsBatchOf, Sees, StandsIn}
 use Rattle.slate_model.specs.Tables.{AreStored}
 use Rattle.slate_model.specs.declared.snapshots.HandleSnapshot.{HandleSnapshot}
 use Rattle.slate_model.specs.Object.{Object, Handle as AHandle, Snapshot as ASnapshot, Follower as AFollower}
-use Rattle.slate_live.specs.Calls.{Call, Write as WriteCall, Merge, Flush, Refresh, Compact, Get, Scan, Seek, Close, Poll, Status, FindTime, FindNumber, call_of}
+use Rattle.slate_live.specs.Calls.{Call, Write as WriteCall, Merge, Flush, Refresh, Compact, Get, Scan, Seek, Close, Poll, Status, FindTime, FindNumber, Kind, Begins, Steps, Whole, call_of, kind_of}
 use Rattle.slate_live.specs.Calls.{Target, NewHandle, NewSnapshot, NewFollower, NewCheckpoint, WholeStore, OfWrite, OfObject, at_snapshot, target_of}
 use Rattle.slate_live.specs.Followers.{IsPlainReadAt, IsPlainScanAt}
 use Rattle.slate_live.specs.Handles.{IsPlainRead, IsPlainScan, flush_type_by}
@@ -47,7 +47,8 @@ use Rattle.slate_live.specs.Scans.{scanned, sought}
 use Rattle.slate_live.specs.Rising.{Rise}
 use Rattle.slate_live.specs.Settings.{Settings}
 use Rattle.slate_live.specs.Represents.{up_to}
-use Rattle.slate_live.specs.World.{Next, World}
+use Rattle.slate_live.specs.Next.{Next}
+use Rattle.slate_live.specs.World.{World}
 
 -- what holds of the object with a number, by its kind; nothing of a number without one
 abbrev pub AtObject : Option Object → (Handle → Type 0) → (HandleSnapshot → Type 0) → (Follower → Type 0) → Type 0
@@ -225,9 +226,15 @@ IsValidAt settings w moment second call (OfWrite n) = IsDurable w (slice_get w.w
 IsValidAt settings w moment second call (OfObject n) =
     AtObject (slice_get w.objects n) (CanAsk settings w moment second call) (CanAskSnapshot settings w moment second call) (CanAskFollower settings w moment call)
 
+-- by its kind: a poll of an open reader is begun; of a step it isn't said that it is refused nothing
+abbrev pub IsValidKind : Kind → Settings → World → Command → Type 0
+IsValidKind Whole settings w command = IsValidAt settings w command.moment command.second (call_of command.action) (target_of command.action)
+IsValidKind (Begins n) settings w command = AtObject (slice_get w.objects n) (λ handle. ⊥) (λ snapshot. ⊥) (λ follower. follower.result ≡ None)
+IsValidKind (Steps n) settings w command = ⊥
+
 -- nothing in this world stands against the command
 abbrev pub IsValidCommand : Settings → World → Command → Type 0
-IsValidCommand settings w command = IsValidAt settings w command.moment command.second (call_of command.action) (target_of command.action)
+IsValidCommand settings w command = IsValidKind (kind_of command.action) settings w command
 
 -- a reply that refuses nothing, or want of memory
 abbrev pub IsOkOrNoMemory : Reply → Type 0

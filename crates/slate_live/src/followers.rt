@@ -1,5 +1,5 @@
 // What commands do to a reader that follows a database.
-ghost use Rattle.std.specs.Prelude.{◌≡◌, ◌≤◌, ◌+◌, ℕ, None, Some, length, List, Option, IfSome, true};
+ghost use Rattle.std.specs.Prelude.{◌≡◌, ◌≤◌, ◌+◌, ℕ, None, Some, length, List, Option, IfSome, true, false};
 ghost use Rattle.std.specs.Option.{option_copied};
 ghost use Rattle.slate_types.specs.Operator.{Merge};
 ghost use Rattle.slate_reads.specs.Read.{IsOperator};
@@ -11,9 +11,9 @@ ghost use Rattle.slate_model.specs.Stores.{by_objects};
 ghost use Rattle.slate_live.specs.declared.states.Write.{Write};
 ghost use Rattle.slate_model.specs.Segments.{Extractor, IsExtractor};
 ghost use Rattle.slate_live.specs.Settings.{Settings};
-ghost use Rattle.slate_live.specs.Calls.{call_of, end_calls, goes_by_extractor, goes_by_operator, most_asked, poll_calls};
+ghost use Rattle.slate_live.specs.Calls.{call_of, end_calls, ends_poll, goes_by_extractor, goes_by_operator, most_asked, poll_calls};
 ghost use Rattle.slate_live.specs.Followers.{ClosesFollower, FollowerActs, GetsFromFollower, PollsFollower, TakesFromFollower};
-ghost use Rattle.slate_live.specs.Replies.{AnswersStatus, follower_closed_reply};
+ghost use Rattle.slate_live.specs.Replies.{AnswersStatus, follower_closed_reply, polled_reply};
 ghost use Rattle.slate_live.specs.Scans.{scanned, sought};
 
 use crate::handles::{read_reply, refusal, status_reply};
@@ -41,6 +41,7 @@ pub(crate) fn act<S: Store, M: MergeOperator, E: PrefixExtractor>(
     ensures does { (settings : Settings) (writes : List Write) → (goes_by_operator command.now.action ≡ true → IsOperator M.may_answer (option_copied operator.entry) settings.merge) → (goes_by_extractor command.now.action ≡ true → IsExtractor E.may_name E.may_extract (option_copied extractor.entry) settings.extractor) →
         (made : ℕ) × FollowerActs (by_objects (S.objects store.old)) settings command.now.moment (call_of command.now.action) made
         follower.old (known S.objects S.faults store.old) writes result follower.new (known S.objects S.faults store.new) writes }
+    ensures stays { ends_poll command.now.action ≡ false → follower.new ≡ follower.old }
 {
     match &command.action {
         Action::Get { key, .. } => get(follower, alloc, store, key, operator),
@@ -143,9 +144,18 @@ fn poll<S: Store, E: PrefixExtractor>(
         (made : ℕ) × PollsFollower (by_objects (S.objects store.old)) x made moment follower.old (known S.objects S.faults store.old) result follower.new (known S.objects S.faults store.new) }
 {
     match follower.poll(alloc, store, extractor, moment) {
-        Ok(PollAnswer::Whole { at }) => Reply::Polled { whole: true, at },
-        Ok(PollAnswer::Truncated { at }) => Reply::Polled { whole: false, at },
+        Ok(answer) => polled_reply(answer),
         Err(error) => refusal(error),
+    }
+}
+
+/// The reply to a poll that was answered.
+pub(crate) fn polled_reply(answer: PollAnswer) -> Reply
+    ensures { result ≡ polled_reply answer }
+{
+    match answer {
+        PollAnswer::Whole { at } => Reply::Polled { whole: true, at },
+        PollAnswer::Truncated { at } => Reply::Polled { whole: false, at },
     }
 }
 

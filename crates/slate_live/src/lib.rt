@@ -7,6 +7,7 @@ mod handles;
 mod laws;
 mod maintenance;
 mod objects;
+mod readers;
 mod runs;
 mod scans;
 mod sessions;

@@ -1,22 +1,26 @@
 // What commands name by a number, and what it does when a command names it.
-ghost use Rattle.std.specs.Prelude.{◌≡◌, ◌≤◌, ◌+◌, ℕ, None, Some, List, Option, IfSome, true};
+ghost use Rattle.std.specs.Prelude.{◌≡◌, ◌≤◌, ◌+◌, ℕ, None, Some, List, Option, IfSome, true, if◌then◌else◌, is_some};
 ghost use Rattle.std.specs.Option.{option_copied};
 ghost use Rattle.slate_reads.specs.Read.{IsOperator};
 ghost use Rattle.slate_model.specs.Known.{known};
 ghost use Rattle.slate_model.specs.Stores.{by_objects};
-ghost use Rattle.slate_live.specs.Shut.{IsShut};
-ghost use Rattle.slate_live.specs.Calls.{at_snapshot, call_of, goes_by_extractor, goes_by_operator, most_asked};
+ghost use Rattle.slate_live.specs.Shut.{IsShut, IsShutAt};
+ghost use Rattle.slate_live.specs.Calls.{at_snapshot, call_of, ends_poll, goes_by_extractor, goes_by_operator, most_asked, read_by};
 ghost use Rattle.slate_live.specs.Commands.{Acts, asked_reply};
-ghost use Rattle.slate_live.specs.Objects.{object_of};
-ghost use Rattle.slate_model.specs.Segments.{IsExtractor};
+ghost use Rattle.slate_live.specs.Objects.{object_of, poll_of};
+ghost use Rattle.slate_model.specs.Follower.{Follower, is_managed};
+ghost use Rattle.slate_model.specs.Object.{Follower as AFollower, Object as AnObject};
+ghost use Rattle.slate_model.specs.Segments.{Extractor, IsExtractor};
+ghost use Rattle.slate_script.specs.declared.replies.Reply.TheVariants as replies;
+ghost use Rattle.slate_live.specs.Stepping.{BeginsOf, StepsObject};
 ghost use Rattle.slate_live.specs.Settings.{Settings};
 ghost use Rattle.slate_live.specs.Sampling.{ActsAsOf, snapshot_of, taken_of};
 ghost use Rattle.slate_live.specs.declared.states.Write.{Write as AWrite};
 
+use crate::handles;
+use crate::readers::Reader;
 use crate::states::Write;
-use crate::{followers, handles};
 use slate_errors::SlateError;
-use slate_follow::FollowerState;
 use slate_model::HandleSnapshot;
 use slate_script::{Command, Reply};
 use slate_store::Store;
@@ -31,7 +35,7 @@ pub enum Object {
     /// A snapshot of a handle.
     Snapshot(HandleSnapshot),
     /// A reader that follows a database.
-    Follower(FollowerState),
+    Follower(Reader),
 }
 
 impl Drop for Object {
@@ -64,15 +68,45 @@ impl Object {
         ensures does { (settings : Settings) → (goes_by_operator command.now.action ≡ true → IsOperator M.may_answer (option_copied operator.entry) settings.merge) → (goes_by_extractor command.now.action ≡ true → IsExtractor E.may_name E.may_extract (option_copied extractor.entry) settings.extractor) →
             (made : ℕ) × Acts (by_objects (S.objects store.old)) settings number command.now (call_of command.now.action) made
             (object_of self.old) (known S.objects S.faults store.old) writes.old.items result (object_of self.new) (known S.objects S.faults store.new) writes.new.items }
+        ensures poll { poll_of self.new ≡ (if ends_poll command.now.action then None else poll_of self.old) }
     {
         match self {
             Object::Handle(writer) => handles::act(
                 writer, alloc, store, writes, number, operator, extractor, command,
             ),
             Object::Snapshot(_) => Reply::Unknown,
-            Object::Follower(follower) => {
-                followers::act(follower, alloc, store, operator, extractor, command)
-            }
+            Object::Follower(reader) => reader.act(alloc, store, operator, extractor, command),
+        }
+    }
+
+    /// Begins a poll at a moment, where it is a reader.
+    pub(crate) fn begin(&mut self, alloc: Global, moment: i64) -> Reply
+        ensures object { object_of self.new ≡ object_of self.old }
+        ensures begins { BeginsOf moment (object_of self.old) (poll_of self.old) result (poll_of self.new) }
+        ensures keeps { (reader : Follower) → object_of self.old ≡ AFollower reader → result ≡ replies.Begun → (reader.line.floor ≡ reader.view.manifest.last_l0_seq) × (is_some reader.lease ≡ is_managed reader.mode) }
+    {
+        match self {
+            Object::Follower(reader) => reader.begin(alloc, moment),
+            _ => Reply::Unknown,
+        }
+    }
+
+    /// Makes the next call of its begun poll, where it is a reader that has one.
+    pub(crate) fn step<S: Store, E: PrefixExtractor>(
+        &mut self,
+        alloc: Global,
+        store: &mut S,
+        extractor: Option<&E>,
+    ) -> Reply
+        ensures faults { S.faults store.old ≤ S.faults store.new }
+        ensures calls { S.calls store.new ≤ S.calls store.old + 1 }
+        ensures untouched { (objects : List AnObject) → IsShutAt (read_by objects (Some (object_of self.old))) → store.new ≡ store.old }
+        ensures steps { (x : Option Extractor) → IsExtractor E.may_name E.may_extract (option_copied extractor.entry) x →
+            StepsObject x (object_of self.old) (poll_of self.old) (known S.objects S.faults store.old) result (object_of self.new) (poll_of self.new) (known S.objects S.faults store.new) }
+    {
+        match self {
+            Object::Follower(reader) => reader.step(alloc, store, extractor),
+            _ => Reply::Unknown,
         }
     }
 

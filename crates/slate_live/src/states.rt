@@ -1,5 +1,5 @@
 // The live objects of a run and its writes, and what one command does to them.
-ghost use Rattle.std.specs.Prelude.{◌≡◌, ◌≤◌, ◌+◌, ℕ, [], true, None, List, Option, slice_get, IfSome};
+ghost use Rattle.std.specs.Prelude.{◌≡◌, ◌≤◌, ◌+◌, ℕ, [], true, None, List, Option, slice_get, IfSome, Some, is_some};
 ghost use Rattle.slate_types.specs.declared.batches.Batch.{Batch as AnyBatch};
 ghost use Rattle.std.specs.Option.{option_copied};
 ghost use Rattle.slate_reads.specs.Read.{IsOperator};
@@ -7,20 +7,25 @@ ghost use Rattle.slate_model.specs.Known.{Known, known};
 ghost use Rattle.slate_model.specs.Open.{replayed_logs};
 ghost use Rattle.slate_model.specs.Stores.{by_objects};
 ghost use Rattle.slate_live.specs.Shut.{IsShutAt};
-ghost use Rattle.slate_live.specs.Calls.{call_of, follow_calls, goes_by_extractor, goes_by_operator, most_asked, most_calls, named, read_by, target_of};
+ghost use Rattle.slate_live.specs.Calls.{ArePolls, HaveSamePolls, OfObject, Whole, call_of, follow_calls, goes_by_extractor, goes_by_operator, kind_of, most_asked, most_calls, named, read_by, target_of};
 ghost use Rattle.slate_live.specs.Commands.{ActsOn, Does, interval_of, lifetime_of, OpensFollowerIn, OpensHandleIn, OpensSnapshot, ReadsSnapshot, write_reply};
 ghost use Rattle.slate_live.specs.Sampling.{Pushes};
 ghost use Rattle.slate_live.specs.Replies.{followed_reply};
 ghost use Rattle.slate_live.specs.Represents.{Links};
 ghost use Rattle.slate_live.specs.State.{running};
-ghost use Rattle.slate_model.specs.Segments.{IsExtractor};
+ghost use Rattle.slate_model.specs.Follower.{Follower, is_managed};
+ghost use Rattle.slate_model.specs.Object.{Follower as AFollower};
+ghost use Rattle.slate_model.specs.Segments.{Extractor, IsExtractor};
+ghost use Rattle.slate_script.specs.declared.replies.Reply.TheVariants as replies;
 ghost use Rattle.slate_live.specs.Settings.{Settings, option_tasks};
+ghost use Rattle.slate_live.specs.Stepping.{BeginsPoll, IsDone, StepsPoll};
 ghost use Rattle.slate_live.specs.Valid.{Link};
 ghost use Rattle.slate_writer.specs.Tasks.{tasks_of};
 
 use crate::handles::refusal;
 use crate::maintenance::{checkpoint, sweep};
 use crate::objects::Object;
+use crate::readers::Reader;
 use slate_follow::{DbReaderMode, DbReaderOptions, FollowerState, PollAnswer};
 use slate_model::HandleSnapshot;
 use slate_script::{Action, Command, Options, Reply};
@@ -60,15 +65,15 @@ impl Model for LiveState {
 
     ghost Value = { Live };
 
-    ghost use Rattle.slate_live.specs.Objects.{object_of};
+    ghost use Rattle.slate_live.specs.Objects.{object_of, poll_of};
 
-    ghost view = { λ s. record { options = s.options; objects = map object_of s.objects.items; writes = s.writes.items } };
+    ghost view = { λ s. record { options = s.options; objects = map object_of s.objects.items; polls = map poll_of s.objects.items; writes = s.writes.items } };
 }
 
 impl LiveState {
     /// A state without an object and without a write. It takes no memory.
     pub fn new(alloc: Global, options: &Options) -> LiveState
-        ensures { result ≡ record { options = options.now; objects = []; writes = [] } }
+        ensures { result ≡ record { options = options.now; objects = []; polls = []; writes = [] } }
     {
         LiveState {
             options: *options,
@@ -99,11 +104,36 @@ impl LiveState {
         // On a closed handle or reader, and on a snapshot of a closed handle, a command leaves the store as it is, and so calls it not once.
         ensures untouched { IsShutAt (read_by self.old.objects (named self.old.objects (target_of command.now.action))) → store.new ≡ store.old }
         ensures does { (settings : Settings) → (goes_by_operator command.now.action ≡ true → IsOperator M.may_answer (option_copied operator.entry) settings.merge) → (goes_by_extractor command.now.action ≡ true → IsExtractor E.may_name E.may_extract (option_copied extractor.entry) settings.extractor) → settings.options ≡ self.old.options →
-            (made : ℕ) × Does (by_objects (S.objects store.old)) settings made
-            (running self.old (known S.objects S.faults store.old)) command.now result (running self.new (known S.objects S.faults store.new)) }
+            IsDone settings self.old (known S.objects S.faults store.old) command.now result self.new (known S.objects S.faults store.new) }
         ensures link { (settings : Settings) → (goes_by_operator command.now.action ≡ true → IsOperator M.may_answer (option_copied operator.entry) settings.merge) → (goes_by_extractor command.now.action ≡ true → IsExtractor E.may_name E.may_extract (option_copied extractor.entry) settings.extractor) → settings.options ≡ self.old.options →
             Links settings.extractor (λ w reply w'. Link settings w command.now reply w')
             self.old (known S.objects S.faults store.old) result self.new (known S.objects S.faults store.new) }
+    {
+        match &command.action {
+            Action::Begin { follower } => self.begin(alloc, *follower, command.moment),
+            Action::Step { follower } => self.step(alloc, store, *follower, extractor),
+            _ => self.make_call(alloc, store, operator, extractor, command),
+        }
+    }
+
+    /// Does a command that makes a call whole.
+    fn make_call<S: Store, M: MergeOperator, E: PrefixExtractor>(
+        &mut self,
+        alloc: Global,
+        store: &mut S,
+        operator: Option<&M>,
+        extractor: Option<&E>,
+        command: &Command,
+    ) -> Reply
+        requires whole { kind_of command.now.action ≡ Whole }
+        ensures options { self.new.options ≡ self.old.options }
+        ensures faults { S.faults store.old ≤ S.faults store.new }
+        ensures calls { IfSome (S.objects store.old) (λ o. S.calls store.new ≤ S.calls store.old + most_calls o self.old.objects command.now) }
+        ensures untouched { IsShutAt (read_by self.old.objects (named self.old.objects (target_of command.now.action))) → store.new ≡ store.old }
+        ensures polls { ArePolls command.now.action self.old.polls self.new.polls }
+        ensures does { (settings : Settings) → (goes_by_operator command.now.action ≡ true → IsOperator M.may_answer (option_copied operator.entry) settings.merge) → (goes_by_extractor command.now.action ≡ true → IsExtractor E.may_name E.may_extract (option_copied extractor.entry) settings.extractor) → settings.options ≡ self.old.options →
+            (made : ℕ) × Does (by_objects (S.objects store.old)) settings made
+            (running self.old (known S.objects S.faults store.old)) command.now result (running self.new (known S.objects S.faults store.new)) }
     {
         match &command.action {
             Action::Open { wal } => self.open(alloc, store, *wal, extractor),
@@ -119,6 +149,7 @@ impl LiveState {
             Action::Checkpoint { lifetime } => checkpoint(alloc, store, *lifetime, command.moment),
             Action::Sweep => sweep(alloc, store, command.moment),
             Action::Await { write } => self.write_reply(*write),
+            Action::Begin { .. } | Action::Step { .. } => Reply::Unknown,
             Action::Put { handle: number, .. }
             | Action::Merge { handle: number, .. }
             | Action::Delete { handle: number, .. }
@@ -139,6 +170,41 @@ impl LiveState {
         }
     }
 
+    /// Begins a poll of the reader with a number, at a moment.
+    fn begin(&mut self, alloc: Global, number: u64, moment: i64) -> Reply
+        ensures options { self.new.options ≡ self.old.options }
+        ensures begins { BeginsPoll number moment self.old result self.new }
+        ensures keeps { (reader : Follower) → slice_get self.old.objects number ≡ Some (AFollower reader) → result ≡ replies.Begun → (reader.line.floor ≡ reader.view.manifest.last_l0_seq) × (is_some reader.lease ≡ is_managed reader.mode) }
+    {
+        let place = number as usize;
+        if place >= self.objects.len() {
+            return Reply::Unknown;
+        }
+        self.objects[place].begin(alloc, moment)
+    }
+
+    /// Makes the next call of the begun poll of the reader with a number.
+    fn step<S: Store, E: PrefixExtractor>(
+        &mut self,
+        alloc: Global,
+        store: &mut S,
+        number: u64,
+        extractor: Option<&E>,
+    ) -> Reply
+        ensures options { self.new.options ≡ self.old.options }
+        ensures faults { S.faults store.old ≤ S.faults store.new }
+        ensures calls { S.calls store.new ≤ S.calls store.old + 1 }
+        ensures untouched { IsShutAt (read_by self.old.objects (slice_get self.old.objects number)) → store.new ≡ store.old }
+        ensures steps { (x : Option Extractor) → IsExtractor E.may_name E.may_extract (option_copied extractor.entry) x →
+            StepsPoll x number self.old (known S.objects S.faults store.old) result self.new (known S.objects S.faults store.new) }
+    {
+        let place = number as usize;
+        if place >= self.objects.len() {
+            return Reply::Unknown;
+        }
+        self.objects[place].step(alloc, store, extractor)
+    }
+
     /// Opens a handle, which keeps a log or not.
     fn open<S: Store, E: PrefixExtractor>(
         &mut self,
@@ -150,6 +216,7 @@ impl LiveState {
         ensures options { self.new.options ≡ self.old.options }
         ensures faults { S.faults store.old ≤ S.faults store.new }
         ensures calls { IfSome (S.objects store.old) (λ o. S.calls store.new ≤ S.calls store.old + (replayed_logs o + 5)) }
+        ensures polls { HaveSamePolls self.old.polls self.new.polls }
         ensures does { (settings : Settings) → IsExtractor E.may_name E.may_extract (option_copied extractor.entry) settings.extractor → settings.options ≡ self.old.options →
             (made : ℕ) × OpensHandleIn (by_objects (S.objects store.old)) settings wal made
             (running self.old (known S.objects S.faults store.old)) result (running self.new (known S.objects S.faults store.new)) }
@@ -185,6 +252,7 @@ impl LiveState {
     /// Takes a snapshot of the handle with a number.
     fn snapshot(&mut self, handle: u64) -> Reply
         ensures options { self.new.options ≡ self.old.options }
+        ensures polls { HaveSamePolls self.old.polls self.new.polls }
         ensures does { (store : Known (List AnyBatch)) → OpensSnapshot handle 0 (slice_get self.old.objects handle) (running self.old store) result (running self.new store) }
     {
         let place = handle as usize;
@@ -204,6 +272,7 @@ impl LiveState {
     fn add_snapshot(&mut self, snapshot: HandleSnapshot) -> Reply
         ensures options { self.new.options ≡ self.old.options }
         ensures writes { self.new.writes ≡ self.old.writes }
+        ensures polls { HaveSamePolls self.old.polls self.new.polls }
         ensures added { Pushes self.old.objects snapshot result self.new.objects }
     {
         if self.objects.reserve(1).is_err() {
@@ -230,6 +299,7 @@ impl LiveState {
         ensures options { self.new.options ≡ self.old.options }
         ensures faults { S.faults store.old ≤ S.faults store.new }
         ensures calls { IfSome (S.objects store.old) (λ o. S.calls store.new ≤ S.calls store.old + follow_calls mode options.now.skip_wal_replay o) }
+        ensures polls { HaveSamePolls self.old.polls self.new.polls }
         ensures does { (settings : Settings) (managed : Option (ℕ × ℕ)) → IsExtractor E.may_name E.may_extract (option_copied extractor.entry) settings.extractor → options.now.checkpoint_lifetime_ms ≡ lifetime_of managed → options.now.manifest_poll_interval_ms ≡ interval_of managed →
             (made : ℕ) × OpensFollowerIn (by_objects (S.objects store.old)) settings mode managed options.now.skip_wal_replay moment made
             (running self.old (known S.objects S.faults store.old)) result (running self.new (known S.objects S.faults store.new)) }
@@ -240,7 +310,7 @@ impl LiveState {
                 if self.objects.reserve(1).is_err() {
                     return Reply::NoMemory;
                 }
-                self.objects.push_reserved(Object::Follower(follower));
+                self.objects.push_reserved(Object::Follower(Reader::new(follower)));
                 followed_reply(object, answer)
             }
             Err(error) => refusal(error),
@@ -262,6 +332,7 @@ impl LiveState {
         ensures calls { IfSome (S.objects store.old) (λ o.
             S.calls store.new ≤ S.calls store.old + most_asked o (read_by self.old.objects (slice_get self.old.objects number)) (call_of command.now.action)) }
         ensures untouched { IsShutAt (read_by self.old.objects (slice_get self.old.objects number)) → store.new ≡ store.old }
+        ensures polls { target_of command.now.action ≡ OfObject number → ArePolls command.now.action self.old.polls self.new.polls }
         ensures does { (settings : Settings) → (goes_by_operator command.now.action ≡ true → IsOperator M.may_answer (option_copied operator.entry) settings.merge) → (goes_by_extractor command.now.action ≡ true → IsExtractor E.may_name E.may_extract (option_copied extractor.entry) settings.extractor) →
             (made : ℕ) × ActsOn (by_objects (S.objects store.old)) settings number command.now (call_of command.now.action) made (slice_get self.old.objects number)
             (running self.old (known S.objects S.faults store.old)) result (running self.new (known S.objects S.faults store.new)) }

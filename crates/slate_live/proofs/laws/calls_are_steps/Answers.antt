@@ -1,4 +1,5 @@
-use Rattle.std.proofs.Common.{[], Some, refl}
+use Rattle.std.proofs.Common.{Some, refl}
+use Rattle.slate_live.specs.Run.{none_live}
 use Rattle.slate_live.proofs.Chains.{stands_start}
 use Rattle.slate_live.proofs.Lines.{read-lines}
 use Rattle.slate_live.proofs.Representing.{leads}
@@ -6,7 +7,7 @@ use Rattle.slate_live.proofs.laws.calls_are_steps.Goals as goal
 
 pub returns : goal.returns
 returns c = record {
-  begins = λ options objects faults sound. stands_start objects (record { objects = Some objects; faults = faults }) (record { options = options; objects = []; writes = [] }) refl refl refl sound;
+  begins = λ options objects faults sound. stands_start objects (record { objects = Some objects; faults = faults }) (none_live options) refl refl refl refl sound;
   steps = leads;
   rows = read-lines;
 }

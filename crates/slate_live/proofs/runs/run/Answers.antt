@@ -1,6 +1,7 @@
 use Rattle.std.proofs.Common.{arith, ap, refl, sym, ◌∙◌, ◌++◌, ◌∷◌, []}
 use Rattle.slate_model.specs.Known.{known}
-use Rattle.slate_live.specs.State.{Live, running}
+use Rattle.slate_live.specs.Run.{none_live}
+use Rattle.slate_live.specs.State.{Live}
 use Rattle.slate_live.specs.World.{start}
 use Rattle.slate_live.proofs.Chains.{do-all, do-next, do-none, done-next, done_none, leads_all, reached, segments-push, stands-push, stands_start}
 use Rattle.slate_live.proofs.Segmented.{segmented-start}
@@ -14,11 +15,11 @@ loop-command-init g c =
       room = c.in_ok-replies.ensures.capacity;
       options = ap (λ (l : Live). l.options) c.new-live.ensures;
       does = λ settings lawful extracts options_are.
-          do-none settings c.args.options.now c.new-live.result (known g.S.Store.objects g.S.Store.faults c.args.store.now) c.in_ok-replies.replies.items c.in_ok-replies.ensures.items c.new-live.ensures;
+          do-none settings c.new-live.result (known g.S.Store.objects g.S.Store.faults c.args.store.now) c.in_ok-replies.replies.items c.in_ok-replies.ensures.items (c.new-live.ensures ∙ ap none_live (sym options_are));
       leads = λ settings lawful extracts options_are before is sound. (
         [],
         done_none settings _ _ c.in_ok-replies.ensures.items,
-        stands_start before _ c.new-live.result (ap (λ (l : Live). l.objects) c.new-live.ensures) (ap (λ (l : Live). l.writes) c.new-live.ensures) is sound,
+        stands_start before _ c.new-live.result (ap (λ (l : Live). l.objects) c.new-live.ensures) (ap (λ (l : Live). l.polls) c.new-live.ensures) (ap (λ (l : Live). l.writes) c.new-live.ensures) is sound,
         segmented-start settings.extractor (start before (g.S.Store.faults c.args.store.now)) refl,
       );
     }
@@ -32,12 +33,12 @@ loop-command-preserved g c =
       options = c.apply-reply.ensures.options ∙ c.loop-command.invariant.options;
       does = λ settings lawful extracts options_are.
           let d = c.apply-reply.ensures.does settings (λ _. lawful) (λ _. extracts) (options_are ∙ sym c.loop-command.invariant.options) in
-          do-next settings _ _ _ c.args.commands.now c.loop-command.command-index c.command-item.result _ _ c.apply-reply.result d.0 c.loop-command-test.true c.command-item.is c.push_reserved.ensures.items (c.loop-command.invariant.does settings lawful extracts options_are) d.1;
+          do-next settings _ _ _ _ _ _ c.args.commands.now c.loop-command.command-index c.command-item.result _ _ c.apply-reply.result c.loop-command-test.true c.command-item.is c.push_reserved.ensures.items (c.loop-command.invariant.does settings lawful extracts options_are) d;
       leads = λ settings lawful extracts options_are before is sound.
           let prev = c.loop-command.invariant.leads settings lawful extracts options_are before is sound in
           let link = c.apply-reply.ensures.link settings (λ _. lawful) (λ _. extracts) (options_are ∙ sym c.loop-command.invariant.options) _ prev.2 prev.3 in (
             prev.0 ++ record { command = c.command-item.result; reply = c.apply-reply.result; world = link.0 } ∷ [],
-            done-next settings _ link.0 prev.0 c.args.commands.now c.loop-command.command-index c.command-item.result _ _ c.apply-reply.result c.loop-command-test.true c.command-item.is c.push_reserved.ensures.items prev.1 link.1 (reached _ _ link.0 link.2),
+            done-next settings _ link.0 prev.0 c.args.commands.now c.loop-command.command-index c.command-item.result _ _ c.apply-reply.result c.loop-command-test.true c.command-item.is c.push_reserved.ensures.items prev.1 link.1 (reached _ _ link.0 (link.2).represents),
             stands-push _ link.0 prev.0 c.command-item.result c.apply-reply.result _ _ link.2,
             segments-push settings.extractor _ link.0 prev.0 c.command-item.result c.apply-reply.result link.3,
           );
@@ -46,10 +47,9 @@ loop-command-preserved g c =
 pub returns-clause-does : goal.returns-clause-does
 returns-clause-does g c settings lawful extracts options_are =
     let all = c.loop-command.invariant.does settings lawful extracts options_are in (
-      running c.loop-command.live (known g.S.Store.objects g.S.Store.faults c.loop-command.store),
-      do-all settings (record { objects = []; writes = []; store = known g.S.Store.objects g.S.Store.faults c.args.store.now })
-          (running c.loop-command.live (known g.S.Store.objects g.S.Store.faults c.loop-command.store)) c.args.commands.now c.loop-command.command-index c.loop-command.replies.items c.loop-command-test.false all,
-      refl,
+      c.loop-command.live,
+      do-all settings (none_live settings.options) c.loop-command.live (known g.S.Store.objects g.S.Store.faults c.args.store.now) (known g.S.Store.objects g.S.Store.faults c.loop-command.store)
+          c.args.commands.now c.loop-command.command-index c.loop-command.replies.items c.loop-command-test.false all,
     )
 
 pub returns-clause-leads : goal.returns-clause-leads

@@ -7,7 +7,8 @@ use Rattle.slate_model.specs.Stores.{by_objects}
 use Rattle.slate_live.specs.Calls.{call_of, most_asked}
 use Rattle.slate_live.specs.Sampling.{snapshot_of}
 use Rattle.slate_live.specs.State.{running}
-use Rattle.slate_live.specs.Objects.{object_of}
+use Rattle.slate_live.specs.Objects.{object_of, poll_of}
+use Rattle.slate_live.proofs.Begun.{are-set}
 use Rattle.slate_live.proofs.Doing.{acts_on, on-snapshot, read-itself}
 use Rattle.slate_live.proofs.Places.{get-map_at}
 use Rattle.slate_live.proofs.states.LiveState.act.Goals as goal
@@ -44,3 +45,9 @@ returns-clause-calls g c =
     let second : slice_get objects c.args.number ≡ Some old = rw (← c.self.view_is) (get-map_at object_of c.self.inside.objects.items c.args.number c.index_mut-object.result.now (omega (arith, c.len.ensures)) c.index_mut-object.ensures.value) in
     let itself = subst (λ x. snapshot_of x ≡ None) (some-same _ _ old first second) (sym c.snapshot.ensures ∙ none-of c.snapshot.result c.in_default.not-Some) in
     subst (λ count. IfSome (g.S.Store.objects c.args.store.now) (λ o. g.S.Store.calls c.act.new.store ≤ g.S.Store.calls c.args.store.now + most_asked o count (call_of c.args.command.now.action))) (sym (read-itself objects (slice_get objects c.args.number) old second itself)) c.act.ensures.calls
+
+pub returns-clause-polls : goal.returns-clause-polls
+returns-clause-polls g c names =
+    are-set c.args.command.now.action c.args.number c.args.self.now.polls _ (poll_of c.index_mut-object.result.now) (poll_of c.act.new.self) names
+    (rw (← c.self.view_is) (get-map_at poll_of c.self.inside.objects.items c.args.number c.index_mut-object.result.now (omega (arith, c.len.ensures)) c.index_mut-object.ensures.value)) c.act.ensures.poll
+    (rw (← c.self.view_is) (map-set poll_of c.self.inside.objects.items c.args.number c.act.new.self))

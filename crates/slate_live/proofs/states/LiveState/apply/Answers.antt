@@ -1,125 +1,77 @@
-use Rattle.std.proofs.Common.{rules, ◌≡◌, ℕ, ℤ, Bool, Option, refl, subst, ap, w64, to_z, of_z}
-use Rattle.slate_live.specs.Calls.{NewHandle, NewSnapshot, NewFollower, NewCheckpoint, WholeStore, OfWrite, OfObject, goes_by_extractor, target_of}
-use Rattle.slate_model.specs.Known.{known}
-use Rattle.slate_model.specs.Stores.{by_objects}
-use Rattle.slate_store.specs.declared.reader_modes.DbReaderMode.{DbReaderMode}
-use Rattle.slate_model.specs.Knowledge.{Knowledge}
+use Rattle.std.proofs.Common.{rules, ◌≡◌, ◌∙◌, ℕ, ℤ, List, Option, Some, refl, sym, subst, ap, w64, to_z, of_z}
+use Rattle.std.specs.List.{slice_get}
+use Rattle.std.specs.Option.{is_some}
+use Rattle.slate_types.specs.declared.batches.Batch.{Batch}
+use Rattle.slate_model.specs.Follower.{Follower, is_managed}
+use Rattle.slate_model.specs.Known.{Known, known}
+use Rattle.slate_model.specs.Object.{Follower as AFollower}
+use Rattle.slate_script.specs.declared.commands.Command.{Command}
 use Rattle.slate_script.specs.declared.replies.Reply.{Reply}
-use Rattle.slate_live.specs.Commands.{OpensFollowerIn}
-use Rattle.slate_live.specs.Maintenance.{CommitsTo, SweepsTo}
+use Rattle.slate_script.specs.declared.replies.Reply.TheVariants as replies
+use Rattle.slate_live.specs.Calls.{Begins, Kind, Steps, Whole, goes_by_extractor, kind_of, named, read_by, target_of}
 use Rattle.slate_live.specs.Settings.{Settings}
-use Rattle.slate_live.specs.State.{State, running}
-use Rattle.slate_live.proofs.Linking.{does-at, linked, names-object}
+use Rattle.slate_live.specs.Shut.{IsShutAt}
+use Rattle.slate_live.specs.State.{Live}
+use Rattle.slate_live.specs.Stepping.{BeginsPoll, DoesKind, IsDone, StepsPoll}
+use Rattle.slate_live.proofs.Begun.{whole-of}
+use Rattle.slate_live.proofs.Linking.{linked}
 use Rattle.slate_live.proofs.states.LiveState.apply.Goals as goal
 
--- an opening of a reader with the moment and the skipping that a command has
-opens_as : {L : Type 0} (k : Knowledge L) (s : Settings) (mode : DbReaderMode) (managed : Option (ℕ × ℕ)) (made : ℕ) (before : State L) (reply : Reply) (after : State L) (moment moment' : ℤ) (skips skips' : Bool) → moment ≡ moment' → skips ≡ skips' →
-    OpensFollowerIn k s mode managed skips moment made before reply after → OpensFollowerIn k s mode managed skips' moment' made before reply after
-opens_as k s mode managed made before reply after moment moment' skips skips' at same opens =
-    subst (λ m. OpensFollowerIn k s mode managed skips' m made before reply after) at (subst (λ x. OpensFollowerIn k s mode managed x moment made before reply after) same opens)
+-- what a command does, by its kind
+done-by : (settings : Settings) (live : Live) (store : Known (List Batch)) (command : Command) (reply : Reply) (live' : Live) (store' : Known (List Batch)) (kind : Kind) → kind_of command.action ≡ kind → DoesKind kind settings live store command reply live' store' → IsDone settings live store command reply live' store'
+done-by settings live store command reply live' store' kind is does = subst (λ k. DoesKind k settings live store command reply live' store') (sym is) does
 
-pub returns-in-Open-clause-does : goal.returns-in-Open-clause-does
-returns-in-Open-clause-does g c settings lawful extracts options_are =
-    let d = c.open.ensures.does settings (extracts (ap goes_by_extractor c.in-Open.is)) options_are in
-    let k = by_objects (g.S.Store.objects c.args.store.now) in
+-- nothing is begun by a command of another kind
+never : (command : Command) (kind : Kind) → kind_of command.action ≡ kind → ((n : ℕ) → kind ≡ Begins n → ⊥) → (P : Follower → Type 0) (live : Live) (reply : Reply) →
+    (n : ℕ) (reader : Follower) → kind_of command.action ≡ Begins n → slice_get live.objects n ≡ Some (AFollower reader) → reply ≡ replies.Begun → P reader
+never command kind is other P live reply n reader begins at begun = absurd (other n (sym is ∙ begins))
+
+begins-same : (m n : ℕ) → Begins m ≡ Begins n → m ≡ n
+begins-same m n is = cc
+
+begin-did : (n : ℕ) (moment moment' : ℤ) (live : Live) (reply : Reply) (live' : Live) → moment ≡ moment' → BeginsPoll n moment live reply live' → BeginsPoll n moment' live reply live'
+begin-did n moment moment' live reply live' same did = subst (λ m. BeginsPoll n m live reply live') same did
+
+pub returns-in-Begin-clause-does : goal.returns-in-Begin-clause-does
+returns-in-Begin-clause-does g c settings lawful extracts options_are =
     let store = known g.S.Store.objects g.S.Store.faults c.args.store.now in
-    let store' = known g.S.Store.objects g.S.Store.faults c.open.new.store in
-    (d.0, does-at k settings c.args.command.now d.0 (running c.args.self.now store) c.open.result (running c.open.new.self store') (NewHandle c.in-Open.wal) (ap target_of c.in-Open.is) d.1)
+    done-by settings c.args.self.now store c.args.command.now c.begin.result c.begin.new.self store (Begins c.in-Begin.follower) (ap kind_of c.in-Begin.is)
+    (begin-did c.in-Begin.follower _ c.args.command.now.moment c.args.self.now c.begin.result c.begin.new.self (search rules) c.begin.ensures.begins, refl)
 
-pub returns-in-Open-clause-link : goal.returns-in-Open-clause-link
-returns-in-Open-clause-link g c settings lawful extracts options_are =
-    let d = c.open.ensures.does settings (extracts (ap goes_by_extractor c.in-Open.is)) options_are in
-    let k = by_objects (g.S.Store.objects c.args.store.now) in
+pub returns-in-Begin-clause-link : goal.returns-in-Begin-clause-link
+returns-in-Begin-clause-link g c settings lawful extracts options_are =
     let store = known g.S.Store.objects g.S.Store.faults c.args.store.now in
-    let store' = known g.S.Store.objects g.S.Store.faults c.open.new.store in
-    linked settings c.args.command.now c.args.self.now c.open.new.self store store' d.0 c.open.result (does-at k settings c.args.command.now d.0 (running c.args.self.now store) c.open.result (running c.open.new.self store') (NewHandle c.in-Open.wal) (ap target_of c.in-Open.is) d.1)
+    linked settings c.args.command.now c.args.self.now c.begin.new.self store store c.begin.result (sym options_are)
+    (done-by settings c.args.self.now store c.args.command.now c.begin.result c.begin.new.self store (Begins c.in-Begin.follower) (ap kind_of c.in-Begin.is)
+    (begin-did c.in-Begin.follower _ c.args.command.now.moment c.args.self.now c.begin.result c.begin.new.self (search rules) c.begin.ensures.begins, refl))
+    (λ n reader kind at begun. c.begin.ensures.keeps reader (subst (λ i. slice_get c.args.self.now.objects i ≡ Some (AFollower reader)) (sym (begins-same c.in-Begin.follower n (sym (ap kind_of c.in-Begin.is) ∙ kind))) at) begun)
 
-pub returns-in-Follow-clause-does : goal.returns-in-Follow-clause-does
-returns-in-Follow-clause-does g c settings lawful extracts options_are =
-    let o = c.reader_options-options.ensures in
-    let d = c.follow.ensures.does settings c.in-Follow.managed (extracts (ap goes_by_extractor c.in-Follow.is)) o.lifetime o.interval in
-    let k = by_objects (g.S.Store.objects c.args.store.now) in
-    let before = running c.args.self.now (known g.S.Store.objects g.S.Store.faults c.args.store.now) in
-    let after = running c.follow.new.self (known g.S.Store.objects g.S.Store.faults c.follow.new.store) in
-    let did = opens_as k settings c.in-Follow.mode c.in-Follow.managed d.0 before c.follow.result after _ _ _ _ (search rules) o.skips d.1 in
-    (d.0, does-at k settings c.args.command.now d.0 before c.follow.result after (NewFollower c.in-Follow.mode c.in-Follow.managed c.in-Follow.skip) (ap target_of c.in-Follow.is) did)
+pub returns-in-Step-clause-does : goal.returns-in-Step-clause-does
+returns-in-Step-clause-does g c settings lawful extracts options_are =
+    done-by settings c.args.self.now (known g.S.Store.objects g.S.Store.faults c.args.store.now) c.args.command.now c.step.result c.step.new.self (known g.S.Store.objects g.S.Store.faults c.step.new.store) (Steps c.in-Step.follower) (ap kind_of c.in-Step.is)
+    (c.step.ensures.steps settings.extractor (extracts (ap goes_by_extractor c.in-Step.is)))
 
-pub returns-in-Follow-clause-link : goal.returns-in-Follow-clause-link
-returns-in-Follow-clause-link g c settings lawful extracts options_are =
-    let o = c.reader_options-options.ensures in
-    let d = c.follow.ensures.does settings c.in-Follow.managed (extracts (ap goes_by_extractor c.in-Follow.is)) o.lifetime o.interval in
-    let k = by_objects (g.S.Store.objects c.args.store.now) in
-    let store = known g.S.Store.objects g.S.Store.faults c.args.store.now in
-    let store' = known g.S.Store.objects g.S.Store.faults c.follow.new.store in
-    let did = opens_as k settings c.in-Follow.mode c.in-Follow.managed d.0 (running c.args.self.now store) c.follow.result (running c.follow.new.self store') _ _ _ _ (search rules) o.skips d.1 in
-    linked settings c.args.command.now c.args.self.now c.follow.new.self store store' d.0 c.follow.result
-    (does-at k settings c.args.command.now d.0 (running c.args.self.now store) c.follow.result (running c.follow.new.self store') (NewFollower c.in-Follow.mode c.in-Follow.managed c.in-Follow.skip) (ap target_of c.in-Follow.is) did)
+pub returns-in-Step-clause-link : goal.returns-in-Step-clause-link
+returns-in-Step-clause-link g c settings lawful extracts options_are =
+    linked settings c.args.command.now c.args.self.now c.step.new.self (known g.S.Store.objects g.S.Store.faults c.args.store.now) (known g.S.Store.objects g.S.Store.faults c.step.new.store) c.step.result (sym options_are)
+    (done-by settings c.args.self.now (known g.S.Store.objects g.S.Store.faults c.args.store.now) c.args.command.now c.step.result c.step.new.self (known g.S.Store.objects g.S.Store.faults c.step.new.store) (Steps c.in-Step.follower) (ap kind_of c.in-Step.is)
+    (c.step.ensures.steps settings.extractor (extracts (ap goes_by_extractor c.in-Step.is))))
+    (never c.args.command.now (Steps c.in-Step.follower) (ap kind_of c.in-Step.is) (λ n no. absurd (cc)) _ c.args.self.now c.step.result)
 
-pub returns-in-Checkpoint-clause-does : goal.returns-in-Checkpoint-clause-does
-returns-in-Checkpoint-clause-does g c settings lawful extracts options_are =
-    let d = c.checkpoint.ensures.does in
-    let k = by_objects (g.S.Store.objects c.args.store.now) in
-    let store = known g.S.Store.objects g.S.Store.faults c.args.store.now in
-    let store' = known g.S.Store.objects g.S.Store.faults c.checkpoint.new.store in
-    let back : to_z w64 (of_z w64 c.args.command.now.moment) ≡ c.args.command.now.moment = search rules in
-    let did : CommitsTo k d.0 c.in-Checkpoint.lifetime c.args.command.now.moment store c.checkpoint.result store' = subst (λ m. CommitsTo k d.0 c.in-Checkpoint.lifetime m store c.checkpoint.result store') back d.1 in
-    (d.0, does-at k settings c.args.command.now d.0 (running c.args.self.now store) c.checkpoint.result (running c.args.self.now store') (NewCheckpoint c.in-Checkpoint.lifetime) (ap target_of c.in-Checkpoint.is) (record { does = did; objects = refl; writes = refl }))
+pub returns-in_default-clause-does : goal.returns-in_default-clause-does
+returns-in_default-clause-does g c settings lawful extracts options_are =
+    let whole = whole-of c.args.command.now.action c.in_default.not-Begin c.in_default.not-Step in
+    done-by settings c.args.self.now (known g.S.Store.objects g.S.Store.faults c.args.store.now) c.args.command.now c.make_call.result c.make_call.new.self (known g.S.Store.objects g.S.Store.faults c.make_call.new.store) Whole whole
+    (c.make_call.ensures.does settings lawful extracts options_are, c.make_call.ensures.polls)
 
-pub returns-in-Checkpoint-clause-link : goal.returns-in-Checkpoint-clause-link
-returns-in-Checkpoint-clause-link g c settings lawful extracts options_are =
-    let d = c.checkpoint.ensures.does in
-    let k = by_objects (g.S.Store.objects c.args.store.now) in
-    let store = known g.S.Store.objects g.S.Store.faults c.args.store.now in
-    let store' = known g.S.Store.objects g.S.Store.faults c.checkpoint.new.store in
-    let back : to_z w64 (of_z w64 c.args.command.now.moment) ≡ c.args.command.now.moment = search rules in
-    let did : CommitsTo k d.0 c.in-Checkpoint.lifetime c.args.command.now.moment store c.checkpoint.result store' = subst (λ m. CommitsTo k d.0 c.in-Checkpoint.lifetime m store c.checkpoint.result store') back d.1 in
-    linked settings c.args.command.now c.args.self.now c.args.self.now store store' d.0 c.checkpoint.result (does-at k settings c.args.command.now d.0 (running c.args.self.now store) c.checkpoint.result (running c.args.self.now store') (NewCheckpoint c.in-Checkpoint.lifetime) (ap target_of c.in-Checkpoint.is) (record { does = did; objects = refl; writes = refl }))
+pub returns-in_default-clause-link : goal.returns-in_default-clause-link
+returns-in_default-clause-link g c settings lawful extracts options_are =
+    let whole = whole-of c.args.command.now.action c.in_default.not-Begin c.in_default.not-Step in
+    linked settings c.args.command.now c.args.self.now c.make_call.new.self (known g.S.Store.objects g.S.Store.faults c.args.store.now) (known g.S.Store.objects g.S.Store.faults c.make_call.new.store) c.make_call.result (sym options_are)
+    (done-by settings c.args.self.now (known g.S.Store.objects g.S.Store.faults c.args.store.now) c.args.command.now c.make_call.result c.make_call.new.self (known g.S.Store.objects g.S.Store.faults c.make_call.new.store) Whole whole
+    (c.make_call.ensures.does settings lawful extracts options_are, c.make_call.ensures.polls))
+    (never c.args.command.now Whole whole (λ n no. absurd (cc)) _ c.args.self.now c.make_call.result)
 
-pub returns-in-Sweep-clause-does : goal.returns-in-Sweep-clause-does
-returns-in-Sweep-clause-does g c settings lawful extracts options_are =
-    let d = c.sweep.ensures.does in
-    let k = by_objects (g.S.Store.objects c.args.store.now) in
-    let store = known g.S.Store.objects g.S.Store.faults c.args.store.now in
-    let store' = known g.S.Store.objects g.S.Store.faults c.sweep.new.store in
-    let back : to_z w64 (of_z w64 c.args.command.now.moment) ≡ c.args.command.now.moment = search rules in
-    let did : SweepsTo k d.0 c.args.command.now.moment store c.sweep.result store' = subst (λ m. SweepsTo k d.0 m store c.sweep.result store') back d.1 in
-    (d.0, does-at k settings c.args.command.now d.0 (running c.args.self.now store) c.sweep.result (running c.args.self.now store') WholeStore (ap target_of c.in-Sweep.is) (record { does = did; objects = refl; writes = refl }))
-
-pub returns-in-Sweep-clause-link : goal.returns-in-Sweep-clause-link
-returns-in-Sweep-clause-link g c settings lawful extracts options_are =
-    let d = c.sweep.ensures.does in
-    let k = by_objects (g.S.Store.objects c.args.store.now) in
-    let store = known g.S.Store.objects g.S.Store.faults c.args.store.now in
-    let store' = known g.S.Store.objects g.S.Store.faults c.sweep.new.store in
-    let back : to_z w64 (of_z w64 c.args.command.now.moment) ≡ c.args.command.now.moment = search rules in
-    let did : SweepsTo k d.0 c.args.command.now.moment store c.sweep.result store' = subst (λ m. SweepsTo k d.0 m store c.sweep.result store') back d.1 in
-    linked settings c.args.command.now c.args.self.now c.args.self.now store store' d.0 c.sweep.result (does-at k settings c.args.command.now d.0 (running c.args.self.now store) c.sweep.result (running c.args.self.now store') WholeStore (ap target_of c.in-Sweep.is) (record { does = did; objects = refl; writes = refl }))
-
-pub returns-in-Await-clause-link : goal.returns-in-Await-clause-link
-returns-in-Await-clause-link g c settings lawful extracts options_are =
-    let k = by_objects (g.S.Store.objects c.args.store.now) in
-    let store = known g.S.Store.objects g.S.Store.faults c.args.store.now in
-    let store' = known g.S.Store.objects g.S.Store.faults c.args.store.now in
-    linked settings c.args.command.now c.args.self.now c.args.self.now store store' 0 c.write_reply.result (does-at k settings c.args.command.now 0 (running c.args.self.now store) c.write_reply.result (running c.args.self.now store') (OfWrite c.in-Await.write) (ap target_of c.in-Await.is) (refl, c.write_reply.ensures, refl))
-
-pub returns-in-Put-clause-does : goal.returns-in-Put-clause-does
-returns-in-Put-clause-does g c settings lawful extracts options_are =
-    let d = c.act.ensures.does settings lawful extracts in
-    let k = by_objects (g.S.Store.objects c.args.store.now) in
-    let store = known g.S.Store.objects g.S.Store.faults c.args.store.now in
-    let store' = known g.S.Store.objects g.S.Store.faults c.act.new.store in
-    (d.0, does-at k settings c.args.command.now d.0 (running c.args.self.now store) c.act.result (running c.act.new.self store') (OfObject c.in-Put.number) (names-object c.args.command.now.action c.in-Put.number c.in-Put.is) d.1)
-
-pub returns-in-Put-clause-link : goal.returns-in-Put-clause-link
-returns-in-Put-clause-link g c settings lawful extracts options_are =
-    let d = c.act.ensures.does settings lawful extracts in
-    let k = by_objects (g.S.Store.objects c.args.store.now) in
-    let store = known g.S.Store.objects g.S.Store.faults c.args.store.now in
-    let store' = known g.S.Store.objects g.S.Store.faults c.act.new.store in
-    linked settings c.args.command.now c.args.self.now c.act.new.self store store' d.0 c.act.result (does-at k settings c.args.command.now d.0 (running c.args.self.now store) c.act.result (running c.act.new.self store') (OfObject c.in-Put.number) (names-object c.args.command.now.action c.in-Put.number c.in-Put.is) d.1)
-
-pub returns-in-Snapshot-clause-link : goal.returns-in-Snapshot-clause-link
-returns-in-Snapshot-clause-link g c settings lawful extracts options_are =
-    let k = by_objects (g.S.Store.objects c.args.store.now) in
-    let store = known g.S.Store.objects g.S.Store.faults c.args.store.now in
-    linked settings c.args.command.now c.args.self.now c.snapshot.new.self store store 0 c.snapshot.result (does-at k settings c.args.command.now 0 (running c.args.self.now store) c.snapshot.result (running c.snapshot.new.self store) (NewSnapshot c.in-Snapshot.handle) (ap target_of c.in-Snapshot.is) (c.snapshot.ensures.does store))
+pub returns-in-Step-clause-untouched : goal.returns-in-Step-clause-untouched
+returns-in-Step-clause-untouched g c shut =
+    c.step.ensures.untouched (subst (λ target. IsShutAt (read_by c.args.self.now.objects (named c.args.self.now.objects target))) (ap target_of c.in-Step.is) shut)

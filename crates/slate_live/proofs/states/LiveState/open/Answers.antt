@@ -12,10 +12,11 @@ use Rattle.slate_model.specs.Stores.{by_objects}
 use Rattle.slate_script.specs.declared.options.Options.{Options}
 use Rattle.slate_script.specs.declared.replies.Reply.TheVariants as replies
 use Rattle.slate_live.specs.declared.objects.Object.TheVariants as objects
-use Rattle.slate_live.specs.Objects.{object_of}
+use Rattle.slate_live.specs.Objects.{object_of, poll_of}
 use Rattle.slate_live.specs.Settings.{Settings, option_tasks}
 use Rattle.slate_live.specs.State.{Live}
 use Rattle.slate_writer.specs.Tasks.{tasks_of}
+use Rattle.slate_live.proofs.Begun.{pushed-polls}
 use Rattle.slate_live.proofs.Doing.{opens-nothing}
 use Rattle.slate_live.proofs.Counting.{opening-calls}
 use Rattle.slate_live.proofs.states.LiveState.open.Goals as goal
@@ -86,3 +87,11 @@ returns-in-Err-clause-does g c settings extracts options_are =
 
 pub returns-in-Err-clause-calls : goal.returns-in-Err-clause-calls
 returns-in-Err-clause-calls g c = opening-calls _ c.in-Err.error _ _ c.in-Err.ensures.calls
+
+pub returns-in-Ok-clause-polls : goal.returns-in-Ok-clause-polls
+returns-in-Ok-clause-polls g c =
+    rw (← c.self.view_is) (
+    pushed-polls _ _
+    (ap (map poll_of) (c.push_reserved.ensures.items ∙ ap (λ xs. xs ++ objects.Handle c.in-Ok.handle ∷ []) c.reserve.ensures.items)
+    ∙ map-append poll_of c.self.inside.objects.items (objects.Handle c.in-Ok.handle ∷ []))
+    )

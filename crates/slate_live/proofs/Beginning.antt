@@ -1,0 +1,167 @@
+-- What a command that begins a poll of a reader by single calls does makes a link from each world that is represented.
+use Rattle.std.proofs.Common.{◌≡◌, ◌≢◌, ◌∙◌, ◌⊎◌, inl, inr, ℕ, ℤ, ◌≤◌, Bool, true, false, if◌then◌else◌, List, [], ◌∷◌, map, option_map, set, Option, Some, None, Result, Ok, Err, refl, sym, ap, subst, arith}
+use Rattle.std.proofs.lemmas.List.{map-set}
+use Rattle.std.specs.List.{slice_get}
+use Rattle.std.specs.Option.{is_some}
+use Rattle.std.specs.Result.{IfErr}
+use Rattle.slate_types.specs.declared.batches.Batch.{Batch}
+use Rattle.slate_types.specs.declared.store_errors.StoreFault.TheVariants.{Unavailable}
+use Rattle.slate_types.specs.Counts.{HasRisen}
+use Rattle.slate_types.specs.Line.{IsPrefix, batches_above}
+use Rattle.slate_store.specs.Content.{IsSound, content}
+use Rattle.slate_store.specs.Objects.{Objects, latest_manifest}
+use Rattle.slate_store.specs.declared.objects.VersionedManifest.{VersionedManifest}
+use Rattle.slate_store.specs.declared.reader_modes.DbReaderMode.{DbReaderMode}
+use Rattle.slate_store.specs.declared.reader_modes.DbReaderMode.TheVariants as modes
+use Rattle.slate_errors.specs.declared.errors.SlateError.{SlateError}
+use Rattle.slate_errors.specs.declared.errors.SlateError.TheVariants as errors
+use Rattle.slate_errors.specs.Errors.{closed_error}
+use Rattle.slate_model.specs.Begun.{Begun, begun_at, reached_number, view_of}
+use Rattle.slate_model.specs.Catalogue.{catalogue_of}
+use Rattle.slate_model.specs.Follower.{Follower, is_managed, is_pinned, kept_follower, number, unsegmented}
+use Rattle.slate_model.specs.Handle.{CloseResult, Handle}
+use Rattle.slate_model.specs.Known.{Known}
+use Rattle.slate_model.specs.Managed.{poll_result}
+use Rattle.slate_model.specs.Object.{Object, Handle as AHandle, Snapshot as ASnapshot, Follower as AFollower, kept, tables_of}
+use Rattle.slate_model.specs.Open.{replayed}
+use Rattle.slate_model.specs.Stood.{WasLatest}
+use Rattle.slate_model.specs.declared.answers.PollAnswer.{PollAnswer}
+use Rattle.slate_model.specs.declared.answers.PollAnswer.TheVariants as answers
+use Rattle.slate_model.specs.declared.snapshots.HandleSnapshot.{HandleSnapshot}
+use Rattle.slate_model.proofs.Logging.{OfLine, none-put_logs}
+use Rattle.slate_model.proofs.Maintained.{Maintained}
+use Rattle.slate_model.proofs.Prefixes.{prefix-same}
+use Rattle.slate_model.proofs.Reduced.{some-same}
+use Rattle.slate_follow.proofs.Following.{others-keep}
+use Rattle.slate_follow.specs.Stepping.{Steps, failed_by}
+use Rattle.slate_script.specs.declared.commands.Action.{Action}
+use Rattle.slate_script.specs.declared.commands.Action.TheVariants as actions
+use Rattle.slate_script.specs.declared.commands.Command.{Command}
+use Rattle.slate_script.specs.declared.replies.Reply.{Reply}
+use Rattle.slate_script.specs.declared.replies.Reply.TheVariants as replies
+use Rattle.slate_live.specs.Calls.{Begins, Kind, Steps as StepsKind, Whole, kind_of}
+use Rattle.slate_live.specs.Confirmed.{Sees, StandsIn}
+use Rattle.slate_live.specs.Next.{Next, NextBy, shown, stored_in}
+use Rattle.slate_live.specs.Replies.{reply_to}
+use Rattle.slate_live.specs.Represents.{AreBefore, AreInSegments, AreOfPast, HaveSegments, Holds, IsFollowerAt, IsHandleAt, IsHeld, IsOfHandle, IsValid, IsValidFollower, Links, Represents, RepresentsObjects, StandsAt, replays_all}
+use Rattle.slate_live.specs.Rising.{FollowerRises, Rise, StaysClosed}
+use Rattle.slate_live.specs.Settings.{Settings}
+use Rattle.slate_live.specs.Standing.{PollStands, StandsBeside}
+use Rattle.slate_live.specs.State.{IsBegunAt, Live}
+use Rattle.slate_live.specs.Stepping.{BeginsAt, BeginsOf, BeginsOn, BeginsPoll, BeginsReader, MakesCall, StepsAt, StepsObject, StepsOf, StepsOn, StepsPoll, StepsReader, poll_left, stepped_reply}
+use Rattle.slate_live.specs.Valid.{AtObject, IsOkOrNoMemory, IsStoreFault, IsValidCommand, IsValidKind, Link}
+use Rattle.slate_live.specs.World.{World}
+use Rattle.slate_live.proofs.Begun.{begins-is, begun-set, steps-is}
+use Rattle.slate_live.proofs.Beside.{all-held, poll-begins, reader-stands, stands-then, steps-after, steps-maintain, steps-were}
+use Rattle.slate_live.proofs.Cases.{is-none}
+use Rattle.slate_live.proofs.Changing.{distinct-set, followers-set, handles-set-follower}
+use Rattle.slate_live.proofs.Knowing.{unchanged-objects}
+use Rattle.slate_live.proofs.Leading.{Leads}
+use Rattle.slate_live.proofs.Maintaining.{maintained-leads}
+use Rattle.slate_live.proofs.Onward.{beside-onward, onward-maintained}
+use Rattle.slate_live.proofs.Places.{get-map, get-set, get-set_other, get-set_same, set-same}
+use Rattle.slate_live.proofs.Polled.{at-polled, beside-polled, holds-polled, poll-polled, polled, represents-polled, segments-polled, shown-is, stored-is, valid-polled}
+use Rattle.slate_live.proofs.Rising.{follower-same, rise-same, rise-set}
+
+module _ (settings : Settings) (n : ℕ) (command : Command) (live live' : Live) (store : Known (List Batch)) (reply : Reply) (opts : live.options ≡ settings.options) (kind : kind_of command.action ≡ Begins n) (did : BeginsPoll n command.moment live reply live')
+    (fits : (reader : Follower) → slice_get live.objects n ≡ Some (AFollower reader) → reply ≡ replies.Begun → (reader.line.floor ≡ reader.view.manifest.last_l0_seq) × (is_some reader.lease ≡ is_managed reader.mode)) where
+  -- only the begun polls are others
+  polls-alone : (x : Live) → live' ≡ record live { polls = x.polls } → live' ≡ record live { polls = live'.polls }
+  polls-alone x is = is ∙ ap (λ (p : List (Option Begun)). record live { polls = p }) (sym (ap (λ (l : Live). l.polls) is))
+
+  rest-same : live' ≡ record live { polls = live'.polls }
+  rest-same = by (slice_get live.objects n) did
+    where
+      by : (found : Option Object) → BeginsOn n command.moment found live reply live' → live' ≡ record live { polls = live'.polls }
+      by None (replied, same) = polls-alone live same
+      by (Some object) at = polls-alone (record live { polls = set live.polls n at.poll' }) at.same
+
+  module _ (w : World) (r : Represents live store w) (segments : AreInSegments settings.extractor w) where
+    abbrev w' : World
+    w' = polled w live'.polls
+
+    is : live ≡ shown settings.options w
+    is = shown-is settings.options live store w opts r
+
+    is' : live' ≡ shown settings.options w'
+    is' = rest-same ∙ ap (λ (l : Live). record l { polls = live'.polls }) is
+
+    begins-shown : BeginsPoll n command.moment (shown settings.options w) reply (shown settings.options w')
+    begins-shown = subst (BeginsPoll n command.moment (shown settings.options w) reply) is' (subst (λ l. BeginsPoll n command.moment l reply live') is did)
+
+    -- what is begun stands
+    begun-stands : (o : Objects) (m : ℕ) (b : Begun) → store.objects ≡ Some o → IsBegunAt live'.polls m b → StandsAt o w m b
+    begun-stands o m b there at = by (slice_get w.objects n) refl (subst (λ found. BeginsOn n command.moment found (shown settings.options w) reply live') (get-map kept w.objects n) (subst (λ l. BeginsPoll n command.moment l reply live') is did))
+      where
+        old : IsBegunAt w.polls m b → StandsAt o w m b
+        old at = r.begun o m b there at
+
+        set-stands : (poll poll' : Option Begun) → slice_get w.polls n ≡ Some poll → live' ≡ record (shown settings.options w) { polls = set w.polls n poll' } → (poll' ≡ Some b → StandsAt o w n b) → StandsAt o w m b
+        set-stands poll poll' here same new =
+            let polls : live'.polls ≡ set w.polls n poll' = ap (λ (l : Live). l.polls) same in
+            elim (begun-set w.polls n m poll' b (subst (λ ps. IsBegunAt ps m b) polls at)) [
+              | inl mine ↦ subst (λ i. StandsAt o w i b) (sym mine.0) (new mine.1)
+              | inr other ↦ old other.1
+            ]
+
+        unbegun : (object : Object) (a : BeginsAt n command.moment object (shown settings.options w) reply live') → a.poll' ≡ a.poll → StandsAt o w m b
+        unbegun object a same = set-stands a.poll a.poll' a.there a.same (λ new. r.begun o n b there (a.there ∙ ap Some (sym same ∙ new)))
+
+        reads : (f : Follower) → slice_get w.objects n ≡ Some (AFollower f) → (a : BeginsAt n command.moment (AFollower (kept_follower f)) (shown settings.options w) reply live') → (closed : CloseResult) → f.result ≡ closed → BeginsReader closed command.moment (kept_follower f) reply a.poll' → a.poll' ≡ Some b → StandsAt o w n b
+        reads f at_f a None open_ begins new =
+            let here : slice_get live.objects n ≡ Some (AFollower (kept_follower f)) = ap (λ os. slice_get os n) (r.represents).objects ∙ (get-map kept w.objects n ∙ ap (option_map kept) at_f) in
+            let fit = fits (kept_follower f) here begins.0 in
+            let start : begun_at command.moment 0 (kept_follower f) ≡ b = (let e = sym begins.1 ∙ new in cc) in (
+              f,
+              at_f,
+              open_,
+              λ free. subst (PollStands o w f) start (poll-begins live store w o r.represents there f command.moment (reader-stands live store w o r.represents there n f at_f) free fit.1 fit.0),
+            )
+        reads f at_f a (Some result) closed begins new = absurd (let no = sym begins.1 ∙ new in cc)
+
+        by : (found : Option Object) → slice_get w.objects n ≡ found → BeginsOn n command.moment (option_map kept found) (shown settings.options w) reply live' → StandsAt o w m b
+        by None none (replied, same) = old (subst (λ ps. IsBegunAt ps m b) (ap (λ (l : Live). l.polls) same) at)
+        by (Some (AHandle h)) at_n a = unbegun (AHandle _) a a.begins.1
+        by (Some (ASnapshot x)) at_n a = unbegun (ASnapshot x) a a.begins.1
+        by (Some (AFollower f)) at_n a = set-stands a.poll a.poll' a.there a.same (λ new. reads f at_n a f.result refl a.begins new)
+
+    represents-then : Represents live' store w'
+    represents-then = record {
+      represents = represents-polled w live'.polls live live' store (ap (λ (l : Live). l.objects) rest-same) (ap (λ (l : Live). l.writes) rest-same) r.represents;
+      polls = refl;
+      begun = λ o m b there at. at-polled w live'.polls o m b (begun-stands o m b there at);
+    }
+
+    action-is : command.action ≡ actions.Begin n
+    action-is = begins-is command.action n kind
+
+    accepts : IsValidCommand settings w command → IsOkOrNoMemory reply
+    accepts can = by (slice_get w.objects n) (subst (λ k. IsValidKind k settings w command) kind can) (subst (λ found. BeginsOn n command.moment found (shown settings.options w) reply (shown settings.options w')) (get-map kept w.objects n) begins-shown)
+      where
+        open-begins : (f : Follower) (poll : Option Begun) (closed : CloseResult) → closed ≡ None → BeginsReader closed command.moment f reply poll → IsOkOrNoMemory reply
+        open-begins f poll None open_ begins = subst IsOkOrNoMemory (sym begins.0) tt
+        open-begins f poll (Some result) open_ begins = absurd (cc)
+
+        by : (found : Option Object) → AtObject found (λ handle. ⊥) (λ snapshot. ⊥) (λ follower. follower.result ≡ None) → BeginsOn n command.moment (option_map kept found) (shown settings.options w) reply (shown settings.options w') → IsOkOrNoMemory reply
+        by None can at = absurd can
+        by (Some (AHandle h)) can at = absurd can
+        by (Some (ASnapshot x)) can at = absurd can
+        by (Some (AFollower f)) can at = open-begins (kept_follower f) at.poll' f.result can at.begins
+
+    pub begin-links : (w' : World) × Link settings w command reply w' × Represents live' store w' × AreInSegments settings.extractor w'
+    begin-links = (
+      w',
+      record {
+        next = subst (λ k. NextBy k settings w command reply w') (sym kind) (record { begins = begins-shown; same = refl });
+        completes = λ can none. accepts can;
+        faults = inl refl;
+        grows = prefix-same w.stored;
+        durable = λ i handle at. ((r.represents).valid.handles i handle at).confirmed;
+        rises = rise-same w.objects w.objects refl;
+        confirms = λ i asks durable. absurd (let no : actions.Begin n ≡ actions.Await i = sym action-is ∙ asks in cc);
+        sees = λ batch stands. subst (λ action. Sees batch action reply w') (sym action-is) tt;
+      },
+      represents-then,
+      segments-polled w live'.polls settings.extractor segments,
+    )
+

@@ -164,4 +164,3 @@ module _ (settings : Settings) (n : ℕ) (command : Command) (live live' : Live)
       represents-then,
       segments-polled w live'.polls settings.extractor segments,
     )
-

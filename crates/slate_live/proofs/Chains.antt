@@ -36,19 +36,19 @@ use Rattle.slate_live.proofs.Wholes.{WholeChain, chain-whole}
 pub stands_start : (o : Objects) (store : Known (List Batch)) (live : Live) → live.objects ≡ [] → live.polls ≡ [] → live.writes ≡ [] → store.objects ≡ Some o → IsSound o → Represents live store (start o store.faults)
 stands_start o store live no_object no_poll no_write is sound = record {
   represents = record {
-      held = (o, is, sound, record { stored = refl; catalogue = refl }, λ n h at. absurd (cc));
-      faults = refl;
-      objects = no_object;
-      writes = no_write;
-      valid = record {
-        line = sound.line;
-        followers = λ n f at. absurd (cc);
-        handles = λ n h at. absurd (cc);
-        snapshots = λ n x at. absurd (cc);
-        named = λ m n h x at_m at_n. absurd (cc);
-        past = λ n x at. absurd (cc);
-        distinct = λ m n a b at_m at_n epochs. absurd (cc);
-      };
+    held = (o, is, sound, record { stored = refl; catalogue = refl }, λ n h at. absurd (cc));
+    faults = refl;
+    objects = no_object;
+    writes = no_write;
+    valid = record {
+      line = sound.line;
+      followers = λ n f at. absurd (cc);
+      handles = λ n h at. absurd (cc);
+      snapshots = λ n x at. absurd (cc);
+      named = λ m n h x at_m at_n. absurd (cc);
+      past = λ n x at. absurd (cc);
+      distinct = λ m n a b at_m at_n epochs. absurd (cc);
+    };
   };
   polls = no_poll;
   begun = λ objects n begun there at. absurd (cc);

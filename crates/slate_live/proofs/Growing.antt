@@ -22,4 +22,3 @@ call-grows call made stored object = prefix-same stored
 pub grows : (settings : Settings) (w : World) (command : Command) (reply : Reply) (w' : World) → NextWhole settings w command reply w' → IsPrefix w.stored w'.stored
 grows settings w command reply w' next =
     subst (IsPrefix w.stored) (sym next.stored) (call-grows (call_of command.action) next.made w.stored (named w.objects (target_of command.action)))
-

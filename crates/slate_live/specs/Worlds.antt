@@ -62,4 +62,3 @@ pub record IsValid (w : World) : Type 0 where
 -- what holds of every world that a run leads to: it is valid, and sound objects hold what it says
 abbrev pub IsReached : World → Type 0
 IsReached w = IsValid w × (objects : Objects) × IsSound objects × Holds objects w
-

@@ -73,14 +73,7 @@ impl Reader {
             self.old.state (known S.objects S.faults store.old) writes result self.new.state (known S.objects S.faults store.new) writes }
         ensures poll { self.new.poll ≡ (if ends_poll command.now.action then None else self.old.poll) }
     {
-        let reply = followers::act(
-            &mut self.state,
-            alloc,
-            store,
-            operator,
-            extractor,
-            command,
-        );
+        let reply = followers::act(&mut self.state, alloc, store, operator, extractor, command);
         if ends_poll(&command.action) {
             self.poll = None;
         }

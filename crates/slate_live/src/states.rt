@@ -310,7 +310,8 @@ impl LiveState {
                 if self.objects.reserve(1).is_err() {
                     return Reply::NoMemory;
                 }
-                self.objects.push_reserved(Object::Follower(Reader::new(follower)));
+                self.objects
+                    .push_reserved(Object::Follower(Reader::new(follower)));
                 followed_reply(object, answer)
             }
             Err(error) => refusal(error),

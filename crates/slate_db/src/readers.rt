@@ -56,7 +56,6 @@ impl<S: Store, C> Guarded<S, C> {
 ///
 /// It isn't polled by itself: `poll` takes what is new. After each poll and after its close its status is told of them; where
 /// memory runs out for that, after the next call that allocates.
-#[derive(Drop)]
 pub struct DbReader<S: Store, M, E, C> {
     guarded: Mutex<Guarded<S, C>>,
     operator: Option<M>,
@@ -64,6 +63,18 @@ pub struct DbReader<S: Store, M, E, C> {
     status: StatusManager,
     /// How far apart `run_poller` polls, in milliseconds.
     interval_ms: u64,
+}
+
+impl<S: Store + Drop, M: Drop, E: Drop, C: Drop> Drop for DbReader<S, M, E, C> {
+    fn drop(self) {
+        let DbReader {
+            guarded: _,
+            operator: _,
+            extractor: _,
+            status: _,
+            interval_ms: _,
+        } = self;
+    }
 }
 
 impl<S: Store + Drop, R: rt::Clock + Drop> DbReader<S, NoMerge, NoExtractor, SystemClock<R>> {

@@ -1,8 +1,8 @@
 // A transaction that belongs to its database.
-use crate::held_transactions::merge_in;
 use crate::shared::Shared;
 use crate::{DbReadOps, DbTransactionOps, WriteHandle};
 use slate_errors::Error;
+use slate_held::merge_in;
 use slate_receivers::Clock;
 use slate_rows::DbIterator;
 use slate_store::Store;

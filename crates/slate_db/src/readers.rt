@@ -157,6 +157,10 @@ impl<S: Store, M, E, C> DbReader<S, M, E, C> {
         }
     }
 
+    fn is_open<R: Wait>(&self, rt: &R) -> bool {
+        self.lock(rt).held.closed().is_none()
+    }
+
     /// Ok while it is open, and else `Closed` or the error that closed it.
     fn check_open<R: Wait>(&self, rt: &R) -> Result<(), Error> {
         match self.lock(rt).held.closed() {
@@ -199,7 +203,7 @@ impl<S: Store, M, E: PrefixExtractor, C: Clock> DbReader<S, M, E, C> {
                 return Ok(());
             }
             if let Err(error) = self.poll(rt, alloc) {
-                if self.check_open(rt).is_err() {
+                if !self.is_open(rt) {
                     return Err(error);
                 }
             }

@@ -104,6 +104,5 @@ fn run_file<R: Wait + Clock + Copy>(
         };
         return calls::run_calls(waiting, rt.alloc(), files, &left, text.as_slice());
     }
-    let case = Case::parse(rt.alloc(), text.as_slice())?;
-    trials::run_case(rt.alloc(), case)
+    Case::parse(rt.alloc(), text.as_slice())?.run(rt.alloc())
 }

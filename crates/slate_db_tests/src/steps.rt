@@ -59,6 +59,17 @@ impl Drop for Session {
     }
 }
 
+impl Session {
+    fn into_text(self) -> Vec<u8> {
+        let Session {
+            manager: _,
+            receiver: _,
+            text,
+        } = self;
+        text
+    }
+}
+
 /// A manager of a durable number and a manifest without segments.
 pub(crate) fn manager(alloc: Global, durable: u64, id: u64) -> Result<StatusManager, NoMemory> {
     let first = StatusRecord::new(alloc, durable, manifest(alloc, id, b"")?);
@@ -78,12 +89,7 @@ fn answers<R: Wait>(rt: &R, alloc: Global, steps: &[Step]) -> Result<Vec<u8>, Fa
     for step in steps {
         take(&mut session, rt, alloc, step)?;
     }
-    let Session {
-        manager: _,
-        receiver: _,
-        text,
-    } = session;
-    Ok(text)
+    Ok(session.into_text())
 }
 
 fn take<R: Wait>(

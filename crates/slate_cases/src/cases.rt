@@ -6,6 +6,7 @@ use std::alloc::{AllocError, Global};
 use std::str;
 
 /// A script, how it is run, and what comes of it.
+#[derive(Drop)]
 pub struct Case {
     /// The words of the command line.
     pub words: Vec<String>,
@@ -16,18 +17,6 @@ pub struct Case {
     pub script: Vec<u8>,
     /// The text of the replies that are wanted.
     pub replies: Vec<u8>,
-}
-
-impl Drop for Case {
-    fn drop(self) {
-        let Case {
-            words: _,
-            failing: _,
-            status: _,
-            script: _,
-            replies: _,
-        } = self;
-    }
 }
 
 impl Case {

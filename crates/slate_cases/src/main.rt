@@ -104,5 +104,6 @@ fn run_file<R: Wait + Clock + Copy>(
         };
         return calls::run_calls(waiting, rt.alloc(), files, &left, text.as_slice());
     }
-    Case::parse(rt.alloc(), text.as_slice())?.run(rt.alloc())
+    let case = Case::parse(rt.alloc(), text.as_slice())?;
+    trials::run_case(rt.alloc(), case)
 }

@@ -9,20 +9,18 @@ use std::alloc::{AllocError, Global};
 /// How many bytes are read and written at a time.
 const PIECE: usize = 64;
 
-impl Case {
-    /// Runs it over a fresh store, and compares what came of it with what is wanted.
-    pub fn run(self, alloc: Global) -> Result<(), Failure> {
-        let Case {
-            words,
-            failing,
-            status,
-            script,
-            replies,
-        } = self;
-        let mut sink = VecSink::new(alloc, PIECE, Seq::of(Vec::new(alloc)));
-        let found = run_script(alloc, words.as_slice(), Seq::of(failing), script, &mut sink);
-        compare(alloc, (found, sink.written()), (status, replies.as_slice()))
-    }
+/// Runs a case over a fresh store, and compares what came of it with what is wanted.
+pub fn run_case(alloc: Global, case: Case) -> Result<(), Failure> {
+    let Case {
+        words,
+        failing,
+        status,
+        script,
+        replies,
+    } = case;
+    let mut sink = VecSink::new(alloc, PIECE, Seq::of(Vec::new(alloc)));
+    let found = run_script(alloc, words.as_slice(), Seq::of(failing), script, &mut sink);
+    compare(alloc, (found, sink.written()), (status, replies.as_slice()))
 }
 
 /// Runs a script over a fresh store, some of whose calls fail. It answers the exit status.

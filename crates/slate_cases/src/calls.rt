@@ -10,6 +10,7 @@ use crate::dispatchers::Dispatchers;
 use crate::errors::Errors;
 use crate::executors::Executors;
 use crate::failures::Failure;
+use crate::fronts::Front;
 use crate::keys::Keys;
 use crate::lines::Lines;
 use crate::objects::Objects;
@@ -25,6 +26,8 @@ use slate_text::read_number;
 use std::alloc::Global;
 use std::cell::Cell;
 use std::fs::Files;
+use std::rt::Clock;
+use std::sync::Wait;
 
 const ARROW: &[u8; 4] = b" -> ";
 
@@ -39,6 +42,7 @@ enum Name {
     Dispatcher,
     Errors,
     Executor,
+    Front,
     Keys,
     Lines,
     Objects,
@@ -60,6 +64,7 @@ const NAMES: &[(&[u8], Name)] = &[
     (b"dispatcher", Name::Dispatcher),
     (b"errors", Name::Errors),
     (b"executor", Name::Executor),
+    (b"front", Name::Front),
     (b"keys", Name::Keys),
     (b"lines", Name::Lines),
     (b"objects", Name::Objects),
@@ -82,7 +87,8 @@ struct Run<'a> {
 
 /// Makes the calls of a file one after the other, and answers the first that isn't answered as the file says. `left` is how
 /// many calls of the system on these files are made before each fails.
-pub fn run_calls<F: Files + Copy>(
+pub fn run_calls<R: Wait + Clock + Copy, F: Files + Copy>(
+    rt: R,
     alloc: Global,
     files: F,
     left: &Cell<u64>,
@@ -103,6 +109,7 @@ pub fn run_calls<F: Files + Copy>(
         Some(Name::Dispatcher) => run.over(Dispatchers::new()),
         Some(Name::Errors) => run.over(Errors),
         Some(Name::Executor) => run.over(Executors::new(alloc)),
+        Some(Name::Front) => run.over(Front::new(alloc, rt)),
         Some(Name::Keys) => run.over(Keys),
         Some(Name::Lines) => run.over(Lines),
         Some(Name::Objects) => run.over(Objects::new(alloc)),

@@ -33,10 +33,15 @@ fn step(left: &Cell<u64>) -> io::Result<()> {
 }
 
 /// A file whose calls count too.
-#[derive(Drop)]
 pub struct EndingFile<'a> {
     file: File,
     left: &'a Cell<u64>,
+}
+
+impl Drop for EndingFile<'_> {
+    fn drop(self) {
+        let EndingFile { file: _, left: _ } = self;
+    }
 }
 
 impl<'a> Files for EndingFiles<'a> {

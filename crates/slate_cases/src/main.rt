@@ -19,6 +19,7 @@ mod executors;
 mod failures;
 mod feeds;
 mod folders;
+mod fronts;
 mod handles;
 mod keys;
 mod lines;
@@ -47,10 +48,12 @@ use ending_files::EndingFiles;
 use failures::Failure;
 use std::cell::Cell;
 use std::process::ExitCode;
+use std::rt::Clock;
+use std::sync::Wait;
 use std::{env, io};
 
 fn main(rt: HostRuntime) -> ExitCode {
-    match run_folder(&rt) {
+    match run_folder(&rt, rt) {
         Ok(true) => ExitCode::SUCCESS,
         Ok(false) => ExitCode::FAILURE,
         Err(error) => {
@@ -60,13 +63,14 @@ fn main(rt: HostRuntime) -> ExitCode {
     }
 }
 
-/// Runs the files of the folder that the command line names. It answers whether all came out as they were to.
-fn run_folder(rt: &HostRuntime) -> io::Result<bool> {
+/// Runs the files of the folder that the command line names, and waits for locks by `waiting`. It answers whether all came out as
+/// they were to.
+fn run_folder<R: Wait + Clock + Copy>(rt: &HostRuntime, waiting: R) -> io::Result<bool> {
     let folder = read_folder(rt)?;
     let names = folders::case_names(rt, folder.as_str())?;
     let mut failed = 0u64;
     for name in &names {
-        if let Err(failure) = run_file(rt, folder.as_str(), name.as_str()) {
+        if let Err(failure) = run_file(rt, waiting, folder.as_str(), name.as_str()) {
             println!(rt; "{name}: {failure}")?;
             failed = failed.saturating_add(1);
         }
@@ -85,7 +89,12 @@ fn read_folder(rt: &HostRuntime) -> io::Result<String> {
 }
 
 /// Runs the case or the calls of one file.
-fn run_file(rt: &HostRuntime, folder: &str, name: &str) -> Result<(), Failure> {
+fn run_file<R: Wait + Clock + Copy>(
+    rt: &HostRuntime,
+    waiting: R,
+    folder: &str,
+    name: &str,
+) -> Result<(), Failure> {
     let text = folders::read_file(rt, folder, name)?;
     if name.ends_with(".calls") {
         let left = Cell::new(u64::MAX);
@@ -93,7 +102,7 @@ fn run_file(rt: &HostRuntime, folder: &str, name: &str) -> Result<(), Failure> {
             rt: *rt,
             left: &left,
         };
-        return calls::run_calls(rt.alloc(), files, &left, text.as_slice());
+        return calls::run_calls(waiting, rt.alloc(), files, &left, text.as_slice());
     }
     let case = Case::parse(rt.alloc(), text.as_slice())?;
     trials::run_case(rt.alloc(), case)

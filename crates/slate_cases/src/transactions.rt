@@ -32,7 +32,7 @@ const CALLS: &[(&[u8], Call)] = &[
     (b"rollback", Call::Rollback),
 ];
 
-const LEVELS: &[(&[u8], IsolationLevel)] = &[
+pub const LEVELS: &[(&[u8], IsolationLevel)] = &[
     (b"snapshot", IsolationLevel::Snapshot),
     (b"serializable", IsolationLevel::SerializableSnapshot),
 ];

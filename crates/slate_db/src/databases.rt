@@ -32,9 +32,14 @@ use uuid::Uuid;
 ///
 /// Nothing is stored but by `flush`, `close` and the calls that say so. A database that is dropped without a close loses what
 /// wasn't flushed, and nothing else.
-#[derive(Drop)]
 pub struct Db<S: Store, M, E, C> {
     pub(crate) shared: Arc<Shared<S, M, E, C>>,
+}
+
+impl<S: Store + Drop, M: Drop, E: Drop, C: Drop> Drop for Db<S, M, E, C> {
+    fn drop(self) {
+        let Db { shared: _ } = self;
+    }
 }
 
 /// Shares the database. It takes no memory, and answers an error where too many share it.

@@ -1,11 +1,11 @@
 // The trait of reads.
-ghost use Rattle.std.specs.Prelude.{◌≡◌, ◌↔◌, ◌++◌, ℕ, List, IsTrue, IfOk, option_map};
-ghost use Rattle.slate_types.specs.Range.{AreBytes, contains};
+ghost use Rattle.std.specs.Prelude.{◌≡◌, option_map};
 
 use bytes::Bytes;
 use slate_errors::Error;
+use slate_held::keys_with;
 use slate_rows::DbIterator;
-use slate_types::{ByteRange, KeyValue, NoMemory, ReadOptions, ScanOptions};
+use slate_types::{ByteRange, KeyValue, ReadOptions, ScanOptions};
 use std::alloc::Global;
 use std::sync::Wait;
 
@@ -104,12 +104,4 @@ fn value_of(row: Option<KeyValue>) -> Option<Bytes>
     ensures { result ≡ option_map (λ row. row.value) row }
 {
     row.map(|row| row.value)
-}
-
-/// The keys that are a prefix and then a suffix in a range.
-fn keys_with(alloc: Global, prefix: &[u8], subrange: &ByteRange) -> Result<ByteRange, NoMemory>
-    ensures { IfOk result (λ range. (key : List ℕ) → AreBytes key →
-        (IsTrue (contains range key) ↔ ((suffix : List ℕ) × (key ≡ prefix.now ++ suffix) × IsTrue (contains subrange.now suffix)))) }
-{
-    ByteRange::prefix_and_subrange(alloc, prefix, subrange)
 }

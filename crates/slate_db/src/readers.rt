@@ -56,7 +56,6 @@ impl<S: Store, C> Guarded<S, C> {
 ///
 /// It isn't polled by itself: `poll` takes what is new. After each poll and after its close its status is told of them; where
 /// memory runs out for that, after the next call that allocates.
-#[derive(Drop)]
 pub struct DbReader<S: Store, M, E, C> {
     guarded: Mutex<Guarded<S, C>>,
     operator: Option<M>,
@@ -64,6 +63,18 @@ pub struct DbReader<S: Store, M, E, C> {
     status: StatusManager,
     /// How far apart `run_poller` polls, in milliseconds.
     interval_ms: u64,
+}
+
+impl<S: Store + Drop, M: Drop, E: Drop, C: Drop> Drop for DbReader<S, M, E, C> {
+    fn drop(self) {
+        let DbReader {
+            guarded: _,
+            operator: _,
+            extractor: _,
+            status: _,
+            interval_ms: _,
+        } = self;
+    }
 }
 
 impl<S: Store + Drop, R: rt::Clock + Drop> DbReader<S, NoMerge, NoExtractor, SystemClock<R>> {
@@ -146,6 +157,10 @@ impl<S: Store, M, E, C> DbReader<S, M, E, C> {
         }
     }
 
+    fn is_open<R: Wait>(&self, rt: &R) -> bool {
+        self.lock(rt).held.closed().is_none()
+    }
+
     /// Ok while it is open, and else `Closed` or the error that closed it.
     fn check_open<R: Wait>(&self, rt: &R) -> Result<(), Error> {
         match self.lock(rt).held.closed() {
@@ -188,7 +203,7 @@ impl<S: Store, M, E: PrefixExtractor, C: Clock> DbReader<S, M, E, C> {
                 return Ok(());
             }
             if let Err(error) = self.poll(rt, alloc) {
-                if self.check_open(rt).is_err() {
+                if !self.is_open(rt) {
                     return Err(error);
                 }
             }

@@ -1,9 +1,9 @@
 // A database under its lock, as its handles, snapshots and transactions share it.
-use crate::held_writes::require_operator;
+use crate::WriteHandle;
 use crate::telling::{first_record, prefixes_of, tell_status};
-use crate::{Held, WriteHandle};
 use bytes::Bytes;
 use slate_errors::{Error, SlateError};
+use slate_held::{Held, require_operator};
 use slate_receivers::{Clock, StatusManager};
 use slate_rows::DbIterator;
 use slate_store::{Checkpoint, Store, StoreRefusal};

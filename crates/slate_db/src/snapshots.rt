@@ -12,10 +12,18 @@ use std::sync::{Arc, Wait};
 
 /// A database as it was when the snapshot was taken. SlateDB's type of this name. It shares the database, so that a read of it
 /// answers what closed that. Each read waits for the database's lock.
-#[derive(Drop)]
 pub struct DbSnapshot<S: Store, M, E, C> {
     shared: Arc<Shared<S, M, E, C>>,
     number: u64,
+}
+
+impl<S: Store + Drop, M: Drop, E: Drop, C: Drop> Drop for DbSnapshot<S, M, E, C> {
+    fn drop(self) {
+        let DbSnapshot {
+            shared: _,
+            number: _,
+        } = self;
+    }
 }
 
 impl<S: Store, M, E, C> DbSnapshot<S, M, E, C> {

@@ -5,10 +5,18 @@ use std::time::Duration;
 
 /// Tells the threads of `Db::run_flusher` and `DbReader::run_poller` to stop. Threads share it by reference. SlateDB's own
 /// tasks have a cancellation token for it.
-#[derive(Drop)]
 pub struct Stop {
     stopped: Mutex<bool>,
     changed: Condvar,
+}
+
+impl Drop for Stop {
+    fn drop(self) {
+        let Stop {
+            stopped: _,
+            changed: _,
+        } = self;
+    }
 }
 
 impl Stop {

@@ -1,8 +1,8 @@
 // A transaction that belongs to its database.
-use crate::held_transactions::merge_in;
 use crate::shared::Shared;
 use crate::{DbReadOps, DbTransactionOps, WriteHandle};
 use slate_errors::Error;
+use slate_held::merge_in;
 use slate_receivers::Clock;
 use slate_rows::DbIterator;
 use slate_store::Store;
@@ -18,12 +18,22 @@ use uuid::Uuid;
 /// A transaction of a database, which it shares. SlateDB's type of this name. Its own operations are read as the newest batch,
 /// with the number at which it began and the creation time 0. One that is dropped is rolled back. A read waits for its own
 /// lock and then for the database's, a commit for the latter alone, and any other call for its own.
-#[derive(Drop)]
 pub struct DbTransaction<S: Store, M, E, C> {
     shared: Arc<Shared<S, M, E, C>>,
     seqnum: u64,
     id: Uuid,
     transaction: Mutex<Transaction>,
+}
+
+impl<S: Store + Drop, M: Drop, E: Drop, C: Drop> Drop for DbTransaction<S, M, E, C> {
+    fn drop(self) {
+        let DbTransaction {
+            shared: _,
+            seqnum: _,
+            id: _,
+            transaction: _,
+        } = self;
+    }
 }
 
 impl<S: Store, M, E, C> DbTransaction<S, M, E, C> {

@@ -13,11 +13,20 @@ use std::sync::Wait;
 /// The handle of a write to a `Db`: its number, when it was accepted, and whether it is durable. SlateDB's type of this name.
 /// It shares the database's status, may go to another thread, and outlives the database. A write with a waiter of the
 /// caller's own has the handle of `slate_receivers`.
-#[derive(Drop)]
 pub struct WriteHandle {
     seq: u64,
     create_ts: i64,
     status: StatusManager,
+}
+
+impl Drop for WriteHandle {
+    fn drop(self) {
+        let WriteHandle {
+            seq: _,
+            create_ts: _,
+            status: _,
+        } = self;
+    }
 }
 
 impl WriteHandle {

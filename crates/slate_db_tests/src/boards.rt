@@ -15,9 +15,9 @@ const NO_EXTRACTOR: Option<&FixedPrefix> = None;
 /// A handle over this store with one write at the moment 1000.
 fn written(alloc: Global, store: &mut MemoryStore) -> Result<WriterState, SlateError> {
     let options = WriterOptions::default();
-    let mut handle = WriterState::open(alloc, store, &options, NO_EXTRACTOR)?;
     let mut batch = WriteBatch::new(alloc);
     batch.put(alloc, b"a", b"x")?;
+    let mut handle = WriterState::open(alloc, store, &options, NO_EXTRACTOR)?;
     match handle.write(alloc, batch, 1000, None, NO_EXTRACTOR) {
         Ok(_) => Ok(handle),
         Err(refusal) => Err(refusal.error),

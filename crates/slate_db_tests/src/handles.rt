@@ -36,14 +36,16 @@ impl DurabilityWaiter for FailsAtThird {
 }
 
 /// How a wait ended: a 1 where the write is durable, an F where the handle was fenced.
-fn letter(outcome: &Result<(), Error>) -> char {
+fn letter(outcome: Result<(), Error>) -> char {
     match outcome {
         Ok(()) => '1',
-        Err(error) => match error.cause() {
-            Some(SlateError::Fenced) => 'F',
-            _ => '?',
-        },
+        Err(error) if is_fenced(&error) => 'F',
+        Err(_) => '?',
     }
+}
+
+fn is_fenced(error: &Error) -> bool {
+    matches!(error.cause(), Some(SlateError::Fenced))
 }
 
 /// A 1 where the write is durable, a P while that is pending, an F where the handle was fenced.
@@ -63,7 +65,7 @@ fn polled<R: Wait>(rt: &R, handle: &mut WriteHandle) -> char {
 
 /// How the wait of a handle ends.
 pub(crate) fn awaited<R: Wait>(rt: &R, mut handle: WriteHandle) -> char {
-    letter(&handle.await_durable(rt))
+    letter(handle.await_durable(rt))
 }
 
 #[test]
@@ -103,8 +105,9 @@ fn number_that_is_reached_stays_durable(rt: HostRuntime) -> Result<(), Fail> {
 
 #[test]
 fn handle_is_shown_by_its_numbers(rt: HostRuntime) -> Result<(), Fail> {
-    let (_, _, handle) = two_writes(rt.alloc())?;
-    let shown = format!(in rt.alloc(); "{handle:?}")?;
-    assert!(rt; shown.as_str() == "WriteHandle { seq: 2, create_ts: 20, .. }");
+    let handle = WriteHandle::of_manager(2, 20, manager(rt.alloc(), 0, 1)?);
+    let shown = format!(in rt.alloc(); "{handle:?}");
+    drop(handle);
+    assert!(rt; shown?.as_str() == "WriteHandle { seq: 2, create_ts: 20, .. }");
     Ok(())
 }

@@ -4,7 +4,7 @@ use slate_follow::{
     DbReaderMode, DbReaderOptions, FollowerReader, FollowerState, PublishedState, follower_readers,
 };
 use slate_store::{MemoryStore, TableId};
-use slate_types::{CloseOptions, ConcatOperator, FixedPrefix, FlushType, WriteBatch};
+use slate_types::{ConcatOperator, FixedPrefix, FlushType, WriteBatch};
 use slate_writer::{WriterOptions, WriterState};
 use std::alloc::Global;
 use std::sync::{Arc, Wait};
@@ -39,11 +39,21 @@ fn state_before_the_last_poll(
     put(alloc, store, &mut handle, b"b", FlushType::Wal)?;
     let (mode, options) = (DbReaderMode::FollowLatest, DbReaderOptions::default());
     let (mut follower, _) = FollowerState::open(alloc, store, mode, &options, NO_EXTRACTOR, 1000)?;
-    let state = follower.published(alloc)?;
-    put(alloc, store, &mut handle, b"c", FlushType::Wal)?;
+    let state = follower.published(alloc);
+    put_and_poll(alloc, store, &mut handle, &mut follower)?;
+    Ok(state?)
+}
+
+/// Writes c, and polls.
+fn put_and_poll(
+    alloc: Global,
+    store: &mut MemoryStore,
+    handle: &mut WriterState,
+    follower: &mut FollowerState,
+) -> Result<(), SlateError> {
+    put(alloc, store, handle, b"c", FlushType::Wal)?;
     follower.poll(alloc, store, NO_EXTRACTOR, 2000)?;
-    let _ = handle.close(alloc, store, &CloseOptions::default());
-    Ok(state)
+    Ok(())
 }
 
 /// The number that is viewed, and whether a, b and c have a value.

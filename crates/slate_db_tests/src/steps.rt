@@ -43,11 +43,31 @@ pub(crate) enum Step {
     Await(u64),
 }
 
-#[derive(Drop)]
 struct Session {
     manager: StatusManager,
     receiver: StatusReceiver,
     text: Vec<u8>,
+}
+
+impl Drop for Session {
+    fn drop(self) {
+        let Session {
+            manager: _,
+            receiver: _,
+            text: _,
+        } = self;
+    }
+}
+
+impl Session {
+    fn into_text(self) -> Vec<u8> {
+        let Session {
+            manager: _,
+            receiver: _,
+            text,
+        } = self;
+        text
+    }
 }
 
 /// A manager of a durable number and a manifest without segments.
@@ -69,7 +89,7 @@ fn answers<R: Wait>(rt: &R, alloc: Global, steps: &[Step]) -> Result<Vec<u8>, Fa
     for step in steps {
         take(&mut session, rt, alloc, step)?;
     }
-    Ok(session.text)
+    Ok(session.into_text())
 }
 
 fn take<R: Wait>(
@@ -79,13 +99,8 @@ fn take<R: Wait>(
     step: &Step,
 ) -> Result<(), NoMemory> {
     match step {
-        Status => print(
-            &mut session.text,
-            alloc,
-            &session.manager.status(rt, alloc)?,
-        ),
-        Borrow | Update | Await(_) => {
-            let status = receive(&mut session.receiver, rt, alloc, step)?;
+        Status | Borrow | Update | Await(_) => {
+            let status = look(session, rt, alloc, step)?;
             print(&mut session.text, alloc, &status)
         }
         Changed => print_bit(&mut session.text, session.receiver.has_changed(rt)),
@@ -100,13 +115,15 @@ fn take<R: Wait>(
     }
 }
 
-fn receive<R: Wait>(
-    receiver: &mut StatusReceiver,
+fn look<R: Wait>(
+    session: &mut Session,
     rt: &R,
     alloc: Global,
     step: &Step,
 ) -> Result<DbStatus, NoMemory> {
+    let receiver = &mut session.receiver;
     match step {
+        Status => session.manager.status(rt, alloc),
         Await(number) => receiver.wait_for(rt, alloc, |status| status.durable_seq == *number),
         Update => receiver.borrow_and_update(rt, alloc),
         _ => receiver.borrow(rt, alloc),
@@ -141,8 +158,8 @@ fn report_segments<R: Wait>(
     match step {
         Memory(segments) => Ok(manager.report_memtable_segments(rt, rising(alloc, segments)?)),
         Both(id, stored, segments) => {
-            let manifest = manifest(alloc, *id, stored)?;
             let segments = rising(alloc, segments)?;
+            let manifest = manifest(alloc, *id, stored)?;
             Ok(manager.report_manifest_and_memtable_segments(rt, manifest, segments))
         }
         Add(segments) => {
@@ -175,6 +192,7 @@ fn manifest(
     id: u64,
     segments: &'static [u8],
 ) -> Result<VersionedManifest, NoMemory> {
+    let segments = Seq::of(prefixes(alloc, segments)?);
     let manifest = Manifest {
         writer_epoch: 1,
         initialized: true,
@@ -184,7 +202,7 @@ fn manifest(
         replay_after_wal_id: 0,
         next_wal_id: 1,
         checkpoints: Seq::of(Vec::new(alloc)),
-        segments: Seq::of(prefixes(alloc, segments)?),
+        segments,
         extractor_name: None,
         sequence_tracker: None,
     };

@@ -28,23 +28,49 @@ fn write_three<R: Wait, D: DbWriteOps>(rt: &R, alloc: Global, db: &D) -> Result<
     Ok(())
 }
 
+/// What a receiver is shown after these writes, and after a flush of them to a table.
+fn shown_of_writes<R: Wait, D: DbWriteOps>(
+    rt: &R,
+    alloc: Global,
+    db: &D,
+    receiver: &mut StatusReceiver,
+) -> Result<[Shown; 2], Error> {
+    write_three(rt, alloc, db)?;
+    let written = shown(rt, alloc, receiver)?;
+    let flush_type = FlushType::MemTable;
+    db.flush_with_options(rt, alloc, FlushOptions { flush_type })?;
+    Ok([written, shown(rt, alloc, receiver)?])
+}
+
+/// Whether a key has this value.
+fn has<R: Wait, D: DbReadOps>(
+    rt: &R,
+    alloc: Global,
+    db: &D,
+    key: &[u8],
+    value: &[u8],
+) -> Result<bool, Error> {
+    let found = db.get(rt, alloc, key)?;
+    Ok(found.is_some_and(|found| found.as_slice() == value))
+}
+
 // With an operator and an extractor, which the database keeps.
 #[test]
 fn status_is_told_of_segments_flushes_and_the_close(rt: HostRuntime) -> Result<(), Fail> {
     let alloc = rt.alloc();
+    let extractor = FixedPrefix::new(alloc, 2)?;
     let db = Db::builder(rt, MemoryStore::new(alloc))
         .with_merge_operator(ConcatOperator)
-        .with_segment_extractor(FixedPrefix::new(alloc, 2)?)
+        .with_segment_extractor(extractor)
         .build(alloc)?;
     let mut receiver = db.subscribe(&rt)?;
-    write_three(&rt, alloc, &db)?;
-    assert!(rt; shown(&rt, alloc, &mut receiver)? == (0, 0, 2, None));
-    let flush_type = FlushType::MemTable;
-    db.flush_with_options(&rt, alloc, FlushOptions { flush_type })?;
-    assert!(rt; shown(&rt, alloc, &mut receiver)? == (3, 3, 0, None));
-    let merged = db.get(&rt, alloc, b"aab")?;
-    assert!(rt; merged.is_some_and(|value| value.as_slice() == b"xy".as_slice()));
-    db.close(&rt, alloc)?;
-    assert!(rt; shown(&rt, alloc, &mut receiver)? == (3, 3, 0, Some(CloseReason::Clean)));
+    let of_writes = shown_of_writes(&rt, alloc, &db, &mut receiver);
+    let is_merged = has(&rt, alloc, &db, b"aab", b"xy");
+    let closed = db.close(&rt, alloc).is_ok();
+    drop(db);
+    let last = shown(&rt, alloc, &mut receiver)?;
+    assert!(rt; of_writes? == [(0, 0, 2, None), (3, 3, 0, None)]);
+    assert!(rt; (is_merged?, closed) == (true, true));
+    assert!(rt; last == (3, 3, 0, Some(CloseReason::Clean)));
     Ok(())
 }

@@ -1,15 +1,12 @@
-//! The program `slate_example`: how a program calls the library. It prints what each example finds: a first one, and then
-//! one for a read service, one for a change feed and one for a job queue.
+//! The program `slate_example`: how a program calls the library. It prints what each example finds: a first one, and then one for
+//! a read service.
 #![tactic(auto)]
 
-mod change_feed;
 mod first;
-mod job_queue;
 mod read_service;
 
 use bytes::Bytes;
-use change_feed::HandedOut;
-use job_queue::Turn;
+use slate_db::Error;
 use std::alloc::Global;
 use std::io::{self, Print};
 use std::rt::Clock;
@@ -18,28 +15,24 @@ use std::thread::Threads;
 
 fn main(rt: HostRuntime) -> io::Result<()> {
     print_first(rt, rt.alloc())?;
-    print_service(rt, rt.alloc())?;
-    print_feed(rt, rt.alloc())?;
-    print_queue(rt, rt.alloc())
+    print_service(rt, rt.alloc())
 }
 
 fn print_first<R: Print + Wait + Clock + Copy>(rt: R, alloc: Global) -> io::Result<()> {
     match first::put_and_get(rt, alloc) {
-        Ok(found) => {
-            for value in &found {
-                print_value(&rt, "first", value.as_ref())?;
-            }
-            Ok(())
-        }
-        Err(error) => println!(&rt; "{}", error.kind()),
+        Ok(found) => print_values(&rt, &found),
+        Err(error) => print_error(&rt, &error),
     }
 }
 
-fn print_value(rt: &impl Print, what: &str, value: Option<&Bytes>) -> io::Result<()> {
-    match value {
-        Some(value) => println!(rt; "{what}: a value of {} bytes", value.len()),
-        None => println!(rt; "{what}: no value"),
+fn print_values(rt: &impl Print, found: &[Option<Bytes>]) -> io::Result<()> {
+    for value in found {
+        match value {
+            Some(value) => println!(rt; "first: a value of {} bytes", value.len())?,
+            None => println!(rt; "first: no value")?,
+        }
     }
+    Ok(())
 }
 
 fn print_service<R>(rt: R, alloc: Global) -> io::Result<()>
@@ -53,35 +46,10 @@ where
                 last.bob
             )
         }
-        Err(error) => println!(&rt; "{}", error.kind()),
+        Err(error) => print_error(&rt, &error),
     }
 }
 
-fn print_feed<R: Print + Wait + Clock + Copy>(rt: R, alloc: Global) -> io::Result<()> {
-    match change_feed::feed_three_times(rt, alloc) {
-        Ok(handed_out) => {
-            for HandedOut { rows, number } in handed_out {
-                println!(&rt; "feed: {rows} new, up to number {number}")?;
-            }
-            Ok(())
-        }
-        Err(error) => println!(&rt; "{}", error.kind()),
-    }
-}
-
-fn print_queue<R: Print + Wait + Clock + Copy>(rt: R, alloc: Global) -> io::Result<()> {
-    match job_queue::take_over(rt, alloc) {
-        Ok(turns) => {
-            for turn in &turns {
-                print_turn(&rt, turn)?;
-            }
-            Ok(())
-        }
-        Err(error) => println!(&rt; "{}", error.kind()),
-    }
-}
-
-fn print_turn(rt: &impl Print, turn: &Turn) -> io::Result<()> {
-    print_value(rt, "queue", turn.job.as_ref())?;
-    println!(rt; "queue: stored {}", turn.is_stored)
+fn print_error(rt: &impl Print, error: &Error) -> io::Result<()> {
+    println!(rt; "{}", error.kind())
 }

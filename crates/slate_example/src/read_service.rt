@@ -55,26 +55,34 @@ where
     let stop = &Stop::new();
     let (stored, kept_on) = join(
         rt,
-        move || transfer_all(rt, alloc, bank, stop).is_ok(),
+        move || transfer_all(rt, alloc, bank, stop),
         move || keep_on(rt, alloc, bank, service, stop),
     );
     stored && kept_on
 }
 
-/// Writes each transfer, waits until the last one is durable, and stops the flusher and the poller.
-fn transfer_all<R>(rt: &R, alloc: Global, bank: &Bank<R>, stop: &Stop) -> Result<(), Error>
+/// Makes each transfer, and stops the flusher and the poller. Whether each became durable.
+fn transfer_all<R>(rt: &R, alloc: Global, bank: &Bank<R>, stop: &Stop) -> bool
 where
     R: Wait + Clock + Drop,
 {
-    let mut outcome = Ok(());
-    for (ann, bob) in TRANSFERS {
-        let mut batch = WriteBatch::new(alloc);
-        batch.put(alloc, b"ann", &[ann])?;
-        batch.put(alloc, b"bob", &[bob])?;
-        outcome = bank.write(rt, alloc, batch)?.await_durable(rt);
+    let mut are_durable = true;
+    for balances in TRANSFERS {
+        are_durable = are_durable && transfer(rt, alloc, bank, balances).is_ok();
     }
     stop.stop(rt);
-    outcome
+    are_durable
+}
+
+/// Writes both balances as one batch, and waits until that is durable.
+fn transfer<R>(rt: &R, alloc: Global, bank: &Bank<R>, (ann, bob): (u8, u8)) -> Result<(), Error>
+where
+    R: Wait + Clock + Drop,
+{
+    let mut batch = WriteBatch::new(alloc);
+    batch.put(alloc, b"ann", &[ann])?;
+    batch.put(alloc, b"bob", &[bob])?;
+    bank.write(rt, alloc, batch)?.await_durable(rt)
 }
 
 /// Runs the flusher of the bank, and the poller of the service beside those whom it serves.

@@ -19,9 +19,14 @@ use std::sync::{Arc, Wait};
 /// The status of a database, which threads report and wait for. SlateDB's `DbStatusManager`. It has a `StatusRecord`
 /// under a lock, for which each call but `new` and `share` waits. A report is that of the record under the same name; it
 /// answers whether the version rose, and where it did, it wakes all that wait.
-#[derive(Drop)]
 pub struct StatusManager {
     shared: Arc<SharedRecord>,
+}
+
+impl Drop for StatusManager {
+    fn drop(self) {
+        let StatusManager { shared: _ } = self;
+    }
 }
 
 impl StatusManager {
@@ -162,6 +167,7 @@ impl StatusManager {
     }
 
     pub(crate) fn into_shared(self) -> Arc<SharedRecord> {
-        self.shared
+        let StatusManager { shared } = self;
+        shared
     }
 }

@@ -15,10 +15,15 @@ use std::sync::{Arc, Wait};
 
 /// Receives the status that a `StatusManager` is reported. It stands for SlateDB's `watch::Receiver<DbStatus>`, and may
 /// go to another thread. Each call waits for the lock. A contract sees the version that it has seen, which never falls.
-#[derive(Drop)]
 pub struct StatusReceiver {
     shared: Arc<SharedRecord>,
     seen: u64,
+}
+
+impl Drop for StatusReceiver {
+    fn drop(self) {
+        let StatusReceiver { shared: _, seen: _ } = self;
+    }
 }
 
 impl Model for StatusReceiver {

@@ -20,11 +20,20 @@ enum Asked {
 
 /// The handle of a write: its number, when it was accepted, and whether it is durable. SlateDB's type of this name. It
 /// may go to another thread.
-#[derive(Drop)]
 pub struct WriteHandle {
     seq: u64,
     create_ts: i64,
     asked: Asked,
+}
+
+impl Drop for WriteHandle {
+    fn drop(self) {
+        let WriteHandle {
+            seq: _,
+            create_ts: _,
+            asked: _,
+        } = self;
+    }
 }
 
 impl WriteHandle {

@@ -1,5 +1,0 @@
-use Rattle.slate_db.proofs.Kept.{reads-same, same-kept}
-use Rattle.slate_db.proofs.held.Held.get_in.Goals as goal
-
-pub invariant_of-self : goal.invariant_of-self
-invariant_of-self g c = same-kept _ _ _ (reads-same _ _ _ _ _ c.get.ensures.by_any) c.self.invariant

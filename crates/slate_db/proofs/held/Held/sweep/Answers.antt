@@ -1,5 +1,0 @@
-use Rattle.slate_db.proofs.Kept.{swept-kept}
-use Rattle.slate_db.proofs.held.Held.sweep.Goals as goal
-
-pub invariant_of-self : goal.invariant_of-self
-invariant_of-self g c = swept-kept _ _ _ _ _ c.sweep.ensures.sweeps c.self.invariant

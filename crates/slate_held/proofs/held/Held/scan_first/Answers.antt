@@ -1,0 +1,5 @@
+use Rattle.slate_held.proofs.Kept.{reads-same, same-kept}
+use Rattle.slate_held.proofs.held.Held.scan_first.Goals as goal
+
+pub invariant_of-self : goal.invariant_of-self
+invariant_of-self g c = same-kept _ _ _ (reads-same _ _ _ _ _ c.scan_first.ensures.by_any) c.self.invariant

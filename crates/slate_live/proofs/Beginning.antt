@@ -160,6 +160,7 @@ module _ (settings : Settings) (n : ℕ) (command : Command) (live live' : Live)
         rises = rise-same w.objects w.objects refl;
         confirms = λ i asks durable. absurd (let no : actions.Begin n ≡ actions.Await i = sym action-is ∙ asks in cc);
         sees = λ batch stands. subst (λ action. Sees batch action reply w') (sym action-is) tt;
+        leaves = λ i steps. absurd (let no : Begins n ≡ StepsKind i = sym kind ∙ steps in cc);
       },
       represents-then,
       segments-polled w live'.polls settings.extractor segments,

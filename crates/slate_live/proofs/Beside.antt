@@ -38,7 +38,7 @@ use Rattle.slate_model.proofs.Coming.{Come, Comes, IsStagedNext, Ways, again-com
 use Rattle.slate_model.proofs.Free.{numbered-front}
 use Rattle.slate_model.proofs.Fronts.{fresh-within, front-begins, front-end, front-grown, numbered-take, reads-front, seen-as, seen-log, whole-front}
 use Rattle.slate_model.proofs.Keeping.{line_above-end}
-use Rattle.slate_model.proofs.Maintained.{Maintained}
+use Rattle.slate_model.proofs.Maintained.{Maintained, put-latest}
 use Rattle.slate_model.proofs.Owing.{TablesBegin, tabled, view-tables}
 use Rattle.slate_model.proofs.Prefixes.{prefix-end}
 use Rattle.slate_model.proofs.Putting.{put-maintains}
@@ -277,6 +277,13 @@ put-read o w reader last next lease given planned was managed (low, high, s) =
     let moved = subst (λ (v : VersionedManifest). (w.stored.floor ≤ v.manifest.last_l0_seq) × (v.manifest.last_l0_seq ≤ end w.stored) × StandsBeside o w (tabled_by w.stored reader v (Some given))) (sym other.1) there in
     (was, moved.0, moved.1, moved.2)
 
+free-at : (o : Objects) (next : VersionedManifest) → is_present (PutManifest next.id next.manifest) o ≡ false → entry_at next.id o.manifests ≡ None
+free-at o next free = none-there (entry_at next.id o.manifests) free
+  where
+    none-there : (entry : Option Manifest) → is_some entry ≡ false → entry ≡ None
+    none-there None free = refl
+    none-there (Some m) free = absurd (cc)
+
 -- a manifest that was the latest one still was, after another is put that was planned after one that was
 pub was-put : (o : Objects) (sound : IsSound o) (last_one next : VersionedManifest) (was : WasLatest o last_one) (planned : IsPlanned last_one next) (free : is_present (PutManifest next.id next.manifest) o ≡ false) (last : VersionedManifest) → WasLatest o last → WasLatest (changed (PutManifest next.id next.manifest) o) last
 was-put o sound last_one next was planned free last (latest, is, low, same) =
@@ -292,12 +299,35 @@ was-put o sound last_one next was planned free last (latest, is, low, same) =
       ]
     ]
   where
-    none-there : (entry : Option Manifest) → is_some entry ≡ false → entry ≡ None
-    none-there None free = refl
-    none-there (Some m) free = absurd (cc)
-
     unstored : entry_at next.id o.manifests ≡ None
-    unstored = none-there (entry_at next.id o.manifests) free
+    unstored = free-at o next free
+
+-- the latest manifest is another one but for its id and its checkpoints
+abbrev pub IsLatestBut : Objects → VersionedManifest → Type 0
+IsLatestBut o latest = (latest' : VersionedManifest) × (latest_manifest o ≡ Some latest') × (latest'.manifest ≡ record latest.manifest { checkpoints = latest'.manifest.checkpoints })
+
+pub put-leaves : (o : Objects) (sound : IsSound o) (last_one next : VersionedManifest) (was : WasLatest o last_one) (planned : IsPlanned last_one next) (free : is_present (PutManifest next.id next.manifest) o ≡ false) (latest : VersionedManifest) → latest_manifest o ≡ Some latest → IsLatestBut (changed (PutManifest next.id next.manifest) o) latest
+put-leaves o sound last_one next was planned free latest is =
+    let other = planned-other last_one next planned in
+    let its : was.0 ≡ latest = some-same was.0 latest (sym was.1 ∙ is) in
+    let low : last_one.id ≤ latest.id = subst (λ (v : VersionedManifest). last_one.id ≤ v.id) its was.2 in
+    let ids : next.id ≡ last_one.id + 1 = ap (λ (v : VersionedManifest). v.id) other.1 in
+    elim (cases_lt latest.id next.id) [
+      | inl above ↦
+          let number = ap (λ (v : VersionedManifest). v.id) its in
+          let same : last_one ≡ latest = was.3 (omega (arith, low, ids, above, number)) ∙ its in
+          let next_is : next ≡ with_checkpoints other.0 latest = other.1 ∙ ap (with_checkpoints other.0) same in
+          let top : latest_manifest (changed (PutManifest next.id next.manifest) o) ≡ Some next =
+          ap (λ (v : VersionedManifest). latest_manifest (changed (PutManifest v.id v.manifest) o)) next_is ∙ (put-latest o latest sound is (with_checkpoints other.0 latest).manifest ∙ ap Some (sym next_is)) in
+          (next, top, subst (λ (v : VersionedManifest). v.manifest ≡ record latest.manifest { checkpoints = v.manifest.checkpoints }) (sym next_is) refl)
+      | inr below ↦ elim (cases_lt next.id latest.id) [
+        | inl less ↦ (latest, stale-latest o sound latest is next.id next.manifest less (free-at o next free), refl)
+        | inr over ↦
+            let here : next.id ≡ latest.id = omega (arith, below, over) in
+            let there = latest-entry o latest sound is in
+            absurd (let none = free-at o next free in let some = subst (λ n. entry_at n o.manifests ≡ Some latest.manifest) (sym here) there in cc (none, some))
+      ]
+    ]
 
 module _ (live : Live) (store store' : Known (List Batch)) (w : World) (o o' : Objects) (sound : IsSound o) (holds : Holds o w) (valid : IsValid w) (reads : (n : ℕ) (x : Object) → slice_get w.objects n ≡ Some x → IsHeld o x)
     (r : RepresentsObjects live store w) (at' : store'.objects ≡ Some o') (reader : Follower) (live_is : reader.result ≡ None) (unpinned : is_pinned reader.mode ≡ false) (begun : Begun) (p : PollStands o w reader begun) where
@@ -611,6 +641,23 @@ module _ (live : Live) (store store' : Known (List Batch)) (w : World) (o o' : O
       by (Puts next given replaces) is (inr put) =
           let staged = staged-at (Puts next given replaces) is in
           subst (λ x. WasLatest x last) (sym put.1) (was-put o sound staged.0 next (p.read staged.0 staged.1).0 staged.3 put.0 last was)
+      by ReadsLatest is same = unchanged same
+      by AsksLast is same = unchanged same
+      by (ReadsLog last) is same = unchanged same
+      by ReadsAgain is same = unchanged same
+      by Ended is same = unchanged same
+
+  pub steps-latest : (reader' : Follower) (begun' : Begun) (result : Result (Option PollAnswer) SlateError) → Steps kept_one begun result o reader' begun' o' → (latest : VersionedManifest) → latest_manifest o ≡ Some latest → IsLatestBut o' latest
+  steps-latest reader' begun' result steps latest there = by begun.stage refl (steps-left reader' begun' result steps)
+    where
+      unchanged : o' ≡ o → IsLatestBut o' latest
+      unchanged same = (latest, ap latest_manifest same ∙ there, refl)
+
+      by : (stage : Stage) → begun.stage ≡ stage → LeavesPut stage o o' → IsLatestBut o' latest
+      by (Puts next given replaces) is (inl same) = unchanged same
+      by (Puts next given replaces) is (inr put) =
+          let staged = staged-at (Puts next given replaces) is in
+          subst (λ x. IsLatestBut x latest) (sym put.1) (put-leaves o sound staged.0 next (p.read staged.0 staged.1).0 staged.3 put.0 latest there)
       by ReadsLatest is same = unchanged same
       by AsksLast is same = unchanged same
       by (ReadsLog last) is same = unchanged same

@@ -125,23 +125,21 @@ leads_all settings commands i replies o faults live store steps sound all done s
       grows = chain-grows settings (start o faults) steps done.chain;
       confirmed = stay_confirmed settings (start o faults) steps refl done.chain;
       snapshots = snapshots_stay settings (start o faults) steps refl done.chain done.reached;
+      closings = list_tasks settings (start o faults) steps done.chain done.reached;
       repeated = repeat_errors settings (start o faults) steps done.chain;
-      over = λ whole.
-          let chain : WholeChain settings (start o faults) steps = chain-whole settings (start o faults) steps (subst AreWhole (sym (done.commands_are ∙ take_all i commands all)) whole) done.chain in
-          let first = start-reached settings.options o faults sound in
-          record {
-            leases = leases_hold settings (start o faults) steps refl first chain done.reached;
-            closings = list_tasks settings (start o faults) steps chain done.reached;
-            trackers = trackers_stay settings (start o faults) steps first chain done.reached;
-            statuses = statuses_name settings (start o faults) steps refl first chain done.reached;
-            polls = polls_fit settings (start o faults) steps refl first (segmented-start settings.extractor (start o faults) refl) chain done.reached;
-          };
+      trackers = trackers_stay settings (start o faults) steps (start-reached settings.options o faults sound) done.chain done.reached;
+      statuses = statuses_name settings (start o faults) steps refl (start-reached settings.options o faults sound) done.chain done.reached;
+      leases = λ whole. leases_hold settings (start o faults) steps refl (start-reached settings.options o faults sound) (all-whole whole) done.reached;
+      polls = λ whole. polls_fit settings (start o faults) steps refl (start-reached settings.options o faults sound) (segmented-start settings.extractor (start o faults) refl) (all-whole whole) done.reached;
       after = held.0;
       modelled = held.1;
       sound = held.2;
       holds = held.3;
       fault_count = (stands.represents).faults;
     }
+  where
+    all-whole : AreWhole commands → WholeChain settings (start o faults) steps
+    all-whole whole = chain-whole settings (start o faults) steps (subst AreWhole (sym (done.commands_are ∙ take_all i commands all)) whole) done.chain
 
 -- commands that are done one after another, and one more
 do-push : (settings : Settings) (live mid last : Live) (store between store' : Known (List Batch)) (commands : List Command) (replies : List Reply) (command : Command) (reply : Reply) → DoAll settings live store commands replies mid between → IsDone settings mid between command reply last store' →

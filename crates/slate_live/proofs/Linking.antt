@@ -1,5 +1,5 @@
 -- What a command does over a store makes a link from each world that is represented.
-use Rattle.std.proofs.Common.{◌≡◌, ◌⊎◌, inl, inr, ℕ, ℤ, Bool, List, nat_le, Option, Some, None, refl, sym, subst, ap}
+use Rattle.std.proofs.Common.{◌≡◌, ◌∙◌, ◌⊎◌, inl, inr, ℕ, ℤ, Bool, List, nat_le, Option, Some, None, refl, sym, subst, ap}
 use Rattle.slate_types.specs.declared.batches.Batch.{Batch}
 use Rattle.slate_types.specs.declared.batches.WriteBatch.{WriteBatch}
 use Rattle.slate_types.specs.declared.options.CloseOptions.{CloseOptions}
@@ -63,6 +63,7 @@ whole-links settings command live live' store store' made reply kind does are w 
         rises = rises settings w command reply l.0 ro.valid l.1;
         confirms = confirms settings w command reply l.0 ro.valid l.1;
         sees = sees settings w command reply l.0 ro.valid l.1;
+        leaves = λ n steps. absurd (let no : Whole ≡ Steps n = sym kind ∙ steps in cc);
       },
       record {
         represents = l.2;

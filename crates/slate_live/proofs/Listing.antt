@@ -1,6 +1,6 @@
 -- Over a run, the first close of an object lists the tasks that its opening registered, and each later one lists none.
-use Rattle.std.proofs.Common.{◌≡◌, ◌++◌, ◌∷◌, ◌∙◌, [], ℕ, Bool, true, false, cond, ◌||◌, length, List, Option, Some, Result, Ok, Err, refl, sym, subst, ap}
-use Rattle.std.proofs.lemmas.Bool.{eqb-true}
+use Rattle.std.proofs.Common.{◌≡◌, ◌≢◌, inl, inr, ◌++◌, ◌∷◌, ◌∙◌, [], ℕ, Bool, true, false, cond, ◌||◌, length, set, List, Option, Some, None, Result, Ok, Err, refl, sym, subst, ap}
+use Rattle.std.proofs.lemmas.Bool.{cases_eq, eqb-true}
 use Rattle.std.proofs.lemmas.List.Elements.{All-head, All-tail}
 use Rattle.std.specs.List.{All, list_any, slice_get}
 use Rattle.slate_store.specs.declared.reader_modes.DbReaderMode.{DbReaderMode}
@@ -26,20 +26,23 @@ use Rattle.slate_script.specs.declared.commands.Action.TheVariants as actions
 use Rattle.slate_script.specs.declared.commands.Command.{Command}
 use Rattle.slate_script.specs.declared.replies.Reply.{Reply}
 use Rattle.slate_script.specs.declared.replies.Reply.TheVariants as replies
-use Rattle.slate_live.specs.Calls.{target_of}
+use Rattle.slate_live.specs.Calls.{Begins, Kind, Steps, Whole as WholeKind, kind_of, target_of}
+use Rattle.slate_live.specs.Next.{NextBegun, NextBy}
 use Rattle.slate_live.specs.Closings.{ListTasks, opens, registered}
 use Rattle.slate_live.specs.Commands.{DoesBy, added, interval_of, lifetime_of}
 use Rattle.slate_live.specs.Leases.{closes}
 use Rattle.slate_live.specs.Replies.{followed_reply, refusal, reply_to}
 use Rattle.slate_live.specs.Represents.{IsFollowerAt, IsHandleAt, IsReached}
 use Rattle.slate_live.specs.Settings.{Settings, option_tasks}
-use Rattle.slate_live.specs.Steps.{Step, last_world}
+use Rattle.slate_live.specs.Steps.{Chain, Step, last_world}
+use Rattle.slate_live.specs.Valid.{Link}
 use Rattle.slate_live.specs.World.{NextWhole, World, state_of}
 use Rattle.slate_live.proofs.Cases.{by-option, some-of}
-use Rattle.slate_live.proofs.Lasting.{all-halves, chain-halves}
-use Rattle.slate_live.proofs.Places.{get-seam}
+use Rattle.slate_live.proofs.Lasting.{all-halves}
+use Rattle.slate_live.proofs.Places.{get-seam, get-set_other, get-set_same}
 use Rattle.slate_live.proofs.Tasked.{IsTasked, follower-after, follower-lists, handle-after, handle-lists}
-use Rattle.slate_live.proofs.Wholes.{WholeChain, WholeLink}
+use Rattle.slate_live.proofs.Begun.{begins-is, by-kind, steps-is}
+use Rattle.slate_live.proofs.Wholes.{link-halves, next-whole}
 
 -- an object of a world that has these tasks: a handle, or a reader
 data HasTasks (w : World) (n : ℕ) (tasks : List TaskName) : Type 0 where
@@ -122,13 +125,54 @@ module _ (settings : Settings) (w w' : World) (command : Command) (reply : Reply
   opened-has action names is = absurd (cc)
 
 -- ---- after a step, and after steps
-step-has : (settings : Settings) (w : World) (step : Step) (n : ℕ) (tasks : List TaskName) → IsReached w → WholeLink settings w step.command step.reply step.world → HasTasks w n tasks → HasTasks step.world n (cond (closes n step.command.action) [] tasks)
-step-has settings w step n tasks reached link (OfHandle h at has) =
-    let a = handle-after settings w step.command (link.next).made step.reply (state_of step.world) n h at (link.next).does in
-    OfHandle a.0 a.1 (a.2 ∙ ap (cond (closes n step.command.action) []) has)
-step-has settings w step n tasks reached link (OfReader f at tasked has) =
-    let a = follower-after settings w step.command (link.next).made step.reply (state_of step.world) n f at tasked ((reached.0).followers n f at).2 (link.next).does in
-    OfReader a.0 a.1 (a.2).1 ((a.2).0 ∙ ap (cond (closes n step.command.action) []) has)
+step-has : (settings : Settings) (w : World) (step : Step) (n : ℕ) (tasks : List TaskName) → IsReached w → Link settings w step.command step.reply step.world → HasTasks w n tasks → HasTasks step.world n (cond (closes n step.command.action) [] tasks)
+step-has settings w step n tasks reached link had = by (kind_of step.command.action) refl had
+  where
+    w' : World
+    w' = step.world
+
+    same-has : (action : Action) → step.command.action ≡ action → closes n action ≡ false → w'.objects ≡ w.objects → HasTasks w n tasks → HasTasks w' n (cond (closes n step.command.action) [] tasks)
+    same-has action is unclosed same had = subst (λ b. HasTasks w' n (cond b [] tasks)) (sym (ap (closes n) is ∙ unclosed)) (moved had)
+      where
+        moved : HasTasks w n tasks → HasTasks w' n tasks
+        moved (OfHandle h at has) = OfHandle h (subst (λ os. IsHandleAt os n h) (sym same) at) has
+        moved (OfReader f at tasked has) = OfReader f (subst (λ os. IsFollowerAt os n f) (sym same) at) tasked has
+
+    -- a step of the reader m
+    stepped-has : (m : ℕ) (old new : Follower) → IsFollowerAt w.objects m old → w'.objects ≡ set w.objects m (AFollower new) → old.result ≡ None → new.mode ≡ old.mode → new.tasks ≡ old.tasks → HasTasks w n tasks → HasTasks w' n tasks
+    stepped-has m old new at_m is open_ mode_is tasks_are (OfHandle h at has) =
+        let other : n ≢ m = λ same. absurd (let here = subst (λ i. IsHandleAt w.objects i h) same at in let no : ◌≡◌ {A = Option Object} (Some (AHandle h)) (Some (AFollower old)) = sym here ∙ at_m in cc) in
+        OfHandle h (subst (λ os. IsHandleAt os n h) (sym is) (get-set_other w.objects m n (AFollower new) other ∙ at)) has
+    stepped-has m old new at_m is open_ mode_is tasks_are (OfReader f at tasked has) = elim (cases_eq n m) [
+      | inl same ↦
+          let here = subst (λ i. IsFollowerAt w.objects i f) same at in
+          let it : f ≡ old = (let both : ◌≡◌ {A = Option Object} (Some (AFollower f)) (Some (AFollower old)) = sym here ∙ at_m in cc) in
+          let old_has : old.tasks ≡ tasks = subst (λ (x : Follower). x.tasks ≡ tasks) it has in
+          let old_tasked : old.tasks ≡ follower_tasks old.mode = subst IsTasked it tasked open_ in
+          let there : IsFollowerAt w'.objects n new = subst (λ i. IsFollowerAt w'.objects i new) (sym same) (subst (λ os. IsFollowerAt os m new) (sym is) (get-set_same w.objects m (AFollower new) (AFollower old) at_m)) in
+          OfReader new there (λ still. tasks_are ∙ (old_tasked ∙ ap follower_tasks (sym mode_is))) (tasks_are ∙ old_has)
+      | inr other ↦ OfReader f (subst (λ os. IsFollowerAt os n f) (sym is) (get-set_other w.objects m n (AFollower new) other ∙ at)) tasked has
+    ]
+
+    whole-has : NextWhole settings w step.command step.reply w' → HasTasks w n tasks → HasTasks w' n (cond (closes n step.command.action) [] tasks)
+    whole-has next (OfHandle h at has) =
+        let a = handle-after settings w step.command next.made step.reply (state_of w') n h at next.does in
+        OfHandle a.0 a.1 (a.2 ∙ ap (cond (closes n step.command.action) []) has)
+    whole-has next (OfReader f at tasked has) =
+        let a = follower-after settings w step.command next.made step.reply (state_of w') n f at tasked ((reached.0).followers n f at).2 next.does in
+        OfReader a.0 a.1 (a.2).1 ((a.2).0 ∙ ap (cond (closes n step.command.action) []) has)
+
+    by : (kind : Kind) → kind_of step.command.action ≡ kind → HasTasks w n tasks → HasTasks w' n (cond (closes n step.command.action) [] tasks)
+    by WholeKind kind had = whole-has (next-whole settings w step.command step.reply w' kind link.next) had
+    by (Begins m) kind had =
+        let next : NextBegun settings m w step.command step.reply w' = subst (λ k. NextBy k settings w step.command step.reply w') kind link.next in
+        same-has (actions.Begin m) (begins-is step.command.action m kind) refl (ap (λ (x : World). x.objects) next.same) had
+    by (Steps m) kind had =
+        let unclosed : closes n step.command.action ≡ false = ap (closes n) (steps-is step.command.action m kind) in
+        elim (link.leaves m kind).objects [
+          | inl same ↦ same-has (actions.Step m) (steps-is step.command.action m kind) refl same had
+          | inr moved ↦ subst (λ b. HasTasks w' n (cond b [] tasks)) (sym unclosed) (stepped-has m moved.0 moved.1 moved.2 moved.3 moved.4 moved.5 moved.6 had)
+        ]
 
 both : (a b : Bool) (tasks : List TaskName) → cond b [] (cond a [] tasks) ≡ cond (a || b) [] tasks
 both true true tasks = refl
@@ -136,23 +180,30 @@ both true false tasks = refl
 both false true tasks = refl
 both false false tasks = refl
 
-listed : (settings : Settings) (w : World) (later rest : List Step) (closing : Step) (n : ℕ) (had : List TaskName) (fault : Option SlateError) (tasks : List TaskName) → IsReached w → WholeChain settings w (later ++ closing ∷ rest) → All (λ (step : Step). IsReached step.world) (later ++ closing ∷ rest) → HasTasks w n had →
+closes-whole : (action : Action) (n : ℕ) → closes n action ≡ true → kind_of action ≡ WholeKind
+closes-whole action n is = by-kind (λ a. closes n a ≡ true) (λ m no. absurd (cc)) (λ m no. absurd (cc)) action is
+
+listed : (settings : Settings) (w : World) (later rest : List Step) (closing : Step) (n : ℕ) (had : List TaskName) (fault : Option SlateError) (tasks : List TaskName) → IsReached w → Chain settings w (later ++ closing ∷ rest) → All (λ (step : Step). IsReached step.world) (later ++ closing ∷ rest) → HasTasks w n had →
     closes n closing.command.action ≡ true → closing.reply ≡ replies.Ended fault tasks → tasks ≡ cond (list_any (λ (step : Step). closes n step.command.action) later) [] had
-listed settings w [] rest closing n had fault tasks reached chain all (OfHandle h at has) closes_it is = handle-lists settings w closing.world closing.command closing.reply (chain.0).next n fault tasks is h at closes_it ∙ has
-listed settings w [] rest closing n had fault tasks reached chain all (OfReader f at tasked has) closes_it is = follower-lists settings w closing.world closing.command closing.reply (chain.0).next n fault tasks is f at closes_it ∙ has
+listed settings w [] rest closing n had fault tasks reached chain all (OfHandle h at has) closes_it is = handle-lists settings w closing.world closing.command closing.reply (next-whole settings w closing.command closing.reply closing.world (closes-whole closing.command.action n closes_it) (chain.0).next) n fault tasks is h at closes_it ∙ has
+listed settings w [] rest closing n had fault tasks reached chain all (OfReader f at tasked has) closes_it is = follower-lists settings w closing.world closing.command closing.reply (next-whole settings w closing.command closing.reply closing.world (closes-whole closing.command.action n closes_it) (chain.0).next) n fault tasks is f at closes_it ∙ has
 listed settings w (s ∷ later) rest closing n had fault tasks reached chain all has closes_it is =
     let reached' = All-head (λ (step : Step). IsReached step.world) s (later ++ closing ∷ rest) all in
     let more = All-tail (λ (step : Step). IsReached step.world) s (later ++ closing ∷ rest) all in
     listed settings s.world later rest closing n (cond (closes n s.command.action) [] had) fault tasks reached' chain.1 more (step-has settings w s n had reached chain.0 has) closes_it is
     ∙ both (closes n s.command.action) (list_any (λ (step : Step). closes n step.command.action) later) had
 
+-- an opening and a close make a call whole
+opens-whole : (action : Action) (n : ℕ) (reply : Reply) → opens n action reply ≡ true → kind_of action ≡ WholeKind
+opens-whole action n reply is = by-kind (λ a. opens n a reply ≡ true) (λ m no. absurd (cc)) (λ m no. absurd (cc)) action is
+
 -- ---- the law
-pub list_tasks : (settings : Settings) (w : World) (steps : List Step) → WholeChain settings w steps → All (λ step. IsReached step.world) steps → ListTasks settings.options steps
+pub list_tasks : (settings : Settings) (w : World) (steps : List Step) → Chain settings w steps → All (λ step. IsReached step.world) steps → ListTasks settings.options steps
 list_tasks settings w steps chain all before later rest opened closing n fault tasks is opens_it closes_it replied =
-    let halves = chain-halves settings w before (opened ∷ (later ++ closing ∷ rest)) (subst (WholeChain settings w) is chain) in
+    let halves = link-halves settings w before (opened ∷ (later ++ closing ∷ rest)) (subst (Chain settings w) is chain) in
     let alls = all-halves settings (λ (step : Step). IsReached step.world) before (opened ∷ (later ++ closing ∷ rest)) (subst (All (λ (step : Step). IsReached step.world)) is all) in
     let link = halves.1.0 in
     let reached = All-head (λ (step : Step). IsReached step.world) opened (later ++ closing ∷ rest) alls.1 in
     let more = All-tail (λ (step : Step). IsReached step.world) opened (later ++ closing ∷ rest) alls.1 in
-    let has = opened-has settings (last_world w before) opened.world opened.command opened.reply link.next n opened.command.action refl opens_it in
+    let has = opened-has settings (last_world w before) opened.world opened.command opened.reply (next-whole settings (last_world w before) opened.command opened.reply opened.world (opens-whole opened.command.action n opened.reply opens_it) link.next) n opened.command.action refl opens_it in
     listed settings opened.world later rest closing n (registered settings.options opened.command.action) fault tasks reached halves.1.1 more has closes_it replied

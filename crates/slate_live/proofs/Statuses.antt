@@ -47,20 +47,22 @@ use Rattle.slate_script.specs.declared.commands.Command.{Command}
 use Rattle.slate_script.specs.declared.replies.Reply.{Reply}
 use Rattle.slate_script.specs.declared.replies.Reply.TheVariants as replies
 use Rattle.slate_live.specs.declared.states.Write.{Write}
-use Rattle.slate_live.specs.Calls.{Call, Write as WriteCall, Merge as MergeCall, Flush, Refresh, Compact, Get, Scan, Seek, Close, Poll, Status, FindTime, FindNumber, Nothing, call_of, target_of}
+use Rattle.slate_live.specs.Calls.{Begins, Kind, Steps, Whole, kind_of, Call, Write as WriteCall, Merge as MergeCall, Flush, Refresh, Compact, Get, Scan, Seek, Close, Poll, Status, FindTime, FindNumber, Nothing, call_of, target_of}
+use Rattle.slate_live.specs.Next.{NextBegun, NextBy}
 use Rattle.slate_live.specs.Commands.{ActsOn, DoesBy, ReadsSnapshot}
 use Rattle.slate_live.specs.Followers.{ClosesAs, FollowerActs, PollsAs}
 use Rattle.slate_live.specs.Handles.{HandleActs, MergesTo, flush_type_by}
 use Rattle.slate_live.specs.Represents.{IsLeased, IsReached}
 use Rattle.slate_live.specs.Settings.{Settings}
 use Rattle.slate_live.specs.Statuses.{StatusesName, above_view}
-use Rattle.slate_live.specs.Steps.{Step}
+use Rattle.slate_live.specs.Steps.{Chain, Step}
+use Rattle.slate_live.specs.Valid.{Link}
 use Rattle.slate_live.specs.World.{NextWhole, World, state_of}
 use Rattle.slate_live.proofs.Cases.{by-bool, by-option, close-by, compact-by, flush-by, refresh-by, some-of}
 use Rattle.slate_live.proofs.Everywhere.{everywhere}
 use Rattle.slate_live.proofs.Naming.{follower-did, handle-acted}
-use Rattle.slate_live.proofs.Places.{get-set_same}
-use Rattle.slate_live.proofs.Wholes.{WholeChain}
+use Rattle.slate_live.proofs.Places.{get-set, get-set_same}
+use Rattle.slate_live.proofs.Wholes.{next-whole}
 
 -- the segments that an object names are those of its line above its view
 abbrev HasIts : Option Extractor → Object → Type 0
@@ -324,17 +326,41 @@ module _ (settings : Settings) (w w' : World) (command : Command) (reply : Reply
       let does = subst (λ t. DoesBy known settings command t next.made (state_of w) reply (state_of w')) (ap target_of names) next.does in
       on-status (slice_get w.objects n) refl (subst (λ c. ActsOn known settings n command c next.made (slice_get w.objects n) (state_of w) reply (state_of w')) (ap call_of names) does)
 
+-- any command
+link-its : (settings : Settings) (w : World) (step : Step) → IsReached w → Link settings w step.command step.reply step.world → AllHave settings.extractor w → AllHave settings.extractor step.world
+link-its settings w step reached link have = by (kind_of step.command.action) refl
+  where
+    w' : World
+    w' = step.world
+
+    same-have : w'.objects ≡ w.objects → AllHave settings.extractor w'
+    same-have same n object at = have n object (sym (ap (λ os. slice_get os n) same) ∙ at)
+
+    by : (kind : Kind) → kind_of step.command.action ≡ kind → AllHave settings.extractor w'
+    by Whole kind = step-its settings w w' step.command step.reply reached (next-whole settings w step.command step.reply w' kind link.next) have
+    by (Begins m) kind =
+        let next : NextBegun settings m w step.command step.reply w' = subst (λ k. NextBy k settings w step.command step.reply w') kind link.next in
+        same-have (ap (λ (x : World). x.objects) next.same)
+    by (Steps m) kind = elim (link.leaves m kind).objects [
+      | inl same ↦ same-have same
+      | inr moved ↦ λ n object at.
+          elim (get-set w.objects m n (AFollower moved.1) object (AFollower moved.0) moved.2 (sym (ap (λ os. slice_get os n) moved.3) ∙ at)) [
+            | inl here ↦ subst (HasIts settings.extractor) here.1 (moved.7 (have m (AFollower moved.0) moved.2))
+            | inr other ↦ have n object other.1
+          ]
+    ]
+
 -- ---- the law
-named-from : (settings : Settings) (w : World) (steps : List Step) → IsReached w → WholeChain settings w steps → All (λ (step : Step). IsReached step.world) steps → AllHave settings.extractor w → StatusesName settings.extractor steps
+named-from : (settings : Settings) (w : World) (steps : List Step) → IsReached w → Chain settings w steps → All (λ (step : Step). IsReached step.world) steps → AllHave settings.extractor w → StatusesName settings.extractor steps
 named-from settings w [] reached chain all have i n step status at names replied = absurd (cc)
 named-from settings w (s ∷ steps) reached (link, chain) all have zero n step status at names replied =
     let is : s ≡ step = cc in
     subst (λ (x : Step). (object : Object) × (slice_get (x.world).objects n ≡ Some object) × (status.memtable_segments ≡ segments_of settings.extractor (above_view object))) is
-    (status-names settings w s.world s.command s.reply link.next have n (ap (λ (x : Step). (x.command).action) is ∙ names) status (ap (λ (x : Step). x.reply) is ∙ replied))
+    (status-names settings w s.world s.command s.reply (next-whole settings w s.command s.reply s.world (ap kind_of (ap (λ (x : Step). (x.command).action) is ∙ names)) link.next) have n (ap (λ (x : Step). (x.command).action) is ∙ names) status (ap (λ (x : Step). x.reply) is ∙ replied))
 named-from settings w (s ∷ steps) reached (link, chain) all have (suc i) n step status at names replied =
     named-from settings s.world steps (All-head (λ (step : Step). IsReached step.world) s steps all) chain (All-tail (λ (step : Step). IsReached step.world) s steps all)
-    (step-its settings w s.world s.command s.reply reached link.next have) i n step status at names replied
+    (link-its settings w s reached link have) i n step status at names replied
 
-pub statuses_name : (settings : Settings) (w : World) (steps : List Step) → w.objects ≡ [] → IsReached w → WholeChain settings w steps → All (λ step. IsReached step.world) steps → StatusesName settings.extractor steps
+pub statuses_name : (settings : Settings) (w : World) (steps : List Step) → w.objects ≡ [] → IsReached w → Chain settings w steps → All (λ step. IsReached step.world) steps → StatusesName settings.extractor steps
 statuses_name settings w steps none reached chain all =
     named-from settings w steps reached chain all (λ n object at. absurd (let gone = sym (ap (λ os. slice_get os n) none) ∙ at in cc))

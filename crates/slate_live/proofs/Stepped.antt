@@ -18,16 +18,18 @@ use Rattle.slate_errors.specs.declared.errors.SlateError.TheVariants as errors
 use Rattle.slate_errors.specs.Errors.{closed_error}
 use Rattle.slate_model.specs.Begun.{Begun, begun_at, reached_number, view_of}
 use Rattle.slate_model.specs.Catalogue.{catalogue_of}
-use Rattle.slate_model.specs.Follower.{Follower, is_managed, is_pinned, kept_follower, number, unsegmented}
+use Rattle.slate_model.specs.Follower.{Follower, HasSegments, is_managed, is_pinned, kept_follower, number, unsegmented}
 use Rattle.slate_model.specs.Handle.{CloseResult, Handle}
 use Rattle.slate_model.specs.Known.{Known}
 use Rattle.slate_model.specs.Managed.{poll_result}
 use Rattle.slate_model.specs.Object.{Object, Handle as AHandle, Snapshot as ASnapshot, Follower as AFollower, kept, tables_of}
 use Rattle.slate_model.specs.Open.{replayed}
+use Rattle.slate_model.specs.Segments.{Extractor, segments_of}
 use Rattle.slate_model.specs.Stood.{WasLatest}
 use Rattle.slate_model.specs.declared.answers.PollAnswer.{PollAnswer}
 use Rattle.slate_model.specs.declared.answers.PollAnswer.TheVariants as answers
 use Rattle.slate_model.specs.declared.snapshots.HandleSnapshot.{HandleSnapshot}
+use Rattle.slate_model.proofs.Keeping.{above-twice}
 use Rattle.slate_model.proofs.Logging.{OfLine, none-put_logs}
 use Rattle.slate_model.proofs.Maintained.{Maintained}
 use Rattle.slate_model.proofs.Prefixes.{prefix-same}
@@ -41,7 +43,7 @@ use Rattle.slate_script.specs.declared.replies.Reply.{Reply}
 use Rattle.slate_script.specs.declared.replies.Reply.TheVariants as replies
 use Rattle.slate_live.specs.Calls.{Begins, Kind, Steps as StepsKind, Whole, kind_of}
 use Rattle.slate_live.specs.Confirmed.{Sees, StandsIn}
-use Rattle.slate_live.specs.Next.{Next, NextBy, shown, stored_in}
+use Rattle.slate_live.specs.Next.{Next, NextBy, StepLeaves, shown, stored_in}
 use Rattle.slate_live.specs.Replies.{reply_to}
 use Rattle.slate_live.specs.Represents.{AreBefore, AreInSegments, AreOfPast, HaveSegments, Holds, IsFollowerAt, IsHandleAt, IsHeld, IsOfHandle, IsValid, IsValidFollower, Links, Represents, RepresentsObjects, StandsAt, replays_all}
 use Rattle.slate_live.specs.Rising.{FollowerRises, Rise, StaysClosed}
@@ -52,7 +54,7 @@ use Rattle.slate_live.specs.Stepping.{BeginsAt, BeginsOf, BeginsOn, BeginsPoll, 
 use Rattle.slate_live.specs.Valid.{AtObject, IsOkOrNoMemory, IsStoreFault, IsValidCommand, IsValidKind, Link}
 use Rattle.slate_live.specs.World.{World}
 use Rattle.slate_live.proofs.Begun.{begins-is, begun-set, steps-is}
-use Rattle.slate_live.proofs.Beside.{all-held, poll-begins, reader-stands, stands-then, steps-after, steps-maintain, steps-were}
+use Rattle.slate_live.proofs.Beside.{all-held, poll-begins, reader-stands, stands-then, steps-after, steps-latest, steps-maintain, steps-were}
 use Rattle.slate_live.proofs.Cases.{is-none}
 use Rattle.slate_live.proofs.Changing.{distinct-set, followers-set, handles-set-follower}
 use Rattle.slate_live.proofs.Knowing.{unchanged-objects}
@@ -70,6 +72,21 @@ failed-kept e reader = by (is_managed reader.mode)
     by : (managed : Bool) → kept_follower (if managed then record reader { result = poll_result e } else reader) ≡ (if managed then record (kept_follower reader) { result = poll_result e } else kept_follower reader)
     by true = refl
     by false = refl
+
+failed-tasks : (e : SlateError) (reader : Follower) (managed : Bool) → (if managed then record reader { result = poll_result e } else reader).tasks ≡ reader.tasks
+failed-tasks e reader true = refl
+failed-tasks e reader false = refl
+
+failed-has : (x : Option Extractor) (e : SlateError) (reader : Follower) (managed : Bool) → HasSegments x reader → HasSegments x (if managed then record reader { result = poll_result e } else reader)
+failed-has x e reader true has = has
+failed-has x e reader false has = has
+
+-- what a reader has of segments, what is kept of it has, and the other way round
+kept-has : (x : Option Extractor) (reader : Follower) → HasSegments x reader → HasSegments x (kept_follower reader)
+kept-has x reader has = has ∙ ap (segments_of x) (sym (above-twice reader.view.manifest.last_l0_seq reader.view.manifest.last_l0_seq reader.line.batches (omega arith)))
+
+whole-has : (x : Option Extractor) (reader : Follower) → HasSegments x (kept_follower reader) → HasSegments x reader
+whole-has x reader has = has ∙ ap (segments_of x) (above-twice reader.view.manifest.last_l0_seq reader.view.manifest.last_l0_seq reader.line.batches (omega arith))
 
 -- ---- step
 module _ (settings : Settings) (n : ℕ) (command : Command) (live live' : Live) (store store' : Known (List Batch)) (reply : Reply) (opts : live.options ≡ settings.options) (kind : kind_of command.action ≡ StepsKind n) (did : StepsPoll settings.extractor n live store reply live' store')
@@ -123,6 +140,7 @@ module _ (settings : Settings) (n : ℕ) (command : Command) (live live' : Live)
           rises = rise-same w.objects w.objects refl;
           confirms = λ i asks durable. absurd (no-confirm i asks);
           sees = λ batch stands. subst (λ action. Sees batch action reply w) (sym action-is) tt;
+          leaves = λ i steps. record { objects = inl refl; latest = λ latest there. (latest, there, refl) };
         },
         again,
         segments,
@@ -160,6 +178,10 @@ module _ (settings : Settings) (n : ℕ) (command : Command) (live live' : Live)
       pub rises : FollowerRises g g'
       pub begun : (b : Begun) → poll' ≡ Some b → (g'.result ≡ None) × (is_pinned g'.mode ≡ false → PollStands o' w1 g' b)
       pub were : (last : VersionedManifest) → WasLatest o last → WasLatest o' last
+      pub open_ : g.result ≡ None
+      pub tasks : g'.tasks ≡ g.tasks
+      pub has_segments : HasSegments settings.extractor g → HasSegments settings.extractor g'
+      pub latest : (latest : VersionedManifest) → latest_manifest o ≡ Some latest → (latest' : VersionedManifest) × (latest_manifest o' ≡ Some latest') × (latest'.manifest ≡ record latest.manifest { checkpoints = latest'.manifest.checkpoints })
       pub fault : (store'.faults ≡ w.faults) ⊎ IsStoreFault reply
 
     module _ (went : Went) where
@@ -314,6 +336,12 @@ module _ (settings : Settings) (n : ℕ) (command : Command) (live live' : Live)
           rises = rise-set w.objects objects' n (AFollower g) (AFollower g') at went.rises refl;
           confirms = λ i asks durable. absurd (no-confirm i asks);
           sees = λ batch stands. subst (λ action. Sees batch action reply w') (sym action-is) tt;
+          leaves = λ i steps.
+              let place : n ≡ i = (let same : StepsKind n ≡ StepsKind i = sym kind ∙ steps in cc) in
+              subst (λ i. StepLeaves settings.extractor i w w') place (record {
+                objects = inr (g, g', at, refl, went.open_, went.rises.mode, went.tasks, went.has_segments);
+                latest = λ latest there. went.latest latest (ap latest_manifest (ro.held).3.catalogue ∙ there);
+              });
         },
         represents-then,
         segments-then,
@@ -373,6 +401,10 @@ module _ (settings : Settings) (n : ℕ) (command : Command) (live live' : Live)
           rises = follower-same g g refl;
           begun = λ b' is. absurd (let no = sym left ∙ is in cc);
           were = λ last was. was;
+          open_ = open_;
+          tasks = refl;
+          has_segments = λ has. has;
+          latest = λ latest there. (latest, there, refl);
           fault = inl (ap (λ (k : Known (List Batch)). k.faults) after_is);
         })
 
@@ -395,8 +427,16 @@ module _ (settings : Settings) (n : ℕ) (command : Command) (live live' : Live)
       were : (last : VersionedManifest) → WasLatest o last → WasLatest o' last
       were = steps-were live store store' w o o' (ro.held).2 (ro.held).3 ro.valid (ro.held).4 ro there' g open_ free b p new s.left s.result found.2
 
+      latest-then : (latest : VersionedManifest) → latest_manifest o ≡ Some latest → (latest' : VersionedManifest) × (latest_manifest o' ≡ Some latest') × (latest'.manifest ≡ record latest.manifest { checkpoints = latest'.manifest.checkpoints })
+      latest-then = steps-latest live store store' w o o' (ro.held).2 (ro.held).3 ro.valid (ro.held).4 ro there' g open_ free b p new s.left s.result found.2
+
       fault : (store'.faults ≡ w.faults) ⊎ IsStoreFault reply
       fault = fault-of s.result s.replied (c.faults).stays
+
+      -- what it came to keeps the tasks
+      answered-tasks : (answer : PollAnswer) → Steps (kept_follower g) b (Ok (Some answer)) o new s.left o' → (whole : Follower) → unsegmented new ≡ kept_follower whole → whole.tasks ≡ g.tasks
+      answered-tasks (answers.Whole at) steps whole is = sym (ap (λ (f : Follower). f.tasks) is) ∙ ap (λ (f : Follower). f.tasks) steps.2
+      answered-tasks (answers.Truncated at) steps whole is = sym (ap (λ (f : Follower). f.tasks) is) ∙ ap (λ (f : Follower). f.tasks) steps.2
 
       by : (result : Result (Option PollAnswer) SlateError) → s.result ≡ result → Out
       by (Ok None) is =
@@ -408,12 +448,17 @@ module _ (settings : Settings) (n : ℕ) (command : Command) (live live' : Live)
             rises = follower-same g g refl;
             begun = λ b' here. (open_, λ unpinned. let mine : s.left ≡ b' = (let e = sym left ∙ here in cc) in subst (PollStands o' (record w { catalogue = catalogue_of o'; faults = store'.faults }) g) mine after);
             were = were;
+            open_ = open_;
+            tasks = refl;
+            has_segments = λ has. has;
+            latest = latest-then;
             fault = fault;
           })
       by (Ok (Some answer)) is =
           let steps = subst (λ x. Steps (kept_follower g) b x o new s.left o') is found.2 in
           let after = steps-after live store store' w o o' (ro.held).2 (ro.held).3 ro.valid (ro.held).4 ro there' g open_ free b p m new s.left (Ok (Some answer)) steps in
           let whole = after.0 in
+          let whole-tasks : whole.tasks ≡ g.tasks = answered-tasks answer steps whole after.1 in
           let stands = after.2 in
           let rises = after.3 in
           let left : poll' ≡ None = s.leaves ∙ ap (λ x. poll_left x s.left) is in
@@ -429,6 +474,10 @@ module _ (settings : Settings) (n : ℕ) (command : Command) (live live' : Live)
             rises = record { mode = rises.mode; skips = rises.skips; number = rises.number; result = rises.result };
             begun = λ b' here. absurd (let no = sym left ∙ here in cc);
             were = were;
+            open_ = open_;
+            tasks = whole-tasks;
+            has_segments = λ has. whole-has settings.extractor g' (subst (HasSegments settings.extractor) (sym kept_is) (c.segments (kept-has settings.extractor g has)));
+            latest = latest-then;
             fault = fault;
           })
       by (Err e) is =
@@ -440,6 +489,10 @@ module _ (settings : Settings) (n : ℕ) (command : Command) (live live' : Live)
             rises = f.1;
             begun = λ b' here. absurd (let no = sym left ∙ here in cc);
             were = were;
+            open_ = open_;
+            tasks = failed-tasks e g (is_managed g.mode);
+            has_segments = λ has. failed-has settings.extractor e g (is_managed g.mode) has;
+            latest = latest-then;
             fault = fault;
           })
         where

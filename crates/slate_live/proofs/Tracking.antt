@@ -49,7 +49,8 @@ use Rattle.slate_script.specs.declared.commands.Action.TheVariants as actions
 use Rattle.slate_script.specs.declared.commands.Command.{Command}
 use Rattle.slate_script.specs.declared.replies.Reply.{Reply}
 use Rattle.slate_script.specs.declared.replies.Reply.TheVariants as replies
-use Rattle.slate_live.specs.Calls.{Call, Close, Flush, OfObject, call_of, flush_of_close, target_of}
+use Rattle.slate_live.specs.Calls.{Begins, Call, Close, Flush, Kind, OfObject, Steps, Whole, call_of, flush_of_close, kind_of, target_of}
+use Rattle.slate_live.specs.Next.{NextBegun, NextBy}
 use Rattle.slate_live.specs.Commands.{ActsOn, Adds, DoesBy, added}
 use Rattle.slate_live.specs.Handles.{ClosesHandle, flush_type_by}
 use Rattle.slate_live.specs.Replies.{closed_reply, refusal, reply_to}
@@ -57,17 +58,19 @@ use Rattle.slate_live.specs.Represents.{IsHandleAt, IsReached}
 use Rattle.slate_live.specs.Rising.{Rise, Rises}
 use Rattle.slate_live.specs.Settings.{Settings, option_tasks}
 use Rattle.slate_live.specs.State.{State}
-use Rattle.slate_live.specs.Steps.{Step, last_world}
+use Rattle.slate_live.specs.Steps.{Chain, Step, last_world}
+use Rattle.slate_live.specs.Valid.{Link}
 use Rattle.slate_live.specs.Trackers.{Commits, TrackersStay, flushes}
 use Rattle.slate_live.specs.World.{NextWhole, World, grown_by, state_of, stored_after}
 use Rattle.slate_live.proofs.Carrying.{Spares}
 use Rattle.slate_live.proofs.Cases.{close-by, flush-by}
-use Rattle.slate_live.proofs.Lasting.{all-halves, chain-halves}
+use Rattle.slate_live.proofs.Lasting.{all-halves}
 use Rattle.slate_live.proofs.Leases.{latest-after, rising}
 use Rattle.slate_live.proofs.Naming.{handle-did}
 use Rattle.slate_live.proofs.Places.{get-seam, get-set_same}
 use Rattle.slate_live.proofs.Prefixes.{extended-nil}
-use Rattle.slate_live.proofs.Wholes.{WholeChain}
+use Rattle.slate_live.proofs.Begun.{by-kind}
+use Rattle.slate_live.proofs.Wholes.{link-halves, next-whole}
 
 -- ---- the lists of a tracker that is read again
 paired-again : (ps : List TrackedSeq) → paired (map (λ (p : TrackedSeq). p.seq) ps) (map (λ (p : TrackedSeq). p.ts) ps) ≡ ps
@@ -131,12 +134,26 @@ reached-last : (w : World) (steps : List Step) → IsReached w → All (λ (step
 reached-last w [] reached all = reached
 reached-last w (s ∷ steps) reached all = reached-last s.world steps (All-head (λ (step : Step). IsReached step.world) s steps all) (All-tail (λ (step : Step). IsReached step.world) s steps all)
 
-keeps-chain : (settings : Settings) (number : ℕ) (t : Tracker) (w : World) (steps : List Step) → IsReached w → WholeChain settings w steps → All (λ (step : Step). IsReached step.world) steps → HasTracker number t w → HasTracker number t (last_world w steps)
+-- over a command
+link-keeps : (settings : Settings) (number : ℕ) (t : Tracker) (w : World) (s : Step) → IsReached w → IsReached s.world → Link settings w s.command s.reply s.world → HasTracker number t w → HasTracker number t s.world
+link-keeps settings number t w s reached reached' link h = by (kind_of s.command.action) refl
+  where
+    by : (kind : Kind) → kind_of s.command.action ≡ kind → HasTracker number t s.world
+    by Whole kind =
+        let c = latest-after settings w s.world s.command s.reply reached reached' (next-whole settings w s.command s.reply s.world kind link.next) (Keeps number t) h.latest h.is (keeps-spared number t w h.latest s.command h.holds) in
+        record { latest = c.latest; is = c.is; holds = c.holds }
+    by (Begins m) kind =
+        let next : NextBegun settings m w s.command s.reply s.world = subst (λ k. NextBy k settings w s.command s.reply s.world) kind link.next in
+        record { latest = h.latest; is = ap (λ (x : World). latest_manifest x.catalogue) next.same ∙ h.is; holds = h.holds }
+    by (Steps m) kind =
+        let c = (link.leaves m kind).latest h.latest h.is in
+        record { latest = c.0; is = c.1; holds = subst (Keeps number t) (sym c.2) h.holds }
+
+keeps-chain : (settings : Settings) (number : ℕ) (t : Tracker) (w : World) (steps : List Step) → IsReached w → Chain settings w steps → All (λ (step : Step). IsReached step.world) steps → HasTracker number t w → HasTracker number t (last_world w steps)
 keeps-chain settings number t w [] reached chain all h = h
 keeps-chain settings number t w (s ∷ steps) reached (link, chain) all h =
     let reached' = All-head (λ (step : Step). IsReached step.world) s steps all in
-    let c = latest-after settings w s.world s.command s.reply reached reached' link.next (Keeps number t) h.latest h.is (keeps-spared number t w h.latest s.command h.holds) in
-    keeps-chain settings number t s.world steps reached' chain (All-tail (λ (step : Step). IsReached step.world) s steps all) (record { latest = c.latest; is = c.is; holds = c.holds })
+    keeps-chain settings number t s.world steps reached' chain (All-tail (λ (step : Step). IsReached step.world) s steps all) (link-keeps settings number t w s reached reached' link h)
 
 -- ---- all changes of a flush
 module _ (o : Catalogue) (its_rising : AreRising (map (λ e. e.0) o.manifests)) (h : Handle) (latest : VersionedManifest) (is : latest_manifest o ≡ Some latest) (last : ℕ) where
@@ -375,18 +392,22 @@ module _ (settings : Settings) (w w' : World) (command : Command) (reply : Reply
           opened-pairs h (ap (λ (x : Handle). x.tracker) is) opens.answer,
         )
 
+-- a flush and a close make a call whole
+flushes-whole : (action : Action) (n : ℕ) (reply : Reply) → flushes n action reply ≡ true → kind_of action ≡ Whole
+flushes-whole action n reply is = by-kind (λ a. flushes n a reply ≡ true) (λ m no. absurd (cc)) (λ m no. absurd (cc)) action is
+
 -- ---- the law
-pub trackers_stay : (settings : Settings) (first : World) (steps : List Step) → IsReached first → WholeChain settings first steps → All (λ step. IsReached step.world) steps → TrackersStay first steps
+pub trackers_stay : (settings : Settings) (first : World) (steps : List Step) → IsReached first → Chain settings first steps → All (λ step. IsReached step.world) steps → TrackersStay first steps
 trackers_stay settings first steps reached chain all before later rest flushed opened m n keeps_log handle is flushes_it commits at unstored opens answered =
-    let halves = chain-halves settings first before (flushed ∷ (later ++ opened ∷ rest)) (subst (WholeChain settings first) is chain) in
+    let halves = link-halves settings first before (flushed ∷ (later ++ opened ∷ rest)) (subst (Chain settings first) is chain) in
     let alls = all-halves settings (λ (step : Step). IsReached step.world) before (flushed ∷ (later ++ opened ∷ rest)) (subst (All (λ (step : Step). IsReached step.world)) is all) in
     let w = last_world first before in
     let link = halves.1.0 in
     let reached_flushed = All-head (λ (step : Step). IsReached step.world) flushed (later ++ opened ∷ rest) alls.1 in
-    let begins = step-tracks settings w flushed.world flushed.command flushed.reply (reached-last first before reached alls.0) reached_flushed link.rises link.next commits m handle at flushed.command.action refl flushes_it in
-    let more = chain-halves settings flushed.world later (opened ∷ rest) halves.1.1 in
+    let begins = step-tracks settings w flushed.world flushed.command flushed.reply (reached-last first before reached alls.0) reached_flushed link.rises (next-whole settings w flushed.command flushed.reply flushed.world (flushes-whole flushed.command.action m flushed.reply flushes_it) link.next) commits m handle at flushed.command.action refl flushes_it in
+    let more = link-halves settings flushed.world later (opened ∷ rest) halves.1.1 in
     let mores = all-halves settings (λ (step : Step). IsReached step.world) later (opened ∷ rest) (All-tail (λ (step : Step). IsReached step.world) flushed (later ++ opened ∷ rest) alls.1) in
     let keeps = keeps-chain settings (end (flushed.world).stored) handle.tracker flushed.world later reached_flushed more.0 mores.0 begins.1 in
     let last = last_world flushed.world later in
-    opens-tracked settings last opened.world opened.command opened.reply (reached-last flushed.world later reached_flushed mores.0) more.1.0.next handle.tracker begins.0
+    opens-tracked settings last opened.world opened.command opened.reply (reached-last flushed.world later reached_flushed mores.0) (next-whole settings last opened.command opened.reply opened.world (ap kind_of opens) more.1.0.next) handle.tracker begins.0
     (subst (λ number. HasTracker number handle.tracker last) (ap end (sym unstored)) keeps) n keeps_log opens answered

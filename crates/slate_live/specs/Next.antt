@@ -1,9 +1,12 @@
 -- What a command may answer from a world, and which world it leads to.
-use Rattle.std.specs.Prelude.{◌≡◌, ◌≢◌, ℕ, List, map, slice_get, Some}
+use Rattle.std.specs.Prelude.{◌≡◌, ◌≢◌, ◌⊎◌, ℕ, List, map, slice_get, slice_set, Option, Some, None}
 use Rattle.slate_types.specs.declared.batches.Batch.{Batch}
-use Rattle.slate_store.specs.Objects.{Objects}
+use Rattle.slate_store.specs.Objects.{Objects, latest_manifest}
+use Rattle.slate_store.specs.declared.objects.VersionedManifest.{VersionedManifest}
+use Rattle.slate_model.specs.Follower.{Follower, HasSegments}
 use Rattle.slate_model.specs.Known.{Known}
-use Rattle.slate_model.specs.Object.{kept}
+use Rattle.slate_model.specs.Object.{Follower as AFollower, kept}
+use Rattle.slate_model.specs.Segments.{Extractor}
 use Rattle.slate_script.specs.declared.commands.Command.{Command}
 use Rattle.slate_script.specs.declared.options.Options.{Options}
 use Rattle.slate_script.specs.declared.replies.Reply.{Reply}
@@ -12,7 +15,7 @@ use Rattle.slate_live.specs.Settings.{Settings}
 use Rattle.slate_live.specs.State.{Live}
 use Rattle.slate_live.specs.Stepping.{BeginsPoll, StepsPoll}
 use Rattle.slate_live.specs.World.{NextWhole, World}
-use Rattle.slate_live.specs.Worlds.{Holds}
+use Rattle.slate_live.specs.Worlds.{Holds, IsFollowerAt}
 
 -- the live state of a world: its objects, each as the code keeps it
 abbrev pub shown : Options → World → Live
@@ -36,6 +39,14 @@ pub record NextStep (settings : Settings) (n : ℕ) (w : World) (reply : Reply) 
   pub steps : StepsPoll settings.extractor n (shown settings.options w) (stored_in before w) reply (shown settings.options w') (stored_in after w')
   pub others : (m : ℕ) → m ≢ n → slice_get w'.objects m ≡ slice_get w.objects m
   pub stored : w'.stored ≡ w.stored
+
+-- What a step leaves of a world: all objects but an open reader, which stays in its mode, keeps its tasks and has the segments of what
+-- it sees where it had them; and the latest manifest but for its id and its checkpoints.
+pub record StepLeaves (extractor : Option Extractor) (n : ℕ) (w w' : World) : Type 0 where
+  pub objects : (w'.objects ≡ w.objects)
+      ⊎ ((old new : Follower) × IsFollowerAt w.objects n old × (w'.objects ≡ slice_set w.objects n (AFollower new)) × (old.result ≡ None) × (new.mode ≡ old.mode) × (new.tasks ≡ old.tasks) × (HasSegments extractor old → HasSegments extractor new))
+  pub latest : (latest : VersionedManifest) → latest_manifest w.catalogue ≡ Some latest →
+      (latest' : VersionedManifest) × (latest_manifest w'.catalogue ≡ Some latest') × (latest'.manifest ≡ record latest.manifest { checkpoints = latest'.manifest.checkpoints })
 
 abbrev pub NextBy : Kind → Settings → World → Command → Reply → World → Type 0
 NextBy Whole settings w command reply w' = NextWhole settings w command reply w'

@@ -41,20 +41,12 @@ DidAll settings commands replies store store' = (last : Live) × DoAll settings 
 abbrev pub AreWhole : List Command → Type 0
 AreWhole commands = All (λ command. kind_of command.action ≡ Whole) commands
 
--- What holds over all of the steps from a world on: a reader whose polls are whole keeps its checkpoint while sweeps come in time, the
--- first close of a handle or a reader lists the tasks that its opening registered, a handle that is opened has the tracker of the one
--- that flushed to a table before, a status names the segments above the view, and a poll finds no key without a segment.
-pub record HoldsOver (settings : Settings) (first : World) (steps : List Step) : Type 0 where
-  pub leases : LeasesHold steps
-  pub closings : ListTasks settings.options steps
-  pub trackers : TrackersStay first steps
-  pub statuses : StatusesName settings.extractor steps
-  pub polls : PollsFit steps
-
 -- The commands lead from the world of these objects, by one step each with its reply and each to a valid world, to one that the store
 -- holds afterwards. What was stored before is stored afterwards, a write that is reported durable is confirmed for good, what a snapshot
--- gives stays, and a close of a reader that an error closed answers that. What else is said over all of the steps is so where none of
--- the commands begins or steps a poll by single calls.
+-- gives stays, the first close of a handle or a reader lists the tasks that its opening registered, a close of a reader that an error
+-- closed answers that, a handle that is opened has the tracker of the one that flushed to a table before, and a status names the
+-- segments above the view. Where none of the commands begins or steps a poll by single calls, a reader whose polls are whole keeps its
+-- checkpoint while sweeps come in time, and a poll finds no key without a segment.
 pub record LeadsTo (settings : Settings) (commands : List Command) (replies : List Reply) (before : Objects) (faults : ℕ) (store : Known (List Batch)) : Type 0 where
   pub steps : List Step
   pub commands_are : map (λ step. step.command) steps ≡ commands
@@ -66,8 +58,12 @@ pub record LeadsTo (settings : Settings) (commands : List Command) (replies : Li
   pub grows : IsPrefix (content before) last.stored
   pub confirmed : StayConfirmed steps
   pub snapshots : SnapshotsStay steps
+  pub closings : ListTasks settings.options steps
   pub repeated : RepeatErrors steps
-  pub over : AreWhole commands → HoldsOver settings (start before faults) steps
+  pub trackers : TrackersStay (start before faults) steps
+  pub statuses : StatusesName settings.extractor steps
+  pub leases : AreWhole commands → LeasesHold steps
+  pub polls : AreWhole commands → PollsFit steps
   pub after : Objects
   pub modelled : store.objects ≡ Some after
   pub sound : IsSound after

@@ -47,7 +47,7 @@ use Rattle.slate_live.specs.Scans.{scanned, sought}
 use Rattle.slate_live.specs.Rising.{Rise}
 use Rattle.slate_live.specs.Settings.{Settings}
 use Rattle.slate_live.specs.Represents.{up_to}
-use Rattle.slate_live.specs.Next.{Next}
+use Rattle.slate_live.specs.Next.{Next, StepLeaves}
 use Rattle.slate_live.specs.World.{World}
 
 -- what holds of the object with a number, by its kind; nothing of a number without one
@@ -274,3 +274,4 @@ pub record Link (settings : Settings) (w : World) (command : Command) (reply : R
   pub rises : Rise w.objects w'.objects
   pub confirms : (n : ℕ) → command.action ≡ actions.Await n → reply ≡ replies.Durable → IsConfirmed w n
   pub sees : (batch : Batch) → StandsIn batch w.stored → Sees batch command.action reply w'
+  pub leaves : (n : ℕ) → kind_of command.action ≡ Steps n → StepLeaves settings.extractor n w w'

@@ -1,5 +1,5 @@
 -- A begun poll doesn't come to a number below its reader's.
-use Rattle.std.proofs.Common.{◌≡◌, ◌∙◌, ℕ, ℤ, ◌+◌, ◌≤◌, ◌<◌, ◌&&◌, ◌==◌, max, not, inl, inr, ◌⊎◌, Bool, true, false, if◌then◌else◌, List, length, Option, Some, None, Ok, Err, refl, sym, ap, subst, arith}
+use Rattle.std.proofs.Common.{◌≡◌, ◌∙◌, ℕ, ℤ, ◌+◌, ◌≤◌, ◌&&◌, ◌==◌, max, not, inl, inr, Bool, true, false, if◌then◌else◌, List, length, Option, Some, None, Ok, Err, refl, sym, ap, subst, arith}
 use Rattle.std.proofs.lemmas.Bool.{cases_lt, eqb-true, le-leb}
 use Rattle.std.specs.Prelude.{nat_le, nat_lt}
 use Rattle.slate_types.specs.declared.batches.Batch.{Batch}
@@ -7,7 +7,7 @@ use Rattle.slate_store.specs.Checkpoints.{Plan, found, to_refresh, to_write}
 use Rattle.slate_store.specs.declared.objects.Checkpoint.{Checkpoint}
 use Rattle.slate_store.specs.declared.objects.VersionedManifest.{VersionedManifest}
 use Rattle.slate_errors.specs.declared.errors.SlateError.TheVariants as errors
-use Rattle.slate_model.specs.Begun.{AsksLast, Begun, Breaks, Ended, Ends, Fails, Goes, Puts, ReadsAgain, ReadsLog, Turn, asked_last, asked_lease, base_of, begun_at, committed, decided, emptied, kept_lease, leads_on, overtaken_by, put_by, reached_number, read_again, replayed, replaying, view_of}
+use Rattle.slate_model.specs.Begun.{AsksLast, Begun, Breaks, Ended, Ends, Fails, Goes, ReadsAgain, ReadsLog, Turn, asked_last, asked_lease, base_of, begun_at, committed, decided, emptied, kept_lease, leads_on, overtaken_by, put_by, reached_number, read_again, replayed, replaying, view_of}
 use Rattle.slate_model.specs.Follower.{Follower, kept_follower, number}
 use Rattle.slate_model.specs.Lease.{differs, is_due, leased}
 use Rattle.slate_model.specs.declared.leases.Lease.{Lease}

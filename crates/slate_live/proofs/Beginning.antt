@@ -1,67 +1,37 @@
 -- What a command that begins a poll of a reader by single calls does makes a link from each world that is represented.
-use Rattle.std.proofs.Common.{◌≡◌, ◌≢◌, ◌∙◌, ◌⊎◌, inl, inr, ℕ, ℤ, ◌≤◌, Bool, true, false, if◌then◌else◌, List, [], ◌∷◌, map, option_map, set, Option, Some, None, Result, Ok, Err, refl, sym, ap, subst, arith}
-use Rattle.std.proofs.lemmas.List.{map-set}
+use Rattle.std.proofs.Common.{◌≡◌, ◌∙◌, inl, inr, ℕ, List, option_map, set, Option, Some, None, refl, sym, ap, subst}
 use Rattle.std.specs.List.{slice_get}
 use Rattle.std.specs.Option.{is_some}
-use Rattle.std.specs.Result.{IfErr}
 use Rattle.slate_types.specs.declared.batches.Batch.{Batch}
-use Rattle.slate_types.specs.declared.store_errors.StoreFault.TheVariants.{Unavailable}
-use Rattle.slate_types.specs.Counts.{HasRisen}
-use Rattle.slate_types.specs.Line.{IsPrefix, batches_above}
-use Rattle.slate_store.specs.Content.{IsSound, content}
-use Rattle.slate_store.specs.Objects.{Objects, latest_manifest}
-use Rattle.slate_store.specs.declared.objects.VersionedManifest.{VersionedManifest}
-use Rattle.slate_store.specs.declared.reader_modes.DbReaderMode.{DbReaderMode}
+use Rattle.slate_store.specs.Objects.{Objects}
 use Rattle.slate_store.specs.declared.reader_modes.DbReaderMode.TheVariants as modes
-use Rattle.slate_errors.specs.declared.errors.SlateError.{SlateError}
 use Rattle.slate_errors.specs.declared.errors.SlateError.TheVariants as errors
-use Rattle.slate_errors.specs.Errors.{closed_error}
-use Rattle.slate_model.specs.Begun.{Begun, begun_at, reached_number, view_of}
-use Rattle.slate_model.specs.Catalogue.{catalogue_of}
-use Rattle.slate_model.specs.Follower.{Follower, is_managed, is_pinned, kept_follower, number, unsegmented}
-use Rattle.slate_model.specs.Handle.{CloseResult, Handle}
+use Rattle.slate_model.specs.Begun.{Begun, begun_at}
+use Rattle.slate_model.specs.Follower.{Follower, is_managed, kept_follower}
+use Rattle.slate_model.specs.Handle.{CloseResult}
 use Rattle.slate_model.specs.Known.{Known}
-use Rattle.slate_model.specs.Managed.{poll_result}
-use Rattle.slate_model.specs.Object.{Object, Handle as AHandle, Snapshot as ASnapshot, Follower as AFollower, kept, tables_of}
-use Rattle.slate_model.specs.Open.{replayed}
-use Rattle.slate_model.specs.Stood.{WasLatest}
-use Rattle.slate_model.specs.declared.answers.PollAnswer.{PollAnswer}
+use Rattle.slate_model.specs.Object.{Object, Handle as AHandle, Snapshot as ASnapshot, Follower as AFollower, kept}
 use Rattle.slate_model.specs.declared.answers.PollAnswer.TheVariants as answers
-use Rattle.slate_model.specs.declared.snapshots.HandleSnapshot.{HandleSnapshot}
-use Rattle.slate_model.proofs.Logging.{OfLine, none-put_logs}
-use Rattle.slate_model.proofs.Maintained.{Maintained}
 use Rattle.slate_model.proofs.Prefixes.{prefix-same}
-use Rattle.slate_model.proofs.Reduced.{some-same}
-use Rattle.slate_follow.proofs.Following.{others-keep}
-use Rattle.slate_follow.specs.Stepping.{Steps, failed_by}
-use Rattle.slate_script.specs.declared.commands.Action.{Action}
 use Rattle.slate_script.specs.declared.commands.Action.TheVariants as actions
 use Rattle.slate_script.specs.declared.commands.Command.{Command}
 use Rattle.slate_script.specs.declared.replies.Reply.{Reply}
 use Rattle.slate_script.specs.declared.replies.Reply.TheVariants as replies
-use Rattle.slate_live.specs.Calls.{Begins, Kind, Steps as StepsKind, Whole, kind_of}
-use Rattle.slate_live.specs.Confirmed.{Sees, StandsIn}
-use Rattle.slate_live.specs.Next.{Next, NextBy, shown, stored_in}
-use Rattle.slate_live.specs.Replies.{reply_to}
-use Rattle.slate_live.specs.Represents.{AreBefore, AreInSegments, AreOfPast, HaveSegments, Holds, IsFollowerAt, IsHandleAt, IsHeld, IsOfHandle, IsValid, IsValidFollower, Links, Represents, RepresentsObjects, StandsAt, replays_all}
-use Rattle.slate_live.specs.Rising.{FollowerRises, Rise, StaysClosed}
+use Rattle.slate_live.specs.Calls.{Begins, Steps as StepsKind, kind_of}
+use Rattle.slate_live.specs.Confirmed.{Sees}
+use Rattle.slate_live.specs.Next.{NextBy, shown}
+use Rattle.slate_live.specs.Represents.{AreInSegments, Represents, StandsAt}
 use Rattle.slate_live.specs.Settings.{Settings}
-use Rattle.slate_live.specs.Standing.{PollStands, StandsBeside}
+use Rattle.slate_live.specs.Standing.{PollStands}
 use Rattle.slate_live.specs.State.{IsBegunAt, Live}
-use Rattle.slate_live.specs.Stepping.{BeginsAt, BeginsOf, BeginsOn, BeginsPoll, BeginsReader, MakesCall, StepsAt, StepsObject, StepsOf, StepsOn, StepsPoll, StepsReader, poll_left, stepped_reply}
-use Rattle.slate_live.specs.Valid.{AtObject, IsOkOrNoMemory, IsStoreFault, IsValidCommand, IsValidKind, Link}
+use Rattle.slate_live.specs.Stepping.{BeginsAt, BeginsOn, BeginsPoll, BeginsReader}
+use Rattle.slate_live.specs.Valid.{AtObject, IsAnswered, IsOkOrNoMemory, IsValidCommand, IsValidKind, Link}
 use Rattle.slate_live.specs.World.{World}
-use Rattle.slate_live.proofs.Begun.{begins-is, begun-set, steps-is}
-use Rattle.slate_live.proofs.Beside.{all-held, poll-begins, reader-stands, stands-then, steps-after, steps-maintain, steps-were}
-use Rattle.slate_live.proofs.Cases.{is-none}
-use Rattle.slate_live.proofs.Changing.{distinct-set, followers-set, handles-set-follower}
-use Rattle.slate_live.proofs.Knowing.{unchanged-objects}
-use Rattle.slate_live.proofs.Leading.{Leads}
-use Rattle.slate_live.proofs.Maintaining.{maintained-leads}
-use Rattle.slate_live.proofs.Onward.{beside-onward, onward-maintained}
-use Rattle.slate_live.proofs.Places.{get-map, get-set, get-set_other, get-set_same, set-same}
-use Rattle.slate_live.proofs.Polled.{at-polled, beside-polled, holds-polled, poll-polled, polled, represents-polled, segments-polled, shown-is, stored-is, valid-polled}
-use Rattle.slate_live.proofs.Rising.{follower-same, rise-same, rise-set}
+use Rattle.slate_live.proofs.Begun.{begins-is, begun-set}
+use Rattle.slate_live.proofs.Beside.{poll-begins, reader-stands}
+use Rattle.slate_live.proofs.Places.{get-map}
+use Rattle.slate_live.proofs.Polled.{at-polled, polled, represents-polled, segments-polled, shown-is}
+use Rattle.slate_live.proofs.Rising.{rise-same}
 
 module _ (settings : Settings) (n : ℕ) (command : Command) (live live' : Live) (store : Known (List Batch)) (reply : Reply) (opts : live.options ≡ settings.options) (kind : kind_of command.action ≡ Begins n) (did : BeginsPoll n command.moment live reply live')
     (fits : (reader : Follower) → slice_get live.objects n ≡ Some (AFollower reader) → reply ≡ replies.Begun → (reader.line.floor ≡ reader.view.manifest.last_l0_seq) × (is_some reader.lease ≡ is_managed reader.mode)) where
@@ -153,7 +123,7 @@ module _ (settings : Settings) (n : ℕ) (command : Command) (live live' : Live)
       w',
       record {
         next = subst (λ k. NextBy k settings w command reply w') (sym kind) (record { begins = begins-shown; same = refl });
-        completes = λ can none. accepts can;
+        completes = λ can none. subst (λ k. IsAnswered k reply) (sym kind) (accepts can);
         faults = inl refl;
         grows = prefix-same w.stored;
         durable = λ i handle at. ((r.represents).valid.handles i handle at).confirmed;

@@ -1,13 +1,13 @@
 -- Which polls are begun after a command that makes a call whole.
-use Rattle.std.proofs.Common.{◌≡◌, ◌≢◌, ◌⊎◌, ◌∙◌, ◌==◌, ◌++◌, inl, inr, ℕ, zero, suc, Bool, true, false, cond, if◌then◌else◌, List, [], ◌∷◌, map, set, Option, Some, None, refl, sym, ap, subst}
-use Rattle.std.proofs.lemmas.Bool.{cases_eq, eq-eqb, eqb-true}
+use Rattle.std.proofs.Common.{◌≡◌, ◌≢◌, ◌⊎◌, ◌∙◌, ◌==◌, ◌++◌, inl, inr, ℕ, zero, suc, Bool, true, false, if◌then◌else◌, List, [], ◌∷◌, set, Option, Some, None, refl, sym, ap, subst}
+use Rattle.std.proofs.lemmas.Bool.{eq-eqb, eqb-true}
 use Rattle.std.specs.List.{slice_get}
 use Rattle.slate_model.specs.Begun.{Begun}
 use Rattle.slate_script.specs.declared.commands.Action.{Action}
 use Rattle.slate_script.specs.declared.commands.Action.TheVariants as actions
-use Rattle.slate_live.specs.Calls.{ArePolls, HaveSamePolls, Kind, OfObject, Whole, Begins, Steps, drops, ends_poll, kind_of, target_of}
+use Rattle.slate_live.specs.Calls.{ArePolls, HaveSamePolls, OfObject, Whole, Begins, Steps, drops, ends_poll, kind_of, target_of}
 use Rattle.slate_live.specs.State.{IsBegunAt}
-use Rattle.slate_live.proofs.Places.{get-set_other, get-set_same}
+use Rattle.slate_live.proofs.Places.{get-set_other}
 
 -- what stands at a place after one was set, if anything did there
 pub begun-set : (polls : List (Option Begun)) (m n : ℕ) (poll : Option Begun) (b : Begun) → IsBegunAt (set polls m poll) n b → ((n ≡ m) × (poll ≡ Some b)) ⊎ ((n ≢ m) × IsBegunAt polls n b)

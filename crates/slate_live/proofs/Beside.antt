@@ -1,12 +1,12 @@
 -- A reader beside a world, and a begun poll of it, stand from call to call.
-use Rattle.std.proofs.Common.{◌≡◌, ◌∙◌, ◌⊎◌, ℕ, ℤ, ◌+◌, ◌-◌, ◌<◌, ◌≤◌, ◌++◌, ◌||◌, ◌==◌, max, inl, inr, Bool, true, false, cond, not, if◌then◌else◌, All, List, [], ◌∷◌, drop, length, take, Option, Some, None, Result, Ok, Err, refl, sym, ap, subst, arith, rules}
+use Rattle.std.proofs.Common.{◌≡◌, ◌∙◌, ◌⊎◌, ℕ, ℤ, ◌+◌, ◌-◌, ◌≤◌, ◌++◌, ◌||◌, ◌==◌, max, inl, inr, Bool, true, false, if◌then◌else◌, All, List, [], ◌∷◌, drop, length, Option, Some, None, Result, Ok, Err, refl, sym, ap, subst, arith, rules}
 use Rattle.std.proofs.lemmas.Bool.{cases_lt}
 use Rattle.std.proofs.lemmas.List.{length-take}
 use Rattle.std.proofs.lemmas.List.Elements.{All-cons, All-contains_itself, All-nil}
 use Rattle.std.specs.List.{slice_get}
 use Rattle.std.specs.Option.{IsSomeAnd, MatchOption, is_some}
 use Rattle.slate_types.proofs.Lines.{above-all, above-drop, numbered-drop}
-use Rattle.slate_types.specs.Line.{AreNumberedFrom, IsLine, IsPrefix, Line, batches_above, end}
+use Rattle.slate_types.specs.Line.{AreNumberedFrom, IsPrefix, Line, batches_above, end}
 use Rattle.slate_types.specs.declared.batches.Batch.{Batch}
 use Rattle.slate_types.specs.declared.store_errors.StoreFault.TheVariants.{Unavailable}
 use Rattle.slate_store.specs.Checkpoints.{with_checkpoints}
@@ -21,25 +21,24 @@ use Rattle.slate_replay.specs.declared.replays.Replayed.{Replayed}
 use Rattle.slate_replay.specs.declared.replays.Replayed.TheVariants as replays
 use Rattle.slate_errors.specs.declared.errors.SlateError.{SlateError}
 use Rattle.slate_errors.specs.declared.errors.SlateError.TheVariants as errors
-use Rattle.slate_model.specs.Begun.{AsksLast, Begun, Breaks, Ended, Ends, Fails, Goes, Puts, ReadsAgain, ReadsLatest, ReadsLog, Stage, Turn, arrived, begun_at, committed, decided, reached_number, replayed, view_of}
+use Rattle.slate_model.specs.Begun.{AsksLast, Begun, Breaks, Ended, Ends, Fails, Goes, Puts, ReadsAgain, ReadsLatest, ReadsLog, Stage, Turn, arrived, begun_at, decided, kept_batches, reached_number, replayed, view_of}
 use Rattle.slate_model.specs.Catalogue.{Catalogue, catalogue_of}
 use Rattle.slate_model.specs.declared.answers.PollAnswer.{PollAnswer}
 use Rattle.slate_model.specs.declared.answers.PollAnswer.TheVariants as answers
 use Rattle.slate_model.specs.declared.leases.Lease.{Lease}
 use Rattle.slate_model.specs.Follower.{Follower, is_managed, is_pinned, kept_follower, number, unsegmented}
-use Rattle.slate_model.specs.Followed.{IsView, can_follow}
-use Rattle.slate_model.specs.Handle.{Handle, up_to}
+use Rattle.slate_model.specs.Followed.{IsView}
+use Rattle.slate_model.specs.Handle.{up_to}
 use Rattle.slate_model.specs.Known.{Known}
 use Rattle.slate_model.specs.Object.{Follower as AFollower, Object}
 use Rattle.slate_model.specs.Seen.{HasSeen}
 use Rattle.slate_model.specs.Stood.{IsPlanned, WasLatest}
-use Rattle.slate_model.specs.Tables.{AreStored}
 use Rattle.slate_model.proofs.Coming.{Come, Comes, IsStagedNext, Ways, again-comes, arrived-kept, asked-comes, committed-comes, decided-comes, overtaken-comes, planned-other, read-on, replayed-comes, restaged, start-comes}
 use Rattle.slate_model.proofs.Free.{numbered-front}
 use Rattle.slate_model.proofs.Fronts.{fresh-within, front-begins, front-end, front-grown, numbered-take, reads-front, seen-as, seen-log, whole-front}
 use Rattle.slate_model.proofs.Keeping.{line_above-end}
 use Rattle.slate_model.proofs.Maintained.{Maintained, put-latest}
-use Rattle.slate_model.proofs.Owing.{TablesBegin, tabled, view-tables}
+use Rattle.slate_model.proofs.Owing.{tabled, view-tables}
 use Rattle.slate_model.proofs.Prefixes.{prefix-end}
 use Rattle.slate_model.proofs.Putting.{put-maintains}
 use Rattle.slate_model.proofs.Logging.{LogsAre, OfLine}
@@ -47,14 +46,14 @@ use Rattle.slate_model.proofs.Stale.{latest-entry, stale-latest}
 use Rattle.slate_model.proofs.Reduced.{some-same}
 use Rattle.slate_follow.proofs.Following.{are-above, are-grown, begins-on, begins-rest, goes-on, log-begins, logs-of, no-gap-rises, others-keep}
 use Rattle.slate_follow.specs.Following.{AreOf, FollowsLine, IsReplaying, StandsAt}
-use Rattle.slate_follow.specs.Stepping.{FitsReader, FailsFrom, LeavesPut, Meets, MeetsAt, StepFails, Steps, log_turn, reads_latest, taken}
+use Rattle.slate_follow.specs.Stepping.{FailsFrom, LeavesPut, Meets, MeetsAt, StepFails, Steps, log_turn, reads_latest, taken}
 use Rattle.slate_script.specs.declared.commands.Command.{Command}
 use Rattle.slate_script.specs.declared.replies.Reply.{Reply}
 use Rattle.slate_live.specs.Settings.{Settings}
 use Rattle.slate_live.specs.Beside.{OthersLeaveThem, PollsBegin, ReadersStand, StandsAfter, StepsStand}
 use Rattle.slate_live.specs.Rising.{FollowerRises}
-use Rattle.slate_live.specs.Standing.{IsStaged, PollStands, ReadLast, StandsBeside, comes_to, placed, tabled_by}
-use Rattle.slate_live.specs.Represents.{AreOfPast, Holds, IsFollowerAt, IsHandleAt, IsHeld, IsReached, IsValid, RepresentsObjects}
+use Rattle.slate_live.specs.Standing.{IsStaged, PollStands, StandsBeside, comes_to, placed, tabled_by}
+use Rattle.slate_live.specs.Represents.{AreOfPast, Holds, IsFollowerAt, IsHeld, IsReached, IsValid, RepresentsObjects}
 use Rattle.slate_live.specs.State.{Live}
 use Rattle.slate_live.specs.World.{NextWhole, World}
 use Rattle.slate_live.proofs.Advancing.{Advanced, Advances, IsAbove, again-advances, asked-advances, committed-advances, cut-advances, decided-advances, overtaken-advances, read-advances, start-advances}
@@ -619,6 +618,28 @@ module _ (live : Live) (store store' : Known (List Batch)) (w : World) (o o' : O
         result = is-none (λ q. reader.result ≡ Some q) reader.result live_is;
       },
     )
+
+  -- A call ends a poll: the fresh batches follow its floor in what is stored, and the reader's are above its tables in what is stored up
+  -- to a number.
+  abbrev pub IsOfStored : Begun → Type 0
+  IsOfStored last =
+      ((rest : List Batch) × (batches_above last.floor w.stored.batches ≡ last.fresh ++ rest))
+      × (kept_batches kept_one last ≡ batches_above (view_of kept_one last).manifest.last_l0_seq (up_to (reached_number last) w.stored).batches)
+
+  pub ends-stored : (last : Begun) → Meets kept_one begun o (Ends last) o' ⊎ Meets kept_one begun o (Breaks last) o' → IsOfStored last
+  ends-stored last meets = elim meets [
+    | inl whole ↦ let m = left-maintained begun.stage refl (meets-left begun.stage (Ends last) whole) in of-stored m (meets-came m begun.stage (Ends last) refl whole)
+    | inr cut ↦ let m = left-maintained begun.stage refl (meets-left begun.stage (Breaks last) cut) in of-stored m (meets-came m begun.stage (Breaks last) refl cut)
+  ]
+    where
+      of-stored : (m : Maintained o o') → CameTo m last → IsOfStored last
+      of-stored m c = (
+        c.fresh,
+        ap (λ (f : Follower). f.line.batches)
+            (arrived-kept w.stored valid.line o' reader (Q m) (WasLatest o') (ways (w' m) o' m.sound (holds-then m) (valid-then m) (reads-then m) reader unpinned)
+            (whole-is (w' m) o' m.sound (holds-then m) (valid-then m) (reads-then m) reader unpinned (reader-then m) p.keeps)
+            (number-is (w' m) o' m.sound (holds-then m) (valid-then m) (reads-then m) reader unpinned (reader-then m) p.keeps) last c),
+      )
 
   -- ---- a step
   steps-left : (reader' : Follower) (begun' : Begun) (result : Result (Option PollAnswer) SlateError) → Steps kept_one begun result o reader' begun' o' → LeavesPut begun.stage o o'

@@ -37,7 +37,7 @@ use Rattle.slate_live.specs.Calls.{Call, Write as WriteCall, Merge as MergeCall,
 use Rattle.slate_live.specs.Commands.{ActsAt, ActsOn, DoesBy, OpensSnapshot, ReadsSnapshot, interval_of, lifetime_of}
 use Rattle.slate_live.specs.Followers.{ClosesAs, FollowerActs, PollsAs}
 use Rattle.slate_live.specs.Handles.{HandleActs}
-use Rattle.slate_live.specs.Replies.{IsRead, closed_reply, ended_reply, follower_ended_reply, polled_reply, refusal, reply_to}
+use Rattle.slate_live.specs.Replies.{IsRead, closed_reply, follower_ended_reply, polled_reply, refusal, reply_to}
 use Rattle.slate_live.specs.Represents.{IsValid}
 use Rattle.slate_live.specs.Scans.{IsTaken, Takes}
 use Rattle.slate_live.specs.Settings.{Settings}

@@ -1,5 +1,5 @@
 -- What is stored stays stored by a command that makes a call whole.
-use Rattle.std.proofs.Common.{◌≡◌, ℕ, nat_le, Option, Some, sym, subst}
+use Rattle.std.proofs.Common.{ℕ, nat_le, Option, Some, sym, subst}
 use Rattle.slate_types.specs.Line.{IsPrefix, Line}
 use Rattle.slate_model.specs.Flush.{grown, grows as counts}
 use Rattle.slate_model.specs.Handle.{Handle, unstored}

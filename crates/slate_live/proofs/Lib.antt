@@ -17,6 +17,7 @@ pub mod Fates
 pub mod Faulting
 pub mod Finding
 pub mod Following
+pub mod Going
 pub mod Growing
 pub mod Holding
 pub mod Keeping

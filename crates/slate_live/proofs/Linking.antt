@@ -1,42 +1,38 @@
 -- What a command does over a store makes a link from each world that is represented.
-use Rattle.std.proofs.Common.{◌≡◌, ◌∙◌, ◌⊎◌, inl, inr, ℕ, ℤ, Bool, List, nat_le, Option, Some, None, refl, sym, subst, ap}
+use Rattle.std.proofs.Common.{◌≡◌, ◌∙◌, ◌⊎◌, inl, inr, ℕ, ℤ, Bool, List, Option, Some, refl, sym, subst, ap}
 use Rattle.slate_types.specs.declared.batches.Batch.{Batch}
 use Rattle.slate_types.specs.declared.batches.WriteBatch.{WriteBatch}
 use Rattle.slate_types.specs.declared.options.CloseOptions.{CloseOptions}
 use Rattle.slate_types.specs.declared.options.FlushType.{FlushType}
 use Rattle.slate_types.specs.declared.ranges.ByteRange.{ByteRange}
 use Rattle.slate_types.specs.declared.scan_options.IterationOrder.{IterationOrder}
-use Rattle.slate_types.specs.Line.{IsPrefix, Line}
 use Rattle.slate_seqtrack.specs.declared.pairs.FindOption.{FindOption}
 use Rattle.std.specs.List.{slice_get}
 use Rattle.std.specs.Option.{is_some}
-use Rattle.slate_model.specs.Flush.{grown, grows as counts}
 use Rattle.slate_model.specs.Follower.{Follower, is_managed}
-use Rattle.slate_model.specs.Handle.{Handle, unstored}
 use Rattle.slate_model.specs.Knowledge.{Knowledge}
 use Rattle.slate_model.specs.Known.{Known}
-use Rattle.slate_model.specs.Object.{Object, Handle as AHandle, Follower as AFollower}
+use Rattle.slate_model.specs.Object.{Follower as AFollower}
 use Rattle.slate_model.specs.Stores.{by_objects}
 use Rattle.slate_script.specs.declared.commands.Action.{Action}
 use Rattle.slate_script.specs.declared.commands.Action.TheVariants as actions
 use Rattle.slate_script.specs.declared.commands.Command.{Command}
 use Rattle.slate_script.specs.declared.replies.Reply.{Reply}
 use Rattle.slate_script.specs.declared.replies.Reply.TheVariants as replies
-use Rattle.slate_live.specs.Calls.{ArePolls, Begins, Call, Flush, Close, Kind, OfObject, Steps, Target, Whole, call_of, kind_of, named, target_of}
+use Rattle.slate_live.specs.Calls.{ArePolls, Begins, Flush, Close, Kind, OfObject, Steps, Target, Whole, kind_of, target_of}
 use Rattle.slate_live.specs.Commands.{Does, DoesBy}
 use Rattle.slate_live.specs.Next.{NextBy}
 use Rattle.slate_live.specs.Represents.{AreInSegments, Links, Represents}
 use Rattle.slate_live.specs.Settings.{Settings}
 use Rattle.slate_live.specs.State.{IsBegunAt, Live, State, running}
 use Rattle.slate_live.specs.Stepping.{DoesKind, IsDone}
-use Rattle.slate_live.specs.Valid.{IsValidKind, Link}
-use Rattle.slate_live.specs.World.{NextWhole, World, grown_by, state_of}
+use Rattle.slate_live.specs.Valid.{IsAnswered, IsValidKind, Link}
+use Rattle.slate_live.specs.World.{World, state_of}
 use Rattle.slate_live.proofs.Completing.{completes}
 use Rattle.slate_live.proofs.Chains.{reached}
 use Rattle.slate_live.proofs.Confirming.{confirms}
 use Rattle.slate_live.proofs.Faulting.{answers-faults}
 use Rattle.slate_live.proofs.Growing.{grows}
-use Rattle.slate_live.proofs.Prefixes.{prefix-after, prefix-same}
 use Rattle.slate_live.proofs.Beside.{polls-beside}
 use Rattle.slate_live.proofs.Representing.{leads-beside}
 use Rattle.slate_live.proofs.Rising.{rises}
@@ -56,7 +52,7 @@ whole-links settings command live live' store store' made reply kind does are w 
       l.0,
       record {
         next = subst (λ k. NextBy k settings w command reply l.0) (sym kind) l.1;
-        completes = λ can none. completes settings w command reply l.0 ro.valid segments l.1 (subst (λ k. IsValidKind k settings w command) kind can) none;
+        completes = λ can none. subst (λ k. IsAnswered k reply) (sym kind) (completes settings w command reply l.0 ro.valid segments l.1 (subst (λ k. IsValidKind k settings w command) kind can) none);
         faults = answers-faults settings w command reply l.0 ro.valid l.1;
         grows = grows settings w command reply l.0 l.1;
         durable = λ n handle at. (l.2.valid.handles n handle at).confirmed;

@@ -78,14 +78,14 @@ have-both (Some x) a b first second =
     ap (unsegmented_refusal (Some x)) (ops-append a b)
     ∙ (unsegmented-append x (ops_of a) (ops_of b) ∙ (ap (λ r. option_or r (unsegmented_refusal (Some x) (ops_of b))) first ∙ second))
 
-have-each : (x : Option Extractor) (a b : List Batch) → HaveSegments x (a ++ b) → HaveSegments x a × HaveSegments x b
+pub have-each : (x : Option Extractor) (a b : List Batch) → HaveSegments x (a ++ b) → HaveSegments x a × HaveSegments x b
 have-each None a b have = (refl, refl)
 have-each (Some x) a b have =
     or-none (unsegmented_refusal (Some x) (ops_of a)) (unsegmented_refusal (Some x) (ops_of b))
     (sym (unsegmented-append x (ops_of a) (ops_of b)) ∙ (sym (ap (unsegmented_refusal (Some x)) (ops-append a b)) ∙ have))
 
 -- some of them
-have-filter : (x : Option Extractor) (keep : Batch → Bool) (bs : List Batch) → HaveSegments x bs → HaveSegments x (filter keep bs)
+pub have-filter : (x : Option Extractor) (keep : Batch → Bool) (bs : List Batch) → HaveSegments x bs → HaveSegments x (filter keep bs)
 have-filter x keep [] have = have
 have-filter x keep (b ∷ bs) have =
     let parts = have-each x (b ∷ []) bs have in
@@ -93,6 +93,10 @@ have-filter x keep (b ∷ bs) have =
       by : (c : Bool) → HaveSegments x (b ∷ []) → HaveSegments x (filter keep bs) → HaveSegments x (cond c (b ∷ filter keep bs) (filter keep bs))
       by true first rest = have-both x (b ∷ []) (filter keep bs) first rest
       by false first rest = rest
+
+-- the first of them
+pub have-take : (x : Option Extractor) (n : ℕ) (bs : List Batch) → HaveSegments x bs → HaveSegments x (take n bs)
+have-take x n bs have = (have-each x (take n bs) (drop n bs) (subst (HaveSegments x) (sym (take-append-drop n bs)) have)).0
 
 -- those above a later number
 have-later : (x : Option Extractor) (n m : ℕ) (bs : List Batch) → n ≤ m → HaveSegments x (batches_above n bs) → HaveSegments x (batches_above m bs)

@@ -1,69 +1,73 @@
 -- What a command that makes the next call of a begun poll does over a store makes a link from each world that is represented.
-use Rattle.std.proofs.Common.{◌≡◌, ◌≢◌, ◌∙◌, ◌⊎◌, inl, inr, ℕ, ℤ, ◌≤◌, Bool, true, false, if◌then◌else◌, List, [], ◌∷◌, map, option_map, set, Option, Some, None, Result, Ok, Err, refl, sym, ap, subst, arith}
+use Rattle.std.proofs.Common.{◌≡◌, ◌∙◌, ◌⊎◌, inl, inr, ℕ, ◌+◌, ◌-◌, ◌<◌, Bool, true, false, if◌then◌else◌, List, option_map, set, Option, Some, None, Result, Ok, Err, refl, sym, ap, subst, arith}
 use Rattle.std.proofs.lemmas.List.{map-set}
 use Rattle.std.specs.List.{slice_get}
+use Rattle.std.specs.Prelude.{nat_lt}
 use Rattle.std.specs.Option.{is_some}
 use Rattle.std.specs.Result.{IfErr}
 use Rattle.slate_types.specs.declared.batches.Batch.{Batch}
 use Rattle.slate_types.specs.declared.store_errors.StoreFault.TheVariants.{Unavailable}
-use Rattle.slate_store.specs.Calls.{KeepsFaults}
-use Rattle.slate_types.specs.Line.{IsPrefix, batches_above}
-use Rattle.slate_store.specs.Content.{IsSound, content}
+use Rattle.slate_store.specs.Calls.{HasRisen, KeepsFaults}
+use Rattle.slate_types.specs.Line.{batches_above}
+use Rattle.slate_store.specs.Content.{content}
 use Rattle.slate_store.specs.Objects.{Objects, latest_manifest}
 use Rattle.slate_store.specs.declared.objects.VersionedManifest.{VersionedManifest}
-use Rattle.slate_store.specs.declared.reader_modes.DbReaderMode.{DbReaderMode}
 use Rattle.slate_store.specs.declared.reader_modes.DbReaderMode.TheVariants as modes
 use Rattle.slate_errors.specs.declared.errors.SlateError.{SlateError}
 use Rattle.slate_errors.specs.declared.errors.SlateError.TheVariants as errors
-use Rattle.slate_errors.specs.Errors.{closed_error}
-use Rattle.slate_model.specs.Begun.{Begun, begun_at, reached_number, view_of}
+use Rattle.slate_model.specs.Begun.{Begun, Breaks, Ends, Fails, Puts, kept_batches, reached_number, view_of}
 use Rattle.slate_model.specs.Catalogue.{catalogue_of}
 use Rattle.slate_model.specs.Follower.{Follower, HasSegments, is_managed, is_pinned, kept_follower, number, unsegmented}
-use Rattle.slate_model.specs.Handle.{CloseResult, Handle}
+use Rattle.slate_model.specs.Handle.{Handle, up_to}
 use Rattle.slate_model.specs.Known.{Known}
 use Rattle.slate_model.specs.Managed.{poll_result}
 use Rattle.slate_model.specs.Object.{Object, Handle as AHandle, Snapshot as ASnapshot, Follower as AFollower, kept, tables_of}
-use Rattle.slate_model.specs.Open.{replayed}
 use Rattle.slate_model.specs.Segments.{Extractor, segments_of}
 use Rattle.slate_model.specs.Stood.{WasLatest}
 use Rattle.slate_model.specs.declared.answers.PollAnswer.{PollAnswer}
 use Rattle.slate_model.specs.declared.answers.PollAnswer.TheVariants as answers
 use Rattle.slate_model.specs.declared.snapshots.HandleSnapshot.{HandleSnapshot}
+use Rattle.slate_model.specs.Write.{last_number}
+use Rattle.slate_model.specs.declared.leases.Lease.{Lease}
+use Rattle.slate_model.proofs.Coming.{planned-other}
 use Rattle.slate_model.proofs.Keeping.{above-twice}
 use Rattle.slate_model.proofs.Logging.{OfLine, none-put_logs}
 use Rattle.slate_model.proofs.Maintained.{Maintained}
 use Rattle.slate_model.proofs.Prefixes.{prefix-same}
 use Rattle.slate_model.proofs.Reduced.{some-same}
 use Rattle.slate_follow.proofs.Following.{others-keep}
-use Rattle.slate_follow.specs.Stepping.{Steps, failed_by}
-use Rattle.slate_script.specs.declared.commands.Action.{Action}
+use Rattle.slate_follow.specs.Answering.{IsOfPoll}
+use Rattle.slate_follow.specs.Rebuilding.{Lacks}
+use Rattle.slate_follow.specs.Stepping.{ArrivalLacks, Meets, StepFails, StepLacks, Steps, failed_by}
 use Rattle.slate_script.specs.declared.commands.Action.TheVariants as actions
 use Rattle.slate_script.specs.declared.commands.Command.{Command}
 use Rattle.slate_script.specs.declared.replies.Reply.{Reply}
 use Rattle.slate_script.specs.declared.replies.Reply.TheVariants as replies
-use Rattle.slate_live.specs.Calls.{Begins, Kind, Steps as StepsKind, Whole, kind_of}
-use Rattle.slate_live.specs.Confirmed.{Sees, StandsIn}
-use Rattle.slate_live.specs.Next.{Next, NextBy, StepLeaves, shown, stored_in}
-use Rattle.slate_live.specs.Replies.{reply_to}
-use Rattle.slate_live.specs.Represents.{AreBefore, AreInSegments, AreOfPast, HaveSegments, Holds, IsFollowerAt, IsHandleAt, IsHeld, IsOfHandle, IsValid, IsValidFollower, Links, Represents, RepresentsObjects, StandsAt, replays_all}
-use Rattle.slate_live.specs.Rising.{FollowerRises, Rise, StaysClosed}
+use Rattle.slate_live.specs.Calls.{Steps as StepsKind, Whole, kind_of}
+use Rattle.slate_live.specs.Confirmed.{Sees}
+use Rattle.slate_live.specs.Next.{NextBy, StepLeaves, shown, stored_in}
+use Rattle.slate_live.specs.Replies.{polled_reply, refusal, reply_to}
+use Rattle.slate_live.specs.Represents.{AreBefore, AreInSegments, AreOfPast, HaveSegments, Holds, IsFollowerAt, IsHandleAt, IsHeld, IsValid, IsValidFollower, Represents, RepresentsObjects, StandsAt, replays_all}
+use Rattle.slate_live.specs.Rising.{FollowerRises}
 use Rattle.slate_live.specs.Settings.{Settings}
-use Rattle.slate_live.specs.Standing.{PollStands, StandsBeside}
+use Rattle.slate_live.specs.Standing.{IsStaged, PollStands, StandsBeside}
 use Rattle.slate_live.specs.State.{IsBegunAt, Live}
-use Rattle.slate_live.specs.Stepping.{BeginsAt, BeginsOf, BeginsOn, BeginsPoll, BeginsReader, MakesCall, StepsAt, StepsObject, StepsOf, StepsOn, StepsPoll, StepsReader, poll_left, stepped_reply}
-use Rattle.slate_live.specs.Valid.{AtObject, IsOkOrNoMemory, IsStoreFault, IsValidCommand, IsValidKind, Link}
+use Rattle.slate_live.specs.Stepping.{MakesCall, StepsAt, StepsObject, StepsOf, StepsOn, StepsPoll, StepsReader, poll_left, stepped_reply}
+use Rattle.slate_live.specs.Valid.{AtObject, CanStep, IsAnswered, IsStepped, IsStoreFault, IsValidCommand, IsValidKind, Link}
 use Rattle.slate_live.specs.World.{World}
-use Rattle.slate_live.proofs.Begun.{begins-is, begun-set, steps-is}
-use Rattle.slate_live.proofs.Beside.{all-held, poll-begins, reader-stands, stands-then, steps-after, steps-latest, steps-maintain, steps-were}
+use Rattle.slate_live.proofs.Begun.{begun-set, steps-is}
+use Rattle.slate_live.proofs.Beside.{ends-stored, reader-stands, steps-after, steps-latest, steps-maintain, steps-were}
 use Rattle.slate_live.proofs.Cases.{is-none}
-use Rattle.slate_live.proofs.Changing.{distinct-set, followers-set, handles-set-follower}
+use Rattle.slate_live.proofs.Changing.{followers-set, handles-set-follower}
+use Rattle.slate_live.proofs.Going.{meets-goes}
 use Rattle.slate_live.proofs.Knowing.{unchanged-objects}
 use Rattle.slate_live.proofs.Leading.{Leads}
 use Rattle.slate_live.proofs.Maintaining.{maintained-leads}
 use Rattle.slate_live.proofs.Onward.{beside-onward, onward-maintained}
 use Rattle.slate_live.proofs.Places.{get-map, get-set, get-set_other, get-set_same, set-same}
-use Rattle.slate_live.proofs.Polled.{at-polled, beside-polled, holds-polled, poll-polled, polled, represents-polled, segments-polled, shown-is, stored-is, valid-polled}
+use Rattle.slate_live.proofs.Polled.{shown-is, stored-is}
 use Rattle.slate_live.proofs.Rising.{follower-same, rise-same, rise-set}
+use Rattle.slate_live.proofs.Segmented.{have-each, have-filter, have-take}
 
 -- ---- a reader that failed
 failed-kept : (e : SlateError) (reader : Follower) → kept_follower (failed_by e reader) ≡ failed_by e (kept_follower reader)
@@ -87,6 +91,11 @@ kept-has x reader has = has ∙ ap (segments_of x) (sym (above-twice reader.view
 
 whole-has : (x : Option Extractor) (reader : Follower) → HasSegments x (kept_follower reader) → HasSegments x reader
 whole-has x reader has = has ∙ ap (segments_of x) (above-twice reader.view.manifest.last_l0_seq reader.view.manifest.last_l0_seq reader.line.batches (omega arith))
+
+-- a poll that a step ended, also one at a log file that was removed
+polled-stepped : (answer : PollAnswer) → IsStepped (polled_reply answer)
+polled-stepped (answers.Whole at) = tt
+polled-stepped (answers.Truncated at) = tt
 
 -- ---- step
 module _ (settings : Settings) (n : ℕ) (command : Command) (live live' : Live) (store store' : Known (List Batch)) (reply : Reply) (opts : live.options ≡ settings.options) (kind : kind_of command.action ≡ StepsKind n) (did : StepsPoll settings.extractor n live store reply live' store')
@@ -121,19 +130,20 @@ module _ (settings : Settings) (n : ℕ) (command : Command) (live live' : Live)
   no-confirm : (i : ℕ) → command.action ≡ actions.Await i → ⊥
   no-confirm i asks = (let no : actions.Step n ≡ actions.Await i = sym action-is ∙ asks in absurd (cc))
 
-  never-valid : IsValidCommand settings w command → ⊥
-  never-valid can = subst (λ k. IsValidKind k settings w command) kind can
+  -- what stands nothing against a step
+  can-step : IsValidCommand settings w command → (found : Option Object) → slice_get w.objects n ≡ found → AtObject found (λ handle. ⊥) (λ snapshot. ⊥) (CanStep settings w n)
+  can-step can found is = subst (λ x. AtObject x (λ handle. ⊥) (λ snapshot. ⊥) (CanStep settings w n)) is (subst (λ k. IsValidKind k settings w command) kind can)
 
   -- no step was made
-  unstepped : live' ≡ before → store' ≡ stored_in o w → Out
-  unstepped same same_store =
+  unstepped : live' ≡ before → store' ≡ stored_in o w → (IsValidCommand settings w command → ⊥) → Out
+  unstepped same same_store refused =
       let steps : StepsPoll settings.extractor n before (stored_in o w) reply before (stored_in o w) =
       subst (λ l. StepsPoll settings.extractor n before (stored_in o w) reply l (stored_in o w)) same (subst (StepsPoll settings.extractor n before (stored_in o w) reply live') same_store did-shown) in
       let again : Represents live' store' w = subst (λ k. Represents live' k w) (is-store ∙ sym same_store) (subst (λ l. Represents l store w) (is ∙ sym same) r) in (
         w,
         record {
           next = subst (λ k. NextBy k settings w command reply w) (sym kind) (record { before = o; after = o; holds = (ro.held).3; holds_then = (ro.held).3; steps = steps; others = λ m other. refl; stored = refl });
-          completes = λ can none. absurd (never-valid can);
+          completes = λ can none. absurd (refused can);
           faults = inl refl;
           grows = prefix-same w.stored;
           durable = λ i handle at. (ro.valid.handles i handle at).confirmed;
@@ -183,6 +193,7 @@ module _ (settings : Settings) (n : ℕ) (command : Command) (live live' : Live)
       pub has_segments : HasSegments settings.extractor g → HasSegments settings.extractor g'
       pub latest : (latest : VersionedManifest) → latest_manifest o ≡ Some latest → (latest' : VersionedManifest) × (latest_manifest o' ≡ Some latest') × (latest'.manifest ≡ record latest.manifest { checkpoints = latest'.manifest.checkpoints })
       pub fault : (store'.faults ≡ w.faults) ⊎ IsStoreFault reply
+      pub answers : IsValidCommand settings w command → (HasRisen w.faults store'.faults → ⊥) → IsStepped reply
 
     module _ (went : Went) where
       leads : Leads w.stored o' objects'
@@ -329,7 +340,7 @@ module _ (settings : Settings) (n : ℕ) (command : Command) (live live' : Live)
             others = λ i other. get-set_other w.objects n i (AFollower g') other;
             stored = refl;
           });
-          completes = λ can none. absurd (never-valid can);
+          completes = λ can none. subst (λ k. IsAnswered k reply) (sym kind) (went.answers can none);
           faults = went.fault;
           grows = prefix-same w.stored;
           durable = λ i handle there. (leads.handles i handle there).confirmed;
@@ -406,6 +417,7 @@ module _ (settings : Settings) (n : ℕ) (command : Command) (live live' : Live)
           has_segments = λ has. has;
           latest = λ latest there. (latest, there, refl);
           fault = inl (ap (λ (k : Known (List Batch)). k.faults) after_is);
+          answers = λ can calm. subst IsStepped (sym (s.replied ∙ ap (reply_to stepped_reply) result_is)) tt;
         })
 
     module _ (free : is_pinned g.mode ≡ false) (c : MakesCall settings.extractor (kept_follower g) b (stored_in o w) s.result new s.left store') where
@@ -438,6 +450,58 @@ module _ (settings : Settings) (n : ℕ) (command : Command) (live live' : Live)
       answered-tasks (answers.Whole at) steps whole is = sym (ap (λ (f : Follower). f.tasks) is) ∙ ap (λ (f : Follower). f.tasks) steps.2
       answered-tasks (answers.Truncated at) steps whole is = sym (ap (λ (f : Follower). f.tasks) is) ∙ ap (λ (f : Follower). f.tasks) steps.2
 
+      -- ---- a valid step answers no error but want of memory
+      module _ (can : CanStep settings w n g) where
+        few : b.overtaken < 7
+        few =
+            let begun = can.1 in
+            let same : begun.0 ≡ b = some-same begun.0 b (some-same (Some begun.0) (Some b) (sym begun.1 ∙ begun_at_n)) in
+            subst (λ (x : Begun). x.overtaken < 7) same begun.2
+
+        latest : (l : VersionedManifest) × (latest_manifest o ≡ Some l) × (is_managed g.mode ≡ true → l.id + 1 < last_number)
+        latest = let found = can.2 free in (found.0, ap latest_manifest (ro.held).3.catalogue ∙ found.1, found.2)
+
+        staged-puts : (next : VersionedManifest) (given : Lease) (replaces : Bool) → b.stage ≡ Puts next given replaces → (last : VersionedManifest) × (b.latest ≡ Some last) × (is_some b.lease ≡ true) × (next.id ≡ last.id + 1)
+        staged-puts next given replaces at_stage =
+            let staged : IsStaged g b (Puts next given replaces) = subst (IsStaged g b) at_stage p.staged in
+            let other = planned-other staged.0 next staged.3 in
+            (staged.0, staged.1, staged.2, ap (λ (v : VersionedManifest). v.id) other.1)
+
+        never : (error : SlateError) (after : Objects) → Meets (kept_follower g) b o (Fails error) after → ⊥
+        never error after meets =
+            meets-goes (kept_follower g) b o after few latest.0 latest.1 (λ held. latest.2 (sym p.fits.leased ∙ held)) (λ last is. (p.read last is).0) staged-puts b.stage refl (Fails error) meets
+
+        none-lack : (batches : List Batch) (key : List ℕ) → HaveSegments settings.extractor batches → Lacks settings.extractor batches key → ⊥
+        none-lack batches key have lacks = absurd (cc (have, lacks))
+
+        -- each key that the poll comes to is stored
+        ends-lack : (after : Objects) (last : Begun) → Meets (kept_follower g) b o (Ends last) after ⊎ Meets (kept_follower g) b o (Breaks last) after → ArrivalLacks settings.extractor (kept_follower g) last → ⊥
+        ends-lack after last ends lack =
+            let stored = ends-stored live store (record { objects = Some after; faults = store'.faults }) w o after (ro.held).2 (ro.held).3 ro.valid (ro.held).4 ro refl g open_ free b p last ends in
+            let x = settings.extractor in
+            let fresh : HaveSegments x last.fresh = (have-each x last.fresh stored.0.0 (subst (HaveSegments x) stored.0.1 (have-filter x (λ (batch : Batch). nat_lt last.floor batch.number) w.stored.batches can.0))).0 in
+            let whole : HaveSegments x (kept_batches (kept_follower g) last) =
+            subst (HaveSegments x) (sym stored.1) (have-filter x (λ (batch : Batch). nat_lt (view_of (kept_follower g) last).manifest.last_l0_seq batch.number) (up_to (reached_number last) w.stored).batches (have-take x (reached_number last - w.stored.floor) w.stored.batches can.0)) in
+            elim lack.1 [
+              | inl fresh_lack ↦ none-lack last.fresh lack.0 fresh fresh_lack
+              | inr whole_lack ↦ none-lack (kept_batches (kept_follower g) last) lack.0 whole whole_lack
+            ]
+
+        lacks-none : StepLacks settings.extractor (kept_follower g) b o → ⊥
+        lacks-none (inl (after, fails)) = never errors.InvalidDBState after fails
+        lacks-none (inr (last, ends, lack)) = ends-lack ends.0 last ends.1 lack
+
+        free-by : (e : SlateError) → s.result ≡ Err e → IsOfPoll g.mode e → StepFails e (kept_follower g) b o o' → (HasRisen w.faults store'.faults → ⊥) → e ≡ errors.NoMemory
+        free-by errors.LatestTransactionalObjectVersionMissing is kind fails calm = absurd (let none = fails.1 in let some = latest.1 in cc (none, some))
+        free-by errors.InvalidDBState is kind fails calm = absurd (lacks-none (c.lacks is))
+        free-by (errors.TransactionalObjectTimeout tries) is kind fails calm = absurd (never (errors.TransactionalObjectTimeout tries) o' fails)
+        free-by (errors.ObjectStoreError Unavailable) is kind fails calm = absurd (calm (c.faults.unavailable is))
+        free-by errors.NoMemory is kind fails calm = refl
+        free-by error is kind fails calm = absurd kind
+
+      free-of : (e : SlateError) → s.result ≡ Err e → CanStep settings w n g → (HasRisen w.faults store'.faults → ⊥) → e ≡ errors.NoMemory
+      free-of e is can calm = free-by can e is (subst (λ x. IfErr x (IsOfPoll g.mode)) is c.kinds) (subst (λ x. Steps (kept_follower g) b x o new s.left o') is found.2) calm
+
       by : (result : Result (Option PollAnswer) SlateError) → s.result ≡ result → Out
       by (Ok None) is =
           let steps = subst (λ x. Steps (kept_follower g) b x o new s.left o') is found.2 in
@@ -453,6 +517,7 @@ module _ (settings : Settings) (n : ℕ) (command : Command) (live live' : Live)
             has_segments = λ has. has;
             latest = latest-then;
             fault = fault;
+            answers = λ can calm. subst IsStepped (sym (s.replied ∙ ap (reply_to stepped_reply) is)) tt;
           })
       by (Ok (Some answer)) is =
           let steps = subst (λ x. Steps (kept_follower g) b x o new s.left o') is found.2 in
@@ -479,6 +544,7 @@ module _ (settings : Settings) (n : ℕ) (command : Command) (live live' : Live)
             has_segments = λ has. whole-has settings.extractor g' (subst (HasSegments settings.extractor) (sym kept_is) (c.segments (kept-has settings.extractor g has)));
             latest = latest-then;
             fault = fault;
+            answers = λ can calm. subst IsStepped (sym (s.replied ∙ ap (reply_to stepped_reply) is)) (polled-stepped answer);
           })
       by (Err e) is =
           let failed : new ≡ failed_by e (kept_follower g) = subst (λ x. IfErr x (λ error. new ≡ failed_by error (kept_follower g))) is c.failed in
@@ -494,6 +560,7 @@ module _ (settings : Settings) (n : ℕ) (command : Command) (live live' : Live)
             has_segments = λ has. failed-has settings.extractor e g (is_managed g.mode) has;
             latest = latest-then;
             fault = fault;
+            answers = λ can calm. subst IsStepped (sym (s.replied ∙ ap (reply_to stepped_reply) is ∙ ap refusal (free-of e is (can-step can (Some (AFollower g)) at) calm))) tt;
           })
         where
           before_stands : StandsBeside o' (record w { catalogue = catalogue_of o'; faults = store'.faults }) g
@@ -519,11 +586,11 @@ module _ (settings : Settings) (n : ℕ) (command : Command) (live live' : Live)
     steps-link = by-mode (is_pinned g.mode) refl s.steps
 
   -- what isn't a reader with a begun poll does nothing
-  nothing : (object : Object) (a : StepsAt settings.extractor n object before (stored_in o w) reply live' store') → slice_get before.objects n ≡ Some object → a.object' ≡ object → a.poll' ≡ a.poll → store' ≡ stored_in o w → Out
-  nothing object a here same_object same_poll same_store =
+  nothing : (object : Object) (a : StepsAt settings.extractor n object before (stored_in o w) reply live' store') → slice_get before.objects n ≡ Some object → a.object' ≡ object → a.poll' ≡ a.poll → store' ≡ stored_in o w → (IsValidCommand settings w command → ⊥) → Out
+  nothing object a here same_object same_poll same_store refused =
       let objects : set before.objects n a.object' ≡ before.objects = ap (set before.objects n) same_object ∙ set-same before.objects n object here in
       let polls : set before.polls n a.poll' ≡ before.polls = ap (set before.polls n) same_poll ∙ set-same before.polls n a.poll a.there in
-      unstepped (a.same ∙ (ap (λ (xs : List Object). record before { objects = xs; polls = set before.polls n a.poll' }) objects ∙ ap (λ (ps : List (Option Begun)). record before { polls = ps }) polls)) same_store
+      unstepped (a.same ∙ (ap (λ (xs : List Object). record before { objects = xs; polls = set before.polls n a.poll' }) objects ∙ ap (λ (ps : List (Option Begun)). record before { polls = ps }) polls)) same_store refused
 
   of-reader : (g : Follower) → slice_get w.objects n ≡ Some (AFollower g) → (a : StepsAt settings.extractor n (AFollower (kept_follower g)) before (stored_in o w) reply live' store') → Out
   of-reader g at a = by a.poll a.object' a.there a.does refl refl
@@ -531,19 +598,22 @@ module _ (settings : Settings) (n : ℕ) (command : Command) (live live' : Live)
       here : slice_get before.objects n ≡ Some (AFollower (kept_follower g))
       here = get-map kept w.objects n ∙ ap (option_map kept) at
 
+      unbegun : slice_get w.polls n ≡ Some None → IsValidCommand settings w command → ⊥
+      unbegun none can = let begun = (can-step can (Some (AFollower g)) at).1 in let some : IsBegunAt w.polls n begun.0 = begun.1 in absurd (cc (none, some))
+
       by : (poll : Option Begun) (object' : Object) → slice_get w.polls n ≡ Some poll → StepsObject settings.extractor (AFollower (kept_follower g)) poll (stored_in o w) reply object' a.poll' store' → a.poll ≡ poll → a.object' ≡ object' → Out
       by (Some b) (AFollower new) begun does poll_is object_is = steps-link g at b begun new a.poll' does (a.same ∙ ap (λ x. record before { objects = set before.objects n x; polls = set before.polls n a.poll' }) object_is)
       by (Some b) (AHandle h) begun does poll_is object_is = absurd (let no = does.1 in cc)
       by (Some b) (ASnapshot x) begun does poll_is object_is = absurd (let no = does.1 in cc)
-      by None (AFollower new) begun does poll_is object_is = nothing _ a here (object_is ∙ does.1) (does.2 ∙ sym poll_is) does.3
-      by None (AHandle h) begun does poll_is object_is = nothing _ a here (object_is ∙ does.1) (does.2 ∙ sym poll_is) does.3
-      by None (ASnapshot x) begun does poll_is object_is = nothing _ a here (object_is ∙ does.1) (does.2 ∙ sym poll_is) does.3
+      by None (AFollower new) begun does poll_is object_is = nothing _ a here (object_is ∙ does.1) (does.2 ∙ sym poll_is) does.3 (unbegun begun)
+      by None (AHandle h) begun does poll_is object_is = nothing _ a here (object_is ∙ does.1) (does.2 ∙ sym poll_is) does.3 (unbegun begun)
+      by None (ASnapshot x) begun does poll_is object_is = nothing _ a here (object_is ∙ does.1) (does.2 ∙ sym poll_is) does.3 (unbegun begun)
 
   pub step-links : Out
   step-links = by (slice_get w.objects n) refl (subst (λ found. StepsOn settings.extractor n found before (stored_in o w) reply live' store') (get-map kept w.objects n) did-shown)
     where
       by : (found : Option Object) → slice_get w.objects n ≡ found → StepsOn settings.extractor n (option_map kept found) before (stored_in o w) reply live' store' → Out
-      by None none (replied, same, same_store) = unstepped same same_store
-      by (Some (AHandle h)) at a = nothing _ a (get-map kept w.objects n ∙ ap (option_map kept) at) (a.does).1 (a.does).2 (a.does).3
-      by (Some (ASnapshot x)) at a = nothing _ a (get-map kept w.objects n ∙ ap (option_map kept) at) (a.does).1 (a.does).2 (a.does).3
+      by None none (replied, same, same_store) = unstepped same same_store (λ can. can-step can None none)
+      by (Some (AHandle h)) at a = nothing _ a (get-map kept w.objects n ∙ ap (option_map kept) at) (a.does).1 (a.does).2 (a.does).3 (λ can. can-step can (Some (AHandle h)) at)
+      by (Some (ASnapshot x)) at a = nothing _ a (get-map kept w.objects n ∙ ap (option_map kept) at) (a.does).1 (a.does).2 (a.does).3 (λ can. can-step can (Some (ASnapshot x)) at)
       by (Some (AFollower g)) at a = of-reader g at a

@@ -1,5 +1,5 @@
 -- Commands that nothing in a world stands against, and the link of a command, which such a one answers.
-use Rattle.std.specs.Prelude.{◌≡◌, ◌≢◌, ℕ, ℤ, ◌<◌, ◌≤◌, ◌⊎◌, Bool, true, false, List, [], ◌∷◌, length, slice_get, Option, Some, None, Result, Ok, Err, IfSome}
+use Rattle.std.specs.Prelude.{◌≡◌, ◌≢◌, ℕ, ℤ, ◌+◌, ◌<◌, ◌≤◌, ◌⊎◌, Bool, true, false, List, [], ◌∷◌, length, slice_get, Option, Some, None, Result, Ok, Err, IfSome}
 use Rattle.slate_types.specs.declared.batches.Batch.{Batch}
 use Rattle.slate_types.specs.declared.batches.KeyOp.{KeyOp}
 use Rattle.slate_types.specs.declared.batches.KeyValue.{KeyValue}
@@ -19,6 +19,7 @@ use Rattle.slate_model.specs.Handle.{CloseResult, Handle, accepted, known_segmen
 use Rattle.slate_model.specs.Followed.{IsView, RefusesLatest}
 use Rattle.slate_model.specs.Follow.{ReplayRefuses}
 use Rattle.slate_model.specs.Stores.{by_catalogue}
+use Rattle.slate_model.specs.Begun.{Begun}
 use Rattle.slate_model.specs.Follower.{Follower, is_managed, is_pinned}
 use Rattle.slate_model.specs.Lease.{lease_refusal, to_keep, to_take}
 use Rattle.slate_store.specs.Checkpoints.{Plan, to_delete}
@@ -39,6 +40,7 @@ use Rattle.slate_live.specs.Confirmed.{IsBatchOf, Sees, StandsIn}
 use Rattle.slate_model.specs.Tables.{AreStored}
 use Rattle.slate_model.specs.declared.snapshots.HandleSnapshot.{HandleSnapshot}
 use Rattle.slate_model.specs.Object.{Object, Handle as AHandle, Snapshot as ASnapshot, Follower as AFollower}
+use Rattle.slate_live.specs.State.{IsBegunAt}
 use Rattle.slate_live.specs.Calls.{Call, Write as WriteCall, Merge, Flush, Refresh, Compact, Get, Scan, Seek, Close, Poll, Status, FindTime, FindNumber, Kind, Begins, Steps, Whole, call_of, kind_of}
 use Rattle.slate_live.specs.Calls.{Target, NewHandle, NewSnapshot, NewFollower, NewCheckpoint, WholeStore, OfWrite, OfObject, at_snapshot, target_of}
 use Rattle.slate_live.specs.Followers.{IsPlainReadAt, IsPlainScanAt}
@@ -226,11 +228,19 @@ IsValidAt settings w moment second call (OfWrite n) = IsDurable w (slice_get w.w
 IsValidAt settings w moment second call (OfObject n) =
     AtObject (slice_get w.objects n) (CanAsk settings w moment second call) (CanAskSnapshot settings w moment second call) (CanAskFollower settings w moment call)
 
--- by its kind: a poll of an open reader is begun; of a step it isn't said that it is refused nothing
+-- A step of a begun poll: fewer than seven of its puts were overtaken, each key that is stored has a segment, and a reader that doesn't
+-- stay at a checkpoint finds a manifest, after which the ids of two more are left for one that keeps a checkpoint.
+abbrev pub CanStep : Settings → World → ℕ → Follower → Type 0
+CanStep settings w n follower =
+    (unsegmented_refusal settings.extractor (ops_of w.stored.batches) ≡ None)
+    × ((begun : Begun) × IsBegunAt w.polls n begun × (begun.overtaken < 7))
+    × (is_pinned follower.mode ≡ false → (latest : VersionedManifest) × (latest_manifest w.catalogue ≡ Some latest) × (is_managed follower.mode ≡ true → latest.id + 1 < last_number))
+
+-- by its kind: a poll of an open reader is begun
 abbrev pub IsValidKind : Kind → Settings → World → Command → Type 0
 IsValidKind Whole settings w command = IsValidAt settings w command.moment command.second (call_of command.action) (target_of command.action)
 IsValidKind (Begins n) settings w command = AtObject (slice_get w.objects n) (λ handle. ⊥) (λ snapshot. ⊥) (λ follower. follower.result ≡ None)
-IsValidKind (Steps n) settings w command = ⊥
+IsValidKind (Steps n) settings w command = AtObject (slice_get w.objects n) (λ handle. ⊥) (λ snapshot. ⊥) (CanStep settings w n)
 
 -- nothing in this world stands against the command
 abbrev pub IsValidCommand : Settings → World → Command → Type 0
@@ -247,6 +257,16 @@ IsOkOrNoMemory (replies.Backpressure unflushed limit) = ⊥
 IsOkOrNoMemory (replies.Follower object false at) = ⊥
 IsOkOrNoMemory (replies.Polled false at) = ⊥
 IsOkOrNoMemory reply = Unit {0}
+
+-- what a valid command answers: a step may also find that a log file was removed
+abbrev pub IsStepped : Reply → Type 0
+IsStepped (replies.Polled false at) = Unit {0}
+IsStepped reply = IsOkOrNoMemory reply
+
+abbrev pub IsAnswered : Kind → Reply → Type 0
+IsAnswered Whole reply = IsOkOrNoMemory reply
+IsAnswered (Begins n) reply = IsOkOrNoMemory reply
+IsAnswered (Steps n) reply = IsStepped reply
 
 -- a reply that is a fault of the store, also one that ends what is closed
 abbrev pub IsStoreFault : Reply → Type 0
@@ -267,7 +287,7 @@ pub record IsConfirmed (w : World) (n : ℕ) : Type 0 where
 -- seen by each opening and each poll.
 pub record Link (settings : Settings) (w : World) (command : Command) (reply : Reply) (w' : World) : Type 0 where
   pub next : Next settings w command reply w'
-  pub completes : IsValidCommand settings w command → (HasRisen w.faults w'.faults → ⊥) → IsOkOrNoMemory reply
+  pub completes : IsValidCommand settings w command → (HasRisen w.faults w'.faults → ⊥) → IsAnswered (kind_of command.action) reply
   pub faults : (w'.faults ≡ w.faults) ⊎ IsStoreFault reply
   pub grows : IsPrefix w.stored w'.stored
   pub durable : (n : ℕ) (handle : Handle) → slice_get w'.objects n ≡ Some (AHandle handle) → IsPrefix (up_to handle.durable handle.line) w'.stored

@@ -1,5 +1,5 @@
 -- A reader beside a world, and a begun poll of it, stand from call to call.
-use Rattle.std.proofs.Common.{◌≡◌, ◌∙◌, ◌⊎◌, ℕ, ℤ, ◌+◌, ◌-◌, ◌≤◌, ◌++◌, ◌||◌, ◌==◌, max, inl, inr, Bool, true, false, if◌then◌else◌, All, List, [], ◌∷◌, drop, length, Option, Some, None, Result, Ok, Err, refl, sym, ap, subst, arith, rules}
+use Rattle.std.proofs.Common.{◌≡◌, ◌∙◌, ◌⊎◌, ℕ, ℤ, ◌+◌, ◌-◌, ◌≤◌, ◌++◌, ◌||◌, ◌==◌, max, inl, inr, Bool, true, false, if◌then◌else◌, All, List, [], ◌∷◌, drop, length, Option, Some, None, Result, Ok, Err, refl, sym, ap, subst, arith}
 use Rattle.std.proofs.lemmas.Bool.{cases_lt}
 use Rattle.std.proofs.lemmas.List.{length-take}
 use Rattle.std.proofs.lemmas.List.Elements.{All-cons, All-contains_itself, All-nil}

@@ -19,7 +19,7 @@ use Rattle.slate_script.specs.declared.commands.Action.TheVariants as actions
 use Rattle.slate_script.specs.declared.commands.Command.{Command}
 use Rattle.slate_script.specs.declared.replies.Reply.{Reply}
 use Rattle.slate_script.specs.declared.replies.Reply.TheVariants as replies
-use Rattle.slate_live.specs.Calls.{ArePolls, Begins, Flush, Close, Kind, OfObject, Steps, Target, Whole, kind_of, target_of}
+use Rattle.slate_live.specs.Calls.{ArePolls, Begins, Kind, OfObject, Steps, Target, Whole, kind_of, target_of}
 use Rattle.slate_live.specs.Commands.{Does, DoesBy}
 use Rattle.slate_live.specs.Next.{NextBy}
 use Rattle.slate_live.specs.Represents.{AreInSegments, Links, Represents}

@@ -9,10 +9,8 @@ use Rattle.slate_types.specs.declared.batches.Batch.{Batch}
 use Rattle.slate_types.specs.declared.store_errors.StoreFault.TheVariants.{Unavailable}
 use Rattle.slate_store.specs.Calls.{HasRisen, KeepsFaults}
 use Rattle.slate_types.specs.Line.{batches_above}
-use Rattle.slate_store.specs.Content.{content}
 use Rattle.slate_store.specs.Objects.{Objects, latest_manifest}
 use Rattle.slate_store.specs.declared.objects.VersionedManifest.{VersionedManifest}
-use Rattle.slate_store.specs.declared.reader_modes.DbReaderMode.TheVariants as modes
 use Rattle.slate_errors.specs.declared.errors.SlateError.{SlateError}
 use Rattle.slate_errors.specs.declared.errors.SlateError.TheVariants as errors
 use Rattle.slate_model.specs.Begun.{Begun, Breaks, Ends, Fails, Puts, kept_batches, reached_number, view_of}
@@ -42,8 +40,7 @@ use Rattle.slate_follow.specs.Stepping.{ArrivalLacks, Meets, StepFails, StepLack
 use Rattle.slate_script.specs.declared.commands.Action.TheVariants as actions
 use Rattle.slate_script.specs.declared.commands.Command.{Command}
 use Rattle.slate_script.specs.declared.replies.Reply.{Reply}
-use Rattle.slate_script.specs.declared.replies.Reply.TheVariants as replies
-use Rattle.slate_live.specs.Calls.{Steps as StepsKind, Whole, kind_of}
+use Rattle.slate_live.specs.Calls.{Steps as StepsKind, kind_of}
 use Rattle.slate_live.specs.Confirmed.{Sees}
 use Rattle.slate_live.specs.Next.{NextBy, StepLeaves, shown, stored_in}
 use Rattle.slate_live.specs.Replies.{polled_reply, refusal, reply_to}

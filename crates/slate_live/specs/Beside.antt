@@ -1,5 +1,5 @@
 -- Readers and begun polls beside a world stand from call to call.
-use Rattle.std.specs.Prelude.{◌≡◌, ℕ, ℤ, List, Option, Some, None, is_some, Result, Ok, Err, true, false}
+use Rattle.std.specs.Prelude.{◌≡◌, ℕ, ℤ, List, Option, Some, None, is_some, Result, Ok, Err, false}
 use Rattle.slate_types.specs.declared.batches.Batch.{Batch}
 use Rattle.slate_store.specs.Objects.{Objects}
 use Rattle.slate_errors.specs.declared.errors.SlateError.{SlateError}

@@ -1,5 +1,5 @@
 -- A reader that a program holds beside a world, or that is an object of it, and a poll of it by single calls of the store.
-use Rattle.std.specs.Prelude.{◌≡◌, ℕ, ◌+◌, ◌≤◌, List, [], length, Option, Some, is_some, true, false}
+use Rattle.std.specs.Prelude.{◌≡◌, ℕ, ◌≤◌, [], Option, Some, is_some, true, false}
 use Rattle.slate_types.specs.Line.{AreNumberedFrom, Line, end}
 use Rattle.slate_store.specs.declared.objects.VersionedManifest.{VersionedManifest}
 use Rattle.slate_store.specs.Objects.{Objects}

@@ -1,5 +1,5 @@
 -- The worlds that commands lead to, and what holds of the objects in them.
-use Rattle.std.specs.Prelude.{◌≡◌, ℕ, ◌≤◌, Bool, List, slice_get, true, false, Option, Some, None, is_some}
+use Rattle.std.specs.Prelude.{◌≡◌, ℕ, ◌≤◌, List, slice_get, true, false, Some, None, is_some}
 use Rattle.slate_types.specs.Line.{Line, IsLine, IsPrefix}
 use Rattle.slate_store.specs.declared.objects.VersionedManifest.{VersionedManifest}
 use Rattle.slate_store.specs.Objects.{Objects, latest_manifest}

@@ -1,8 +1,7 @@
-use Rattle.std.proofs.Common.{rules, ◌≡◌, ◌∙◌, ℕ, ℤ, List, Option, Some, refl, sym, subst, ap, w64, to_z, of_z}
+use Rattle.std.proofs.Common.{rules, ◌≡◌, ◌∙◌, ℕ, ℤ, List, Some, refl, sym, subst, ap}
 use Rattle.std.specs.List.{slice_get}
-use Rattle.std.specs.Option.{is_some}
 use Rattle.slate_types.specs.declared.batches.Batch.{Batch}
-use Rattle.slate_model.specs.Follower.{Follower, is_managed}
+use Rattle.slate_model.specs.Follower.{Follower}
 use Rattle.slate_model.specs.Known.{Known, known}
 use Rattle.slate_model.specs.Object.{Follower as AFollower}
 use Rattle.slate_script.specs.declared.commands.Command.{Command}
@@ -12,7 +11,7 @@ use Rattle.slate_live.specs.Calls.{Begins, Kind, Steps, Whole, goes_by_extractor
 use Rattle.slate_live.specs.Settings.{Settings}
 use Rattle.slate_live.specs.Shut.{IsShutAt}
 use Rattle.slate_live.specs.State.{Live}
-use Rattle.slate_live.specs.Stepping.{BeginsPoll, DoesKind, IsDone, StepsPoll}
+use Rattle.slate_live.specs.Stepping.{BeginsPoll, DoesKind, IsDone}
 use Rattle.slate_live.proofs.Begun.{whole-of}
 use Rattle.slate_live.proofs.Linking.{linked}
 use Rattle.slate_live.proofs.states.LiveState.apply.Goals as goal

@@ -1,5 +1,5 @@
 use Rattle.std.proofs.Common.{rules, ◌≡◌, ℕ, ℤ, Bool, Option, refl, subst, ap, w64, to_z, of_z}
-use Rattle.slate_live.specs.Calls.{NewHandle, NewSnapshot, NewFollower, NewCheckpoint, WholeStore, OfWrite, OfObject, drops, goes_by_extractor, target_of}
+use Rattle.slate_live.specs.Calls.{NewHandle, NewFollower, NewCheckpoint, WholeStore, OfObject, drops, goes_by_extractor, target_of}
 use Rattle.slate_model.specs.Known.{known}
 use Rattle.slate_model.specs.Stores.{by_objects}
 use Rattle.slate_store.specs.declared.reader_modes.DbReaderMode.{DbReaderMode}

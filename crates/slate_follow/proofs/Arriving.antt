@@ -13,7 +13,7 @@ use Rattle.slate_replay.specs.Replay.{line_of}
 use Rattle.slate_errors.specs.declared.errors.SlateError.{SlateError}
 use Rattle.slate_errors.specs.declared.errors.SlateError.TheVariants as errors
 use Rattle.slate_store.specs.Objects.{Objects}
-use Rattle.slate_model.specs.Begun.{AsksLast, Begun, Breaks, Ended, Ends, Puts, ReadsAgain, ReadsLatest, ReadsLog, Stage, Turn}
+use Rattle.slate_model.specs.Begun.{AsksLast, Begun, Breaks, Ended, Ends, Puts, ReadsAgain, ReadsLatest, ReadsLog, Stage, Turn, taken}
 use Rattle.slate_segments.specs.Refusals.{IsOfSegment}
 use Rattle.slate_follow.specs.Rebuilding.{poll_error}
 use Rattle.slate_follow.specs.Arriving.{taken_batches}
@@ -121,17 +121,17 @@ pub arrival-failed : (reader : Follower) (begun last : Begun) (answered : Answer
 arrival-failed reader begun last turns.Goes e o o' of ends m = absurd (ends refl)
 arrival-failed reader begun last turns.Ends (errors.EmptySegmentPrefix key) o o' of ends m = inr (last, inl m)
 arrival-failed reader begun last turns.Breaks (errors.EmptySegmentPrefix key) o o' of ends m = inr (last, inr m)
-arrival-failed reader begun last turns.Ends errors.NoMemory o o' of ends m = meets-leaves begun.stage reader begun o o' (Ends last) m
-arrival-failed reader begun last turns.Breaks errors.NoMemory o o' of ends m = meets-leaves begun.stage reader begun o o' (Breaks last) m
+arrival-failed reader begun last turns.Ends errors.NoMemory o o' of ends m = meets-leaves begun.stage reader (taken begun) o o' (Ends last) m
+arrival-failed reader begun last turns.Breaks errors.NoMemory o o' of ends m = meets-leaves begun.stage reader (taken begun) o o' (Breaks last) m
 arrival-failed reader begun last answered e o o' of ends m = absurd of
 
 -- ---- why a step answers InvalidDBState
 -- its call leads to that
-pub call-lacks : (x : Option Extractor) (reader : Follower) (begun : Begun) {t t' : Option Objects} → WhereModelled (λ o o'. FailsFrom begun.stage reader begun o errors.InvalidDBState o') t t' → IfSome t (λ o. StepLacks x reader begun o)
+pub call-lacks : (x : Option Extractor) (reader : Follower) (begun : Begun) {t t' : Option Objects} → WhereModelled (λ o o'. FailsFrom begun.stage reader (taken begun) o errors.InvalidDBState o') t t' → IfSome t (λ o. StepLacks x reader begun o)
 call-lacks x reader begun {t} fails = if_some t (λ o at. let h = fails.some o at in inl (h.0, h.2))
 
 -- or a key of what the poll came to has no segment
-pub arrival-lacks : (x : Option Extractor) (reader : Follower) (begun last : Begun) (answered : Answered) {t t' : Option Objects} → (answered ≡ turns.Goes → ⊥) → WhereModelled (λ o o'. MeetsAt begun.stage reader begun o (came answered last) o') t t' → ArrivalLacks x reader last → IfSome t (λ o. StepLacks x reader begun o)
+pub arrival-lacks : (x : Option Extractor) (reader : Follower) (begun last : Begun) (answered : Answered) {t t' : Option Objects} → (answered ≡ turns.Goes → ⊥) → WhereModelled (λ o o'. MeetsAt begun.stage reader (taken begun) o (came answered last) o') t t' → ArrivalLacks x reader last → IfSome t (λ o. StepLacks x reader begun o)
 arrival-lacks x reader begun last turns.Goes {t} ends meets lacks = absurd (ends refl)
 arrival-lacks x reader begun last turns.Ends {t} ends meets lacks = if_some t (λ o at. let h = meets.some o at in inr (last, (h.0, inl h.2), lacks))
 arrival-lacks x reader begun last turns.Breaks {t} ends meets lacks = if_some t (λ o at. let h = meets.some o at in inr (last, (h.0, inr h.2), lacks))

@@ -16,8 +16,9 @@ use Rattle.slate_model.specs.Begun.{AsksLast, Begun, Ended, Goes, Puts, ReadsAga
 use Rattle.slate_model.specs.Follower.{Follower}
 use Rattle.slate_model.specs.Known.{CountsFaults}
 use Rattle.slate_model.specs.declared.leases.Lease.{Lease}
+use Rattle.slate_model.specs.declared.polls.PollHistory.{PollHistory}
 use Rattle.slate_follow.specs.Keeping.{FindsLatest, PutsManifest}
-use Rattle.slate_follow.specs.Stepping.{CallsNext, FailsFrom, FitsReader, GivesTurn, IsOfCommit, IsOfDecision, IsOfTurn, LeavesPut, MeetsAt, TurnsTo, reads_latest, taken}
+use Rattle.slate_follow.specs.Stepping.{CallsNext, FailsFrom, FitsReader, GivesTurn, IsOfCommit, IsOfDecision, IsOfTurn, LeavesPut, MeetsAt, TurnsTo, reads_latest}
 use Rattle.slate_follow.specs.declared.machines.Turn.{Turn as Answered}
 use Rattle.slate_follow.proofs.Planned.{modelled-kept}
 
@@ -26,9 +27,6 @@ decision-turn mode errors.InvalidDBState of = of
 decision-turn mode (errors.TransactionalObjectTimeout tries) of = of
 decision-turn mode errors.NoMemory of = of
 decision-turn mode e of = absurd of
-
-pub taken-ended : (begun : Begun) → begun.stage ≡ Ended → taken begun ≡ begun
-taken-ended begun ended = ap (λ (stage : Stage). record begun { stage = stage }) (sym ended)
 
 -- a call that leads to this turn fails where its turn does
 failing : (stage : Stage) (reader : Follower) (begun after : Begun) (o o' : Objects) (mode : DbReaderMode) (e : SlateError) (turn : Turn) → IsOfDecision mode e → GivesTurn turn (Err e) after →
@@ -128,17 +126,6 @@ put-failed reader begun after next given replaces e w kind ended = record {
     at o o' errors.NoMemory p = inl p
     at o o' e p = absurd p
 
--- a poll fits its reader in every stage
-pub staged-fits : (reader : Follower) (begun : Begun) (stage : Stage) → FitsReader reader begun → FitsReader reader (record begun { stage = stage })
-staged-fits reader begun stage fits = record { leased = fits.leased; after = fits.after; low = fits.low; high = fits.high }
-
--- a call is that of a poll, whatever stage it says it is in then
-module _ (reader : Follower) (begun : Begun) (result : Result Answered SlateError) (after : Begun) (s s' : Option Objects) where
-  pub restaged-last : CallsNext AsksLast reader (record begun { stage = Ended }) result after s s' → CallsNext AsksLast reader begun result after s s'
-  restaged-last c = record { meets = c.meets; failed = c.failed; fits = c.fits; kind = c.kind; staged = c.staged }
-
-  pub restaged-log : (last : ℕ) → CallsNext (ReadsLog last) reader (record begun { stage = Ended }) result after s s' → CallsNext (ReadsLog last) reader begun result after s s'
-  restaged-log last c = record { meets = c.meets; failed = c.failed; fits = c.fits; kind = c.kind; staged = c.staged }
-
-  pub restaged-again : CallsNext ReadsAgain reader (record begun { stage = Ended }) result after s s' → CallsNext ReadsAgain reader begun result after s s'
-  restaged-again c = record { meets = c.meets; failed = c.failed; fits = c.fits; kind = c.kind; staged = c.staged }
+-- a poll fits its reader while its call is made
+pub counted-fits : (reader : Follower) (begun : Begun) (history : PollHistory) → FitsReader reader begun → FitsReader reader (record begun { stage = Ended; history = history })
+counted-fits reader begun history fits = record { leased = fits.leased; after = fits.after; low = fits.low; high = fits.high }

@@ -82,7 +82,7 @@ module _ (o : Objects) (view : VersionedManifest) (sound : IsSound o) (is : late
       subst (AreNumberedFrom n) (sym (above-drop floor n k bs its.numbered at) ∙ later-logged)
       (subst (λ x. AreNumberedFrom x (drop k bs)) at (numbered-drop floor k bs its.numbered (omega (arith, all))))
 
-  later-whole : AreWhole from last n (n + length later) o
+  pub later-whole : AreWhole from last n (n + length later) o
   later-whole =
       let its = logs-by o view sound is in
       record {

@@ -21,10 +21,11 @@ use Rattle.slate_store.specs.declared.objects.Checkpoint.{Checkpoint}
 use Rattle.slate_store.specs.declared.refusals.StoreRefusal.TheVariants as refusals
 use Rattle.slate_store.specs.Checkpoints.{puts_next, refreshed, to_end, with_checkpoints}
 use Rattle.slate_store.specs.Checkpoints.{Plan, found, lease_end, new_checkpoint, to_refresh, to_write, without_replaced}
-use Rattle.slate_model.specs.Begun.{AsksLast, Begun, Breaks, Ended, Ends, Fails, Goes, Puts, ReadsAgain, ReadsLatest, ReadsLog, Stage, Turn, asked_last, asked_lease, base_of, begun_at, committed, decided, emptied, kept_lease, kept_batches, leads_on, overtaken_by, put_by, reached_number, read_again, replayed, replaying, view_of}
+use Rattle.slate_model.specs.Begun.{AsksLast, Begun, Breaks, Ended, Ends, Fails, Goes, Puts, ReadsAgain, ReadsLatest, ReadsLog, Stage, Turn, asked_last, asked_lease, base_of, begun_at, committed, decided, emptied, kept_batches, kept_lease, leads_on, noted, overtaken_by, put_by, reached_number, read_again, replayed, replaying, taken, view_of, with_log, with_step}
 use Rattle.slate_model.specs.Follower.{Follower, is_managed, number}
 use Rattle.slate_model.specs.Lease.{differs, is_due, lease_of, leased}
 use Rattle.slate_model.specs.declared.leases.Lease.{Lease}
+use Rattle.slate_model.specs.declared.polls.PollHistory.{PollHistory}
 use Rattle.slate_store.proofs.Entries.{apart}
 use Rattle.slate_store.proofs.Latest.{its-objects}
 use Rattle.slate_store.specs.Objects.{Objects, PutManifest, changed, entry_at, last_log, latest_manifest, log_at}
@@ -32,7 +33,7 @@ use Rattle.slate_replay.specs.Replay.{LogBelongsTo, line_of}
 use Rattle.slate_replay.specs.declared.replays.Replayed.{Replayed}
 use Rattle.slate_replay.specs.declared.replays.Replayed.TheVariants.{Whole, Truncated}
 use Rattle.slate_replay.specs.Replay.{ReplaysNext}
-use Rattle.slate_follow.specs.Stepping.{Meets, MeetsAt, Steps, failed_by, log_turn, taken}
+use Rattle.slate_follow.specs.Stepping.{Meets, MeetsAt, Steps, failed_by, log_turn}
 use Rattle.slate_model.specs.Managed.{poll_result}
 use Rattle.std.specs.Result.{IfErr}
 use Rattle.slate_types.specs.Modelled.{WhereModelled}
@@ -395,7 +396,7 @@ pub stored-rises : (from end : ℕ) (log : Option (List Batch)) → IsSomeAnd lo
 stored-rises from end (Some bs) gap = no-gap-rises from end bs gap
 stored-rises from end None gap = absurd gap
 
-same-tables : (view latest : VersionedManifest) → differs view latest ≡ false → view.manifest.last_l0_seq ≡ latest.manifest.last_l0_seq
+pub same-tables : (view latest : VersionedManifest) → differs view latest ≡ false → view.manifest.last_l0_seq ≡ latest.manifest.last_l0_seq
 same-tables view latest same = eqb-true view.manifest.last_l0_seq latest.manifest.last_l0_seq (middle _ _ _ same)
   where
     middle : (a b c : Bool) → not (a && b && c) ≡ false → b ≡ true
@@ -422,19 +423,19 @@ module _ (o : Objects) (sound : IsSound o) (reader : Follower) (begun : Begun) (
   overtaken-of : AreOf (fresh-of (overtaken_by reader (taken begun))) (content o)
   overtaken-of = by (begun.overtaken == 7)
     where
-      by : (b : Bool) → AreOf (fresh-of (if b then Fails (errors.TransactionalObjectTimeout 8) else Goes (begun_at begun.moment (begun.overtaken + 1) reader))) (content o)
+      by : (b : Bool) → AreOf (fresh-of (if b then Fails (errors.TransactionalObjectTimeout 8) else Goes (begun_at begun.moment (begun.overtaken + 1) (with_step begun.history) reader))) (content o)
       by true = none-of (content o)
       by false = none-of (content o)
 
   asked-of : (last : ℕ) → AreOf (fresh-of (Goes (asked_last last (taken begun)))) (content o)
   asked-of last = by (nat_lt begun.mark last)
     where
-      by : (b : Bool) → AreOf (fresh-of (Goes (if b then record begun { stage = ReadsLog last } else record begun { stage = ReadsAgain }))) (content o)
+      by : (b : Bool) → AreOf (fresh-of (Goes (if b then record (taken begun) { stage = ReadsLog last; history = with_log last (with_step begun.history) } else record (taken begun) { stage = ReadsAgain }))) (content o)
       by true = f.fresh
       by false = f.fresh
 
-  turn-of : (stage : Stage) (turn : Turn) (o' : Objects) → begun.stage ≡ stage → MeetsAt stage reader begun o turn o' → AreOf (fresh-of turn) (content o)
-  turn-of ReadsLatest turn o' at m = subst (λ (t : Turn). AreOf (fresh-of t) (content o)) (sym m.2) (decided-of (content o) reader m.0 begun.lease (taken begun) f.fresh)
+  turn-of : (stage : Stage) (turn : Turn) (o' : Objects) → begun.stage ≡ stage → MeetsAt stage reader (taken begun) o turn o' → AreOf (fresh-of turn) (content o)
+  turn-of ReadsLatest turn o' at m = subst (λ (t : Turn). AreOf (fresh-of t) (content o)) (sym m.2) (decided-of (content o) reader m.0 begun.lease (noted m.0 (taken begun)) f.fresh)
   turn-of (Puts next given replaces) turn o' at (inl m) = subst (λ (t : Turn). AreOf (fresh-of t) (content o)) (sym m.1) (committed-of (content o) reader next given replaces (taken begun) f.fresh)
   turn-of (Puts next given replaces) turn o' at (inr m) = subst (λ (t : Turn). AreOf (fresh-of t) (content o)) (sym m.1) overtaken-of
   turn-of AsksLast turn o' at m = subst (λ (t : Turn). AreOf (fresh-of t) (content o)) (sym m.0) (asked-of (last_log begun.mark o))
@@ -463,21 +464,21 @@ module _ (o : Objects) (sound : IsSound o) (reader : Follower) (begun : Begun) (
   keeps-own : (after : Begun) (o' : Objects) → AreOf after.fresh (content o) → (content o).floor ≤ after.floor → StandsAt after.stage after (content o) o' → FollowsLine o' (content o) reader after
   keeps-own after o' are low next = record { own = f.own; begins = f.begins; fresh = are; low = low; next = next }
 
-  decided-goes : (latest : VersionedManifest) (after : Begun) → latest_manifest o ≡ Some latest → begun.view ≡ None → (held : Option Lease) → decided reader latest held (taken begun) ≡ Goes after → FollowsLine o (content o) reader after
+  decided-goes : (latest : VersionedManifest) (after : Begun) → latest_manifest o ≡ Some latest → begun.view ≡ None → (held : Option Lease) → decided reader latest held (noted latest (taken begun)) ≡ Goes after → FollowsLine o (content o) reader after
   decided-goes latest after is unviewed None turn =
-      replaying-follows o (content o) reader latest (record (taken begun) { view = Some latest; latest = Some latest }) after f.own f.begins (logs-of o latest sound is) f.fresh f.low refl refl turn
+      replaying-follows o (content o) reader latest (record (noted latest (taken begun)) { view = Some latest; latest = Some latest }) after f.own f.begins (logs-of o latest sound is) f.fresh f.low refl refl turn
   decided-goes latest after is unviewed (Some l) turn = by (differs reader.view latest) refl turn
     where
       by : (b : Bool) → differs reader.view latest ≡ b →
-          (if b then put_by (leased l.lifetime (to_write (Some l.id) (Some l.lifetime) begun.moment latest)) true (record (taken begun) { latest = Some latest })
-          else replaying reader latest (record (taken begun) { latest = Some latest })) ≡ Goes after → FollowsLine o (content o) reader after
+          (if b then put_by (leased l.lifetime (to_write (Some l.id) (Some l.lifetime) begun.moment latest)) true (record (noted latest (taken begun)) { latest = Some latest })
+          else replaying reader latest (record (noted latest (taken begun)) { latest = Some latest })) ≡ Goes after → FollowsLine o (content o) reader after
       by true other turn =
-          puts-follow o (content o) reader latest after (record (taken begun) { latest = Some latest }) f.own f.begins (logs-of o latest sound is) f.fresh f.low
+          puts-follow o (content o) reader latest after (record (noted latest (taken begun)) { latest = Some latest }) f.own f.begins (logs-of o latest sound is) f.fresh f.low
           (puts-next l.lifetime (without_replaced (Some l.id) latest.manifest.checkpoints ++ new_checkpoint latest (Some l.lifetime) begun.moment ∷ []) (new_checkpoint latest (Some l.lifetime) begun.moment) latest true
-          (record (taken begun) { latest = Some latest }) after turn)
+          (record (noted latest (taken begun)) { latest = Some latest }) after turn)
       by false same turn =
           let viewed : (view_of reader begun).manifest.last_l0_seq ≡ latest.manifest.last_l0_seq = ap (λ v. (unwrap_or v reader.view).manifest.last_l0_seq) unviewed ∙ same-tables reader.view latest same in
-          replaying-follows o (content o) reader latest (record (taken begun) { latest = Some latest }) after f.own f.begins (logs-of o latest sound is) f.fresh f.low refl viewed turn
+          replaying-follows o (content o) reader latest (record (noted latest (taken begun)) { latest = Some latest }) after f.own f.begins (logs-of o latest sound is) f.fresh f.low refl viewed turn
 
   committed-goes' : (next : VersionedManifest) (given : Lease) (after : Begun) (o' : Objects) → LogsAreOf next (content o) o' → (replaces : Bool) → committed reader next given replaces (taken begun) ≡ Goes after → FollowsLine o' (content o) reader after
   committed-goes' next given after o' logs true turn =
@@ -487,36 +488,36 @@ module _ (o : Objects) (sound : IsSound o) (reader : Follower) (begun : Begun) (
   overtaken-goes : (after : Begun) → overtaken_by reader (taken begun) ≡ Goes after → FollowsLine o (content o) reader after
   overtaken-goes after turn = by (begun.overtaken == 7) turn
     where
-      by : (b : Bool) → (if b then Fails (errors.TransactionalObjectTimeout 8) else Goes (begun_at begun.moment (begun.overtaken + 1) reader)) ≡ Goes after → FollowsLine o (content o) reader after
+      by : (b : Bool) → (if b then Fails (errors.TransactionalObjectTimeout 8) else Goes (begun_at begun.moment (begun.overtaken + 1) (with_step begun.history) reader)) ≡ Goes after → FollowsLine o (content o) reader after
       by true turn = absurd (cc)
       by false turn =
-          let same : begun_at begun.moment (begun.overtaken + 1) reader ≡ after = cc in
-          subst (λ (b : Begun). FollowsLine o (content o) reader b) same (keeps-own (begun_at begun.moment (begun.overtaken + 1) reader) o (none-of (content o)) f.begins refl)
+          let same : begun_at begun.moment (begun.overtaken + 1) (with_step begun.history) reader ≡ after = cc in
+          subst (λ (b : Begun). FollowsLine o (content o) reader b) same (keeps-own (begun_at begun.moment (begun.overtaken + 1) (with_step begun.history) reader) o (none-of (content o)) f.begins refl)
 
   asked-goes : (last : ℕ) (after : Begun) → IsReplaying begun (content o) o → Goes (asked_last last (taken begun)) ≡ Goes after → FollowsLine o (content o) reader after
   asked-goes last after replaying turn = by (nat_lt begun.mark last) turn
     where
-      by : (b : Bool) → Goes (if b then record begun { stage = ReadsLog last } else record begun { stage = ReadsAgain }) ≡ Goes after → FollowsLine o (content o) reader after
+      by : (b : Bool) → Goes (if b then record (taken begun) { stage = ReadsLog last; history = with_log last (with_step begun.history) } else record (taken begun) { stage = ReadsAgain }) ≡ Goes after → FollowsLine o (content o) reader after
       by true turn =
-          let same : record begun { stage = ReadsLog last } ≡ after = cc in
+          let same : record (taken begun) { stage = ReadsLog last; history = with_log last (with_step begun.history) } ≡ after = cc in
           subst (λ (b : Begun). FollowsLine o (content o) reader b) same
-          (keeps-own (record begun { stage = ReadsLog last }) o f.fresh f.low (λ v is. let r = replaying v is in record { above = r.above; reached = r.reached; are = r.are }))
+          (keeps-own (record (taken begun) { stage = ReadsLog last; history = with_log last (with_step begun.history) }) o f.fresh f.low (λ v is. let r = replaying v is in record { above = r.above; reached = r.reached; are = r.are }))
       by false turn =
-          let same : record begun { stage = ReadsAgain } ≡ after = cc in
-          subst (λ (b : Begun). FollowsLine o (content o) reader b) same (keeps-own (record begun { stage = ReadsAgain }) o f.fresh f.low tt)
+          let same : record (taken begun) { stage = ReadsAgain } ≡ after = cc in
+          subst (λ (b : Begun). FollowsLine o (content o) reader b) same (keeps-own (record (taken begun) { stage = ReadsAgain }) o f.fresh f.low tt)
 
   log-goes : (latest : VersionedManifest) (last : ℕ) (fresh : List Batch) (found : Replayed) (after : Begun) → begun.latest ≡ Some latest → Replaying latest begun (content o) o →
       ReplaysNext (begun.mark + 1) begun.floor begun.fresh fresh o (Ok found) → log_turn found latest last fresh (taken begun) ≡ Goes after → FollowsLine o (content o) reader after
   log-goes latest last fresh (Truncated id) after held r n turn = absurd (cc)
   log-goes latest last fresh Whole after held r n turn = by (begun.mark + 1 == last) turn (log-read latest fresh Whole r n)
     where
-      by : (b : Bool) → (if b then replayed latest (record (taken begun) { fresh = fresh; mark = begun.mark + 1 }) else Goes (record begun { fresh = fresh; mark = begun.mark + 1; stage = ReadsLog last })) ≡ Goes after →
+      by : (b : Bool) → (if b then replayed latest (record (taken begun) { fresh = fresh; mark = begun.mark + 1 }) else Goes (record (taken begun) { fresh = fresh; mark = begun.mark + 1; stage = ReadsLog last })) ≡ Goes after →
           AreOf fresh (content o) → FollowsLine o (content o) reader after
       by true turn are =
           puts-follow o (content o) reader latest after (record (taken begun) { fresh = fresh; mark = begun.mark + 1; asked = true }) f.own f.begins r.are are f.low
           (replayed-puts latest (record (taken begun) { fresh = fresh; mark = begun.mark + 1 }) after turn)
       by false turn are =
-          let next = record begun { fresh = fresh; mark = begun.mark + 1; stage = ReadsLog last } in
+          let next = record (taken begun) { fresh = fresh; mark = begun.mark + 1; stage = ReadsLog last } in
           let same : next ≡ after = cc in
           let above = r.above in
           let reached = r.reached in
@@ -527,13 +528,13 @@ module _ (o : Objects) (sound : IsSound o) (reader : Follower) (begun : Begun) (
   again-goes : (latest : VersionedManifest) (after : Begun) → latest_manifest o ≡ Some latest → read_again latest (taken begun) ≡ Goes after → FollowsLine o (content o) reader after
   again-goes latest after is turn = by (nat_lt begun.mark latest.manifest.replay_after_wal_id) turn
     where
-      by : (b : Bool) → (if b then Breaks (record begun { stage = Ended }) else replayed latest (record (taken begun) { latest = Some latest })) ≡ Goes after → FollowsLine o (content o) reader after
+      by : (b : Bool) → (if b then Breaks (record (taken begun) { stage = Ended }) else replayed latest (record (taken begun) { latest = Some latest })) ≡ Goes after → FollowsLine o (content o) reader after
       by true turn = absurd (cc)
       by false turn =
           puts-follow o (content o) reader latest after (record (taken begun) { latest = Some latest; asked = true }) f.own f.begins (logs-of o latest sound is) f.fresh f.low
           (replayed-puts latest (record (taken begun) { latest = Some latest }) after turn)
 
-  stage-goes : (stage : Stage) (after : Begun) (o' : Objects) → begun.stage ≡ stage → MeetsAt stage reader begun o (Goes after) o' → FollowsLine o' (content o) reader after
+  stage-goes : (stage : Stage) (after : Begun) (o' : Objects) → begun.stage ≡ stage → MeetsAt stage reader (taken begun) o (Goes after) o' → FollowsLine o' (content o) reader after
   stage-goes ReadsLatest after o' at m =
       let unviewed = subst (λ (x : Stage). StandsAt x begun (content o) o) at f.next in
       subst (λ x. FollowsLine x (content o) reader after) (sym m.3) (decided-goes m.0 after m.1 unviewed begun.lease (sym m.2))
@@ -632,5 +633,5 @@ failed-line error reader = by (is_managed reader.mode)
     by false = refl
 
 -- a poll that begins
-pub begins-on : (o : Objects) (line : Line) (reader : Follower) (moment : ℤ) (overtaken : ℕ) → AreOf reader.line.batches line → line.floor ≤ number reader → FollowsLine o line reader (begun_at moment overtaken reader)
-begins-on o line reader moment overtaken own begins = record { own = own; begins = begins; fresh = none-of line; low = begins; next = refl }
+pub begins-on : (o : Objects) (line : Line) (reader : Follower) (moment : ℤ) (overtaken : ℕ) (history : PollHistory) → AreOf reader.line.batches line → line.floor ≤ number reader → FollowsLine o line reader (begun_at moment overtaken history reader)
+begins-on o line reader moment overtaken history own begins = record { own = own; begins = begins; fresh = none-of line; low = begins; next = refl }

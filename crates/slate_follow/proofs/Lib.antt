@@ -22,3 +22,4 @@ pub mod Stepped
 pub mod Called
 pub mod Arriving
 pub mod Following
+pub mod Lasting

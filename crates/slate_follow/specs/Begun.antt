@@ -28,6 +28,7 @@ begun_of a =
     record {
       moment = a.moment;
       overtaken = a.overtaken;
+      history = a.history;
       stage = stage_of a.stage a.commit;
       view = a.view;
       latest = read_last a.read a.view;

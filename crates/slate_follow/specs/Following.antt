@@ -4,7 +4,7 @@ use Rattle.slate_types.specs.declared.batches.Batch.{Batch}
 use Rattle.slate_types.specs.Line.{IsPrefix, Line, batches_above}
 use Rattle.slate_store.specs.declared.objects.VersionedManifest.{VersionedManifest}
 use Rattle.slate_store.specs.Objects.{Objects, log_at}
-use Rattle.slate_model.specs.Begun.{AsksLast, Begun, Puts, ReadsLatest, ReadsLog, Stage, begun_at, reached_number}
+use Rattle.slate_model.specs.Begun.{AsksLast, Begun, Puts, ReadsLatest, ReadsLog, Stage, begun_at, no_step, reached_number}
 use Rattle.slate_errors.specs.declared.errors.SlateError.{SlateError}
 use Rattle.slate_model.specs.Follower.{Follower, number}
 use Rattle.slate_model.specs.declared.answers.PollAnswer.{PollAnswer}
@@ -53,7 +53,7 @@ FollowsOn line objects result reader begun = AreOf reader.line.batches line
 abbrev pub BegunOnesFollow : Type 0
 BegunOnesFollow =
     (objects : Objects) (line : Line) (reader : Follower) (moment : ℤ) → AreOf reader.line.batches line → line.floor ≤ number reader →
-    FollowsLine objects line reader (begun_at moment 0 reader)
+    FollowsLine objects line reader (begun_at moment 0 no_step reader)
 
 -- It still does after what others did between two calls, where the line has only grown, and each log file that is there was there
 -- before or has batches of the line alone.

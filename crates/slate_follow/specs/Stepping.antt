@@ -11,7 +11,7 @@ use Rattle.slate_replay.specs.declared.replays.Replayed.{Replayed}
 use Rattle.slate_replay.specs.declared.replays.Replayed.TheVariants as replays
 use Rattle.slate_errors.specs.declared.errors.SlateError.{SlateError}
 use Rattle.slate_errors.specs.declared.errors.SlateError.TheVariants as errors
-use Rattle.slate_model.specs.Begun.{Begun, Stage, ReadsLatest, Puts, AsksLast, ReadsLog, ReadsAgain, Ended, Turn, Goes, Ends, Breaks, Fails, arrived, asked_last, base_of, committed, cut_short, decided, kept_batches, overtaken_by, reached_number, read_again, read_log, view_of}
+use Rattle.slate_model.specs.Begun.{Begun, Stage, ReadsLatest, Puts, AsksLast, ReadsLog, ReadsAgain, Ended, Turn, Goes, Ends, Breaks, Fails, arrived, asked_last, base_of, committed, cut_short, decided, kept_batches, noted, overtaken_by, reached_number, read_again, read_log, taken, view_of}
 use Rattle.slate_model.specs.Follower.{Follower, is_managed, number, unsegmented}
 use Rattle.slate_model.specs.Managed.{poll_result}
 use Rattle.slate_model.specs.Segments.{Extractor}
@@ -64,28 +64,25 @@ abbrev pub log_turn : Replayed → (latest : VersionedManifest) → (last : ℕ)
 log_turn replays.Whole latest last fresh begun = read_log latest last fresh begun
 log_turn (replays.Truncated id) latest last fresh begun = cut_short fresh begun
 
--- a begun poll whose next call is being made
-abbrev pub taken : Begun → Begun
-taken begun = record begun { stage = Ended }
-
--- What a call of a begun poll finds in the objects, the turn that it leads to, and what it leaves of them.
+-- What a call of a begun poll finds in the objects, the turn that it leads to, and what it leaves of them. The poll is the one whose
+-- call is being made.
 abbrev pub MeetsAt : Stage → Follower → Begun → Objects → Turn → Objects → Type 0
 MeetsAt ReadsLatest reader begun objects turn objects' =
-    (latest : VersionedManifest) × (latest_manifest objects ≡ Some latest) × (turn ≡ decided reader latest begun.lease (taken begun)) × (objects' ≡ objects)
+    (latest : VersionedManifest) × (latest_manifest objects ≡ Some latest) × (turn ≡ decided reader latest begun.lease (noted latest begun)) × (objects' ≡ objects)
 MeetsAt (Puts next given replaces) reader begun objects turn objects' =
-    ((is_present (PutManifest next.id next.manifest) objects ≡ false) × (turn ≡ committed reader next given replaces (taken begun))
+    ((is_present (PutManifest next.id next.manifest) objects ≡ false) × (turn ≡ committed reader next given replaces begun)
     × (objects' ≡ changed (PutManifest next.id next.manifest) objects))
-    ⊎ ((is_present (PutManifest next.id next.manifest) objects ≡ true) × (turn ≡ overtaken_by reader (taken begun)) × (objects' ≡ objects))
-MeetsAt AsksLast reader begun objects turn objects' = (turn ≡ Goes (asked_last (last_log begun.mark objects) (taken begun))) × (objects' ≡ objects)
+    ⊎ ((is_present (PutManifest next.id next.manifest) objects ≡ true) × (turn ≡ overtaken_by reader begun) × (objects' ≡ objects))
+MeetsAt AsksLast reader begun objects turn objects' = (turn ≡ Goes (asked_last (last_log begun.mark objects) begun)) × (objects' ≡ objects)
 MeetsAt (ReadsLog last) reader begun objects turn objects' =
     (latest : VersionedManifest) × (fresh : List Batch) × (found : Replayed) × (begun.latest ≡ Some latest)
-    × ReplaysNext (begun.mark + 1) begun.floor begun.fresh fresh objects (Ok found) × (turn ≡ log_turn found latest last fresh (taken begun)) × (objects' ≡ objects)
+    × ReplaysNext (begun.mark + 1) begun.floor begun.fresh fresh objects (Ok found) × (turn ≡ log_turn found latest last fresh begun) × (objects' ≡ objects)
 MeetsAt ReadsAgain reader begun objects turn objects' =
-    (latest : VersionedManifest) × (latest_manifest objects ≡ Some latest) × (turn ≡ read_again latest (taken begun)) × (objects' ≡ objects)
+    (latest : VersionedManifest) × (latest_manifest objects ≡ Some latest) × (turn ≡ read_again latest begun) × (objects' ≡ objects)
 MeetsAt Ended reader begun objects turn objects' = ⊥
 
 abbrev pub Meets : Follower → Begun → Objects → Turn → Objects → Type 0
-Meets reader begun objects turn objects' = MeetsAt begun.stage reader begun objects turn objects'
+Meets reader begun objects turn objects' = MeetsAt begun.stage reader (taken begun) objects turn objects'
 
 -- whether the next call reads the latest manifest
 abbrev pub reads_latest : Stage → Bool
@@ -108,7 +105,7 @@ FailsFrom stage reader begun objects errors.NoMemory objects' = LeavesPut stage 
 FailsFrom stage reader begun objects error objects' = MeetsAt stage reader begun objects (Fails error) objects'
 
 abbrev pub FailsAt : Follower → Begun → Objects → SlateError → Objects → Type 0
-FailsAt reader begun objects error objects' = FailsFrom begun.stage reader begun objects error objects'
+FailsAt reader begun objects error objects' = FailsFrom begun.stage reader (taken begun) objects error objects'
 
 -- the errors of a call of a begun poll: those of a plan come to a reader that keeps a checkpoint alone
 abbrev pub IsOfTurn : DbReaderMode → SlateError → Type 0

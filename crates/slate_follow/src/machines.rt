@@ -6,18 +6,19 @@ ghost use Rattle.slate_types.specs.Counts.{one_more};
 ghost use Rattle.slate_types.specs.Line.{AreNumberedFrom, Line};
 ghost use Rattle.slate_store.specs.Calls.{WhereModelled};
 ghost use Rattle.slate_store.specs.Objects.{Objects};
-ghost use Rattle.slate_model.specs.Begun.{Begun, Ended, Goes, begun_at};
+ghost use Rattle.slate_model.specs.Begun.{Begun, Ended, Goes, begun_at, no_step};
 ghost use Rattle.slate_model.specs.Follower.{HasSegments, is_managed, is_pinned, number};
 ghost use Rattle.slate_model.specs.Known.{CountsFaults, IsContent};
 ghost use Rattle.slate_model.specs.Segments.{Extractor, IsExtractor};
 ghost use Rattle.slate_follow.specs.Answering.{IsOfPoll};
 ghost use Rattle.slate_follow.specs.Following.{FollowsLine, FollowsOn};
+ghost use Rattle.slate_follow.specs.Lasting.{IsFew, Lasts, LastsOn, TriesEight};
 ghost use Rattle.slate_follow.specs.Stepping.{FitsReader, IsGoing, StepLacks, Steps, failed_by};
 
 use crate::polls::poll_error;
 use crate::{FollowerState, PollAnswer};
 use slate_errors::SlateError;
-use slate_model::Lease;
+use slate_model::{Lease, PollHistory};
 use slate_reads::IndexedTable;
 use slate_store::{Store, VersionedManifest};
 use slate_types::PrefixExtractor;
@@ -84,6 +85,8 @@ pub struct PollMachine {
     pub(crate) moment: i64,
     /// How many of its puts found another manifest under their id.
     pub(crate) overtaken: u32,
+    /// What it keeps of all its steps.
+    pub(crate) history: PollHistory,
     pub(crate) stage: Stage,
     /// What it puts next, where it does.
     pub(crate) commit: Option<Commit>,
@@ -109,6 +112,7 @@ impl Drop for PollMachine {
         let PollMachine {
             moment: _,
             overtaken: _,
+            history: _,
             stage: _,
             commit: _,
             view: _,
@@ -146,7 +150,7 @@ impl PollMachine {
         moment: i64,
     ) -> Result<PollMachine, SlateError>
         ensures closed { IfSome state.now.result (λ r. result ≡ Err (closed_error r)) }
-        ensures begun { state.now.result ≡ None → result ≡ Ok (begun_at moment 0 state.now) }
+        ensures begun { state.now.result ≡ None → result ≡ Ok (begun_at moment 0 no_step state.now) }
         ensures fits { IfOk result (λ machine. FitsReader state.now machine) }
         // What the reader keeps are its batches from the last number in the tables of its view on.
         ensures keeps { IfOk result (λ _. state.now.line.floor ≡ state.now.view.manifest.last_l0_seq) }
@@ -154,24 +158,31 @@ impl PollMachine {
         if let Some(result) = state.closed() {
             return Err(SlateError::of_closed(result));
         }
-        Ok(PollMachine::new(alloc, state, moment, 0))
+        let history = PollHistory {
+            steps: 0,
+            first: None,
+            last_log: 0,
+        };
+        Ok(PollMachine::new(alloc, state, moment, 0, history))
     }
 
-    /// A poll that has come nowhere yet.
+    /// A poll that has come nowhere yet, or begins anew after these steps.
     pub(crate) fn new(
         alloc: Global,
         state: &FollowerState,
         moment: i64,
         overtaken: u32,
+        history: PollHistory,
     ) -> PollMachine
         requires few { overtaken < 8 }
-        ensures begun { result ≡ begun_at moment overtaken state.now }
+        ensures begun { result ≡ begun_at moment overtaken history state.now }
         ensures fits { FitsReader state.now result }
         ensures keeps { state.now.line.floor ≡ state.now.view.manifest.last_l0_seq }
     {
         PollMachine {
             moment,
             overtaken,
+            history,
             stage: Stage::ReadLatest,
             commit: None,
             view: None,
@@ -199,13 +210,15 @@ impl PollMachine {
     ///
     /// answer | when
     /// ---|---
-    /// `Truncated` | a log file isn't there any more or a batch is missing: others put a table and swept between two steps
+    /// `Truncated` | a log file isn't there any more or a batch is missing: others put a table since the first step
     /// `TransactionalObjectTimeout` | at the eighth put that finds another manifest
     /// others | as of `poll`
     ///
     /// # Cost
     ///
-    /// One call of the store; of a reader at a checkpoint none. A step that reads a log file takes time linear in its
+    /// One call of the store; of a reader at a checkpoint none. Over an honest store fewer than `(k + 1) * (2 * G + 8)` steps
+    /// of a poll answer None, k being its puts that found another manifest, and G the last log file's greatest id less the
+    /// replay mark at the first step. A step that reads a log file takes time linear in its
     /// operations, for each new key a logarithm of the keys; one that reads or puts a manifest, in that; and the one that
     /// answers, in the operations of what is new.
     ///
@@ -237,6 +250,10 @@ impl PollMachine {
         // Over an honest store, whatever others did since the call before.
         ensures follows { (line : Line) → IsContent (S.objects store.old) line → ((o : Objects) → S.objects store.old ≡ Some o → FollowsLine o line state.old self.old) →
             FollowsOn line (S.objects store.new) result state.new self.new }
+        // Few steps came before, and Truncated only where others put a table since the first one.
+        ensures lasts { (line : Line) → IsContent (S.objects store.old) line → ((o : Objects) → S.objects store.old ≡ Some o → FollowsLine o line state.old self.old × Lasts o state.old self.old) →
+            IfSome (S.objects store.old) (λ o. IsFew self.old × LastsOn o (S.objects store.new) self.old result state.new self.new) }
+        ensures tries { is_pinned state.old.mode ≡ false → IfSome (S.objects store.old) (λ o. TriesEight o self.old result) }
     {
         if state.is_pinned() {
             self.stage = Stage::Ended;

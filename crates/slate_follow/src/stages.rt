@@ -4,7 +4,7 @@ ghost use Rattle.slate_types.specs.Counts.{one_more};
 ghost use Rattle.slate_types.specs.Line.{AreNumberedFrom};
 ghost use Rattle.slate_store.specs.declared.objects.VersionedManifest.{VersionedManifest as AnyManifest};
 ghost use Rattle.slate_store.specs.Checkpoints.{found, to_write};
-ghost use Rattle.slate_model.specs.Begun.{AsksLast, Begun, Ended, Puts, ReadsAgain, ReadsLatest, ReadsLog, committed, decided, emptied, kept_lease, leads_on, overtaken_by, put_by, reached_number, replayed, replaying, view_of};
+ghost use Rattle.slate_model.specs.Begun.{AsksLast, Begun, Ended, Puts, ReadsAgain, ReadsLatest, ReadsLog, committed, decided, emptied, kept_lease, leads_on, noted, overtaken_by, put_by, reached_number, replayed, replaying, taken, view_of};
 ghost use Rattle.slate_model.specs.Lease.{leased};
 ghost use Rattle.slate_model.specs.Follower.{Follower};
 ghost use Rattle.slate_model.specs.Known.{CountsFaults};
@@ -15,7 +15,7 @@ use crate::keeps::differs;
 use crate::leases::{latest_of, put_next, with_new_lease, with_renewed_lease};
 use crate::machines::{Commit, PollMachine, Stage, Turn};
 use slate_errors::SlateError;
-use slate_model::Lease;
+use slate_model::{FirstRead, Lease};
 use slate_reads::IndexedTable;
 use slate_replay::{Replayed, replay_next};
 use slate_store::{COMMIT_TRIES, Store, VersionedManifest, find_checkpoint};
@@ -32,13 +32,14 @@ impl PollMachine {
     ) -> Result<Turn, SlateError>
         requires begun { IsGoing self.old.stage }
         requires fits { FitsReader state.now self.old }
-        ensures next { CallsNext self.old.stage state.now self.old result self.new (S.objects store.old) (S.objects store.new) }
+        ensures next { CallsNext self.old.stage state.now (taken self.old) result self.new (S.objects store.old) (S.objects store.new) }
         ensures numbered { AreNumberedFrom self.old.floor self.old.fresh }
         ensures faults { CountsFaults (S.faults store.old) (S.faults store.new) result }
         ensures calls { S.calls store.new ≡ one_more (S.calls store.old) }
     {
         let stage = self.stage;
         self.stage = Stage::Ended;
+        self.history.steps = self.history.steps.saturating_add(1);
         match stage {
             Stage::ReadLatest => self.call_latest(alloc, state, store),
             Stage::Put => match self.commit.take() {
@@ -66,6 +67,7 @@ impl PollMachine {
         ensures calls { S.calls store.new ≡ one_more (S.calls store.old) }
     {
         let latest = latest_of(alloc, store)?;
+        self.note(&latest);
         self.decide(alloc, state, latest)
     }
 
@@ -101,11 +103,12 @@ impl PollMachine {
         ensures calls { S.calls store.new ≡ one_more (S.calls store.old) }
     {
         let last = store.last_log(alloc, self.mark)?;
-        self.stage = if self.mark < last {
-            Stage::ReadLog { last }
+        if self.mark < last {
+            self.stage = Stage::ReadLog { last };
+            self.history.last_log = self.history.last_log.max(last);
         } else {
-            Stage::ReadAgain
-        };
+            self.stage = Stage::ReadAgain;
+        }
         Ok(Turn::Goes)
     }
 
@@ -149,6 +152,17 @@ impl PollMachine {
         }
         self.read = Some(latest);
         self.keep_lease(alloc)
+    }
+
+    /// Keeps what the latest manifest says, where it is the first one that the poll reads.
+    fn note(&mut self, latest: &VersionedManifest)
+        ensures { self.new ≡ noted latest.now self.old }
+    {
+        let first = self.history.first.unwrap_or(FirstRead {
+            replay_after_wal_id: latest.manifest.replay_after_wal_id,
+            last_l0_seq: latest.manifest.last_l0_seq,
+        });
+        self.history.first = Some(first);
     }
 
     /// Decides by the latest manifest what the poll does.
@@ -212,7 +226,7 @@ impl PollMachine {
                 tries: COMMIT_TRIES,
             });
         }
-        *self = PollMachine::new(alloc, state, self.moment, tried);
+        *self = PollMachine::new(alloc, state, self.moment, tried, self.history);
         Ok(Turn::Goes)
     }
 

@@ -15,13 +15,14 @@ use Rattle.slate_store.specs.declared.objects.VersionedManifest.{VersionedManife
 use Rattle.slate_model.proofs.Keeping.{above-twice}
 use Rattle.slate_model.proofs.Fronts.{above-append, fresh-front, front-end, front-split, numbered-take, seen-as, seen-both}
 use Rattle.slate_model.proofs.Maintained.{Recheckpoints, refresh-recheckpoints, write-recheckpoints}
-use Rattle.slate_model.specs.Begun.{AsksLast, Begun, Breaks, Ended, Ends, Fails, Goes, Puts, ReadsAgain, ReadsLatest, ReadsLog, Stage, Turn, arrived, asked_last, asked_lease, base_of, begun_at, committed, decided, emptied, kept_batches, kept_lease, leads_on, overtaken_by, put_by, reached_number, read_again, replayed, replaying, view_of}
+use Rattle.slate_model.specs.Begun.{AsksLast, Begun, Breaks, Ended, Ends, Fails, Goes, Puts, ReadsAgain, ReadsLatest, ReadsLog, Stage, Turn, arrived, asked_last, asked_lease, base_of, begun_at, committed, decided, emptied, kept_batches, kept_lease, leads_on, overtaken_by, put_by, reached_number, read_again, replayed, replaying, view_of, with_log}
 use Rattle.slate_model.specs.Follower.{Follower, is_managed, kept_follower, number}
 use Rattle.slate_model.specs.Handle.{line_above, up_to}
 use Rattle.slate_model.specs.Lease.{differs, is_due, lease_of, leased}
 use Rattle.slate_model.specs.Seen.{HasSeen}
 use Rattle.slate_model.specs.Stood.{IsPlanned}
 use Rattle.slate_model.specs.declared.leases.Lease.{Lease}
+use Rattle.slate_model.specs.declared.polls.PollHistory.{PollHistory}
 
 -- What is put next is planned after the manifest that was read or put last; a reader that reads log files doesn't skip them.
 abbrev pub IsStagedNext : Follower → Begun → Stage → Type 0
@@ -70,13 +71,17 @@ module _ (stored : Line) (numbered : IsLine stored) (o : Objects) (reader : Foll
   module _ (W : VersionedManifest → Type 0) (ways : Ways) where
     -- what a turn leaves
     abbrev pub Comes : Turn → Type 0
-    Comes (Goes b) = Come W b × IsStagedNext reader b b.stage × (b.stage ≡ ReadsLatest → b ≡ begun_at b.moment b.overtaken kept)
+    Comes (Goes b) = Come W b × IsStagedNext reader b b.stage × (b.stage ≡ ReadsLatest → b ≡ begun_at b.moment b.overtaken b.history kept)
     Comes (Ends b) = Come W b
     Comes (Breaks b) = Come W b
     Comes (Fails error) = Unit {0}
 
     pub restaged : (b : Begun) (stage : Stage) (asked : Bool) → Come W b → Come W (record b { stage = stage; asked = asked })
     restaged b stage asked c = record { leased = c.leased; after = c.after; base = c.base; reached = c.reached; low = c.low; viewed = c.viewed; fresh = c.fresh; within = c.within; stands = c.stands; read = c.read }
+
+    -- what is kept of its steps is another matter
+    pub recounted : (b : Begun) (history : PollHistory) → Come W b → Come W (record b { history = history })
+    recounted b history c = record { leased = c.leased; after = c.after; base = c.base; reached = c.reached; low = c.low; viewed = c.viewed; fresh = c.fresh; within = c.within; stands = c.stands; read = c.read }
 
     -- a plan for a checkpoint of the manifest that was read or put last
     put-comes : (l : VersionedManifest) (lifetime : ℕ) (p : Plan Checkpoint) (replaces : Bool) (b : Begun) → ((next : VersionedManifest) (checkpoint : Checkpoint) → p ≡ Ok (Some next, checkpoint) → IsPlanned l next) →
@@ -249,9 +254,9 @@ module _ (stored : Line) (numbered : IsLine stored) (o : Objects) (reader : Foll
 
     -- ---- a poll that begins
     module _ (leased_is : is_some reader.lease ≡ is_managed reader.mode) (number_is : number kept ≡ number reader) (low : stored.floor ≤ number reader) (within : number reader ≤ end stored) (viewed : stored.floor ≤ reader.view.manifest.last_l0_seq)
-        (reached : reader.view.manifest.last_l0_seq ≤ number reader) (whole : P (at reader.view (number reader) reader.mark reader.lease)) (moment : ℤ) (overtaken : ℕ) where
+        (reached : reader.view.manifest.last_l0_seq ≤ number reader) (whole : P (at reader.view (number reader) reader.mark reader.lease)) (moment : ℤ) (overtaken : ℕ) (history : PollHistory) where
       abbrev start : Begun
-      start = begun_at moment overtaken kept
+      start = begun_at moment overtaken history kept
 
       number-start : reached_number start ≡ number reader
       number-start = (let e = number_is in omega (arith, e))
@@ -320,19 +325,22 @@ module _ (stored : Line) (numbered : IsLine stored) (o : Objects) (reader : Foll
           by (Some lease) some = some-comes lease (ap is_some some) (differs reader.view l) refl
 
     -- a poll that was overtaken begins anew, or ends
-    pub overtaken-comes : (b : Begun) → ((moment : ℤ) (overtaken : ℕ) → Come W (begun_at moment overtaken kept)) → Comes (overtaken_by kept b)
+    pub overtaken-comes : (b : Begun) → ((moment : ℤ) (overtaken : ℕ) (history : PollHistory) → Come W (begun_at moment overtaken history kept)) → Comes (overtaken_by kept b)
     overtaken-comes b start = by (b.overtaken == 7)
       where
-        by : (x : Bool) → Comes (if x then Fails (errors.TransactionalObjectTimeout 8) else Goes (begun_at b.moment (b.overtaken + 1) kept))
+        by : (x : Bool) → Comes (if x then Fails (errors.TransactionalObjectTimeout 8) else Goes (begun_at b.moment (b.overtaken + 1) b.history kept))
         by true = tt
-        by false = (start b.moment (b.overtaken + 1), tt, λ is. refl)
+        by false = (start b.moment (b.overtaken + 1) b.history, tt, λ is. refl)
 
     -- the last log file was asked for
     pub asked-comes : (last : ℕ) (b : Begun) → Come W b → reader.skips ≡ false → Comes (Goes (asked_last last (record b { stage = Ended })))
     asked-comes last b c reads = by (nat_lt b.mark last)
       where
-        by : (x : Bool) → Comes (Goes (if x then record b { stage = ReadsLog last } else record b { stage = ReadsAgain }))
-        by true = (restaged b (ReadsLog last) b.asked c, reads, λ other. absurd (cc))
+        counted : Begun
+        counted = record b { history = with_log last b.history }
+
+        by : (x : Bool) → Comes (Goes (if x then record b { stage = ReadsLog last; history = with_log last b.history } else record b { stage = ReadsAgain }))
+        by true = (restaged counted (ReadsLog last) b.asked (recounted b counted.history c), reads, λ other. absurd (cc))
         by false = (restaged b ReadsAgain b.asked c, reads, λ other. absurd (cc))
 
     -- ---- what the reader becomes, of which the code keeps a part

@@ -28,7 +28,7 @@ use Rattle.slate_model.specs.Valid.{AreBefore, IsValidHandle, ReadsLine, up_to}
 use Rattle.slate_model.proofs.Adding.{AreAdded, Lasts, Stay, flush-puts, one-put, other-table, stay-added}
 use Rattle.slate_model.proofs.Flushed.{Leaves, flush-leaves, part_le}
 use Rattle.slate_model.proofs.Keeping.{changes-kept, view-kept}
-use Rattle.slate_model.proofs.Logging.{keep-append, KeepLogs, LogsAre, LogsFollow, LogsStay, mark-follow, OfLine, part-are, part-logs, PutLogs, puts-part, stay-follow}
+use Rattle.slate_model.proofs.Logging.{keep-append, KeepLogs, LogsAre, LogsFollow, LogsGo, LogsStay, mark-follow, OfLine, part-are, part-logs, PutLogs, puts-part, stay-follow, stay-go}
 use Rattle.slate_store.proofs.LastLog.{at_least}
 use Rattle.slate_model.proofs.Moving.{Follows, Moved, known-none, none-known, still-reads}
 use Rattle.slate_model.proofs.Prefixes.{extended-nil, prefix-after, prefix-same, up_to-all}
@@ -68,6 +68,15 @@ view-mark MemTable h latest last = by (has_untabled h latest.manifest) where
   by : (some : Bool) → ((cond some (next_flushed h latest last) latest).manifest.replay_after_wal_id ≡ latest.manifest.replay_after_wal_id) ⊎ (last ≤ (cond some (next_flushed h latest last) latest).manifest.replay_after_wal_id)
   by true = inr (log_after-high (to_log h) last)
   by false = inl refl
+
+-- and is the old one while the last number in tables is
+view-marked : (t : FlushType) (h : Handle) (latest : VersionedManifest) (last : ℕ) → (flush_view t h latest last).manifest.last_l0_seq ≡ latest.manifest.last_l0_seq → (flush_view t h latest last).manifest.replay_after_wal_id ≡ latest.manifest.replay_after_wal_id
+view-marked Wal h latest last = λ same. refl
+view-marked MemTable h latest last = by (has_untabled h latest.manifest) refl where
+  by : (some : Bool) → has_untabled h latest.manifest ≡ some → (cond some (next_flushed h latest last) latest).manifest.last_l0_seq ≡ latest.manifest.last_l0_seq →
+      (cond some (next_flushed h latest last) latest).manifest.replay_after_wal_id ≡ latest.manifest.replay_after_wal_id
+  by true is same = let less = ltb-true latest.manifest.last_l0_seq (accepted h) is in absurd (omega (arith, less, same))
+  by false is same = refl
 
 -- a flush puts a log file after the last one
 log-keeps-logs : (mark : ℕ) (bs : List Batch) (last : ℕ) → KeepLogs mark last (log_changes (λ xs. xs) bs last)
@@ -363,6 +372,14 @@ module _ (stored : Line) (o o' : Objects) (latest : VersionedManifest) (t : Flus
     | inr new ↦ ap (λ (m : VersionedManifest). m.manifest.writer_epoch) new.0 ∙ view-epoch t h latest last
   ]
 
+  next-marked : n'.manifest.last_l0_seq ≡ latest.manifest.last_l0_seq → n'.manifest.replay_after_wal_id ≡ latest.manifest.replay_after_wal_id
+  next-marked number = elim newest.which [
+    | inl same ↦ ap (λ (m : VersionedManifest). m.manifest.replay_after_wal_id) same.0
+    | inr new ↦
+        ap (λ (m : VersionedManifest). m.manifest.replay_after_wal_id) new.0
+        ∙ view-marked t h latest last (sym (ap (λ (m : VersionedManifest). m.manifest.last_l0_seq) new.0) ∙ number)
+  ]
+
   logs-stay : LogsStay latest.manifest.replay_after_wal_id last o o'
   logs-stay = subst (LogsStay latest.manifest.replay_after_wal_id last o) (sym after) (part-logs latest.manifest.replay_after_wal_id last made cs o (flush-keeps-logs latest.manifest.replay_after_wal_id t h latest last))
 
@@ -374,7 +391,7 @@ module _ (stored : Line) (o o' : Objects) (latest : VersionedManifest) (t : Flus
         let least = at_least latest.manifest.replay_after_wal_id (map (λ (log : ℕ × List Batch). log.0) o.logs) in
         elim (view-mark t h latest last) [
           | inl kept ↦ stay-follow o o' latest.manifest.replay_after_wal_id n'.manifest.replay_after_wal_id (sym (e ∙ kept)) logs-stay
-          | inr high ↦ mark-follow o o' latest.manifest.replay_after_wal_id n'.manifest.replay_after_wal_id (omega (arith, e, high, least)) (omega (arith, e, high))
+          | inr high ↦ mark-follow o o' latest.manifest.replay_after_wal_id n'.manifest.replay_after_wal_id (omega (arith, e, high, least)) (omega (arith, e, high)) logs-stay
         ]
   ]
 
@@ -399,8 +416,10 @@ module _ (stored : Line) (o o' : Objects) (latest : VersionedManifest) (t : Flus
     latest_is = newest.is_latest;
     epochs = (let e = next-epoch in omega (arith, e));
     tabled = next-number;
+    marked = next-marked;
     logs = logs-follow;
     logs_are = subst (LogsAre (OfLine stored') o) (sym after) (part-are (OfLine stored') made cs o (flush-put_logs (OfLine stored') t h latest last made logged-of));
+    goes = subst (LogsGo last o) (sym after) (stay-go last o (after_part made cs o) (part-logs 0 last made cs o (flush-keeps-logs 0 t h latest last)));
   }
 
   alone : ((stored' ≡ stored) × (n'.manifest.last_l0_seq ≡ latest.manifest.last_l0_seq)) ⊎ Current

@@ -6,6 +6,8 @@ use Rattle.std.proofs.lemmas.List.{append_cancel_right, length-take, take-append
 use Rattle.std.proofs.lemmas.List.Elements.{filter-append}
 use Rattle.std.proofs.Common.{length-append}
 use Rattle.std.specs.BTreeMap.{is_at}
+use Rattle.std.specs.Cmp.{nat_cmp_is}
+use Rattle.std.specs.declared.cmp.Ordering.TheVariants.{Equal}
 use Rattle.std.specs.Ordering.{nat_cmp}
 use Rattle.slate_types.proofs.Lines.{above-all, above-drop}
 use Rattle.slate_types.specs.Line.{AreNumberedFrom, IsLine, IsPrefix, Line, batches_above, end, extended}
@@ -127,7 +129,7 @@ seen-both o f g both is up up' seen seen' = record {
 }
 
 -- no log file is stored past the last one
-stored-below : {X : Type 0} (mark id : ℕ) (x : X) (es : List (ℕ × X)) → entry_at id es ≡ Some x → id ≤ greatest mark (map (λ e. e.0) es)
+pub stored-below : {X : Type 0} (mark id : ℕ) (x : X) (es : List (ℕ × X)) → entry_at id es ≡ Some x → id ≤ greatest mark (map (λ e. e.0) es)
 stored-below mark id x [] is = absurd (cc)
 stored-below mark id x (e ∷ es) is = elim (cases_eq id e.0) [
   | inl same ↦ omega (arith, same)
@@ -136,6 +138,24 @@ stored-below mark id x (e ∷ es) is = elim (cases_eq id e.0) [
       let later = stored-below mark id x es (sym (ap (λ b. cond b (Some e.1) (entry_at id es)) there) ∙ is) in
       omega (arith, later)
 ]
+
+-- and the last one is, where it is past a mark
+pub last-there : {X : Type 0} (mark : ℕ) (es : List (ℕ × X)) → mark < greatest mark (map (λ e. e.0) es) → entry_at (greatest mark (map (λ e. e.0) es)) es ≢ None
+last-there mark [] past none = absurd (omega (arith, past))
+last-there {X} mark (e ∷ es) past none =
+    let here = greatest mark (map (λ (x : ℕ × X). x.0) (e ∷ es)) in
+    let rest = greatest mark (map (λ (x : ℕ × X). x.0) es) in
+    elim (cases_eq here e.0) [
+      | inl same ↦
+          let cmp : nat_cmp here e.0 ≡ Equal = sym (nat_cmp_is here e.0 Equal same) in
+          let some : entry_at here (e ∷ es) ≡ Some e.1 = rw cmp refl in
+          absurd (cc (none, some))
+      | inr other ↦
+          let is : here ≡ rest = omega (arith, other) in
+          let there : is_at (nat_cmp here) e.0 ≡ false = apart here e.0 other in
+          let later : entry_at here es ≡ None = sym (ap (λ b. cond b (Some e.1) (entry_at here es)) there) ∙ none in
+          last-there mark es (omega (arith, is, past)) (subst (λ k. entry_at k es ≡ None) is later)
+    ]
 
 -- one that has read the log file after its mark, whose batches it has
 pub seen-log : (o : Objects) (f g : Follower) (batches : List Batch) → g.mark ≡ f.mark + 1 → number f ≤ number g → log_at (f.mark + 1) o ≡ Some batches → All (λ b. b.number ≤ number g) batches → HasSeen o f → HasSeen o g

@@ -18,6 +18,7 @@ pub mod Planned
 pub mod Owing
 pub mod Prefixes
 pub mod Putting
+pub mod Removing
 pub mod Reopened
 pub mod Reduced
 pub mod Serial

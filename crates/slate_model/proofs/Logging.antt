@@ -69,31 +69,53 @@ keep-append mark last (PutTable id table ∷ cs) ds a b = keep-append mark last 
 keep-append mark last (RemoveManifest id ∷ cs) ds a b = keep-append mark last cs ds a b
 keep-append mark last (RemoveTable id ∷ cs) ds a b = keep-append mark last cs ds a b
 
--- The log files of objects that follow others: between a mark and the last one of before each is as it was, and the last one
--- isn't lower.
+-- The log files of objects that follow others: between a mark and the last one of before each is as it was, up to that it is as it
+-- was or gone, and the last one isn't lower.
 pub record LogsStay (mark last : ℕ) (o o' : Objects) : Type 0 where
   pub same : (id : ℕ) → mark < id → id ≤ last → log_at id o' ≡ log_at id o
+  pub left : (id : ℕ) → id ≤ last → (log_at id o' ≡ log_at id o) ⊎ (log_at id o' ≡ None)
   pub low : last_log mark o ≤ last_log mark o'
 
 pub logs-same : (mark last : ℕ) (o o' : Objects) → o'.logs ≡ o.logs → LogsStay mark last o o'
 logs-same mark last o o' is = record {
   same = λ id over under. ap (λ logs. log_at id (record { manifests = o'.manifests; logs = logs; tables = o'.tables })) is;
+  left = λ id under. inl (ap (λ logs. log_at id (record { manifests = o'.manifests; logs = logs; tables = o'.tables })) is);
   low = (let e = ap (λ (logs : List (ℕ × List Batch)). greatest mark (map (λ e. e.0) logs)) is in omega (arith, e));
 }
 
 logs-then : (mark last : ℕ) (a b c : Objects) → LogsStay mark last a b → LogsStay mark last b c → LogsStay mark last a c
 logs-then mark last a b c x y = record {
   same = λ id over under. y.same id over under ∙ x.same id over under;
+  left = λ id under. elim (y.left id under) [
+    | inl kept ↦ elim (x.left id under) [
+      | inl before ↦ inl (kept ∙ before)
+      | inr gone ↦ inr (kept ∙ gone)
+    ]
+    | inr gone ↦ inr gone
+  ];
   low = (let i = x.low in let j = y.low in omega (arith, i, j));
 }
+
+-- a log file that is removed is gone, and each other one as it was
+pub removed-left : (q id : ℕ) (o : Objects) → (log_at q (changed (RemoveLog id) o) ≡ log_at q o) ⊎ (log_at q (changed (RemoveLog id) o) ≡ None)
+removed-left q id o = by (is_at (nat_cmp id) q) refl where
+  by : (b : Bool) → is_at (nat_cmp id) q ≡ b → (log_at q (changed (RemoveLog id) o) ≡ log_at q o) ⊎ (log_at q (changed (RemoveLog id) o) ≡ None)
+  by true here = inr (lookup-filter-keys (is_at (nat_cmp q)) (λ key. not (is_at (nat_cmp id) key)) false
+      (λ key same. ap (λ k. not (is_at (nat_cmp id) k)) (sym (same_number q key (tied (nat_cmp q key) same))) ∙ ap not here) o.logs)
+  by false other = inl (lookup-without nat_cmp_total q id o.logs other)
+
+pub removed-gone : (id : ℕ) (o : Objects) → log_at id (changed (RemoveLog id) o) ≡ None
+removed-gone id o = lookup-filter-keys (is_at (nat_cmp id)) (λ key. not (is_at (nat_cmp id) key)) false (λ key same. ap not same) o.logs
 
 changed-logs : (mark last : ℕ) (c : Change) (o : Objects) → KeepLogs mark last (c ∷ []) → LogsStay mark last o (changed c o)
 changed-logs mark last (PutLog id log) o keep = record {
   same = λ q over under. lookup-insert_other nat_cmp_total q id log o.logs (apart q id (λ same. let high = keep.0 in absurd (omega (arith, same, high, under))));
+  left = λ q under. inl (lookup-insert_other nat_cmp_total q id log o.logs (apart q id (λ same. let high = keep.0 in absurd (omega (arith, same, high, under)))));
   low = put-greatest mark id log o.logs;
 }
 changed-logs mark last (RemoveLog id) o keep = record {
   same = λ q over under. lookup-without nat_cmp_total q id o.logs (apart id q (λ same. let low = keep.0 in absurd (omega (arith, same, low, over))));
+  left = λ q under. removed-left q id o;
   low = removed-greatest mark id o.logs keep.0;
 }
 changed-logs mark last (PutManifest id m) o keep = logs-same mark last o (changed (PutManifest id m) o) refl
@@ -201,21 +223,31 @@ none-put_logs o o' are P id batches at = elim (are id batches at) [
 ]
 
 -- Objects whose log files go on from others: a replay begins no earlier, the last log file isn't lower, and each that it reads
--- up to the last one of before is as it was.
+-- up to the last one of before is as it was; each up to that is as it was, or gone.
 pub record LogsFollow (o o' : Objects) (mark mark' : ℕ) : Type 0 where
   pub marks : mark ≤ mark'
   pub last : last_log mark o ≤ last_log mark' o'
   pub same : (id : ℕ) → mark' < id → id ≤ last_log mark o → log_at id o' ≡ log_at id o
+  pub left : (id : ℕ) → id ≤ last_log mark o → (log_at id o' ≡ log_at id o) ⊎ (log_at id o' ≡ None)
 
 pub stay-follow : (o o' : Objects) (mark mark' : ℕ) → mark ≡ mark' → LogsStay mark (last_log mark o) o o' → LogsFollow o o' mark mark'
-stay-follow o o' mark mark' same stay = subst (LogsFollow o o' mark) same (record { marks = omega arith; last = stay.low; same = stay.same })
+stay-follow o o' mark mark' same stay = subst (LogsFollow o o' mark) same (record { marks = omega arith; last = stay.low; same = stay.same; left = stay.left })
+
+-- Log files up to one of them go in their order: with one that is gone each lower one is.
+abbrev pub LogsGo : (last : ℕ) → Objects → Objects → Type 0
+LogsGo last o o' = (id below : ℕ) → 0 < below → below ≤ id → id ≤ last → log_at id o' ≡ None → (log_at id o ≡ None) ⊎ (log_at below o' ≡ None)
+
+-- where none goes
+pub stay-go : (last : ℕ) (o o' : Objects) → LogsStay 0 last o o' → LogsGo last o o'
+stay-go last o o' stay id below some low within none = inl (sym (stay.same id (omega (arith, some, low)) within) ∙ none)
 
 -- a mark at or above the last log file
-pub mark-follow : (o o' : Objects) (mark mark' : ℕ) → mark ≤ mark' → last_log mark o ≤ mark' → LogsFollow o o' mark mark'
-mark-follow o o' mark mark' up high = record {
+pub mark-follow : (o o' : Objects) (mark mark' : ℕ) → mark ≤ mark' → last_log mark o ≤ mark' → LogsStay mark (last_log mark o) o o' → LogsFollow o o' mark mark'
+mark-follow o o' mark mark' up high stay = record {
   marks = up;
   last = (let least = at_least mark' (map (λ (log : ℕ × List Batch). log.0) o'.logs) in omega (arith, high, least));
   same = λ id over under. absurd (omega (arith, over, under, high));
+  left = stay.left;
 }
 
 -- what a follower has seen of objects it has seen of those that follow

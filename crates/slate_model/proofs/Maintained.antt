@@ -18,7 +18,7 @@ use Rattle.slate_store.proofs.Parts.{part-more, part-none, part-one}
 use Rattle.slate_store.proofs.Removed.{IsSpare, removed-part}
 use Rattle.slate_store.proofs.Swept.{fails, sweep-keeps}
 use Rattle.slate_store.specs.Checkpoints.{Plan, found, is_expired, lease_end, new_checkpoint, puts_next, to_delete, to_end, to_refresh, to_take_out, to_write, with_checkpoints}
-use Rattle.slate_store.specs.Content.{IsPinned, IsSound, content}
+use Rattle.slate_store.specs.Content.{AreRising, IsPinned, IsSound, content}
 use Rattle.slate_store.specs.Objects.{last_log, Change, ChangeOf, Objects, PutLog, PutManifest, PutTable, RemoveLog, RemoveManifest, RemoveTable, changed, changed_all, entry_at, is_present, last, latest_manifest, table_at, table_cmp, versioned}
 use Rattle.slate_store.specs.Refusals as calls
 use Rattle.slate_store.specs.Refusals.{FollowsPlan, KeepsContent, checkpoint_changes, planned, planned_after}
@@ -40,14 +40,16 @@ use Rattle.slate_model.proofs.Reduced.{as_modelled, catalogued, holding, modelle
 use Rattle.slate_model.specs.Catalogue.{Span, catalogue_of}
 use Rattle.slate_model.specs.Changes.{PartMade, after_part}
 use Rattle.slate_model.specs.Maintain.{CheckpointAnswer, CheckpointCause, Checkpoints, CommitsCheckpoint, Sweeps, SweepsAnswer, SweepsCause, SweepsObjects, commit_changes}
-use Rattle.slate_model.proofs.Logging.{KeepLogs, LogsAre, LogsStay, PutLogs, part-are, part-logs, puts-part}
+use Rattle.slate_model.proofs.Logging.{KeepLogs, LogsAre, LogsGo, LogsStay, PutLogs, part-are, part-logs, puts-part, stay-go}
+use Rattle.slate_model.proofs.Removing.{Waits, part-go, removals-rise, removals-wait, removed_ids}
 use Rattle.slate_model.specs.Refusal.{error_of_refusal}
 use Rattle.slate_model.specs.Stores.{Stands, SweepFault, by_catalogue, by_objects}
 use Rattle.slate_model.specs.Write.{last_number}
 
 -- ---- what they leave of sound objects
 -- The objects stay sound, with the same content. The latest manifest has the same epoch, end of its tables and replay mark, and
--- each table and each log file is as it was, or gone, and each log file above the mark as it was.
+-- each table and each log file is as it was, or gone, and each log file above the mark as it was; they go in
+-- their order.
 pub record Maintained (o o' : Objects) : Type 0 where
   pub sound : IsSound o'
   pub content : content o' ≡ content o
@@ -58,6 +60,7 @@ pub record Maintained (o o' : Objects) : Type 0 where
   pub lasts : (q : TableId) → table_at q o' ≢ None → table_at q o' ≡ table_at q o
   pub unput : (q : TableId) → table_at q o ≡ None → table_at q o' ≡ None
   pub logs_are : LogsAre (λ batches. ⊥) o o'
+  pub goes : (last : ℕ) → LogsGo last o o'
 
 -- a change puts no table
 abbrev PutsNoTable : Change → Type 0
@@ -106,8 +109,8 @@ HasNext latest o' =
 
 -- what changes leave that put no table
 maintained : (o o' : Objects) → IsSound o' → content o' ≡ content o → ((latest : VersionedManifest) → latest_manifest o ≡ Some latest → HasNext latest o') →
-    ((latest : VersionedManifest) → latest_manifest o ≡ Some latest → LogsStay latest.manifest.replay_after_wal_id (last_log latest.manifest.replay_after_wal_id o) o o') → LeavesTables o o' → LogsAre (λ batches. ⊥) o o' → Maintained o o'
-maintained o o' sound same next logs leaves are = record {
+    ((latest : VersionedManifest) → latest_manifest o ≡ Some latest → LogsStay latest.manifest.replay_after_wal_id (last_log latest.manifest.replay_after_wal_id o) o o') → LeavesTables o o' → LogsAre (λ batches. ⊥) o o' → ((last : ℕ) → LogsGo last o o') → Maintained o o'
+maintained o o' sound same next logs leaves are goes = record {
   sound = sound;
   content = same;
   latest = next;
@@ -121,6 +124,7 @@ maintained o o' sound same next logs leaves are = record {
     | inr before ↦ before ∙ free
   ];
   logs_are = are;
+  goes = goes;
 }
 
 -- a manifest that is put after the latest one is the latest
@@ -210,6 +214,7 @@ module _ {A : Type 0} (plan : VersionedManifest → Plan A) (made : ℕ) (o : Ob
       (λ latest is. part-logs latest.manifest.replay_after_wal_id (last_log latest.manifest.replay_after_wal_id o) made (checkpoint_changes plan o) o (after-logs _ _ (latest_manifest o)))
       (part-leaves made (checkpoint_changes plan o) o (after-no_table (latest_manifest o)))
       (part-are (λ batches. ⊥) made (checkpoint_changes plan o) o (puts-part (λ batches. ⊥) made (checkpoint_changes plan o) (after-put_logs (latest_manifest o))))
+      (λ last. stay-go last o (after_part made (checkpoint_changes plan o) o) (part-logs 0 last made (checkpoint_changes plan o) o (after-logs 0 last (latest_manifest o))))
 
 -- a checkpoint that is committed, or not yet
 pub checkpoint-maintains : (lifetime : Option ℕ) (moment : ℤ) (made : ℕ) (o : Objects) → IsSound o → Maintained o (after_part made (commit_changes lifetime moment o) o)
@@ -315,6 +320,23 @@ module _ (moment : ℤ) (o : Objects) where
   sweep-no_table None = All-nil PutsNoTable
   sweep-no_table (Some latest) = sweep_by-no_table latest (has_expired moment latest)
 
+  -- it removes log files in their order
+  sweep_by-rises : IsSound o → (latest : VersionedManifest) (t : Bool) → AreRising (removed_ids (sweep_by latest t))
+  sweep_by-rises sound latest false = removals-rise latest o sound.logs
+  sweep_by-rises sound latest true = removals-rise (unexpired moment latest) (changed (PutManifest (unexpired moment latest).id (unexpired moment latest).manifest) o) sound.logs
+
+  sweep-rises : IsSound o → (found : Option VersionedManifest) → AreRising (removed_ids (sweep_changes_by moment o found))
+  sweep-rises sound None = tt
+  sweep-rises sound (Some latest) = sweep_by-rises sound latest (has_expired moment latest)
+
+  sweep_by-waits : (latest : VersionedManifest) (t : Bool) → Waits o (removed_ids (sweep_by latest t))
+  sweep_by-waits latest false = removals-wait latest o
+  sweep_by-waits latest true = removals-wait (unexpired moment latest) (changed (PutManifest (unexpired moment latest).id (unexpired moment latest).manifest) o)
+
+  sweep-waits : (found : Option VersionedManifest) → Waits o (removed_ids (sweep_changes_by moment o found))
+  sweep-waits None = λ id below among low. absurd among
+  sweep-waits (Some latest) = sweep_by-waits latest (has_expired moment latest)
+
 -- a sweep, wherever it is broken off
 pub sweep-maintains : (moment : ℤ) (made : ℕ) (o : Objects) → IsSound o → Maintained o (after_part made (sweep_changes moment o) o)
 sweep-maintains moment made o sound =
@@ -325,6 +347,7 @@ sweep-maintains moment made o sound =
     (subst (λ found. KeepLogs latest.manifest.replay_after_wal_id (last_log latest.manifest.replay_after_wal_id o) (sweep_changes_by moment o found)) (sym is) (sweep-keeps-logs moment o latest (last_log latest.manifest.replay_after_wal_id o) (has_expired moment latest))))
     (part-leaves made (sweep_changes moment o) o (sweep-no_table moment o (latest_manifest o)))
     (part-are (λ batches. ⊥) made (sweep_changes moment o) o (puts-part (λ batches. ⊥) made (sweep_changes moment o) (sweep-put_logs moment o (latest_manifest o))))
+    (λ last. part-go last made (sweep_changes moment o) o (sweep-put_logs moment o (latest_manifest o)) (sweep-rises moment o sound (latest_manifest o)) (sweep-waits moment o (latest_manifest o)))
 
 -- ---- what calls of a store do
 -- what a call answers to a command

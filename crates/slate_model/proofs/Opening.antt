@@ -23,7 +23,7 @@ use Rattle.slate_model.specs.Segments.{Extractor, extractor_name}
 use Rattle.slate_model.specs.Open.{found_log, mark_of, next_manifest, open_changes, opened_handle, opened_manifest}
 use Rattle.slate_model.specs.Valid.{IsValidHandle, ReadsLine}
 use Rattle.slate_model.proofs.Adding.{none-put}
-use Rattle.slate_model.proofs.Logging.{LogsAre, OfLine, part-are, part-logs, puts-part, stay-follow}
+use Rattle.slate_model.proofs.Logging.{LogsAre, OfLine, part-are, part-logs, puts-part, stay-follow, stay-go}
 use Rattle.slate_model.proofs.Moving.{Follows, known-none, still-valid}
 use Rattle.slate_model.proofs.Prefixes.{extended-nil, prefix-same, up_to-all}
 use Rattle.slate_model.proofs.Reopened.{opened}
@@ -80,8 +80,10 @@ module _ (x : Option Extractor) (stored : Line) (o : Objects) (made : ℕ) (soun
         latest_is = b.latest;
         epochs = omega (arith, epoch);
         tabled = omega (arith, number);
+        marked = λ same. mark;
         logs = stay-follow o o' latest.manifest.replay_after_wal_id v.manifest.replay_after_wal_id (sym mark) (part-logs latest.manifest.replay_after_wal_id (last_log latest.manifest.replay_after_wal_id o) made (open_changes (extractor_name x) (λ xs. xs) o) o (before-fence latest is, tt));
         logs_are = opened-logs_are;
+        goes = stay-go (last_log latest.manifest.replay_after_wal_id o) o o' (part-logs 0 (last_log latest.manifest.replay_after_wal_id o) made (open_changes (extractor_name x) (λ xs. xs) o) o (before-fence latest is, tt));
       }
 
   -- a handle that was opened before is fenced

@@ -65,3 +65,25 @@ module _ (o : Objects) (sound : IsSound o) (last_one next : VersionedManifest) (
           absurd (let none = unstored in let some = subst (λ n. entry_at n o.manifests ≡ Some latest.manifest) (sym here) there in cc (none, some))
     ]
   ]
+
+-- none is under its id
+pub free-at : (o : Objects) (next : VersionedManifest) → is_present (PutManifest next.id next.manifest) o ≡ false → entry_at next.id o.manifests ≡ None
+free-at o next free = free-entry (entry_at next.id o.manifests) free
+
+-- a manifest that was the latest one still was, after another is put that was planned after one that was
+pub was-put : (o : Objects) (sound : IsSound o) (last_one next : VersionedManifest) (was : WasLatest o last_one) (planned : IsPlanned last_one next) (free : is_present (PutManifest next.id next.manifest) o ≡ false) (last : VersionedManifest) → WasLatest o last → WasLatest (changed (PutManifest next.id next.manifest) o) last
+was-put o sound last_one next was planned free last (latest, is, low, same) =
+    let put = (put-maintains o sound last_one next was planned free).1 in
+    elim (cases_lt latest.id next.id) [
+      | inl above ↦ let up = put.2 in (put.0, put.1, omega (arith, low, above, up), λ ids. absurd (omega (arith, low, above, up, ids)))
+      | inr below ↦ elim (cases_lt next.id latest.id) [
+        | inl less ↦ (latest, stale-latest o sound latest is next.id next.manifest less unstored, low, same)
+        | inr over ↦
+            let here : next.id ≡ latest.id = omega (arith, below, over) in
+            let there = latest-entry o latest sound is in
+            absurd (let none = unstored in let some = subst (λ n. entry_at n o.manifests ≡ Some latest.manifest) (sym here) there in cc (none, some))
+      ]
+    ]
+  where
+    unstored : entry_at next.id o.manifests ≡ None
+    unstored = free-at o next free

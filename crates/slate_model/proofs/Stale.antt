@@ -17,7 +17,7 @@ use Rattle.slate_store.specs.Objects.{Objects, PutManifest, changed, entry_at, l
 use Rattle.slate_store.specs.declared.objects.Checkpoint.{Checkpoint}
 use Rattle.slate_store.specs.declared.objects.Manifest.{Manifest}
 use Rattle.slate_store.specs.declared.objects.VersionedManifest.{VersionedManifest}
-use Rattle.slate_model.proofs.Logging.{logs-are_same, logs-same}
+use Rattle.slate_model.proofs.Logging.{logs-are_same, logs-same, stay-go}
 use Rattle.slate_model.proofs.Maintained.{Maintained}
 use Rattle.slate_model.proofs.Reduced.{some-same}
 
@@ -142,4 +142,5 @@ module _ (o : Objects) (sound : IsSound o) (latest : VersionedManifest) (is : la
     lasts = λ q there. refl;
     unput = λ q none. none;
     logs_are = logs-are_same (λ batches. ⊥) o o' refl;
+    goes = λ last. stay-go last o o' (logs-same 0 last o o' refl);
   }

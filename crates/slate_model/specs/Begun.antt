@@ -7,7 +7,10 @@ use Rattle.slate_store.specs.Checkpoints.{Plan, found, to_refresh, to_write}
 use Rattle.slate_errors.specs.declared.errors.SlateError.{SlateError}
 use Rattle.slate_errors.specs.declared.errors.SlateError.TheVariants as errors
 use Rattle.slate_types.specs.Line.{batches_above}
+use Rattle.slate_types.specs.Counts.{one_more}
 use Rattle.slate_model.specs.declared.leases.Lease.{Lease}
+use Rattle.slate_model.specs.declared.polls.FirstRead.{FirstRead}
+use Rattle.slate_model.specs.declared.polls.PollHistory.{PollHistory}
 use Rattle.slate_model.specs.Follower.{Follower, number}
 use Rattle.slate_model.specs.Lease.{differs, is_due, leased}
 use Rattle.slate_model.specs.Refusal.{error_of_refusal}
@@ -21,11 +24,33 @@ pub data Stage : Type 0 where
   ReadsAgain : Stage  -- it reads the latest manifest once more, since no log file is above its mark
   Ended : Stage
 
+-- ---- what is kept of all steps
+-- before any step
+abbrev pub no_step : PollHistory
+no_step = record { steps = 0; first = None; last_log = 0 }
+
+-- one step more was made; the count stands still at 2^64 - 1
+abbrev pub with_step : PollHistory → PollHistory
+with_step history = record history { steps = one_more history.steps }
+
+-- the latest manifest was read: what the first one says stays
+abbrev pub first_of : VersionedManifest → FirstRead
+first_of latest = record { replay_after_wal_id = latest.manifest.replay_after_wal_id; last_l0_seq = latest.manifest.last_l0_seq }
+
+abbrev pub with_latest : VersionedManifest → PollHistory → PollHistory
+with_latest latest history = record history { first = Some (unwrap_or history.first (first_of latest)) }
+
+-- the last log file was found to be this one
+abbrev pub with_log : (last : ℕ) → PollHistory → PollHistory
+with_log last history = record history { last_log = max history.last_log last }
+
+-- ---- a begun poll
 -- A begun poll: what its reader becomes, as far as it has come. Where it keeps the reader's batches, the fresh ones come after
 -- those; else they are all that isn't in the tables of the view.
 pub record Begun : Type 0 where
   pub moment : ℤ
   pub overtaken : ℕ  -- how many of its puts found another manifest under their id
+  pub history : PollHistory  -- what it keeps of all its steps, also of those before such a put
   pub stage : Stage
   pub view : Option VersionedManifest  -- the manifest that the reader goes by then, where that is another one
   pub latest : Option VersionedManifest  -- the manifest that was read or put last
@@ -36,12 +61,13 @@ pub record Begun : Type 0 where
   pub fresh : List Batch
   pub mark : ℕ  -- up to this id it has what the log files have
 
--- a poll that begins at a moment: it has come nowhere yet
-abbrev pub begun_at : ℤ → (overtaken : ℕ) → Follower → Begun
-begun_at moment overtaken reader =
+-- a poll that begins at a moment, or anew after so many puts that were overtaken: it has come nowhere yet
+abbrev pub begun_at : ℤ → (overtaken : ℕ) → PollHistory → Follower → Begun
+begun_at moment overtaken history reader =
     record {
       moment = moment;
       overtaken = overtaken;
+      history = history;
       stage = ReadsLatest;
       view = None;
       latest = None;
@@ -127,6 +153,14 @@ replaying reader latest begun =
     else (if leads_on reader begun then Goes (record begun { stage = AsksLast; mark = max begun.mark mark })
     else Goes (record (emptied reader mark begun) { stage = AsksLast }))
 
+-- its next call is being made
+abbrev pub taken : Begun → Begun
+taken begun = record begun { stage = Ended; history = with_step begun.history }
+
+-- the latest manifest was read by which it is decided
+abbrev pub noted : (latest : VersionedManifest) → Begun → Begun
+noted latest begun = record begun { history = with_latest latest begun.history }
+
 -- The poll is decided by the latest manifest. A reader that keeps a checkpoint goes on by its view while the tables, the last number
 -- in them and the segments are the same, and else replaces its checkpoint; another goes by the latest manifest.
 abbrev pub decided : Follower → (latest : VersionedManifest) → Option Lease → Begun → Turn
@@ -144,11 +178,13 @@ committed reader next given false begun = Ends (record begun { stage = Ended; la
 -- Another manifest was there already: the poll begins anew, and fails at the eighth time.
 abbrev pub overtaken_by : Follower → Begun → Turn
 overtaken_by reader begun =
-    if begun.overtaken == 7 then Fails (errors.TransactionalObjectTimeout 8) else Goes (begun_at begun.moment (begun.overtaken + 1) reader)
+    if begun.overtaken == 7 then Fails (errors.TransactionalObjectTimeout 8) else Goes (begun_at begun.moment (begun.overtaken + 1) begun.history reader)
 
 -- the last log file was asked for: where there is none above the mark, the latest manifest is read again
 abbrev pub asked_last : (last : ℕ) → Begun → Begun
-asked_last last begun = if nat_lt begun.mark last then record begun { stage = ReadsLog last } else record begun { stage = ReadsAgain }
+asked_last last begun =
+    if nat_lt begun.mark last then record begun { stage = ReadsLog last; history = with_log last begun.history }
+    else record begun { stage = ReadsAgain }
 
 -- The log file after the mark was there, and its batches lead on to these: the next one follows, up to the last.
 abbrev pub read_log : (latest : VersionedManifest) → (last : ℕ) → List Batch → Begun → Turn

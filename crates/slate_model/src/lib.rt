@@ -4,10 +4,12 @@
 
 mod answers;
 mod leases;
+mod polls;
 mod refusals;
 mod snapshots;
 
 pub use answers::{PollAnswer, Written};
 pub use leases::Lease;
+pub use polls::{FirstRead, PollHistory};
 pub use refusals::error_of_refusal;
 pub use snapshots::HandleSnapshot;

@@ -1,7 +1,7 @@
 use Rattle.std.proofs.Common.{◌≡◌, Err, Some, false, nat_lt, refl, rules, subst, sym}
 use Rattle.slate_model.specs.Begun.{Begun, ReadsAgain, read_again, replayed}
-use Rattle.slate_follow.specs.Stepping.{FitsReader, TurnsTo, taken}
-use Rattle.slate_follow.proofs.Called.{calls-to, commit-counts, latest-failed, taken-ended}
+use Rattle.slate_follow.specs.Stepping.{FitsReader, TurnsTo}
+use Rattle.slate_follow.proofs.Called.{calls-to, commit-counts, latest-failed}
 use Rattle.slate_follow.proofs.Planned.{modelled-kept}
 use Rattle.slate_follow.proofs.Stepped.{again-on}
 use Rattle.slate_follow.proofs.machines.PollMachine.call_again.Goals as goal
@@ -22,9 +22,8 @@ returns-clause-next g c = λ reader fits.
     let fits' : FitsReader reader read = record { leased = fits.leased; after = fits.after; low = fits.low; high = fits.high } in
     let turn = c.keep_lease.ensures.turns reader v (subst (λ (b : Begun). FitsReader reader (record b { latest = Some v })) (sym c.self.view_is) fits') refl in
     let turn' = subst (λ (b : Begun). TurnsTo reader (replayed v (record b { latest = Some v })) c.keep_lease.result c.keep_lease.new.self) c.self.view_is turn in
-    let turns = subst (λ (b : Begun). TurnsTo reader (read_again v b) c.keep_lease.result c.keep_lease.new.self) (sym (taken-ended old c.requires.ended)) (again-on reader v old _ _ still turn') in
-    calls-to ReadsAgain reader old (read_again v (taken old)) c.keep_lease.result c.keep_lease.new.self
-    (modelled-kept c.in_ok-latest.ensures.found c.in_ok-latest.ensures.kept (λ o is. ((v, is, refl, refl), refl))) turns
+    calls-to ReadsAgain reader old (read_again v old) c.keep_lease.result c.keep_lease.new.self
+    (modelled-kept c.in_ok-latest.ensures.found c.in_ok-latest.ensures.kept (λ o is. ((v, is, refl, refl), refl))) (again-on reader v old _ _ still turn')
 
 pub returns-clause-faults : goal.returns-clause-faults
 returns-clause-faults g c = commit-counts _ _ c.keep_lease.result c.in_ok-latest.ensures.faults.stays c.keep_lease.ensures.kind

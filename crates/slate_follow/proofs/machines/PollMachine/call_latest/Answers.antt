@@ -1,7 +1,7 @@
 use Rattle.std.proofs.Common.{◌≡◌, Err, refl, rules, subst, sym}
-use Rattle.slate_model.specs.Begun.{Begun, ReadsLatest, decided}
-use Rattle.slate_follow.specs.Stepping.{TurnsTo, taken}
-use Rattle.slate_follow.proofs.Called.{calls-to, decision-counts, latest-failed, taken-ended}
+use Rattle.slate_model.specs.Begun.{Begun, ReadsLatest, decided, noted}
+use Rattle.slate_follow.specs.Stepping.{TurnsTo}
+use Rattle.slate_follow.proofs.Called.{calls-to, decision-counts, latest-failed}
 use Rattle.slate_follow.proofs.Planned.{modelled-kept}
 use Rattle.slate_follow.proofs.machines.PollMachine.call_latest.Goals as goal
 
@@ -17,8 +17,8 @@ returns-clause-next g c =
     let reader = c.args.state.now in
     let old = c.args.self.now in
     let v = c.in_ok-latest.latest in
-    let turn = subst (λ (b : Begun). TurnsTo reader (decided reader v old.lease b) c.decide.result c.decide.new.self) (sym (taken-ended old c.requires.ended)) c.decide.ensures in
-    calls-to ReadsLatest reader old (decided reader v old.lease (taken old)) c.decide.result c.decide.new.self
+    let turn = subst (λ (b : Begun). TurnsTo reader (decided reader v b.lease b) c.decide.result c.decide.new.self) c.note.ensures c.decide.ensures in
+    calls-to ReadsLatest reader old (decided reader v old.lease (noted v old)) c.decide.result c.decide.new.self
     (modelled-kept c.in_ok-latest.ensures.found c.in_ok-latest.ensures.kept (λ o is. ((v, is, refl, refl), refl))) turn
 
 pub returns-clause-faults : goal.returns-clause-faults

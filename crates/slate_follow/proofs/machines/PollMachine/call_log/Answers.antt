@@ -2,8 +2,8 @@ use Rattle.std.proofs.Common.{◌≡◌, ◌∙◌, ◌+◌, ◌++◌, IfSome, O
 use Rattle.slate_replay.specs.declared.replays.Replayed.TheVariants.{Whole}
 use Rattle.slate_model.specs.Begun.{Begun, ReadsLog, read_log, replayed}
 use Rattle.slate_replay.specs.Replay.{ReplaysNext}
-use Rattle.slate_follow.specs.Stepping.{FitsReader, TurnsTo, taken}
-use Rattle.slate_follow.proofs.Called.{calls-to, commit-counts, last-read, longer-fits, some-of, taken-ended}
+use Rattle.slate_follow.specs.Stepping.{FitsReader, TurnsTo}
+use Rattle.slate_follow.proofs.Called.{calls-to, commit-counts, last-read, longer-fits, some-of}
 use Rattle.slate_follow.proofs.Planned.{modelled-kept}
 use Rattle.slate_follow.proofs.machines.PollMachine.call_log.Goals as goal
 
@@ -22,9 +22,8 @@ returns-then-id-last-clause-next g c = λ reader fits.
     let whole : r.result ≡ Ok Whole = search rules in
     let next = subst (λ (x : _). IfSome (g.S.Store.objects c.args.store.now) (λ o. ReplaysNext (old.mark + 1) old.floor old.fresh r.new.memory o x)) whole
     (subst (λ (b : Begun). IfSome (g.S.Store.objects c.args.store.now) (λ o. ReplaysNext (b.mark + 1) b.floor b.fresh r.new.memory o r.result)) c.self.view_is r.ensures.where_modelled) in
-    let turns = subst (λ (b : Begun). TurnsTo reader (read_log v.0 c.args.last r.new.memory b) c.keep_lease.result c.keep_lease.new.self) (sym (taken-ended old c.requires.ended))
-    (last-read reader v.0 c.args.last r.new.memory old _ _ last turn') in
-    calls-to (ReadsLog c.args.last) reader old (read_log v.0 c.args.last r.new.memory (taken old)) c.keep_lease.result c.keep_lease.new.self
+    let turns = last-read reader v.0 c.args.last r.new.memory old _ _ last turn' in
+    calls-to (ReadsLog c.args.last) reader old (read_log v.0 c.args.last r.new.memory old) c.keep_lease.result c.keep_lease.new.self
     (modelled-kept next c.in_ok-replayed.ensures.kept (λ o n. ((v.0, r.new.memory, Whole, v.1, n, refl, refl), refl))) turns
 
 pub returns-then-id-last-clause-faults : goal.returns-then-id-last-clause-faults

@@ -6,6 +6,7 @@ use Rattle.slate_follow.specs.Stepping.{FailsFrom, StepFails}
 use Rattle.slate_follow.specs.declared.machines.Turn.TheVariants.{Goes}
 use Rattle.slate_follow.proofs.Arriving.{arrival-failed, arrival-lacks, call-lacks}
 use Rattle.slate_errors.specs.declared.errors.SlateError.TheVariants.{InvalidDBState}
+use Rattle.slate_model.specs.Begun.{taken}
 use Rattle.slate_model.specs.declared.answers.PollAnswer.{PollAnswer}
 use Rattle.slate_types.specs.Modelled.{WhereModelled}
 use Rattle.slate_follow.proofs.Refusing.{err-same, segment-key}
@@ -29,7 +30,7 @@ returns-in_err-turn-clause-lacks g c x lawful is =
     let invalid : e ≡ InvalidDBState = err-same (Option PollAnswer) e InvalidDBState (sym got ∙ is) in
     let reader = c.args.state.now in
     let old = c.args.self.now in
-    call-lacks x reader old (subst (λ e. WhereModelled (λ (o o' : Objects). FailsFrom old.stage reader old o e o') (g.S.Store.objects c.args.store.now) (g.S.Store.objects c.call.new.store)) invalid c.in_err-turn.ensures.next.failed)
+    call-lacks x reader old (subst (λ e. WhereModelled (λ (o o' : Objects). FailsFrom old.stage reader (taken old) o e o') (g.S.Store.objects c.args.store.now) (g.S.Store.objects c.call.new.store)) invalid c.in_err-turn.ensures.next.failed)
 
 pub returns-in-Err-clause-lacks : goal.returns-in-Err-clause-lacks
 returns-in-Err-clause-lacks g c x lawful is =

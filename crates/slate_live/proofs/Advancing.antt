@@ -7,10 +7,11 @@ use Rattle.slate_store.specs.Checkpoints.{Plan, found, to_refresh, to_write}
 use Rattle.slate_store.specs.declared.objects.Checkpoint.{Checkpoint}
 use Rattle.slate_store.specs.declared.objects.VersionedManifest.{VersionedManifest}
 use Rattle.slate_errors.specs.declared.errors.SlateError.TheVariants as errors
-use Rattle.slate_model.specs.Begun.{AsksLast, Begun, Breaks, Ended, Ends, Fails, Goes, ReadsAgain, ReadsLog, Turn, asked_last, asked_lease, base_of, begun_at, committed, decided, emptied, kept_lease, leads_on, overtaken_by, put_by, reached_number, read_again, replayed, replaying, view_of}
+use Rattle.slate_model.specs.Begun.{AsksLast, Begun, Breaks, Ended, Ends, Fails, Goes, ReadsAgain, ReadsLog, Turn, asked_last, asked_lease, base_of, begun_at, committed, decided, emptied, kept_lease, leads_on, overtaken_by, put_by, reached_number, read_again, replayed, replaying, view_of, with_log}
 use Rattle.slate_model.specs.Follower.{Follower, kept_follower, number}
 use Rattle.slate_model.specs.Lease.{differs, is_due, leased}
 use Rattle.slate_model.specs.declared.leases.Lease.{Lease}
+use Rattle.slate_model.specs.declared.polls.PollHistory.{PollHistory}
 
 -- the tables of two manifests that don't differ end with one number
 same-end : (view latest : VersionedManifest) → differs view latest ≡ false → view.manifest.last_l0_seq ≡ latest.manifest.last_l0_seq
@@ -100,26 +101,26 @@ module _ (reader : Follower) (number_is : number (kept_follower reader) ≡ numb
       by false false reads on = let a = anew (not-led on) in record { risen = a.risen; above = a.above; tabled = a.tabled }
 
   -- ---- what each call leads to
-  pub start-advances : (moment : ℤ) (overtaken : ℕ) → Advances (begun_at moment overtaken kept)
-  start-advances moment overtaken = record { risen = (let e = number_is in omega (arith, e)); above = λ last at. absurd (cc); tabled = λ skips last at. absurd (cc) }
+  pub start-advances : (moment : ℤ) (overtaken : ℕ) (history : PollHistory) → Advances (begun_at moment overtaken history kept)
+  start-advances moment overtaken history = record { risen = (let e = number_is in omega (arith, e)); above = λ last at. absurd (cc); tabled = λ skips last at. absurd (cc) }
 
   -- a poll that begins, with a manifest read
-  abbrev start_with : VersionedManifest → ℤ → ℕ → Begun
-  start_with l moment overtaken = record (begun_at moment overtaken kept) { stage = Ended; latest = Some l }
+  abbrev start_with : VersionedManifest → ℤ → ℕ → PollHistory → Begun
+  start_with l moment overtaken history = record (begun_at moment overtaken history kept) { stage = Ended; latest = Some l }
 
-  pub decided-advances : (l : VersionedManifest) (moment : ℤ) (overtaken : ℕ) (lease : Option Lease) → reader.view.manifest.last_l0_seq ≤ l.manifest.last_l0_seq → (reader.skips ≡ true → number reader ≤ l.manifest.last_l0_seq) →
-      Advanced (decided kept l lease (record (begun_at moment overtaken kept) { stage = Ended }))
-  decided-advances l moment overtaken lease viewed tabled = by lease
+  pub decided-advances : (l : VersionedManifest) (moment : ℤ) (overtaken : ℕ) (history : PollHistory) (lease : Option Lease) → reader.view.manifest.last_l0_seq ≤ l.manifest.last_l0_seq → (reader.skips ≡ true → number reader ≤ l.manifest.last_l0_seq) →
+      Advanced (decided kept l lease (record (begun_at moment overtaken history kept) { stage = Ended }))
+  decided-advances l moment overtaken history lease viewed tabled = by lease
     where
-      risen : number reader ≤ reached_number (start_with l moment overtaken)
+      risen : number reader ≤ reached_number (start_with l moment overtaken history)
       risen = (let e = number_is in omega (arith, e))
 
-      some : (held : Lease) (x : Bool) → differs reader.view l ≡ x → Advanced (if x then put_by (leased held.lifetime (to_write (Some held.id) (Some held.lifetime) moment l)) true (start_with l moment overtaken) else replaying kept l (start_with l moment overtaken))
-      some held true other = put-advances (leased held.lifetime (to_write (Some held.id) (Some held.lifetime) moment l)) true (start_with l moment overtaken) (by-read (start_with l moment overtaken) l risen refl (viewed, tabled))
-      some held false same = replaying-advances l (start_with l moment overtaken) refl (same-end reader.view l same) risen (viewed, tabled)
+      some : (held : Lease) (x : Bool) → differs reader.view l ≡ x → Advanced (if x then put_by (leased held.lifetime (to_write (Some held.id) (Some held.lifetime) moment l)) true (start_with l moment overtaken history) else replaying kept l (start_with l moment overtaken history))
+      some held true other = put-advances (leased held.lifetime (to_write (Some held.id) (Some held.lifetime) moment l)) true (start_with l moment overtaken history) (by-read (start_with l moment overtaken history) l risen refl (viewed, tabled))
+      some held false same = replaying-advances l (start_with l moment overtaken history) refl (same-end reader.view l same) risen (viewed, tabled)
 
-      by : (lease : Option Lease) → Advanced (decided kept l lease (record (begun_at moment overtaken kept) { stage = Ended }))
-      by None = replaying-advances l (record (start_with l moment overtaken) { view = Some l }) refl refl risen (viewed, tabled)
+      by : (lease : Option Lease) → Advanced (decided kept l lease (record (begun_at moment overtaken history kept) { stage = Ended }))
+      by None = replaying-advances l (record (start_with l moment overtaken history) { view = Some l }) refl refl risen (viewed, tabled)
       by (Some held) = some held (differs reader.view l) refl
 
   -- a manifest was put that has the tables of the one that was read
@@ -130,14 +131,14 @@ module _ (reader : Follower) (number_is : number (kept_follower reader) ≡ numb
   pub overtaken-advances : (b : Begun) → Advanced (overtaken_by kept b)
   overtaken-advances b = by (b.overtaken == 7)
     where
-      by : (x : Bool) → Advanced (if x then Fails (errors.TransactionalObjectTimeout 8) else Goes (begun_at b.moment (b.overtaken + 1) kept))
+      by : (x : Bool) → Advanced (if x then Fails (errors.TransactionalObjectTimeout 8) else Goes (begun_at b.moment (b.overtaken + 1) b.history kept))
       by true = tt
-      by false = start-advances b.moment (b.overtaken + 1)
+      by false = start-advances b.moment (b.overtaken + 1) b.history
 
-  pub asked-advances : (last : ℕ) (b : Begun) → Advances b → Advanced (Goes (asked_last last (record b { stage = Ended })))
+  pub asked-advances : (last : ℕ) (b : Begun) → Advances b → Advanced (Goes (asked_last last b))
   asked-advances last b a = by (nat_lt b.mark last)
     where
-      by : (x : Bool) → Advanced (Goes (if x then record b { stage = ReadsLog last } else record b { stage = ReadsAgain }))
+      by : (x : Bool) → Advanced (Goes (if x then record b { stage = ReadsLog last; history = with_log last b.history } else record b { stage = ReadsAgain }))
       by true = record { risen = a.risen; above = a.above; tabled = a.tabled }
       by false = record { risen = a.risen; above = a.above; tabled = a.tabled }
 

@@ -1,10 +1,10 @@
 -- What a command that begins a poll of a reader by single calls does makes a link from each world that is represented.
-use Rattle.std.proofs.Common.{◌≡◌, ◌∙◌, inl, inr, ℕ, List, option_map, set, Option, Some, None, refl, sym, ap, subst}
+use Rattle.std.proofs.Common.{◌≡◌, ◌∙◌, inl, inr, ℕ, true, List, option_map, set, Option, Some, None, refl, sym, ap, subst}
 use Rattle.std.specs.List.{slice_get}
 use Rattle.std.specs.Option.{is_some}
 use Rattle.slate_types.specs.declared.batches.Batch.{Batch}
 use Rattle.slate_store.specs.Objects.{Objects}
-use Rattle.slate_model.specs.Begun.{Begun, begun_at}
+use Rattle.slate_model.specs.Begun.{Begun, begun_at, no_step}
 use Rattle.slate_model.specs.Follower.{Follower, is_managed, kept_follower}
 use Rattle.slate_model.specs.Handle.{CloseResult}
 use Rattle.slate_model.specs.Known.{Known}
@@ -16,18 +16,18 @@ use Rattle.slate_script.specs.declared.replies.Reply.{Reply}
 use Rattle.slate_script.specs.declared.replies.Reply.TheVariants as replies
 use Rattle.slate_live.specs.Calls.{Begins, Steps as StepsKind, kind_of}
 use Rattle.slate_live.specs.Confirmed.{Sees}
-use Rattle.slate_live.specs.Next.{NextBy, shown}
-use Rattle.slate_live.specs.Represents.{AreInSegments, Represents, StandsAt}
+use Rattle.slate_live.specs.Next.{NextBegun, NextBy, shown}
+use Rattle.slate_live.specs.Represents.{AllInSegments, IsFollowerAt, PollHasSegments, Represents, StandsAt, StandsOn, follows_all}
 use Rattle.slate_live.specs.Settings.{Settings}
-use Rattle.slate_live.specs.Standing.{PollStands}
 use Rattle.slate_live.specs.State.{IsBegunAt, Live}
-use Rattle.slate_live.specs.Stepping.{BeginsAt, BeginsOn, BeginsPoll, BeginsReader}
+use Rattle.slate_live.specs.Stepping.{BeginsOn, BeginsPoll, BeginsReader}
 use Rattle.slate_live.specs.Valid.{AtObject, IsAnswered, IsOkOrNoMemory, IsValidCommand, IsValidKind, Link}
 use Rattle.slate_live.specs.World.{World}
-use Rattle.slate_live.proofs.Begun.{begins-is, begun-set}
+use Rattle.slate_live.proofs.Begun.{begins-is}
 use Rattle.slate_live.proofs.Beside.{poll-begins, reader-stands}
 use Rattle.slate_live.proofs.Places.{get-map}
-use Rattle.slate_live.proofs.Polled.{at-polled, polled, represents-polled, segments-polled, shown-is}
+use Rattle.slate_live.proofs.Commencing.{begun-from}
+use Rattle.slate_live.proofs.Polled.{all-polled, at-polled, polled, represents-polled, shown-is}
 use Rattle.slate_live.proofs.Rising.{rise-same}
 
 module _ (settings : Settings) (n : ℕ) (command : Command) (live live' : Live) (store : Known (List Batch)) (reply : Reply) (opts : live.options ≡ settings.options) (kind : kind_of command.action ≡ Begins n) (did : BeginsPoll n command.moment live reply live')
@@ -43,7 +43,7 @@ module _ (settings : Settings) (n : ℕ) (command : Command) (live live' : Live)
       by None (replied, same) = polls-alone live same
       by (Some object) at = polls-alone (record live { polls = set live.polls n at.poll' }) at.same
 
-  module _ (w : World) (r : Represents live store w) (segments : AreInSegments settings.extractor w) where
+  module _ (w : World) (r : Represents live store w) (segments : AllInSegments settings.extractor w) where
     abbrev w' : World
     w' = polled w live'.polls
 
@@ -56,41 +56,25 @@ module _ (settings : Settings) (n : ℕ) (command : Command) (live live' : Live)
     begins-shown : BeginsPoll n command.moment (shown settings.options w) reply (shown settings.options w')
     begins-shown = subst (BeginsPoll n command.moment (shown settings.options w) reply) is' (subst (λ l. BeginsPoll n command.moment l reply live') is did)
 
+    next-begun : NextBegun settings n w command reply w'
+    next-begun = record { begins = begins-shown; same = refl }
+
     -- what is begun stands
     begun-stands : (o : Objects) (m : ℕ) (b : Begun) → store.objects ≡ Some o → IsBegunAt live'.polls m b → StandsAt o w m b
-    begun-stands o m b there at = by (slice_get w.objects n) refl (subst (λ found. BeginsOn n command.moment found (shown settings.options w) reply live') (get-map kept w.objects n) (subst (λ l. BeginsPoll n command.moment l reply live') is did))
+    begun-stands o m b there at = elim (begun-from settings n w w' command reply next-begun m b at) [
+      | inl old ↦ r.begun o m b there old
+      | inr (here, f, at_f, open_, replied, is) ↦ (
+        f,
+        at_f,
+        open_,
+        λ free.
+            let fit = fits-at f (subst (λ i. slice_get w.objects i ≡ Some (AFollower f)) here at_f) replied in
+            subst (StandsOn o w m f) is (poll-begins live store w o r.represents there f command.moment (reader-stands live store w o r.represents there m f at_f) free fit.1 fit.0, tt),
+      )
+    ]
       where
-        old : IsBegunAt w.polls m b → StandsAt o w m b
-        old at = r.begun o m b there at
-
-        set-stands : (poll poll' : Option Begun) → slice_get w.polls n ≡ Some poll → live' ≡ record (shown settings.options w) { polls = set w.polls n poll' } → (poll' ≡ Some b → StandsAt o w n b) → StandsAt o w m b
-        set-stands poll poll' here same new =
-            let polls : live'.polls ≡ set w.polls n poll' = ap (λ (l : Live). l.polls) same in
-            elim (begun-set w.polls n m poll' b (subst (λ ps. IsBegunAt ps m b) polls at)) [
-              | inl mine ↦ subst (λ i. StandsAt o w i b) (sym mine.0) (new mine.1)
-              | inr other ↦ old other.1
-            ]
-
-        unbegun : (object : Object) (a : BeginsAt n command.moment object (shown settings.options w) reply live') → a.poll' ≡ a.poll → StandsAt o w m b
-        unbegun object a same = set-stands a.poll a.poll' a.there a.same (λ new. r.begun o n b there (a.there ∙ ap Some (sym same ∙ new)))
-
-        reads : (f : Follower) → slice_get w.objects n ≡ Some (AFollower f) → (a : BeginsAt n command.moment (AFollower (kept_follower f)) (shown settings.options w) reply live') → (closed : CloseResult) → f.result ≡ closed → BeginsReader closed command.moment (kept_follower f) reply a.poll' → a.poll' ≡ Some b → StandsAt o w n b
-        reads f at_f a None open_ begins new =
-            let here : slice_get live.objects n ≡ Some (AFollower (kept_follower f)) = ap (λ os. slice_get os n) (r.represents).objects ∙ (get-map kept w.objects n ∙ ap (option_map kept) at_f) in
-            let fit = fits (kept_follower f) here begins.0 in
-            let start : begun_at command.moment 0 (kept_follower f) ≡ b = (let e = sym begins.1 ∙ new in cc) in (
-              f,
-              at_f,
-              open_,
-              λ free. subst (PollStands o w f) start (poll-begins live store w o r.represents there f command.moment (reader-stands live store w o r.represents there n f at_f) free fit.1 fit.0),
-            )
-        reads f at_f a (Some result) closed begins new = absurd (let no = sym begins.1 ∙ new in cc)
-
-        by : (found : Option Object) → slice_get w.objects n ≡ found → BeginsOn n command.moment (option_map kept found) (shown settings.options w) reply live' → StandsAt o w m b
-        by None none (replied, same) = old (subst (λ ps. IsBegunAt ps m b) (ap (λ (l : Live). l.polls) same) at)
-        by (Some (AHandle h)) at_n a = unbegun (AHandle _) a a.begins.1
-        by (Some (ASnapshot x)) at_n a = unbegun (ASnapshot x) a a.begins.1
-        by (Some (AFollower f)) at_n a = set-stands a.poll a.poll' a.there a.same (λ new. reads f at_n a f.result refl a.begins new)
+        fits-at : (f : Follower) → slice_get w.objects n ≡ Some (AFollower f) → reply ≡ replies.Begun → ((kept_follower f).line.floor ≡ f.view.manifest.last_l0_seq) × (is_some f.lease ≡ is_managed f.mode)
+        fits-at f at_n replied = fits (kept_follower f) (ap (λ os. slice_get os n) (r.represents).objects ∙ (get-map kept w.objects n ∙ ap (option_map kept) at_n)) replied
 
     represents-then : Represents live' store w'
     represents-then = record {
@@ -115,11 +99,21 @@ module _ (settings : Settings) (n : ℕ) (command : Command) (live live' : Live)
         by (Some (ASnapshot x)) can at = absurd can
         by (Some (AFollower f)) can at = open-begins (kept_follower f) at.poll' f.result can at.begins
 
-    pub begin-links : (w' : World) × Link settings w command reply w' × Represents live' store w' × AreInSegments settings.extractor w'
+    -- what is begun meets the keys that its reader does
+    begun-segments : (m : ℕ) (reader : Follower) (b : Begun) → IsFollowerAt w.objects m reader → IsBegunAt live'.polls m b → follows_all reader.mode reader.skips ≡ true → PollHasSegments settings.extractor w.stored reader b
+    begun-segments m reader b there begun replays = elim (begun-from settings n w w' command reply next-begun m b begun) [
+      | inl old ↦ segments.polled m reader b there old replays
+      | inr (here, f, at, open_, replied, is) ↦
+          let same : f ≡ reader = (let e = sym at ∙ there in cc) in
+          let have = segments.viewed m reader there replays in
+          subst (PollHasSegments settings.extractor w.stored reader) (ap (λ (y : Follower). begun_at command.moment 0 no_step (kept_follower y)) (sym same) ∙ is) (have, have, λ last none. absurd (cc))
+    ]
+
+    pub begin-links : (w' : World) × Link settings w command reply w' × Represents live' store w' × AllInSegments settings.extractor w'
     begin-links = (
       w',
       record {
-        next = subst (λ k. NextBy k settings w command reply w') (sym kind) (record { begins = begins-shown; same = refl });
+        next = subst (λ k. NextBy k settings w command reply w') (sym kind) next-begun;
         completes = λ can none. subst (λ k. IsAnswered k reply) (sym kind) (accepts can);
         faults = inl refl;
         grows = prefix-same w.stored;
@@ -128,7 +122,8 @@ module _ (settings : Settings) (n : ℕ) (command : Command) (live live' : Live)
         confirms = λ i asks durable. absurd (let no : actions.Begin n ≡ actions.Await i = sym action-is ∙ asks in cc);
         sees = λ batch stands. subst (λ action. Sees batch action reply w') (sym action-is) tt;
         leaves = λ i steps. absurd (let no : Begins n ≡ StepsKind i = sym kind ∙ steps in cc);
+        causes = λ i reader begun steps at begun_at_i. absurd (let no : Begins n ≡ StepsKind i = sym kind ∙ steps in cc);
       },
       represents-then,
-      segments-polled w live'.polls settings.extractor segments,
+      all-polled w live'.polls settings.extractor segments begun-segments,
     )

@@ -1,10 +1,10 @@
 -- A reader beside a world, and a begun poll of it, stand from call to call.
-use Rattle.std.proofs.Common.{◌≡◌, ◌∙◌, ◌⊎◌, ℕ, ℤ, ◌+◌, ◌-◌, ◌≤◌, ◌++◌, ◌||◌, ◌==◌, max, inl, inr, Bool, true, false, if◌then◌else◌, All, List, [], ◌∷◌, drop, length, Option, Some, None, Result, Ok, Err, refl, sym, ap, subst, arith}
+use Rattle.std.proofs.Common.{◌≡◌, ◌∙◌, ◌⊎◌, ℕ, ℤ, ◌+◌, ◌-◌, ◌<◌, ◌≤◌, ◌++◌, ◌||◌, ◌==◌, max, inl, inr, Bool, true, false, if◌then◌else◌, All, List, [], ◌∷◌, drop, length, Option, Some, None, Result, Ok, Err, refl, sym, ap, subst, arith}
 use Rattle.std.proofs.lemmas.Bool.{cases_lt}
 use Rattle.std.proofs.lemmas.List.{length-take}
 use Rattle.std.proofs.lemmas.List.Elements.{All-cons, All-contains_itself, All-nil}
 use Rattle.std.specs.List.{slice_get}
-use Rattle.std.specs.Option.{IsSomeAnd, MatchOption, is_some}
+use Rattle.std.specs.Option.{IfSome, IsSomeAnd, MatchOption, is_some}
 use Rattle.slate_types.proofs.Lines.{above-all, above-drop, numbered-drop}
 use Rattle.slate_types.specs.Line.{AreNumberedFrom, IsPrefix, Line, batches_above, end}
 use Rattle.slate_types.specs.declared.batches.Batch.{Batch}
@@ -21,11 +21,12 @@ use Rattle.slate_replay.specs.declared.replays.Replayed.{Replayed}
 use Rattle.slate_replay.specs.declared.replays.Replayed.TheVariants as replays
 use Rattle.slate_errors.specs.declared.errors.SlateError.{SlateError}
 use Rattle.slate_errors.specs.declared.errors.SlateError.TheVariants as errors
-use Rattle.slate_model.specs.Begun.{AsksLast, Begun, Breaks, Ended, Ends, Fails, Goes, Puts, ReadsAgain, ReadsLatest, ReadsLog, Stage, Turn, arrived, begun_at, decided, kept_batches, reached_number, replayed, view_of}
+use Rattle.slate_model.specs.Begun.{AsksLast, Begun, Breaks, Ended, Ends, Fails, Goes, Puts, ReadsAgain, ReadsLatest, ReadsLog, Stage, Turn, arrived, base_of, begun_at, decided, kept_batches, reached_number, replayed, view_of, no_step, noted, read_log, taken, with_latest, with_step}
 use Rattle.slate_model.specs.Catalogue.{Catalogue, catalogue_of}
 use Rattle.slate_model.specs.declared.answers.PollAnswer.{PollAnswer}
 use Rattle.slate_model.specs.declared.answers.PollAnswer.TheVariants as answers
 use Rattle.slate_model.specs.declared.leases.Lease.{Lease}
+use Rattle.slate_model.specs.declared.polls.PollHistory.{PollHistory}
 use Rattle.slate_model.specs.Follower.{Follower, is_managed, is_pinned, kept_follower, number, unsegmented}
 use Rattle.slate_model.specs.Followed.{IsView}
 use Rattle.slate_model.specs.Handle.{up_to}
@@ -40,24 +41,28 @@ use Rattle.slate_model.proofs.Keeping.{line_above-end}
 use Rattle.slate_model.proofs.Maintained.{Maintained, put-latest}
 use Rattle.slate_model.proofs.Owing.{tabled, view-tables}
 use Rattle.slate_model.proofs.Prefixes.{prefix-end}
-use Rattle.slate_model.proofs.Putting.{put-maintains}
-use Rattle.slate_model.proofs.Logging.{LogsAre, OfLine}
+use Rattle.slate_model.proofs.Putting.{free-at, put-maintains, was-put}
+use Rattle.slate_model.proofs.Logging.{LogsAre, LogsFollow, LogsGo, OfLine, stay-follow}
 use Rattle.slate_model.proofs.Stale.{latest-entry, stale-latest}
 use Rattle.slate_model.proofs.Reduced.{some-same}
 use Rattle.slate_follow.proofs.Following.{are-above, are-grown, begins-on, begins-rest, goes-on, log-begins, logs-of, no-gap-rises, others-keep}
 use Rattle.slate_follow.specs.Following.{AreOf, FollowsLine, IsReplaying, StandsAt}
-use Rattle.slate_follow.specs.Stepping.{FailsFrom, LeavesPut, Meets, MeetsAt, StepFails, Steps, log_turn, reads_latest, taken}
+use Rattle.slate_follow.specs.Lasting.{Lasts, OthersAct}
+use Rattle.slate_follow.proofs.Lasting.{begins-last, follows-acts, lasts-goes, others-last}
+use Rattle.slate_follow.specs.Stepping.{FailsFrom, LeavesPut, Meets, MeetsAt, StepFails, Steps, log_turn, reads_latest}
 use Rattle.slate_script.specs.declared.commands.Command.{Command}
 use Rattle.slate_script.specs.declared.replies.Reply.{Reply}
 use Rattle.slate_live.specs.Settings.{Settings}
 use Rattle.slate_live.specs.Beside.{OthersLeaveThem, PollsBegin, ReadersStand, StandsAfter, StepsStand}
+use Rattle.slate_live.specs.Reaching.{IsCovered, IsCoveredBy, ReachesAt, ReachesTo}
 use Rattle.slate_live.specs.Rising.{FollowerRises}
-use Rattle.slate_live.specs.Standing.{IsStaged, PollStands, StandsBeside, comes_to, placed, tabled_by}
+use Rattle.slate_live.specs.Standing.{IsBareAt, IsStaged, PollStands, StandsBeside, comes_to, placed, tabled_by}
+use Rattle.slate_live.proofs.Reaching.{Reaches, again-reaches, anew-then, asked-reaches, committed-reaches, content-covered, decided-reaches, overtaken-reaches, reaches-then, read-reaches, seen-covered}
 use Rattle.slate_live.specs.Represents.{AreOfPast, Holds, IsFollowerAt, IsHeld, IsReached, IsValid, RepresentsObjects}
 use Rattle.slate_live.specs.State.{Live}
 use Rattle.slate_live.specs.World.{NextWhole, World}
 use Rattle.slate_live.proofs.Advancing.{Advanced, Advances, IsAbove, again-advances, asked-advances, committed-advances, cut-advances, decided-advances, overtaken-advances, read-advances, start-advances}
-use Rattle.slate_live.proofs.Cases.{is-none}
+use Rattle.slate_live.proofs.Cases.{if-some, is-none}
 use Rattle.slate_live.proofs.Following.{new-held, new-stored}
 use Rattle.slate_live.proofs.Chains.{reached}
 use Rattle.slate_live.proofs.Knowing.{unchanged-objects}
@@ -67,6 +72,8 @@ use Rattle.slate_live.proofs.Growing.{grows}
 use Rattle.slate_live.proofs.Representing.{BesideThen, leads-beside}
 use Rattle.slate_live.proofs.Leading.{stored-before, stored-past, valid-over}
 use Rattle.slate_live.proofs.Maintaining.{maintained-leads}
+use Rattle.slate_live.proofs.Skipping.{meets-bare}
+use Rattle.slate_live.proofs.Planning.{HasPlan, meets-planned, staged-leased, staged-planned}
 use Rattle.slate_live.proofs.Onward.{beside-onward, onward-maintained}
 
 or-true : (b : Bool) → (b || true) ≡ true
@@ -183,13 +190,13 @@ module _ (w : World) (o : Objects) (sound : IsSound o) (holds : Holds o w) (vali
         } in
         subst (λ (l : Line). P (record reader { line = l; segments = [] })) whole-is base
 
-    pub begun-comes : (leased : is_some reader.lease ≡ is_managed reader.mode) (moment : ℤ) (overtaken : ℕ) → Come w.stored valid.line o reader P (WasLatest o) (begun_at moment overtaken kept)
-    begun-comes leased moment overtaken = start-comes w.stored valid.line o reader P (WasLatest o) ways leased number-is number-low number-within view-low view-reached whole-placed moment overtaken
+    pub begun-comes : (leased : is_some reader.lease ≡ is_managed reader.mode) (moment : ℤ) (overtaken : ℕ) (history : PollHistory) → Come w.stored valid.line o reader P (WasLatest o) (begun_at moment overtaken history kept)
+    begun-comes leased moment overtaken history = start-comes w.stored valid.line o reader P (WasLatest o) ways leased number-is number-low number-within view-low view-reached whole-placed moment overtaken history
 
-    pub latest-decided : (leased : is_some reader.lease ≡ is_managed reader.mode) (moment : ℤ) (overtaken : ℕ) (l : VersionedManifest) → latest_manifest o ≡ Some l →
-        Comes w.stored valid.line o reader P (WasLatest o) ways (decided kept l reader.lease (record (begun_at moment overtaken kept) { stage = Ended }))
-    latest-decided leased moment overtaken l is =
-        decided-comes w.stored valid.line o reader P (WasLatest o) ways leased number-is number-low number-within view-low view-reached whole-placed moment overtaken l (latest-read l is reader.lease leased)
+    pub latest-decided : (leased : is_some reader.lease ≡ is_managed reader.mode) (moment : ℤ) (overtaken : ℕ) (history : PollHistory) (l : VersionedManifest) → latest_manifest o ≡ Some l →
+        Comes w.stored valid.line o reader P (WasLatest o) ways (decided kept l reader.lease (record (begun_at moment overtaken history kept) { stage = Ended }))
+    latest-decided leased moment overtaken history l is =
+        decided-comes w.stored valid.line o reader P (WasLatest o) ways leased number-is number-low number-within view-low view-reached whole-placed moment overtaken history l (latest-read l is reader.lease leased)
 
     -- ---- a begun poll
     poll-comes : (begun : Begun) → PollStands o w reader begun → AreNumberedFrom begun.floor begun.fresh → Come w.stored valid.line o reader P (WasLatest o) begun
@@ -220,8 +227,8 @@ module _ (w : World) (o : Objects) (sound : IsSound o) (holds : Holds o w) (vali
         (numbered-drop w.stored.floor k w.stored.batches valid.line (omega (arith, low, within))) in
         numbered-front b.floor b.fresh (c.fresh).0 (subst (AreNumberedFrom b.floor) (sym above ∙ (c.fresh).1) all)
 
-    come-stands : (b : Begun) → Come w.stored valid.line o reader P (WasLatest o) b → IsStagedNext reader b b.stage → (b.stage ≡ ReadsLatest → b ≡ begun_at b.moment b.overtaken kept) → FollowsLine o w.stored kept b → Advances reader number-is b → PollStands o w reader b
-    come-stands b c staged anew follows advances = record {
+    come-stands : (b : Begun) → Come w.stored valid.line o reader P (WasLatest o) b → IsStagedNext reader b b.stage → HasPlan b b.stage → (reader.skips ≡ true → IsBareAt reader b b.stage) → (b.stage ≡ ReadsLatest → b ≡ begun_at b.moment b.overtaken b.history kept) → FollowsLine o w.stored kept b → Advances reader number-is b → Lasts o kept b → PollStands o w reader b
+    come-stands b c staged planned bare anew follows advances lasts = record {
       reader_stands = s;
       keeps = keeps;
       follows = follows;
@@ -230,21 +237,23 @@ module _ (w : World) (o : Objects) (sound : IsSound o) (holds : Holds o w) (vali
       within = c.within;
       comes = c.stands;
       read = c.read;
-      staged = staged-as b.stage staged;
+      staged = staged-as b.stage staged planned;
+      bare = bare;
       anew = anew;
       numbered = fresh-numbered b c;
       risen = advances.risen;
       above = advances.above;
       tabled = advances.tabled;
+      lasts = lasts;
     }
       where
-        staged-as : (stage : Stage) → IsStagedNext reader b stage → IsStaged reader b stage
-        staged-as (Puts next given replaces) staged = staged
-        staged-as AsksLast staged = staged
-        staged-as (ReadsLog last) staged = staged
-        staged-as ReadsAgain staged = staged
-        staged-as ReadsLatest staged = tt
-        staged-as Ended staged = tt
+        staged-as : (stage : Stage) → IsStagedNext reader b stage → HasPlan b stage → IsStaged reader b stage
+        staged-as (Puts next given replaces) staged planned = planned
+        staged-as AsksLast staged planned = staged
+        staged-as (ReadsLog last) staged planned = staged
+        staged-as ReadsAgain staged planned = staged
+        staged-as ReadsLatest staged planned = tt
+        staged-as Ended staged planned = tt
 
 -- ---- what a call finds, and leads to
 gap-rises : (from last : ℕ) (bs : List Batch) → HaveGap from last bs → from ≤ last
@@ -276,37 +285,10 @@ put-read o w reader last next lease given planned was managed (low, high, s) =
     let moved = subst (λ (v : VersionedManifest). (w.stored.floor ≤ v.manifest.last_l0_seq) × (v.manifest.last_l0_seq ≤ end w.stored) × StandsBeside o w (tabled_by w.stored reader v (Some given))) (sym other.1) there in
     (was, moved.0, moved.1, moved.2)
 
-free-at : (o : Objects) (next : VersionedManifest) → is_present (PutManifest next.id next.manifest) o ≡ false → entry_at next.id o.manifests ≡ None
-free-at o next free = none-there (entry_at next.id o.manifests) free
-  where
-    none-there : (entry : Option Manifest) → is_some entry ≡ false → entry ≡ None
-    none-there None free = refl
-    none-there (Some m) free = absurd (cc)
-
--- a manifest that was the latest one still was, after another is put that was planned after one that was
-pub was-put : (o : Objects) (sound : IsSound o) (last_one next : VersionedManifest) (was : WasLatest o last_one) (planned : IsPlanned last_one next) (free : is_present (PutManifest next.id next.manifest) o ≡ false) (last : VersionedManifest) → WasLatest o last → WasLatest (changed (PutManifest next.id next.manifest) o) last
-was-put o sound last_one next was planned free last (latest, is, low, same) =
-    let put = (put-maintains o sound last_one next was planned free).1 in
-    elim (cases_lt latest.id next.id) [
-      | inl above ↦ let up = put.2 in (put.0, put.1, omega (arith, low, above, up), λ ids. absurd (omega (arith, low, above, up, ids)))
-      | inr below ↦ elim (cases_lt next.id latest.id) [
-        | inl less ↦ (latest, stale-latest o sound latest is next.id next.manifest less unstored, low, same)
-        | inr over ↦
-            let here : next.id ≡ latest.id = omega (arith, below, over) in
-            let there = latest-entry o latest sound is in
-            absurd (let none = unstored in let some = subst (λ n. entry_at n o.manifests ≡ Some latest.manifest) (sym here) there in cc (none, some))
-      ]
-    ]
-  where
-    unstored : entry_at next.id o.manifests ≡ None
-    unstored = free-at o next free
-
--- the latest manifest is another one but for its id and its checkpoints
-abbrev pub IsLatestBut : Objects → VersionedManifest → Type 0
-IsLatestBut o latest = (latest' : VersionedManifest) × (latest_manifest o ≡ Some latest') × (latest'.manifest ≡ record latest.manifest { checkpoints = latest'.manifest.checkpoints })
-
-pub put-leaves : (o : Objects) (sound : IsSound o) (last_one next : VersionedManifest) (was : WasLatest o last_one) (planned : IsPlanned last_one next) (free : is_present (PutManifest next.id next.manifest) o ≡ false) (latest : VersionedManifest) → latest_manifest o ≡ Some latest → IsLatestBut (changed (PutManifest next.id next.manifest) o) latest
-put-leaves o sound last_one next was planned free latest is =
+-- Such a put is the latest manifest afterwards, where it was planned after that, or the latest one is as before.
+pub put-tops : (o : Objects) (sound : IsSound o) (last_one next : VersionedManifest) (was : WasLatest o last_one) (planned : IsPlanned last_one next) (free : is_present (PutManifest next.id next.manifest) o ≡ false) (latest : VersionedManifest) → latest_manifest o ≡ Some latest →
+    ((last_one ≡ latest) × (latest.id < next.id) × (latest_manifest (changed (PutManifest next.id next.manifest) o) ≡ Some next)) ⊎ ((next.id < latest.id) × (latest_manifest (changed (PutManifest next.id next.manifest) o) ≡ Some latest))
+put-tops o sound last_one next was planned free latest is =
     let other = planned-other last_one next planned in
     let its : was.0 ≡ latest = some-same was.0 latest (sym was.1 ∙ is) in
     let low : last_one.id ≤ latest.id = subst (λ (v : VersionedManifest). last_one.id ≤ v.id) its was.2 in
@@ -316,17 +298,36 @@ put-leaves o sound last_one next was planned free latest is =
           let number = ap (λ (v : VersionedManifest). v.id) its in
           let same : last_one ≡ latest = was.3 (omega (arith, low, ids, above, number)) ∙ its in
           let next_is : next ≡ with_checkpoints other.0 latest = other.1 ∙ ap (with_checkpoints other.0) same in
-          let top : latest_manifest (changed (PutManifest next.id next.manifest) o) ≡ Some next =
-          ap (λ (v : VersionedManifest). latest_manifest (changed (PutManifest v.id v.manifest) o)) next_is ∙ (put-latest o latest sound is (with_checkpoints other.0 latest).manifest ∙ ap Some (sym next_is)) in
-          (next, top, subst (λ (v : VersionedManifest). v.manifest ≡ record latest.manifest { checkpoints = v.manifest.checkpoints }) (sym next_is) refl)
+          inl (same, above, ap (λ (v : VersionedManifest). latest_manifest (changed (PutManifest v.id v.manifest) o)) next_is ∙ (put-latest o latest sound is (with_checkpoints other.0 latest).manifest ∙ ap Some (sym next_is)))
       | inr below ↦ elim (cases_lt next.id latest.id) [
-        | inl less ↦ (latest, stale-latest o sound latest is next.id next.manifest less (free-at o next free), refl)
+        | inl less ↦ inr (less, stale-latest o sound latest is next.id next.manifest less (free-at o next free))
         | inr over ↦
             let here : next.id ≡ latest.id = omega (arith, below, over) in
             let there = latest-entry o latest sound is in
             absurd (let none = free-at o next free in let some = subst (λ n. entry_at n o.manifests ≡ Some latest.manifest) (sym here) there in cc (none, some))
       ]
     ]
+
+-- the latest manifest is another one but for its id, which isn't lower, and its checkpoints
+abbrev pub IsLatestBut : Objects → VersionedManifest → Type 0
+IsLatestBut o latest = (latest' : VersionedManifest) × (latest_manifest o ≡ Some latest') × (latest'.manifest ≡ record latest.manifest { checkpoints = latest'.manifest.checkpoints }) × (latest.id ≤ latest'.id)
+
+pub put-leaves : (o : Objects) (sound : IsSound o) (last_one next : VersionedManifest) (was : WasLatest o last_one) (planned : IsPlanned last_one next) (free : is_present (PutManifest next.id next.manifest) o ≡ false) (latest : VersionedManifest) → latest_manifest o ≡ Some latest → IsLatestBut (changed (PutManifest next.id next.manifest) o) latest
+put-leaves o sound last_one next was planned free latest is = elim (put-tops o sound last_one next was planned free latest is) [
+  | inl (same, above, top) ↦
+      let other = planned-other last_one next planned in
+      let next_is : next ≡ with_checkpoints other.0 latest = other.1 ∙ ap (with_checkpoints other.0) same in
+      (next, top, subst (λ (v : VersionedManifest). v.manifest ≡ record latest.manifest { checkpoints = v.manifest.checkpoints }) (sym next_is) refl, omega (arith, above))
+  | inr (less, stale) ↦ (latest, stale, refl, omega arith)
+]
+
+covered-same : (skips : Bool) (target : ℕ) (a b : VersionedManifest) (o : Objects) → b.manifest.last_l0_seq ≡ a.manifest.last_l0_seq → b.manifest.replay_after_wal_id ≡ a.manifest.replay_after_wal_id → IsCoveredBy skips target a o → IsCoveredBy skips target b o
+covered-same true target a b o tabled mark low = omega (arith, tabled, low)
+covered-same false target a b o tabled mark covered = subst (λ n. IsCovered target n b.manifest.replay_after_wal_id o) (sym tabled) (subst (λ k. IsCovered target a.manifest.last_l0_seq k o) (sym mark) covered)
+
+staged-same : (target : ℕ) (o : Objects) (begun : Begun) (next : VersionedManifest) (given : Lease) (replaces : Bool) → ReachesAt (Puts next given replaces) target o begun → ReachesAt (Puts next given replaces) target o (taken begun)
+staged-same target o begun next given true r = r
+staged-same target o begun next given false r = r
 
 module _ (live : Live) (store store' : Known (List Batch)) (w : World) (o o' : Objects) (sound : IsSound o) (holds : Holds o w) (valid : IsValid w) (reads : (n : ℕ) (x : Object) → slice_get w.objects n ≡ Some x → IsHeld o x)
     (r : RepresentsObjects live store w) (at' : store'.objects ≡ Some o') (reader : Follower) (live_is : reader.result ≡ None) (unpinned : is_pinned reader.mode ≡ false) (begun : Begun) (p : PollStands o w reader begun) where
@@ -340,6 +341,13 @@ module _ (live : Live) (store store' : Known (List Batch)) (w : World) (o o' : O
   staged-at : (stage : Stage) → begun.stage ≡ stage → IsStaged reader begun stage
   staged-at stage is = subst (IsStaged reader begun) is p.staged
 
+  -- ---- what it aims at
+  -- as much is stored, or in tables, and after its first step it reaches that
+  pub record Aims (target : ℕ) : Type 0 where
+    pub stored : reader.skips ≡ false → target ≤ end w.stored
+    pub tabled : reader.skips ≡ true → (l : VersionedManifest) → latest_manifest w.catalogue ≡ Some l → target ≤ l.manifest.last_l0_seq
+    pub before : (begun.stage ≡ ReadsLatest) ⊎ (((l : VersionedManifest) → begun.latest ≡ Some l → IsCoveredBy reader.skips target l o) × ReachesAt begun.stage target o begun)
+
   -- ---- the objects go on
   same-maintained : o' ≡ o → Maintained o o'
   same-maintained same = unchanged-objects o o' sound same
@@ -349,14 +357,14 @@ module _ (live : Live) (store store' : Known (List Batch)) (w : World) (o o' : O
   left-maintained (Puts next given replaces) is (inr put) =
       let staged = staged-at (Puts next given replaces) is in
       let read = p.read staged.0 staged.1 in
-      subst (Maintained o) (sym put.1) (put-maintains o sound staged.0 next read.0 staged.3 put.0).0
+      subst (Maintained o) (sym put.1) (put-maintains o sound staged.0 next read.0 (staged-planned reader begun next given replaces staged) put.0).0
   left-maintained ReadsLatest is same = same-maintained same
   left-maintained AsksLast is same = same-maintained same
   left-maintained (ReadsLog last) is same = same-maintained same
   left-maintained ReadsAgain is same = same-maintained same
   left-maintained Ended is same = same-maintained same
 
-  meets-left : (stage : Stage) (turn : Turn) → MeetsAt stage kept_one begun o turn o' → LeavesPut stage o o'
+  meets-left : (stage : Stage) (turn : Turn) → MeetsAt stage kept_one (taken begun) o turn o' → LeavesPut stage o o'
   meets-left ReadsLatest turn m = m.3
   meets-left (Puts next given replaces) turn (inl m) = inr (m.0, m.2)
   meets-left (Puts next given replaces) turn (inr m) = inl m.2
@@ -365,7 +373,7 @@ module _ (live : Live) (store store' : Known (List Batch)) (w : World) (o o' : O
   meets-left ReadsAgain turn m = m.3
   meets-left Ended turn m = absurd m
 
-  fails-left : (stage : Stage) (e : SlateError) → FailsFrom stage kept_one begun o e o' → LeavesPut stage o o'
+  fails-left : (stage : Stage) (e : SlateError) → FailsFrom stage kept_one (taken begun) o e o' → LeavesPut stage o o'
   fails-left stage errors.LatestTransactionalObjectVersionMissing f = none-left stage f.0 f.2
     where
       none-left : (stage : Stage) → reads_latest stage ≡ true → o' ≡ o → LeavesPut stage o o'
@@ -391,7 +399,7 @@ module _ (live : Live) (store store' : Known (List Batch)) (w : World) (o o' : O
     w' = record w { catalogue = catalogue_of o'; faults = store'.faults }
 
     pub stands-then : (f : Follower) → StandsBeside o w f → StandsBeside o' w' f
-    stands-then f s = beside-onward w o w.stored o' w.objects w.polls w.writes store'.faults holds (onward-maintained w o sound holds valid reads o' m w.objects (λ n a at. at)) f s
+    stands-then f s = beside-onward w o w.stored o' w.objects w.polls w.owed w.writes store'.faults holds (onward-maintained w o sound holds valid reads o' m w.objects (λ n a at. at)) f s
 
     holds-then : Holds o' w'
     holds-then = record { stored = m.content ∙ holds.stored; catalogue = refl }
@@ -419,11 +427,11 @@ module _ (live : Live) (store store' : Known (List Batch)) (w : World) (o o' : O
     reader-then : StandsBeside o' w' reader
     reader-then = stands-then reader p.reader_stands
 
-    started : is_some reader.lease ≡ is_managed reader.mode → (moment : ℤ) (overtaken : ℕ) → CameTo (begun_at moment overtaken kept_one)
-    started leased moment overtaken = begun-comes w' o' m.sound holds-then valid-then reads-then reader unpinned reader-then p.keeps leased moment overtaken
+    started : is_some reader.lease ≡ is_managed reader.mode → (moment : ℤ) (overtaken : ℕ) (history : PollHistory) → CameTo (begun_at moment overtaken history kept_one)
+    started leased moment overtaken history = begun-comes w' o' m.sound holds-then valid-then reads-then reader unpinned reader-then p.keeps leased moment overtaken history
 
     -- what the poll had come to, where the manifest that it read last is still one that was the latest
-    begun-then : ((last : VersionedManifest) → begun.latest ≡ Some last → WasLatest o' last) → CameTo begun
+    begun-then : ((last : VersionedManifest) → begun.latest ≡ Some last → WasLatest o' last) → CameTo (taken begun)
     begun-then was =
         let c = poll-comes w o sound holds valid reads reader unpinned p.reader_stands p.keeps begun p numbered in
         record {
@@ -462,7 +470,7 @@ module _ (live : Live) (store store' : Known (List Batch)) (w : World) (o o' : O
           let begins = log-begins o sound kept_one begun numbered content-follows l fresh found (replaying-is l read) n in
           (begins.0, ap (λ (x : Line). batches_above begun.floor x.batches) (sym holds.stored) ∙ ap (λ (x : Line). x.batches) begins.1)
 
-      c : CameTo begun
+      c : CameTo (taken begun)
       c = begun-then (was-same same)
 
       number-at : (n mark : ℕ) → w.stored.floor ≤ n → n ≤ end w.stored → number (placed w.stored reader (view_of kept_one begun) n mark begun.lease) ≡ n
@@ -485,11 +493,11 @@ module _ (live : Live) (store store' : Known (List Batch)) (w : World) (o o' : O
               seen-log o' (placed w.stored reader (view_of kept_one begun) (reached_number begun) begun.mark begun.lease) (placed w.stored reader (view_of kept_one begun) (begun.floor + length fresh) (begun.mark + 1) begun.lease) batches refl (omega (arith, here, there, up)) stored_is
               (subst (λ k. All (λ (b : Batch). b.number ≤ k) batches) (sym there) (no-gap-within _ _ batches gap))
               ((stands-then (comes_to w.stored reader begun) p.comes).held.1 unpinned) in
-              ends_by (begun.mark + 1 == last) (λ stage. read-on w.stored valid.line o' reader Q (WasLatest o') (ways w' o' m.sound holds-then valid-then reads-then reader unpinned) begun stage fresh (begun.mark + 1) c up rest within reads_is seen)
+              ends_by (begun.mark + 1 == last) (λ stage. read-on w.stored valid.line o' reader Q (WasLatest o') (ways w' o' m.sound holds-then valid-then reads-then reader unpinned) (taken begun) stage fresh (begun.mark + 1) c up rest within reads_is seen)
             where
-              ends_by : (x : Bool) → ((stage : Stage) → CameTo (record begun { stage = stage; fresh = fresh; mark = begun.mark + 1 })) →
-                  Came (if x then replayed l (record begun { stage = Ended; fresh = fresh; mark = begun.mark + 1 }) else Goes (record begun { stage = ReadsLog last; fresh = fresh; mark = begun.mark + 1 }))
-              ends_by true come = replayed-comes w.stored valid.line o' reader Q (WasLatest o') (ways w' o' m.sound holds-then valid-then reads-then reader unpinned) l (record begun { stage = Ended; fresh = fresh; mark = begun.mark + 1 }) read (come Ended)
+              ends_by : (x : Bool) → ((stage : Stage) → CameTo (record (taken begun) { stage = stage; fresh = fresh; mark = begun.mark + 1 })) →
+                  Came (if x then replayed l (record (taken begun) { stage = Ended; fresh = fresh; mark = begun.mark + 1 }) else Goes (record (taken begun) { stage = ReadsLog last; fresh = fresh; mark = begun.mark + 1 }))
+              ends_by true come = replayed-comes w.stored valid.line o' reader Q (WasLatest o') (ways w' o' m.sound holds-then valid-then reads-then reader unpinned) l (record (taken begun) { stage = Ended; fresh = fresh; mark = begun.mark + 1 }) read (come Ended)
               ends_by false come = (come (ReadsLog last), reads_is, λ other. absurd (cc))
 
       cut-read : (id : ℕ) → ReplaysNext (begun.mark + 1) begun.floor begun.fresh fresh o (Ok (replays.Truncated id)) → Came (log_turn (replays.Truncated id) l last fresh (taken begun))
@@ -502,14 +510,14 @@ module _ (live : Live) (store store' : Known (List Batch)) (w : World) (o o' : O
           let there = number-at (begun.floor + length fresh) begun.mark (omega (arith, low)) within in
           let seen = seen-as o' (placed w.stored reader (view_of kept_one begun) (reached_number begun) begun.mark begun.lease) (placed w.stored reader (view_of kept_one begun) (begun.floor + length fresh) begun.mark begun.lease) refl (omega (arith, here, there, up))
           ((stands-then (comes_to w.stored reader begun) p.comes).held.1 unpinned) in
-          read-on w.stored valid.line o' reader Q (WasLatest o') (ways w' o' m.sound holds-then valid-then reads-then reader unpinned) begun Ended fresh begun.mark c up rest within reads_is seen
+          read-on w.stored valid.line o' reader Q (WasLatest o') (ways w' o' m.sound holds-then valid-then reads-then reader unpinned) (taken begun) Ended fresh begun.mark c up rest within reads_is seen
         where
           rises : (log : Option (List Batch)) → MatchOption log (fresh ≡ begun.fresh) (HaveGap (begun.floor + length begun.fresh) (begun.floor + length fresh)) → begun.floor + length begun.fresh ≤ begun.floor + length fresh
           rises None old = let e = ap (λ (xs : List Batch). length xs) old in omega (arith, e)
           rises (Some batches) gap = gap-rises _ _ batches gap
 
     -- each call leads to what stands
-    meets-came : (stage : Stage) (turn : Turn) → begun.stage ≡ stage → MeetsAt stage kept_one begun o turn o' → Came turn
+    meets-came : (stage : Stage) (turn : Turn) → begun.stage ≡ stage → MeetsAt stage kept_one (taken begun) o turn o' → Came turn
     meets-came ReadsLatest turn at (l, is, turn_is, same) =
         let start = p.anew at in
         let leased : is_some reader.lease ≡ is_managed reader.mode = subst (λ (b : Begun). is_some b.lease ≡ is_managed reader.mode) start (p.fits).leased in
@@ -517,45 +525,46 @@ module _ (live : Live) (store store' : Known (List Batch)) (w : World) (o o' : O
         let moment = begun.moment in
         let overtaken = begun.overtaken in
         let lease : begun.lease ≡ reader.lease = ap (λ (b : Begun). b.lease) start in
-        let taken_is : taken begun ≡ record (begun_at moment overtaken kept_one) { stage = Ended } = ap (λ (b : Begun). record b { stage = Ended }) start in
-        let whole : turn ≡ decided kept_one l reader.lease (record (begun_at moment overtaken kept_one) { stage = Ended }) = turn_is ∙ (ap (λ x. decided kept_one l x (taken begun)) lease ∙ ap (decided kept_one l reader.lease) taken_is) in
-        subst Came (sym whole) (latest-decided w' o' m.sound holds-then valid-then reads-then reader unpinned reader-then p.keeps leased moment overtaken l is')
+        let history = with_latest l (with_step begun.history) in
+        let taken_is : noted l (taken begun) ≡ record (begun_at moment overtaken history kept_one) { stage = Ended } = ap (λ (b : Begun). record b { stage = Ended; history = history }) start in
+        let whole : turn ≡ decided kept_one l reader.lease (record (begun_at moment overtaken history kept_one) { stage = Ended }) = turn_is ∙ (ap (λ x. decided kept_one l x (noted l (taken begun))) lease ∙ ap (decided kept_one l reader.lease) taken_is) in
+        subst Came (sym whole) (latest-decided w' o' m.sound holds-then valid-then reads-then reader unpinned reader-then p.keeps leased moment overtaken history l is')
     meets-came (Puts next given replaces) turn at (inl (free, turn_is, put)) =
         let staged = staged-at (Puts next given replaces) at in
         let read = p.read staged.0 staged.1 in
-        let puts = put-maintains o sound staged.0 next read.0 staged.3 free in
+        let puts = put-maintains o sound staged.0 next read.0 (staged-planned reader begun next given replaces staged) free in
         let was = subst (λ x. WasLatest x next × WasLatest x staged.0) (sym put) (puts.1, puts.2) in
-        let managed : is_managed reader.mode ≡ true = sym (p.fits).leased ∙ staged.2 in
+        let managed : is_managed reader.mode ≡ true = sym (p.fits).leased ∙ staged-leased reader begun next given replaces staged in
         let c = begun-then (λ last is. subst (WasLatest o') (some-same staged.0 last (sym staged.1 ∙ is)) was.1) in
-        let next_read = put-read o' w' reader staged.0 next begun.lease given staged.3 was.0 managed (read.1, read.2, stands-then (tabled_by w.stored reader staged.0 begun.lease) read.3) in
+        let next_read = put-read o' w' reader staged.0 next begun.lease given (staged-planned reader begun next given replaces staged) was.0 managed (read.1, read.2, stands-then (tabled_by w.stored reader staged.0 begun.lease) read.3) in
         subst Came (sym turn_is)
         (committed-comes w.stored valid.line o' reader Q (WasLatest o') (ways w' o' m.sound holds-then valid-then reads-then reader unpinned) next given replaces (taken begun)
-        (restaged w.stored valid.line o' reader Q (WasLatest o') (ways w' o' m.sound holds-then valid-then reads-then reader unpinned) begun Ended begun.asked c) managed next_read)
+        (restaged w.stored valid.line o' reader Q (WasLatest o') (ways w' o' m.sound holds-then valid-then reads-then reader unpinned) (taken begun) Ended begun.asked c) managed next_read)
     meets-came (Puts next given replaces) turn at (inr (there, turn_is, same)) =
         let staged = staged-at (Puts next given replaces) at in
-        let managed : is_managed reader.mode ≡ true = sym (p.fits).leased ∙ staged.2 in
+        let managed : is_managed reader.mode ≡ true = sym (p.fits).leased ∙ staged-leased reader begun next given replaces staged in
         let reader-leased : is_some reader.lease ≡ is_managed reader.mode = (p.reader_stands).valid.2 managed live_is ∙ sym managed in
         subst Came (sym turn_is)
         (overtaken-comes w.stored valid.line o' reader Q (WasLatest o') (ways w' o' m.sound holds-then valid-then reads-then reader unpinned) (taken begun) (started reader-leased))
     meets-came AsksLast turn at (turn_is, same) =
         subst Came (sym turn_is)
-        (asked-comes w.stored valid.line o' reader Q (WasLatest o') (ways w' o' m.sound holds-then valid-then reads-then reader unpinned) (last_log begun.mark o) begun (begun-then (was-same same)) (staged-at AsksLast at))
+        (asked-comes w.stored valid.line o' reader Q (WasLatest o') (ways w' o' m.sound holds-then valid-then reads-then reader unpinned) (last_log begun.mark o) (taken begun) (begun-then (was-same same)) (staged-at AsksLast at))
     meets-came (ReadsLog last) turn at (l, fresh, replays.Whole, read, n, turn_is, same) = subst Came (sym turn_is) (whole-read l last fresh at read same n)
     meets-came (ReadsLog last) turn at (l, fresh, (replays.Truncated id), read, n, turn_is, same) = subst Came (sym turn_is) (cut-read l last fresh at read same id n)
     meets-came ReadsAgain turn at (l, is, turn_is, same) =
         subst Came (sym turn_is)
-        (again-comes w.stored valid.line o' reader Q (WasLatest o') (ways w' o' m.sound holds-then valid-then reads-then reader unpinned) l begun (begun-then (was-same same)) (latest-then l (ap latest_manifest same ∙ is) begun.lease (p.fits).leased))
+        (again-comes w.stored valid.line o' reader Q (WasLatest o') (ways w' o' m.sound holds-then valid-then reads-then reader unpinned) l (taken begun) (begun-then (was-same same)) (latest-then l (ap latest_manifest same ∙ is) begun.lease (p.fits).leased))
     meets-came Ended turn at m = absurd m
 
     -- and to no lower number
     abbrev same_number : number kept_one ≡ number reader
     same_number = number-is w o sound holds valid reads reader unpinned p.reader_stands p.keeps
 
-    advances : Advances reader same_number begun
+    advances : Advances reader same_number (taken begun)
     advances = record { risen = p.risen; above = p.above; tabled = p.tabled }
 
     -- the latest manifest is above what it has
-    latest-above : (l : VersionedManifest) → latest_manifest o ≡ Some l → IsAbove reader same_number begun l
+    latest-above : (l : VersionedManifest) → latest_manifest o ≡ Some l → IsAbove reader same_number (taken begun) l
     latest-above l is =
         let at : latest_manifest w.catalogue ≡ Some l = sym (ap latest_manifest holds.catalogue) ∙ is in
         let viewed = p.comes.valid.3 unpinned l at in
@@ -574,35 +583,148 @@ module _ (live : Live) (store store' : Known (List Batch)) (w : World) (o o' : O
         by None old = let e = ap (λ (xs : List Batch). length xs) old in omega (arith, e)
         by (Some batches) gap = gap-rises _ _ batches gap
 
-    meets-advances : (stage : Stage) (turn : Turn) → begun.stage ≡ stage → MeetsAt stage kept_one begun o turn o' → Advanced reader same_number turn
+    meets-advances : (stage : Stage) (turn : Turn) → begun.stage ≡ stage → MeetsAt stage kept_one (taken begun) o turn o' → Advanced reader same_number turn
     meets-advances ReadsLatest turn at (l, is, turn_is, same) =
         let start = p.anew at in
         let lease : begun.lease ≡ reader.lease = ap (λ (b : Begun). b.lease) start in
-        let taken_is : taken begun ≡ record (begun_at begun.moment begun.overtaken kept_one) { stage = Ended } = ap (λ (b : Begun). record b { stage = Ended }) start in
-        let whole : turn ≡ decided kept_one l reader.lease (record (begun_at begun.moment begun.overtaken kept_one) { stage = Ended }) = turn_is ∙ (ap (λ x. decided kept_one l x (taken begun)) lease ∙ ap (decided kept_one l reader.lease) taken_is) in
+        let history = with_latest l (with_step begun.history) in
+        let taken_is : noted l (taken begun) ≡ record (begun_at begun.moment begun.overtaken history kept_one) { stage = Ended } = ap (λ (b : Begun). record b { stage = Ended; history = history }) start in
+        let whole : turn ≡ decided kept_one l reader.lease (record (begun_at begun.moment begun.overtaken history kept_one) { stage = Ended }) = turn_is ∙ (ap (λ x. decided kept_one l x (noted l (taken begun))) lease ∙ ap (decided kept_one l reader.lease) taken_is) in
         let l_at : latest_manifest w.catalogue ≡ Some l = sym (ap latest_manifest holds.catalogue) ∙ is in
         subst (Advanced reader same_number) (sym whole)
-        (decided-advances reader same_number l begun.moment begun.overtaken reader.lease (p.reader_stands.valid.3 unpinned l l_at) (λ skips. p.reader_stands.valid.1 skips unpinned l l_at))
+        (decided-advances reader same_number l begun.moment begun.overtaken history reader.lease (p.reader_stands.valid.3 unpinned l l_at) (λ skips. p.reader_stands.valid.1 skips unpinned l l_at))
     meets-advances (Puts next given replaces) turn at (inl (free, turn_is, put)) =
         let staged = staged-at (Puts next given replaces) at in
-        let other = planned-other staged.0 next staged.3 in
+        let other = planned-other staged.0 next (staged-planned reader begun next given replaces staged) in
         let tabled : next.manifest.last_l0_seq ≡ (staged.0).manifest.last_l0_seq = ap (λ (v : VersionedManifest). v.manifest.last_l0_seq) other.1 in
         let base = p.above staged.0 staged.1 in
         subst (Advanced reader same_number) (sym turn_is)
         (committed-advances reader same_number next given replaces (taken begun) p.risen (omega (arith, tabled, base), λ skips. let low = p.tabled skips staged.0 staged.1 in omega (arith, tabled, low)))
     meets-advances (Puts next given replaces) turn at (inr (there, turn_is, same)) = subst (Advanced reader same_number) (sym turn_is) (overtaken-advances reader same_number (taken begun))
-    meets-advances AsksLast turn at (turn_is, same) = subst (Advanced reader same_number) (sym turn_is) (asked-advances reader same_number (last_log begun.mark o) begun advances)
-    meets-advances (ReadsLog last) turn at (l, fresh, replays.Whole, read, n, turn_is, same) = subst (Advanced reader same_number) (sym turn_is) (read-advances reader same_number l last fresh begun (log-up replays.Whole fresh n) advances)
-    meets-advances (ReadsLog last) turn at (l, fresh, (replays.Truncated id), read, n, turn_is, same) = subst (Advanced reader same_number) (sym turn_is) (cut-advances reader same_number fresh begun (log-up (replays.Truncated id) fresh n) advances)
-    meets-advances ReadsAgain turn at (l, is, turn_is, same) = subst (Advanced reader same_number) (sym turn_is) (again-advances reader same_number l begun advances (latest-above l is))
+    meets-advances AsksLast turn at (turn_is, same) = subst (Advanced reader same_number) (sym turn_is) (asked-advances reader same_number (last_log begun.mark o) (taken begun) advances)
+    meets-advances (ReadsLog last) turn at (l, fresh, replays.Whole, read, n, turn_is, same) = subst (Advanced reader same_number) (sym turn_is) (read-advances reader same_number l last fresh (taken begun) (log-up replays.Whole fresh n) advances)
+    meets-advances (ReadsLog last) turn at (l, fresh, (replays.Truncated id), read, n, turn_is, same) = subst (Advanced reader same_number) (sym turn_is) (cut-advances reader same_number fresh (taken begun) (log-up (replays.Truncated id) fresh n) advances)
+    meets-advances ReadsAgain turn at (l, is, turn_is, same) = subst (Advanced reader same_number) (sym turn_is) (again-advances reader same_number l (taken begun) advances (latest-above l is))
     meets-advances Ended turn at m = absurd m
+
+    -- ---- what it reaches
+    -- the log files go on
+    follows-then : (l l' : VersionedManifest) → latest_manifest o ≡ Some l → latest_manifest o' ≡ Some l' → LogsFollow o o' l.manifest.replay_after_wal_id l'.manifest.replay_after_wal_id
+    follows-then l l' is is' =
+        let next = m.latest l is in
+        subst (λ (v : VersionedManifest). LogsFollow o o' l.manifest.replay_after_wal_id v.manifest.replay_after_wal_id) (some-same next.0 l' (sym next.1 ∙ is'))
+        (stay-follow o o' l.manifest.replay_after_wal_id (next.0).manifest.replay_after_wal_id (sym next.4) (m.logs l is))
+
+    module _ (target : ℕ) (aims : Aims target) where
+      within-content : reader.skips ≡ false → target ≤ end (content o)
+      within-content reads = subst (λ (x : Line). target ≤ end x) (sym holds.stored) (aims.stored reads)
+
+      in-catalogue : (l : VersionedManifest) → latest_manifest o ≡ Some l → latest_manifest w.catalogue ≡ Some l
+      in-catalogue l is = sym (ap latest_manifest holds.catalogue) ∙ is
+
+      -- by the latest manifest
+      latest-anew : (l : VersionedManifest) → latest_manifest o ≡ Some l → IsCoveredBy reader.skips target l o
+      latest-anew l is = by reader.skips refl
+        where
+          by : (skips : Bool) → reader.skips ≡ skips → IsCoveredBy skips target l o
+          by true skips = aims.tabled skips l (in-catalogue l is)
+          by false reads = content-covered o sound l is target (within-content reads)
+
+      latest-covered : (l : VersionedManifest) → latest_manifest o ≡ Some l → IsCovered target (max (reached_number begun) l.manifest.last_l0_seq) (max begun.mark l.manifest.replay_after_wal_id) o
+      latest-covered l is = by reader.skips refl
+        where
+          by : (skips : Bool) → reader.skips ≡ skips → IsCovered target (max (reached_number begun) l.manifest.last_l0_seq) (max begun.mark l.manifest.replay_after_wal_id) o
+          by true skips = inl (let low = aims.tabled skips l (in-catalogue l is) in omega (arith, low))
+          by false reads = seen-covered o sound l is target kept_one begun (within-content reads) p.lasts.seen
+
+      -- after the first step
+      anew-by : (begun.stage ≡ ReadsLatest → ⊥) → (l : VersionedManifest) → begun.latest ≡ Some l → IsCoveredBy reader.skips target l o
+      anew-by later l is = elim aims.before [
+        | inl first ↦ absurd (later first)
+        | inr before ↦ before.0 l is
+      ]
+
+      next-by : (stage : Stage) → begun.stage ≡ stage → (begun.stage ≡ ReadsLatest → ⊥) → ReachesAt stage target o begun
+      next-by stage at later = elim aims.before [
+        | inl first ↦ absurd (later first)
+        | inr before ↦ subst (λ x. ReachesAt x target o begun) at before.1
+      ]
+
+      meets-reaches : (stage : Stage) (turn : Turn) → begun.stage ≡ stage → MeetsAt stage kept_one (taken begun) o turn o' → Reaches target o' kept_one turn
+      meets-reaches ReadsLatest turn at (l, is, turn_is, same) =
+          let unviewed : begun.view ≡ None = subst (λ (x : Stage). StandsAt x begun w.stored o) at p.follows.next in
+          subst (λ x. Reaches target x kept_one turn) (sym same) (subst (Reaches target o kept_one) (sym turn_is) (decided-reaches target o kept_one l begun.lease (noted l (taken begun)) unviewed (latest-anew l is) (latest-covered l is)))
+      meets-reaches (Puts next given replaces) turn at (inl (free, turn_is, put)) =
+          let staged = staged-at (Puts next given replaces) at in
+          let other = planned-other staged.0 next (staged-planned reader begun next given replaces staged) in
+          let later : begun.stage ≡ ReadsLatest → ⊥ = λ first. (let no : Puts next given replaces ≡ ReadsLatest = sym at ∙ first in cc) in
+          let l = p.lasts.latest in
+          let l' = m.latest l.0 l.1 in
+          let follows = follows-then l.0 l'.0 l.1 l'.1 in
+          let goes = m.goes (last_log (l.0).manifest.replay_after_wal_id o) in
+          let anew = anew-then target o o' l.0 l'.0 l.1 l'.1 follows goes reader.skips staged.0 (anew-by later staged.0 staged.1) in
+          let next_anew : IsCoveredBy reader.skips target next o' = subst (λ v. IsCoveredBy reader.skips target v o') (sym other.1) (covered-same reader.skips target staged.0 (with_checkpoints other.0 staged.0) o' refl refl anew) in
+          subst (Reaches target o' kept_one) (sym turn_is)
+          (committed-reaches target o' kept_one next given replaces (taken begun) next_anew (staged-same target o' begun next given replaces (reaches-then target o o' l.0 l'.0 l.1 l'.1 follows goes begun (Puts next given replaces) (next-by (Puts next given replaces) at later))))
+      meets-reaches (Puts next given replaces) turn at (inr (there, turn_is, same)) = subst (Reaches target o' kept_one) (sym turn_is) (overtaken-reaches target o' kept_one (taken begun))
+      meets-reaches AsksLast turn at (turn_is, same) =
+          let later : begun.stage ≡ ReadsLatest → ⊥ = λ first. (let no : AsksLast ≡ ReadsLatest = sym at ∙ first in cc) in
+          let l = p.lasts.latest in
+          subst (λ x. Reaches target x kept_one turn) (sym same) (subst (Reaches target o kept_one) (sym turn_is) (asked-reaches target o kept_one sound l.0 l.1 (taken begun) (anew-by later) (next-by AsksLast at later)))
+      meets-reaches (ReadsLog last) turn at (l, fresh, replays.Truncated id, read, n, turn_is, same) = subst (Reaches target o' kept_one) (sym turn_is) tt
+      meets-reaches (ReadsLog last) turn at (l, fresh, replays.Whole, read, n, turn_is, same) =
+          subst (λ x. Reaches target x kept_one turn) (sym same) (subst (Reaches target o kept_one) (sym turn_is) (by (log_at (begun.mark + 1) o) refl n.ends))
+        where
+          later : begun.stage ≡ ReadsLatest → ⊥
+          later first = (let no : ReadsLog last ≡ ReadsLatest = sym at ∙ first in cc)
+
+          by : (log : Option (List Batch)) → log_at (begun.mark + 1) o ≡ log → IsSomeAnd log (HaveNoGap (begun.floor + length begun.fresh) (begun.floor + length fresh)) → Reaches target o kept_one (read_log l last fresh (taken begun))
+          by None none gap = absurd gap
+          by (Some batches) stored gap = read-reaches target o kept_one l last fresh batches (taken begun) (anew-by later) stored (no-gap-rises _ _ batches gap) (no-gap-within _ _ batches gap) (next-by (ReadsLog last) at later)
+      meets-reaches ReadsAgain turn at (l, is, turn_is, same) =
+          let later : begun.stage ≡ ReadsLatest → ⊥ = λ first. (let no : ReadsAgain ≡ ReadsLatest = sym at ∙ first in cc) in
+          subst (λ x. Reaches target x kept_one turn) (sym same) (subst (Reaches target o kept_one) (sym turn_is) (again-reaches target o kept_one l (taken begun) is (latest-anew l is) (next-by ReadsAgain at later)))
+      meets-reaches Ended turn at meets = absurd meets
+
+      -- while there is another call
+      pub goes-reaches : (after : Begun) → Meets kept_one begun o (Goes after) o' → ReachesTo target o' w' reader after
+      goes-reaches after meets =
+          let r = meets-reaches begun.stage (Goes after) refl meets in
+          record {
+            stored = aims.stored;
+            tabled = λ skips found at.
+                let l = p.lasts.latest in
+                let l' = m.latest l.0 l.1 in
+                let low = aims.tabled skips l.0 (in-catalogue l.0 l.1) in
+                let number = l'.3 in
+                let same = ap (λ (v : VersionedManifest). v.manifest.last_l0_seq) (some-same l'.0 found (sym l'.1 ∙ at)) in
+                omega (arith, low, number, same);
+            anew = r.0;
+            next = r.1;
+          }
+
+      -- and where all log files were read
+      pub ends-reach : (last : Begun) → Meets kept_one begun o (Ends last) o' → target ≤ reached_number last
+      ends-reach last meets = meets-reaches begun.stage (Ends last) refl meets
+
+      pub ends-number : (last : Begun) → Meets kept_one begun o (Ends last) o' → (reader' : Follower) → unsegmented reader' ≡ arrived kept_one last → number reader' ≡ reached_number last
+      ends-number last meets reader' is =
+          let c = meets-came begun.stage (Ends last) refl meets in
+          let low = c.low in
+          let same = ap (λ (f : Follower). number f) (is ∙ arrived-kept w.stored valid.line o' reader Q (WasLatest o') (ways w' o' m.sound holds-then valid-then reads-then reader unpinned)
+          (whole-is w' o' m.sound holds-then valid-then reads-then reader unpinned reader-then p.keeps)
+          (number-is w' o' m.sound holds-then valid-then reads-then reader unpinned reader-then p.keeps) last c) in
+          let kept_number = line_above-end (view_of kept_one last).manifest.last_l0_seq (up_to (reached_number last) w.stored) in
+          let here = front-end w.stored valid.line (reached_number last) (omega (arith, low)) c.within in
+          same ∙ (kept_number ∙ here)
 
     goes-then : (after : Begun) → Meets kept_one begun o (Goes after) o' → PollStands o' w' reader after
     goes-then after meets =
         let t = meets-came begun.stage (Goes after) refl meets in
         let follows = goes-on o sound kept_one begun numbered (subst (λ (x : Line). FollowsLine o x kept_one begun) (sym holds.stored) p.follows) after o' meets in
-        come-stands w' o' m.sound holds-then valid-then reads-then reader unpinned reader-then p.keeps after t.0 t.1 t.2 (subst (λ (x : Line). FollowsLine o' x kept_one after) holds.stored follows)
+        come-stands w' o' m.sound holds-then valid-then reads-then reader unpinned reader-then p.keeps after t.0 t.1 (meets-planned begun.stage kept_one (taken begun) o o' (Goes after) meets) (λ skips. meets-bare reader skips (taken begun) o o' begun.stage (Goes after) p.staged (p.bare skips) meets) t.2 (subst (λ (x : Line). FollowsLine o' x kept_one after) holds.stored follows)
         (let a = meets-advances begun.stage (Goes after) refl meets in record { risen = a.risen; above = a.above; tabled = a.tabled })
+        (lasts-goes o sound kept_one begun (subst (λ (x : Line). FollowsLine o x kept_one begun) (sym holds.stored) p.follows) p.lasts after o' meets)
 
     arrives-then : (last : Begun) (reader' : Follower) → CameTo last → Advances reader same_number last → unsegmented reader' ≡ arrived kept_one last → (whole : Follower) × (unsegmented reader' ≡ kept_follower whole) × Q whole × FollowerRises reader whole
     arrives-then last reader' c a is = (
@@ -624,6 +746,7 @@ module _ (live : Live) (store store' : Known (List Batch)) (w : World) (o o' : O
   abbrev pub IsOfStored : Begun → Type 0
   IsOfStored last =
       ((rest : List Batch) × (batches_above last.floor w.stored.batches ≡ last.fresh ++ rest))
+      × (base_of kept_one last ≤ last.floor)
       × (kept_batches kept_one last ≡ batches_above (view_of kept_one last).manifest.last_l0_seq (up_to (reached_number last) w.stored).batches)
 
   pub ends-stored : (last : Begun) → Meets kept_one begun o (Ends last) o' ⊎ Meets kept_one begun o (Breaks last) o' → IsOfStored last
@@ -632,9 +755,21 @@ module _ (live : Live) (store store' : Known (List Batch)) (w : World) (o o' : O
     | inr cut ↦ let m = left-maintained begun.stage refl (meets-left begun.stage (Breaks last) cut) in of-stored m (meets-came m begun.stage (Breaks last) refl cut)
   ]
     where
+      floor-above : (m : Maintained o o') → CameTo m last → base_of kept_one last ≤ last.floor
+      floor-above m c = by last.keeps refl
+        where
+          by : (keeps : Bool) → last.keeps ≡ keeps → (if keeps then reader.view.manifest.last_l0_seq else last.floor) ≤ last.floor
+          by true kept =
+              let e = c.after kept in
+              let same = number-is (w' m) o' m.sound (holds-then m) (valid-then m) (reads-then m) reader unpinned (reader-then m) p.keeps in
+              let low = view-reached (w' m) o' m.sound (holds-then m) (valid-then m) (reads-then m) reader unpinned (reader-then m) p.keeps in
+              omega (arith, e, same, low)
+          by false anew = omega arith
+
       of-stored : (m : Maintained o o') → CameTo m last → IsOfStored last
       of-stored m c = (
         c.fresh,
+        floor-above m c,
         ap (λ (f : Follower). f.line.batches)
             (arrived-kept w.stored valid.line o' reader (Q m) (WasLatest o') (ways (w' m) o' m.sound (holds-then m) (valid-then m) (reads-then m) reader unpinned)
             (whole-is (w' m) o' m.sound (holds-then m) (valid-then m) (reads-then m) reader unpinned (reader-then m) p.keeps)
@@ -642,7 +777,7 @@ module _ (live : Live) (store store' : Known (List Batch)) (w : World) (o o' : O
       )
 
   -- ---- a step
-  steps-left : (reader' : Follower) (begun' : Begun) (result : Result (Option PollAnswer) SlateError) → Steps kept_one begun result o reader' begun' o' → LeavesPut begun.stage o o'
+  pub steps-left : (reader' : Follower) (begun' : Begun) (result : Result (Option PollAnswer) SlateError) → Steps kept_one begun result o reader' begun' o' → LeavesPut begun.stage o o'
   steps-left reader' begun' (Ok None) steps = meets-left begun.stage (Goes begun') steps.0
   steps-left reader' begun' (Ok (Some (answers.Whole at))) steps = meets-left begun.stage (Ends steps.0) steps.1
   steps-left reader' begun' (Ok (Some (answers.Truncated at))) steps = meets-left begun.stage (Breaks steps.0) steps.1
@@ -661,7 +796,7 @@ module _ (live : Live) (store store' : Known (List Batch)) (w : World) (o o' : O
       by (Puts next given replaces) is (inl same) = unchanged same
       by (Puts next given replaces) is (inr put) =
           let staged = staged-at (Puts next given replaces) is in
-          subst (λ x. WasLatest x last) (sym put.1) (was-put o sound staged.0 next (p.read staged.0 staged.1).0 staged.3 put.0 last was)
+          subst (λ x. WasLatest x last) (sym put.1) (was-put o sound staged.0 next (p.read staged.0 staged.1).0 (staged-planned reader begun next given replaces staged) put.0 last was)
       by ReadsLatest is same = unchanged same
       by AsksLast is same = unchanged same
       by (ReadsLog last) is same = unchanged same
@@ -672,13 +807,13 @@ module _ (live : Live) (store store' : Known (List Batch)) (w : World) (o o' : O
   steps-latest reader' begun' result steps latest there = by begun.stage refl (steps-left reader' begun' result steps)
     where
       unchanged : o' ≡ o → IsLatestBut o' latest
-      unchanged same = (latest, ap latest_manifest same ∙ there, refl)
+      unchanged same = (latest, ap latest_manifest same ∙ there, refl, omega arith)
 
       by : (stage : Stage) → begun.stage ≡ stage → LeavesPut stage o o' → IsLatestBut o' latest
       by (Puts next given replaces) is (inl same) = unchanged same
       by (Puts next given replaces) is (inr put) =
           let staged = staged-at (Puts next given replaces) is in
-          subst (λ x. IsLatestBut x latest) (sym put.1) (put-leaves o sound staged.0 next (p.read staged.0 staged.1).0 staged.3 put.0 latest there)
+          subst (λ x. IsLatestBut x latest) (sym put.1) (put-leaves o sound staged.0 next (p.read staged.0 staged.1).0 (staged-planned reader begun next given replaces staged) put.0 latest there)
       by ReadsLatest is same = unchanged same
       by AsksLast is same = unchanged same
       by (ReadsLog last) is same = unchanged same
@@ -717,16 +852,19 @@ module _ (live : Live) (store : Known (List Batch)) (w : World) (o : Objects) (r
   }
 
   pub poll-begins : (reader : Follower) (moment : ℤ) → StandsBeside o w reader → is_pinned reader.mode ≡ false → is_some reader.lease ≡ is_managed reader.mode → (kept_follower reader).line.floor ≡ reader.view.manifest.last_l0_seq →
-      PollStands o w reader (begun_at moment 0 (kept_follower reader))
+      PollStands o w reader (begun_at moment 0 no_step (kept_follower reader))
   poll-begins reader moment s unpinned leased keeps =
       let h = all-held in
       let kept_one = kept_follower reader in
-      let start = begun_at moment 0 kept_one in
+      let start = begun_at moment 0 no_step kept_one in
       let number = number-is w o h.0 h.1 r.valid h.2 reader unpinned s keeps in
       let low = number-low w o h.0 h.1 r.valid h.2 reader unpinned s keeps in
       let own : AreOf kept_one.line.batches w.stored = own-of in
-      come-stands w o h.0 h.1 r.valid h.2 reader unpinned s keeps start (begun-comes w o h.0 h.1 r.valid h.2 reader unpinned s keeps leased moment 0) tt (λ is. refl)
-      (begins-on o w.stored kept_one moment 0 own (omega (arith, number, low))) (start-advances reader number moment 0)
+      let past = s.past in
+      let latest : (l : VersionedManifest) × (latest_manifest o ≡ Some l) = (past.0, ap latest_manifest (h.1).catalogue ∙ past.1) in
+      come-stands w o h.0 h.1 r.valid h.2 reader unpinned s keeps start (begun-comes w o h.0 h.1 r.valid h.2 reader unpinned s keeps leased moment 0 no_step) tt tt (λ skips. tt) (λ is. refl)
+      (begins-on o w.stored kept_one moment 0 no_step own (omega (arith, number, low))) (start-advances reader number moment 0 no_step)
+      (begins-last o latest.0 kept_one moment latest.1 (seen-as o reader kept_one refl (omega (arith, number)) (s.held.1 unpinned)))
     where
       own-of : AreOf (kept_follower reader).line.batches w.stored
       own-of = are-above reader.view.manifest.last_l0_seq reader.line.batches w.stored (are-grown reader.line.batches reader.line w.stored s.valid.0 (All-contains_itself reader.line.batches))
@@ -759,7 +897,7 @@ module _ (settings : Settings) (w w' : World) (command : Command) (reply : Reply
                 ap (λ m. record { id = latest.id; manifest = m }) manifests ∙ ap (λ n. record { id = n; manifest = latest'.manifest }) ids
           ]
 
-  module _ (begun_beside : (f : Follower) → StandsBeside o w f → StandsBeside o' w' f) (logs : LogsAre (OfLine w'.stored) o o') (reader : Follower) (begun : Begun) (p : PollStands o w reader begun) where
+  module _ (begun_beside : (f : Follower) → StandsBeside o w f → StandsBeside o' w' f) (logs : LogsAre (OfLine w'.stored) o o') (act : OthersAct o o') (reader : Follower) (begun : Begun) (p : PollStands o w reader begun) where
     line-grows : IsPrefix w.stored w'.stored
     line-grows = grows settings w command reply w' next
 
@@ -789,12 +927,38 @@ module _ (settings : Settings) (w w' : World) (command : Command) (reply : Reply
           let up = end-grows in
           (was-then last read.0, floor-same read.1, omega (arith, high, up), placed-then last last.manifest.last_l0_seq last.manifest.replay_after_wal_id begun.lease read.2 read.3);
       staged = p.staged;
+      bare = p.bare;
       anew = p.anew;
       numbered = p.numbered;
       risen = p.risen;
       above = p.above;
       tabled = p.tabled;
+      lasts = others-last o o' (kept_follower reader) begun act p.lasts;
     }
+
+-- a poll of a reader that reaches a number still does after what others did
+pub reaches-on : (target : ℕ) (w w' : World) (o o' : Objects) (l next : VersionedManifest) → latest_manifest o ≡ Some l → latest_manifest o' ≡ Some next → Holds o w → Holds o' w' → IsPrefix w.stored w'.stored → l.manifest.last_l0_seq ≤ next.manifest.last_l0_seq →
+    LogsFollow o o' l.manifest.replay_after_wal_id next.manifest.replay_after_wal_id → LogsGo (last_log l.manifest.replay_after_wal_id o) o o' → (reader : Follower) (begun : Begun) → ReachesTo target o w reader begun → ReachesTo target o' w' reader begun
+reaches-on target w w' o o' l next is is' holds holds' grows tabled follows goes reader begun r = record {
+  stored = λ reads. (let low = r.stored reads in let up = prefix-end w.stored w'.stored grows in omega (arith, low, up));
+  tabled = λ skips found at.
+      let low = r.tabled skips l (sym (ap latest_manifest holds.catalogue) ∙ is) in
+      let same = ap (λ (v : VersionedManifest). v.manifest.last_l0_seq) (some-same next found (sym is' ∙ (ap latest_manifest holds'.catalogue ∙ at))) in
+      omega (arith, low, tabled, same);
+  anew = λ m at. anew-then target o o' l next is is' follows goes reader.skips m (r.anew m at);
+  next = reaches-then target o o' l next is is' follows goes begun begun.stage r.next;
+}
+
+pub reaches-beside : (settings : Settings) (live live' : Live) (store store' : Known (List Batch)) (w w' : World) (command : Command) (reply : Reply) → RepresentsObjects live store w → (next : NextWhole settings w command reply w') → RepresentsObjects live' store' w' → BesideThen store w store' w' →
+    (o o' : Objects) → store.objects ≡ Some o → store'.objects ≡ Some o' → (n : ℕ) (reader : Follower) (begun : Begun) → PollStands o w reader begun → IfSome begun.history.first (λ _. ReachesTo (w.owed n) o w reader begun) → IfSome begun.history.first (λ _. ReachesTo (w'.owed n) o' w' reader begun)
+reaches-beside settings live live' store store' w w' command reply r next r' beside o o' at at' n reader begun p reaches =
+    let h = all-held live store w o r at in
+    let h' = all-held live' store' w' o' r' at' in
+    let l = p.lasts.latest in
+    let go = (beside o o' reader at at').2 l.0 l.1 in
+    let f = go.1 in
+    if-some begun.history.first (λ _. ReachesTo (w.owed n) o w reader begun) (λ _. ReachesTo (w'.owed n) o' w' reader begun)
+    (λ _ r. subst (λ (owed : ℕ → ℕ). ReachesTo (owed n) o' w' reader begun) (sym next.owed) (reaches-on (w.owed n) w w' o o' l.0 go.0 l.1 f.latest_is h.1 h'.1 f.grows f.tabled f.logs f.goes reader begun r)) reaches
 
 -- what others do leaves a begun poll standing
 pub polls-beside : (settings : Settings) (live live' : Live) (store store' : Known (List Batch)) (w w' : World) (command : Command) (reply : Reply) → RepresentsObjects live store w → NextWhole settings w command reply w' → RepresentsObjects live' store' w' → BesideThen store w store' w' →
@@ -802,7 +966,8 @@ pub polls-beside : (settings : Settings) (live live' : Live) (store store' : Kno
 polls-beside settings live live' store store' w w' command reply r next r' beside o o' at at' reader begun p =
     let h = all-held live store w o r at in
     let h' = all-held live' store' w' o' r' at' in
-    poll-then settings w w' command reply (reached live store w r) (reached live' store' w' r') next o o' h.0 h.1 h'.1 h'.0 (λ f. (beside o o' f at at').0) (beside o o' reader at at').1 reader begun p
+    poll-then settings w w' command reply (reached live store w r) (reached live' store' w' r') next o o' h.0 h.1 h'.1 h'.0 (λ f. (beside o o' f at at').0) (beside o o' reader at at').1
+    (follows-acts o o' (beside o o' reader at at').2 (was-then settings w w' command reply (reached live store w r) (reached live' store' w' r') next o o' h.0 h.1 h'.1 h'.0)) reader begun p
 
 pub others_leave_them : OthersLeaveThem
 others_leave_them settings live live' store store' w command made reply r d =

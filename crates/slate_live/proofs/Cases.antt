@@ -73,3 +73,8 @@ module _ {L : Type 0} (k : Knowledge L) (made : ℕ) (h : Handle) (before : Know
   compact-by r f when_closed when_joined =
       by-option h.result (λ live. when_joined live (f.compacted live))
       (λ q is. let c = some-of (λ q. (r ≡ Err (closed_error q)) × (h' ≡ h) × Untouched made before after) h.result q is f.closed in when_closed q is c.0 c.1 c.2)
+
+-- what holds of what is there, where that follows from something else that does
+pub if-some : {X : Type 0} (o : Option X) (P Q : X → Type 0) → ((x : X) → P x → Q x) → IfSome o P → IfSome o Q
+if-some None P Q f held = tt
+if-some (Some x) P Q f held = f x held

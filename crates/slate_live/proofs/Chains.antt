@@ -1,6 +1,6 @@
 -- Commands that are done one after another lead through a chain of worlds.
 use Rattle.std.proofs.Common.{◌≡◌, ◌≤◌, ◌<◌, ◌+◌, ℕ, length, take, map, get_or, List, [], ◌∷◌, ◌++◌, Option, Some, refl, sym, subst, ap, ◌∙◌}
-use Rattle.std.specs.List.{All}
+use Rattle.std.specs.List.{All, slice_get}
 use Rattle.std.proofs.lemmas.List.{map-append, take_all, take_more}
 use Rattle.std.proofs.lemmas.List.Elements.{All-nil, All-push}
 use Rattle.slate_types.specs.declared.batches.Batch.{Batch}
@@ -13,10 +13,10 @@ use Rattle.slate_script.specs.declared.commands.Command.{Command}
 use Rattle.slate_script.specs.declared.options.Options.{Options}
 use Rattle.slate_script.specs.declared.replies.Reply.{Reply}
 use Rattle.slate_live.specs.State.{Live}
-use Rattle.slate_live.specs.Run.{AreWhole, DoAll, LeadsTo, none_live}
+use Rattle.slate_live.specs.Run.{DoAll, LeadsTo, none_live}
 use Rattle.slate_live.specs.Stepping.{IsDone}
 use Rattle.slate_live.specs.Settings.{Settings}
-use Rattle.slate_live.specs.Represents.{AreInSegments, IsReached, Represents, RepresentsObjects}
+use Rattle.slate_live.specs.Represents.{AllInSegments, IsReached, Represents, RepresentsObjects}
 use Rattle.slate_live.specs.Steps.{Chain, Step, last_world}
 use Rattle.slate_live.specs.Valid.{Link}
 use Rattle.slate_live.specs.World.{World, start}
@@ -30,7 +30,6 @@ use Rattle.slate_live.proofs.Segmented.{segmented-start}
 use Rattle.slate_live.proofs.Statuses.{statuses_name}
 use Rattle.slate_live.proofs.Staying.{stay_confirmed}
 use Rattle.slate_live.proofs.Tracking.{trackers_stay}
-use Rattle.slate_live.proofs.Wholes.{WholeChain, chain-whole}
 
 -- no object yet, over sound objects, represents the world of their start
 pub stands_start : (o : Objects) (store : Known (List Batch)) (live : Live) → live.objects ≡ [] → live.polls ≡ [] → live.writes ≡ [] → store.objects ≡ Some o → IsSound o → Represents live store (start o store.faults)
@@ -54,11 +53,11 @@ stands_start o store live no_object no_poll no_write is sound = record {
   begun = λ objects n begun there at. absurd (cc);
 }
 
-chain-push : (settings : Settings) (first : World) (steps : List Step) (step : Step) → Chain settings first steps → Link settings (last_world first steps) step.command step.reply step.world → Chain settings first (steps ++ step ∷ [])
+pub chain-push : (settings : Settings) (first : World) (steps : List Step) (step : Step) → Chain settings first steps → Link settings (last_world first steps) step.command step.reply step.world → Chain settings first (steps ++ step ∷ [])
 chain-push settings first [] step chain link = (link, tt)
 chain-push settings first (s ∷ steps) step chain link = (chain.0, chain-push settings s.world steps step chain.1 link)
 
-last-push : (first : World) (steps : List Step) (step : Step) → last_world first (steps ++ step ∷ []) ≡ step.world
+pub last-push : (first : World) (steps : List Step) (step : Step) → last_world first (steps ++ step ∷ []) ≡ step.world
 last-push first [] step = refl
 last-push first (s ∷ steps) step = last-push s.world steps step
 
@@ -95,9 +94,9 @@ stands-push first last steps command reply live store stands =
     subst (Represents live store) (sym (last-push first steps (record { command = command; reply = reply; world = last }))) stands
 
 -- whose keys are in segments
-pub segments-push : (extractor : Option Extractor) (first last : World) (steps : List Step) (command : Command) (reply : Reply) → AreInSegments extractor last → AreInSegments extractor (last_world first (steps ++ record { command = command; reply = reply; world = last } ∷ []))
+pub segments-push : (extractor : Option Extractor) (first last : World) (steps : List Step) (command : Command) (reply : Reply) → AllInSegments extractor last → AllInSegments extractor (last_world first (steps ++ record { command = command; reply = reply; world = last } ∷ []))
 segments-push extractor first last steps command reply segments =
-    subst (AreInSegments extractor) (sym (last-push first steps (record { command = command; reply = reply; world = last }))) segments
+    subst (AllInSegments extractor) (sym (last-push first steps (record { command = command; reply = reply; world = last }))) segments
 
 -- what is stored in the first world is stored in the last
 chain-grows : (settings : Settings) (first : World) (steps : List Step) → Chain settings first steps → IsPrefix first.stored (last_world first steps).stored
@@ -129,20 +128,23 @@ leads_all settings commands i replies o faults live store steps sound all done s
       repeated = repeat_errors settings (start o faults) steps done.chain;
       trackers = trackers_stay settings (start o faults) steps (start-reached settings.options o faults sound) done.chain done.reached;
       statuses = statuses_name settings (start o faults) steps refl (start-reached settings.options o faults sound) done.chain done.reached;
-      leases = λ whole. leases_hold settings (start o faults) steps refl (start-reached settings.options o faults sound) (all-whole whole) done.reached;
-      polls = λ whole. polls_fit settings (start o faults) steps refl (start-reached settings.options o faults sound) (segmented-start settings.extractor (start o faults) refl) (all-whole whole) done.reached;
+      leases = leases_hold settings (start o faults) steps refl refl (start-reached settings.options o faults sound) done.chain done.reached;
+      polls = polls_fit settings (start o faults) steps refl (start-reached settings.options o faults sound) (segmented-start settings.extractor (start o faults) refl) done.chain done.reached;
       after = held.0;
       modelled = held.1;
       sound = held.2;
       holds = held.3;
       fault_count = (stands.represents).faults;
     }
-  where
-    all-whole : AreWhole commands → WholeChain settings (start o faults) steps
-    all-whole whole = chain-whole settings (start o faults) steps (subst AreWhole (sym (done.commands_are ∙ take_all i commands all)) whole) done.chain
+
+-- by these steps
+pub leads_all-steps : (settings : Settings) (commands : List Command) (i : ℕ) (replies : List Reply) (o : Objects) (faults : ℕ) (live : Live) (store : Known (List Batch)) (steps : List Step) (sound : IsSound o) (all : length commands ≤ i)
+    (done : Done settings (start o faults) (take i commands) replies steps) (stands : Represents live store (last_world (start o faults) steps)) → (leads_all settings commands i replies o faults live store steps sound all done stands).steps ≡ steps
+unfolding leads_all
+leads_all-steps settings commands i replies o faults live store steps sound all done stands = refl
 
 -- commands that are done one after another, and one more
-do-push : (settings : Settings) (live mid last : Live) (store between store' : Known (List Batch)) (commands : List Command) (replies : List Reply) (command : Command) (reply : Reply) → DoAll settings live store commands replies mid between → IsDone settings mid between command reply last store' →
+pub do-push : (settings : Settings) (live mid last : Live) (store between store' : Known (List Batch)) (commands : List Command) (replies : List Reply) (command : Command) (reply : Reply) → DoAll settings live store commands replies mid between → IsDone settings mid between command reply last store' →
     DoAll settings live store (commands ++ command ∷ []) (replies ++ reply ∷ []) last store'
 do-push settings live mid last store between store' [] [] command reply all does = (
   last,
@@ -171,3 +173,11 @@ do-next settings live mid last store between store' commands i command replies r
     subst (λ cs. DoAll settings live store cs replies' last store') (sym more)
     (subst (λ rs. DoAll settings live store (take i commands ++ command ∷ []) rs last store') (sym pushed)
     (do-push settings live mid last store between store' (take i commands) replies command reply all does))
+
+-- no object, no key
+pub all-start : (extractor : Option Extractor) (w : World) → w.objects ≡ [] → AllInSegments extractor w
+all-start extractor w none = record {
+  keys = segmented-start extractor w none;
+  viewed = λ n reader at. absurd (let gone = sym (ap (λ os. slice_get os n) none) ∙ at in cc);
+  polled = λ n reader begun at. absurd (let gone = sym (ap (λ os. slice_get os n) none) ∙ at in cc);
+}

@@ -38,14 +38,14 @@ put-low {A} latest put x next answer gives = by (nat_lt latest.id last_number) r
       (ltb-true latest.id last_number low, sym (ap (λ (p : Option VersionedManifest × A). p.0) both), sym (ap (λ (p : Option VersionedManifest × A). p.1) both))
   by false low gives = absurd (cc)
 
-written-new : (replaced : Option (List ℕ)) (lifetime : ℕ) (moment : ℤ) (latest : VersionedManifest) (next : Option VersionedManifest) (given : Lease) → leased lifetime (to_write replaced (Some lifetime) moment latest) ≡ Ok (next, given) → IsNew latest next given
+pub written-new : (replaced : Option (List ℕ)) (lifetime : ℕ) (moment : ℤ) (latest : VersionedManifest) (next : Option VersionedManifest) (given : Lease) → leased lifetime (to_write replaced (Some lifetime) moment latest) ≡ Ok (next, given) → IsNew latest next given
 written-new replaced lifetime moment latest next given gives =
     let p = leased-is lifetime (to_write replaced (Some lifetime) moment latest) next given gives in
     let q = put-low latest _ (new_checkpoint latest (Some lifetime) moment) next p.0 p.1 in
     record { id = sym (ap (λ (l : Lease). l.id) p.2) ∙ ap (λ (c : Checkpoint). c.id) q.2; low = q.0; put = _; puts = q.1 }
 
 -- a lease that is renewed is of the same checkpoint
-renewed-same : (lease : Lease) (moment : ℤ) (latest : VersionedManifest) (next : Option VersionedManifest) (given : Lease) → leased lease.lifetime (to_refresh lease.id lease.lifetime moment latest) ≡ Ok (next, given) → given.id ≡ lease.id
+pub renewed-same : (lease : Lease) (moment : ℤ) (latest : VersionedManifest) (next : Option VersionedManifest) (given : Lease) → leased lease.lifetime (to_refresh lease.id lease.lifetime moment latest) ≡ Ok (next, given) → given.id ≡ lease.id
 renewed-same lease moment latest next given gives =
     let p = leased-is lease.lifetime (to_refresh lease.id lease.lifetime moment latest) next given gives in
     sym (ap (λ (l : Lease). l.id) p.2) ∙ by (found lease.id latest) refl p.1 where

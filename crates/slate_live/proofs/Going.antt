@@ -12,13 +12,13 @@ use Rattle.slate_store.specs.declared.refusals.StoreRefusal.TheVariants.{Invalid
 use Rattle.slate_errors.specs.declared.errors.SlateError.TheVariants as errors
 use Rattle.slate_replay.specs.declared.replays.Replayed.{Replayed}
 use Rattle.slate_replay.specs.declared.replays.Replayed.TheVariants as replays
-use Rattle.slate_model.specs.Begun.{AsksLast, Begun, Breaks, Ended, Ends, Fails, Goes, Puts, ReadsAgain, ReadsLatest, ReadsLog, Stage, Turn, asked_lease, begun_at, committed, decided, emptied, kept_lease, leads_on, overtaken_by, put_by, read_again, read_log, replayed, replaying}
+use Rattle.slate_model.specs.Begun.{AsksLast, Begun, Breaks, Ended, Ends, Fails, Goes, Puts, ReadsAgain, ReadsLatest, ReadsLog, Stage, Turn, asked_lease, begun_at, committed, decided, emptied, kept_lease, leads_on, noted, overtaken_by, put_by, read_again, read_log, replayed, replaying, taken}
 use Rattle.slate_model.specs.Follower.{Follower}
 use Rattle.slate_model.specs.Lease.{differs, is_due, leased}
 use Rattle.slate_model.specs.Stood.{WasLatest}
 use Rattle.slate_model.specs.Write.{last_number}
 use Rattle.slate_model.specs.declared.leases.Lease.{Lease}
-use Rattle.slate_follow.specs.Stepping.{MeetsAt, log_turn, taken}
+use Rattle.slate_follow.specs.Stepping.{MeetsAt, log_turn}
 
 -- a turn that isn't an error
 abbrev pub GoesOn : Turn → Type 0
@@ -85,7 +85,7 @@ committed-goes reader next given false b room = tt
 overtaken-goes : (reader : Follower) (b : Begun) → b.overtaken < 7 → GoesOn (overtaken_by reader b)
 overtaken-goes reader b few = by (b.overtaken == 7) refl
   where
-    by : (x : Bool) → (b.overtaken == 7) ≡ x → GoesOn (if x then Fails (errors.TransactionalObjectTimeout 8) else Goes (begun_at b.moment (b.overtaken + 1) reader))
+    by : (x : Bool) → (b.overtaken == 7) ≡ x → GoesOn (if x then Fails (errors.TransactionalObjectTimeout 8) else Goes (begun_at b.moment (b.overtaken + 1) b.history reader))
     by true is = absurd (let eighth = eqb-true b.overtaken 7 is in omega (arith, few, eighth))
     by false is = tt
 
@@ -122,8 +122,8 @@ module _ (reader : Follower) (b : Begun) (o o' : Objects) (few : b.overtaken < 7
   room-latest : (l : VersionedManifest) → latest_manifest o ≡ Some l → is_some b.lease ≡ true → l.id < last_number
   room-latest l is held = let more = room held in let same = the-latest l is in omega (arith, more, same)
 
-  pub meets-goes : (stage : Stage) → b.stage ≡ stage → (turn : Turn) → MeetsAt stage reader b o turn o' → GoesOn turn
-  meets-goes ReadsLatest at turn (l, is, turn_is, same) = subst GoesOn (sym turn_is) (decided-goes reader l b.lease (taken b) refl (room-latest l is))
+  pub meets-goes : (stage : Stage) → b.stage ≡ stage → (turn : Turn) → MeetsAt stage reader (taken b) o turn o' → GoesOn turn
+  meets-goes ReadsLatest at turn (l, is, turn_is, same) = subst GoesOn (sym turn_is) (decided-goes reader l b.lease (noted l (taken b)) refl (room-latest l is))
   meets-goes (Puts next given replaces) at turn (inl (free, turn_is, put)) =
       let p = puts next given replaces at in
       let low = id-low p.0 (read p.0 p.1) in

@@ -1,5 +1,5 @@
 -- A reader that is polled in time holds its checkpoint.
-use Rattle.std.proofs.Common.{◌≡◌, ◌++◌, ◌∷◌, ◌+◌, ◌-ℤ◌, ◌+ℤ◌, ◌/◌, ◌∙◌, ◌<◌, ◌≤◌, [], inl, inr, ℕ, ℤ, pos, int_lt, Bool, true, false, cond, get_or, not, length, map, find, Option, Some, None, Ok, refl, sym, subst, ap, arith}
+use Rattle.std.proofs.Common.{◌≡◌, ◌++◌, ◌∷◌, ◌+◌, ◌-ℤ◌, ◌+ℤ◌, ◌/◌, ◌∙◌, ◌<◌, ◌≤◌, ◌≢◌, ◌⊎◌, [], inl, inr, ℕ, ℤ, pos, int_lt, Bool, true, false, cond, get_or, not, length, List, map, find, Option, Some, None, Ok, refl, sym, subst, ap, arith}
 use Rattle.std.proofs.lemmas.Int.{ints}
 use Rattle.std.specs.List.{All}
 use Rattle.std.proofs.lemmas.Bool.{false_from_ne_true}
@@ -32,10 +32,11 @@ use Rattle.slate_script.specs.declared.commands.Action.{Action}
 use Rattle.slate_script.specs.declared.commands.Action.TheVariants as actions
 use Rattle.slate_live.specs.Calls.{OfObject, WholeStore, target_of}
 use Rattle.slate_live.specs.Leases.{ComesBefore, closes, polls}
+use Rattle.slate_live.specs.Next.{HasLease, IsFresh, NextBegun, NextStep, StaysFound, StepLeaves}
 use Rattle.slate_live.specs.Represents.{IsFollowerAt, IsReached}
 use Rattle.slate_live.specs.Settings.{Settings}
 use Rattle.slate_live.specs.World.{NextWhole, World, state_of}
-use Rattle.slate_live.proofs.Leases.{AreApart, HasCheckpoint, entry-after, nothing-spared, refreshed-id, rising, spared, still-has}
+use Rattle.slate_live.proofs.Leases.{ArePast, HasCheckpoint, IsAlone, Names, alone-after, alone-new, begun-has, entry-after, its-pin, nothing-spared, refreshed-id, rising, spared, step-has, still-has}
 use Rattle.slate_live.proofs.Carrying.{leased-is}
 use Rattle.slate_live.proofs.Distinct.{ids-differ, put-low}
 use Rattle.slate_live.proofs.Finding.{find-all, find-last, find-map, found-id}
@@ -89,6 +90,8 @@ pub record Holds (n lifetime : ℕ) (last : ℤ) (w : World) : Type 0 where
   pub has : HasCheckpoint w lease.id checkpoint kept
   pub expires : checkpoint.expire_ms ≡ Some lease.end
   pub tables : kept.tables ≡ follower.view.manifest.tables
+  pub low : checkpoint.manifest_id ≤ last_number
+  pub alone : IsAlone w n lease.id
 
 -- it isn't over at a moment in time
 unexpired : (c : Checkpoint) (end last moment : ℤ) (lifetime : ℕ) → c.expire_ms ≡ Some end → int_lt end (lease_end last lifetime) ≡ false → ComesBefore lifetime last moment → is_expired moment c ≡ false
@@ -114,13 +117,17 @@ is-sweep : (action : Action) → target_of action ≡ WholeStore → action ≡ 
 is-sweep actions.Sweep is = refl
 is-sweep action is = absurd (cc)
 
-module _ (settings : Settings) (w w' : World) (command : Command) (reply : Reply) (reached : IsReached w) (reached' : IsReached w') (next : NextWhole settings w command reply w') (apart : AreApart w) (n lifetime : ℕ) (last : ℤ) (h : Holds n lifetime last w) where
+module _ (settings : Settings) (w w' : World) (command : Command) (reply : Reply) (reached : IsReached w) (reached' : IsReached w') (next : NextWhole settings w command reply w') (past : ArePast w) (n lifetime : ℕ) (last : ℤ) (h : Holds n lifetime last w) where
+  -- its lease in the world before
+  own : HasLease w n h.lease
+  own = inl (h.follower, h.at, h.leased)
+
   -- a command that neither polls nor closes it, and sweeps in time
   pub holds-still : polls n command.action ≡ false → closes n command.action ≡ false → (command.action ≡ actions.Sweep → ComesBefore lifetime last command.moment) → Holds n lifetime last w'
   holds-still unpolled unclosed before =
       let quiet = is-quiet n command.action unpolled unclosed in
       let spares = spared w command h.has.latest h.lease.id h.checkpoint h.has.there (λ whole. holds-lasts n lifetime last command.moment w h (before (is-sweep command.action whole)))
-      (λ m f lease names disturbs at has same. quiet (names ∙ ap OfObject (apart m n f h.follower lease h.lease at h.at has h.leased same)) disturbs) in
+      (λ m f lease names disturbs at has same. quiet (names ∙ ap OfObject (h.alone m lease (inl (f, at, has)) same)) disturbs) in
       record {
         follower = h.follower;
         at = stays settings w command next.made reply (state_of w') n h.follower h.at quiet next.does;
@@ -135,6 +142,8 @@ module _ (settings : Settings) (w w' : World) (command : Command) (reply : Reply
         has = still-has settings w w' command reply reached reached' next h.lease.id h.checkpoint h.kept h.has spares;
         expires = h.expires;
         tables = h.tables;
+        low = h.low;
+        alone = alone-after settings w w' command reply reached reached' next past n h.lease.id h.lease own refl h.alone;
       }
 
   -- ---- a poll of the reader itself
@@ -146,7 +155,7 @@ module _ (settings : Settings) (w w' : World) (command : Command) (reply : Reply
   all-pinned = (its-objects reached.1 latest reached.2 (ap latest_manifest (reached.3).catalogue ∙ h.has.is)).pinned
 
   -- the follower after the poll, and its lease by the plan
-  module _ (f' : Follower) (at' : IsFollowerAt w'.objects n f') (open_ : f'.result ≡ None) (mode : f'.mode ≡ modes.ManagedCheckpoint) (made : ℕ) (next_manifest : Option VersionedManifest) (given : Lease)
+  module _ (names : target_of command.action ≡ OfObject n) (f' : Follower) (at' : IsFollowerAt w'.objects n f') (open_ : f'.result ≡ None) (mode : f'.mode ≡ modes.ManagedCheckpoint) (made : ℕ) (next_manifest : Option VersionedManifest) (given : Lease)
       (gives : to_keep h.follower.view h.lease command.moment latest ≡ Ok (next_manifest, given)) (leased' : f'.lease ≡ Some given) (view : MatchBool (replaces h.follower.view h.lease command.moment latest) (next_manifest ≡ Some f'.view) (f'.view ≡ h.follower.view))
       (part : made ≡ length (checkpoint_changes {L = Span} (to_keep h.follower.view h.lease command.moment) w.catalogue)) (after : w'.catalogue ≡ after_part made (checkpoint_changes (to_keep h.follower.view h.lease command.moment) w.catalogue) w.catalogue) where
     abbrev lifetime_is : ℕ
@@ -181,6 +190,13 @@ module _ (settings : Settings) (w w' : World) (command : Command) (reply : Reply
       id' : put.id ≡ latest.id + 1
       id' = put-id plan w.catalogue latest put given its_rising h.has.is gives_put puts
 
+    named : (m : ℕ) → Names settings w w' command reply reached reached' next past m → m ≡ n
+    named m (inl other) = (let both : OfObject m ≡ OfObject n = sym other ∙ names in cc)
+    named m (inr added) = absurd (added.1 n names)
+
+    same-alone : (id : List ℕ) → h.lease.id ≡ id → IsAlone w' n id
+    same-alone id same = subst (IsAlone w' n) same (alone-after settings w w' command reply reached reached' next past n h.lease.id h.lease own refl h.alone)
+
     -- the checkpoint was replaced
     replaced : leased lifetime_is (to_write (Some h.lease.id) (Some lifetime_is) command.moment latest) ≡ Ok (next_manifest, given) → next_manifest ≡ Some f'.view → Holds n lifetime command.moment w'
     replaced written is_view =
@@ -211,6 +227,8 @@ module _ (settings : Settings) (w w' : World) (command : Command) (reply : Reply
           });
           expires = ap (λ (l : Lease). Some l.end) given_is;
           tables = ap (λ (v : VersionedManifest). v.manifest.tables) put_view;
+          low = (let low = q.0 in omega (arith, low));
+          alone = alone-new settings w w' command reply reached reached' next past n given.id latest h.has.is q.0 (ap (λ (l : Lease). l.id) (sym given_is)) named;
         }
 
     -- its lease was renewed
@@ -247,6 +265,8 @@ module _ (settings : Settings) (w w' : World) (command : Command) (reply : Reply
           };
           expires = ap (λ (l : Lease). Some l.end) given_is;
           tables = h.tables ∙ ap (λ (v : VersionedManifest). v.manifest.tables) (sym same_view);
+          low = h.low;
+          alone = same-alone given.id (sym id_is ∙ ap (λ (l : Lease). l.id) given_is);
         } where
           -- the manifest that it keeps is there still
           entry-stays : (put : VersionedManifest) (c : Checkpoint) → latest_manifest w'.catalogue ≡ Some put → find (has_id h.lease.id) put.manifest.checkpoints ≡ Some c → c.manifest_id ≡ h.checkpoint.manifest_id → entry_at h.checkpoint.manifest_id w'.catalogue.manifests ≡ Some h.kept
@@ -293,6 +313,8 @@ module _ (settings : Settings) (w w' : World) (command : Command) (reply : Reply
           });
           expires = h.expires ∙ ap (λ (l : Lease). Some l.end) given_is;
           tables = h.tables ∙ ap (λ (v : VersionedManifest). v.manifest.tables) (sym same_view);
+          low = h.low;
+          alone = same-alone given.id (ap (λ (l : Lease). l.id) given_is);
         }
 
     pub polled-holds : Holds n lifetime command.moment w'
@@ -303,3 +325,70 @@ module _ (settings : Settings) (w w' : World) (command : Command) (reply : Reply
       by true due is_due gives view = replaced gives view
       by false true is_due gives view = renewed gives view
       by false false is_due gives view = unput gives is_due view
+
+-- ---- polls by single calls of other readers
+pub begun-holds : (settings : Settings) (i : ℕ) (w w' : World) (command : Command) (reply : Reply) → NextBegun settings i w command reply w' → (n lifetime : ℕ) (last : ℤ) → Holds n lifetime last w → Holds n lifetime last w'
+begun-holds settings i w w' command reply next n lifetime last h = record {
+  follower = h.follower;
+  at = subst (λ (x : World). IsFollowerAt x.objects n h.follower) (sym next.same) h.at;
+  live = h.live;
+  managed = h.managed;
+  lease = h.lease;
+  leased = h.leased;
+  half = h.half;
+  ahead = h.ahead;
+  checkpoint = h.checkpoint;
+  kept = h.kept;
+  has = record {
+    latest = h.has.latest;
+    is = ap (λ (x : World). latest_manifest x.catalogue) next.same ∙ h.has.is;
+    there = h.has.there;
+    entry = ap (λ (x : World). entry_at h.checkpoint.manifest_id x.catalogue.manifests) next.same ∙ h.has.entry;
+  };
+  expires = h.expires;
+  tables = h.tables;
+  low = h.low;
+  alone = λ m lease has same. h.alone m lease (begun-has settings i w w' command reply next m lease has) same;
+}
+
+module _ (settings : Settings) (i : ℕ) (w w' : World) (reply : Reply) (reached : IsReached w) (next : NextStep settings i w reply w') (leaves : StepLeaves settings.extractor i w reply w') (n lifetime : ℕ) (last : ℤ) (h : Holds n lifetime last w) (other : n ≢ i) where
+  -- its checkpoint isn't of the lease of the reader that steps
+  apart : (lease : Lease) → HasLease w i lease → lease.id ≢ h.lease.id
+  apart lease has same = other (sym (h.alone i lease has same))
+
+  spared-is : StaysFound h.lease.id h.checkpoint w w'
+  spared-is = leaves.checkpoints h.has.latest h.lease.id h.checkpoint h.has.is h.has.there apart
+
+  pin : IsPinned reached.1 h.has.latest h.checkpoint
+  pin = its-pin w reached h.lease.id h.checkpoint h.kept h.has
+
+  -- nor is a new one of it, since its manifest is stored
+  fresh-other : (lease : Lease) → IsFresh w w' lease → lease.id ≡ h.lease.id → ⊥
+  fresh-other lease fresh same =
+      let id_is : h.checkpoint.id ≡ h.lease.id = found-id h.lease.id h.checkpoint h.has.latest.manifest.checkpoints h.has.there in
+      let number = ids-differ h.checkpoint.manifest_id fresh.0 h.low fresh.2 (sym pin.id ∙ (id_is ∙ (sym same ∙ fresh.1))) in
+      let none = subst (λ k. entry_at k w.catalogue.manifests ≡ None) (sym number) fresh.3 in
+      let some = h.has.entry in
+      absurd (cc (none, some))
+
+  pub step-holds : Holds n lifetime last w'
+  step-holds = record {
+    follower = h.follower;
+    at = next.others n other ∙ h.at;
+    live = h.live;
+    managed = h.managed;
+    lease = h.lease;
+    leased = h.leased;
+    half = h.half;
+    ahead = h.ahead;
+    checkpoint = h.checkpoint;
+    kept = h.kept;
+    has = record { latest = spared-is.0; is = spared-is.1; there = spared-is.2; entry = spared-is.3 ∙ h.has.entry };
+    expires = h.expires;
+    tables = h.tables;
+    low = h.low;
+    alone = λ m lease has same. elim (step-has settings i w w' reply next leaves m lease has) [
+      | inl old ↦ h.alone m old.0 old.1 (old.2 ∙ same)
+      | inr (here, fresh) ↦ absurd (fresh-other lease fresh same)
+    ];
+  }

@@ -1,8 +1,10 @@
 -- A reader that is polled in time keeps its checkpoint.
-use Rattle.std.proofs.Common.{◌≡◌, ◌≢◌, ◌⊎◌, ◌++◌, ◌∷◌, ◌+◌, ◌∙◌, ◌≤◌, [], inl, inr, ℕ, ℤ, Bool, true, false, cond, not, length, List, map, find, Option, Some, None, Ok, refl, sym, subst, ap, arith}
-use Rattle.std.specs.List.{filter}
+use Rattle.std.proofs.Common.{◌≡◌, ◌≢◌, ◌⊎◌, ◌++◌, ◌∷◌, ◌+◌, ◌∙◌, ◌≤◌, [], inl, inr, ℕ, ℤ, Bool, true, false, cond, not, length, List, map, find, ◌==◌, ◌<◌, Option, Some, None, Ok, refl, sym, subst, ap, arith}
+use Rattle.std.proofs.lemmas.Bool.{eq-eqb, eqb-true}
+use Rattle.std.specs.List.{filter, slice_get}
 use Rattle.slate_store.specs.Checkpoints.{Plan, found, has_id, lease_end, new_checkpoint, refreshed, to_delete, to_end, to_refresh, to_take_out, to_write, with_checkpoints, without_id}
 use Rattle.slate_store.specs.declared.objects.VersionedManifest.{VersionedManifest}
+use Rattle.slate_model.specs.Begun.{Begun}
 use Rattle.slate_model.specs.declared.leases.Lease.{Lease}
 use Rattle.slate_model.specs.Lease.{is_due, leased, replaces, to_keep}
 use Rattle.slate_store.proofs.Carried.{Carried, carried, entry-carried}
@@ -15,6 +17,7 @@ use Rattle.slate_store.specs.Sweeps.{has_expired, without_expired}
 use Rattle.slate_store.specs.declared.objects.Manifest.{Manifest}
 use Rattle.slate_model.specs.Catalogue.{Catalogue}
 use Rattle.slate_model.specs.Follower.{Follower}
+use Rattle.slate_model.specs.Object.{Follower as AFollower}
 use Rattle.slate_model.specs.Tables.{AreStored}
 use Rattle.slate_model.proofs.Carrying.{Has}
 use Rattle.slate_model.proofs.Moving.{known-stored}
@@ -23,6 +26,7 @@ use Rattle.slate_script.specs.declared.commands.Command.{Command}
 use Rattle.slate_script.specs.declared.replies.Reply.{Reply}
 use Rattle.slate_live.specs.Calls.{OfObject, WholeStore, call_of, target_of}
 use Rattle.slate_live.proofs.Untouched.{Disturbs}
+use Rattle.slate_live.specs.Next.{HasLease, IsFresh, NextBegun, NextStep, StepLeaves}
 use Rattle.slate_live.specs.Represents.{IsFollowerAt, IsReached}
 use Rattle.slate_live.specs.Settings.{Settings}
 use Rattle.slate_live.specs.World.{NextWhole, World, state_of}
@@ -30,7 +34,8 @@ use Rattle.slate_live.proofs.Finding.{find-all, find-append, find-filter, find-m
 use Rattle.slate_store.specs.Checkpoints.{checkpoint_id}
 use Rattle.slate_model.specs.Write.{last_number}
 use Rattle.slate_live.proofs.Distinct.{ids-differ}
-use Rattle.slate_live.proofs.Fates.{NewLease, WasLease, fates}
+use Rattle.slate_live.proofs.Commencing.{begun-from}
+use Rattle.slate_live.proofs.Fates.{NewLease, fates}
 use Rattle.slate_live.proofs.Carrying.{Changes, Spares, does-carries, leased-is, put-is}
 use Rattle.slate_store.specs.declared.objects.Checkpoint.{Checkpoint}
 
@@ -64,13 +69,13 @@ module _ (id other : List ℕ) (c : Checkpoint) (latest : VersionedManifest) (th
   without-stays : find (has_id id) (without_id other latest.manifest.checkpoints) ≡ Some c
   without-stays = find-filter (has_id id) (λ checkpoint. not (has_id other checkpoint)) c latest.manifest.checkpoints there (ap not other-not)
 
-  written-stays : (lifetime : Option ℕ) (moment : ℤ) (next : VersionedManifest) (answer : Checkpoint) → to_write (Some other) lifetime moment latest ≡ Ok (Some next, answer) → Stays next
+  pub written-stays : (lifetime : Option ℕ) (moment : ℤ) (next : VersionedManifest) (answer : Checkpoint) → to_write (Some other) lifetime moment latest ≡ Ok (Some next, answer) → Stays next
   written-stays lifetime moment next answer gives =
       let checkpoint = new_checkpoint latest lifetime moment in
       subst Stays (put-is latest (with_checkpoints (without_id other latest.manifest.checkpoints ++ checkpoint ∷ []) latest) checkpoint next answer gives)
       (find-append (has_id id) c (without_id other latest.manifest.checkpoints) (checkpoint ∷ []) without-stays)
 
-  refreshed-stays : (lifetime : ℕ) (moment : ℤ) (next : VersionedManifest) (answer : Checkpoint) → to_refresh other lifetime moment latest ≡ Ok (Some next, answer) → Stays next
+  pub refreshed-stays : (lifetime : ℕ) (moment : ℤ) (next : VersionedManifest) (answer : Checkpoint) → to_refresh other lifetime moment latest ≡ Ok (Some next, answer) → Stays next
   refreshed-stays lifetime moment next answer gives = by (found other latest) gives where
     end : ℤ
     end = lease_end moment lifetime
@@ -188,39 +193,39 @@ module _ (settings : Settings) (w w' : World) (command : Command) (reply : Reply
             absurd (cc)
 
 -- ---- the leases of a world
--- each is of a checkpoint that a manifest up to the latest one commits
+-- each, of a reader or of a begun poll of it, is of a checkpoint that a manifest up to the latest one commits
 abbrev pub ArePast : World → Type 0
 ArePast w =
-    (n : ℕ) (f : Follower) (lease : Lease) → IsFollowerAt w.objects n f → f.lease ≡ Some lease →
-    (k : ℕ) × (lease.id ≡ checkpoint_id k) × (k ≤ last_number) × (latest : VersionedManifest) × (latest_manifest w.catalogue ≡ Some latest) × (k ≤ latest.id)
+    (n : ℕ) (lease : Lease) → HasLease w n lease → (k : ℕ) × (lease.id ≡ checkpoint_id k) × (k ≤ last_number) × (latest : VersionedManifest) × (latest_manifest w.catalogue ≡ Some latest) × (k ≤ latest.id)
 
--- and each reader has one of another checkpoint
-abbrev pub AreApart : World → Type 0
-AreApart w =
-    (m n : ℕ) (f g : Follower) (a b : Lease) → IsFollowerAt w.objects m f → IsFollowerAt w.objects n g → f.lease ≡ Some a → g.lease ≡ Some b → a.id ≡ b.id → m ≡ n
+-- those of one checkpoint are of the reader with this number
+abbrev pub IsAlone : World → ℕ → List ℕ → Type 0
+IsAlone w n id = (m : ℕ) (lease : Lease) → HasLease w m lease → lease.id ≡ id → m ≡ n
 
 pub nothing-spared : (w : World) (latest : VersionedManifest) (command : Command) → Spares (λ manifest. Unit {0}) w latest command
 nothing-spared w latest command = record { kept = tt; flushed = λ handle last some. tt; compacted = λ table. tt; opened = λ name last. tt; swept = λ sweeps. tt; added = λ checkpoint. tt; polled = λ n f lease given next names asks at has gives. tt; closed = λ n f lease next flush_type names asks at live has gives. tt }
 
-module _ (settings : Settings) (w w' : World) (command : Command) (reply : Reply) (reached : IsReached w) (reached' : IsReached w') (next : NextWhole settings w command reply w') (past : ArePast w) (apart : AreApart w) where
-  abbrev Fate : ℕ → Lease → Type 0
-  Fate n lease = WasLease w n lease ⊎ NewLease w command (state_of w') n lease
-
-  fate : (n : ℕ) (f : Follower) (lease : Lease) → IsFollowerAt w'.objects n f → f.lease ≡ Some lease → Fate n lease
-  fate n f lease at has = fates settings w reached.0 (rising settings w w' command reply reached reached' next) command next.made reply (state_of w') next.does n f lease at has
+module _ (settings : Settings) (w w' : World) (command : Command) (reply : Reply) (reached : IsReached w) (reached' : IsReached w') (next : NextWhole settings w command reply w') (past : ArePast w) where
+  -- it was there, or is new and of the object that the command names or adds
+  pub fate : (n : ℕ) (lease : Lease) → HasLease w' n lease → ((old : Lease) × HasLease w n old × (lease.id ≡ old.id)) ⊎ NewLease w command (state_of w') n lease
+  fate n lease (inl (f, at, has)) = elim (fates settings w reached.0 (rising settings w w' command reply reached reached' next) command next.made reply (state_of w') next.does n f lease at has) [
+    | inl old ↦ inl (old.lease, inl (old.follower, old.at, old.leased), old.same)
+    | inr new ↦ inr new
+  ]
+  fate n lease (inr (b, at, has)) = inl (lease, inr (b, ((next.polls n b).0 at).0, has), refl)
 
   -- the latest manifest has no lower id
   later : (latest : VersionedManifest) → latest_manifest w.catalogue ≡ Some latest → Carried (λ manifest. Unit {0}) latest.id w'.catalogue
   later latest is = latest-after settings w w' command reply reached reached' next (λ manifest. Unit {0}) latest is (nothing-spared w latest command)
 
   pub past-after : ArePast w'
-  past-after n f lease at has = elim (fate n f lease at has) [
+  past-after n lease has = elim (fate n lease has) [
     | inl old ↦
-        let p = past n old.follower old.lease old.at old.leased in
+        let p = past n old.0 old.1 in
         let l = later p.3 p.4 in
         let low = p.5 in
         let up = l.up in
-        (p.0, old.same ∙ p.1, p.2, l.latest, l.is, omega (arith, low, up))
+        (p.0, old.2 ∙ p.1, p.2, l.latest, l.is, omega (arith, low, up))
     | inr new ↦
         let same : w'.catalogue ≡ new.catalogue = some-same w'.catalogue new.catalogue new.after in
         let low = new.low in
@@ -229,28 +234,70 @@ module _ (settings : Settings) (w w' : World) (command : Command) (reply : Reply
   ]
 
   -- a new lease isn't of a checkpoint that was there
-  new-other : (m n : ℕ) (a b : Lease) → NewLease w command (state_of w') m a → WasLease w n b → a.id ≡ b.id → ⊥
-  new-other m n a b new old same =
-      let p = past n old.follower old.lease old.at old.leased in
-      let latest : new.latest ≡ p.3 = some-same new.latest p.3 (sym new.is ∙ p.4) in
-      let ids = ap (λ (v : VersionedManifest). v.id) latest in
-      let low = new.low in
-      let number = ids-differ (new.latest.id + 1) p.0 (omega (arith, low)) p.2 (sym new.id ∙ (same ∙ (old.same ∙ p.1))) in
+  new-other : (id : List ℕ) (n : ℕ) (old : Lease) → HasLease w n old → old.id ≡ id → (latest : VersionedManifest) → latest_manifest w.catalogue ≡ Some latest → latest.id < last_number → id ≡ checkpoint_id (latest.id + 1) → ⊥
+  new-other id n old has same latest is low new =
+      let p = past n old has in
+      let ids = ap (λ (v : VersionedManifest). v.id) (some-same latest p.3 (sym is ∙ p.4)) in
+      let number = ids-differ (latest.id + 1) p.0 (omega (arith, low)) p.2 (sym new ∙ (sym same ∙ p.1)) in
       let within = p.5 in
       omega (arith, ids, number, within)
 
-  both-named : (m n : ℕ) (a b : Lease) → NewLease w command (state_of w') m a → NewLease w command (state_of w') n b → m ≡ n
-  both-named m n a b x y = by x.named y.named where
-    by : (target_of command.action ≡ OfObject m) ⊎ ((m ≡ length w.objects) × ((i : ℕ) → target_of command.action ≡ OfObject i → ⊥)) → (target_of command.action ≡ OfObject n) ⊎ ((n ≡ length w.objects) × ((i : ℕ) → target_of command.action ≡ OfObject i → ⊥)) → m ≡ n
-    by (inl is_m) (inl is_n) = let both : OfObject m ≡ OfObject n = sym is_m ∙ is_n in cc
-    by (inl is_m) (inr alone) = absurd (alone.1 m is_m)
-    by (inr alone) (inl is_n) = absurd (alone.1 n is_n)
-    by (inr x) (inr y) = x.0 ∙ sym y.0
+  abbrev pub Names : ℕ → Type 0
+  Names m = (target_of command.action ≡ OfObject m) ⊎ ((m ≡ length w.objects) × ((i : ℕ) → target_of command.action ≡ OfObject i → ⊥))
 
-  pub apart-after : AreApart w'
-  apart-after m n f g a b at_m at_n has_a has_b same = by (fate m f a at_m has_a) (fate n g b at_n has_b) where
-    by : Fate m a → Fate n b → m ≡ n
-    by (inl x) (inl y) = apart m n x.follower y.follower x.lease y.lease x.at y.at x.leased y.leased (sym x.same ∙ (same ∙ y.same))
-    by (inl x) (inr y) = absurd (new-other n m b a y x (sym same))
-    by (inr x) (inl y) = absurd (new-other m n a b x y same)
-    by (inr x) (inr y) = both-named m n a b x y
+  -- a checkpoint that no other reader's lease is of is so afterwards
+  pub alone-after : (n : ℕ) (id : List ℕ) (old : Lease) → HasLease w n old → old.id ≡ id → IsAlone w n id → IsAlone w' n id
+  alone-after n id old its old_id alone m lease has same = elim (fate m lease has) [
+    | inl was ↦ alone m was.0 was.1 (sym was.2 ∙ same)
+    | inr new ↦ absurd (new-other id n old its old_id new.latest new.is new.low (sym same ∙ new.id))
+  ]
+
+  -- and so is the one that the command commits
+  pub alone-new : (n : ℕ) (id : List ℕ) (latest : VersionedManifest) → latest_manifest w.catalogue ≡ Some latest → latest.id < last_number → id ≡ checkpoint_id (latest.id + 1) → ((m : ℕ) → Names m → m ≡ n) → IsAlone w' n id
+  alone-new n id latest is low new named m lease has same = elim (fate m lease has) [
+    | inl was ↦ absurd (new-other id m was.0 was.1 (sym was.2 ∙ same) latest is low new)
+    | inr other ↦ named m other.named
+  ]
+
+-- ---- polls by single calls
+-- what is begun has the reader's lease
+pub begun-has : (settings : Settings) (n : ℕ) (w w' : World) (command : Command) (reply : Reply) → NextBegun settings n w command reply w' → (m : ℕ) (lease : Lease) → HasLease w' m lease → HasLease w m lease
+begun-has settings n w w' command reply next m lease (inl (f, at, has)) = inl (f, subst (λ (x : World). slice_get x.objects m ≡ Some (AFollower f)) next.same at, has)
+begun-has settings n w w' command reply next m lease (inr (b, at, has)) = elim (begun-from settings n w w' command reply next m b at) [
+  | inl old ↦ inr (b, old, has)
+  | inr new ↦ inl (new.1, new.2, ap (λ (x : Begun). x.lease) new.5 ∙ has)
+]
+
+-- a step leaves the leases of other readers
+module _ (settings : Settings) (n : ℕ) (w w' : World) (reply : Reply) (next : NextStep settings n w reply w') (leaves : StepLeaves settings.extractor n w reply w') where
+  pub step-has : (m : ℕ) (lease : Lease) → HasLease w' m lease → ((old : Lease) × HasLease w m old × (old.id ≡ lease.id)) ⊎ ((m ≡ n) × IsFresh w w' lease)
+  step-has m lease has = by (m == n) refl
+    where
+      others : m ≢ n → HasLease w' m lease → HasLease w m lease
+      others other (inl (f, at, has)) = inl (f, sym (next.others m other) ∙ at, has)
+      others other (inr (b, at, has)) = inr (b, sym (leaves.polls m other) ∙ at, has)
+
+      by : (b : Bool) → (m == n) ≡ b → ((old : Lease) × HasLease w m old × (old.id ≡ lease.id)) ⊎ ((m ≡ n) × IsFresh w w' lease)
+      by true same =
+          let here : m ≡ n = eqb-true m n same in
+          elim (leaves.leases lease (subst (λ i. HasLease w' i lease) here has)) [
+            | inl old ↦ inl (old.0, subst (λ i. HasLease w i old.0) (sym here) old.1, old.2)
+            | inr fresh ↦ inr (here, fresh)
+          ]
+      by false other = inl (lease, others (λ e. let yes = eq-eqb m n e in absurd (cc (yes, other))) has, refl)
+
+  pub past-stepped : ArePast w → ArePast w'
+  past-stepped past m lease has = elim (step-has m lease has) [
+    | inl old ↦
+        let p = past m old.0 old.1 in
+        let l = leaves.latest p.3 p.4 in
+        let low = p.5 in
+        let up = l.3 in
+        (p.0, sym old.2 ∙ p.1, p.2, l.0, l.1, omega (arith, low, up))
+    | inr (here, fresh) ↦ (fresh.0, fresh.1, fresh.2, fresh.4, fresh.5, fresh.6)
+  ]
+
+pub past-begun : (settings : Settings) (n : ℕ) (w w' : World) (command : Command) (reply : Reply) → NextBegun settings n w command reply w' → ArePast w → ArePast w'
+past-begun settings n w w' command reply next past m lease has =
+    let p = past m lease (begun-has settings n w w' command reply next m lease has) in
+    (p.0, p.1, p.2, p.3, ap (λ (x : World). latest_manifest x.catalogue) next.same ∙ p.4, p.5)

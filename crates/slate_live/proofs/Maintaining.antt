@@ -1,7 +1,7 @@
 -- What a checkpoint and a sweep leave of a world: the store goes on, and no object changes.
 use Rattle.std.proofs.Common.{◌≡◌, ℕ, Some, refl, sym, ap, ◌∙◌, arith}
 use Rattle.std.specs.List.{slice_get}
-use Rattle.slate_store.specs.Objects.{Objects, latest_manifest}
+use Rattle.slate_store.specs.Objects.{last_log, Objects, latest_manifest}
 use Rattle.slate_store.specs.Content.{IsSound, content}
 use Rattle.slate_store.specs.declared.objects.VersionedManifest.{VersionedManifest}
 use Rattle.slate_model.specs.Catalogue.{catalogue_of}
@@ -33,8 +33,10 @@ module _ (w : World) (o : Objects) (is_sound : IsSound o) (holds : Holds o w) (v
         latest_is = next.1;
         epochs = omega (arith, epoch);
         tabled = omega (arith, number);
+        marked = λ same. next.4;
         logs = stay-follow o o' latest.manifest.replay_after_wal_id next.0.manifest.replay_after_wal_id (sym next.4) (m.logs latest is);
         logs_are = none-put_logs o o' m.logs_are (OfLine w.stored);
+        goes = m.goes (last_log latest.manifest.replay_after_wal_id o);
       }
 
   valid-after : (n : ℕ) (a : Handle) → IsHandleAt w.objects n a → IsValidHandle w.stored (catalogue_of o') a

@@ -16,7 +16,7 @@ use Rattle.slate_model.specs.Handle.{Handle}
 use Rattle.slate_model.specs.Object.{Object, Handle as AHandle, Follower as AFollower}
 use Rattle.slate_model.specs.Open.{found_log, next_manifest, open_changes, opened_handle, opened_manifest}
 use Rattle.slate_model.proofs.Adding.{Lasts}
-use Rattle.slate_model.proofs.Logging.{LogsAre, OfLine, logs-are_same, logs-same, none-put_logs, stay-follow}
+use Rattle.slate_model.proofs.Logging.{LogsAre, OfLine, logs-are_same, logs-same, none-put_logs, stay-follow, stay-go}
 use Rattle.slate_model.proofs.Maintained.{Maintained}
 use Rattle.slate_model.proofs.Moving.{Follows, Moved}
 use Rattle.slate_model.proofs.Opening.{opened-follows, opened-logs_are, same-table_at}
@@ -41,9 +41,9 @@ module _ (w : World) (o : Objects) where
     pub logs : LogsAre (OfLine stored') o o'
 
   -- a reader that stood beside the world stands beside the next one
-  pub beside-onward : (stored' : Line) (o' : Objects) (objects : List Object) (polls : List (Option Begun)) (writes : List Write) (faults : ℕ) → Holds o w → Onward stored' o' objects → (f : Follower) → StandsBeside o w f →
-      StandsBeside o' (record { stored = stored'; catalogue = catalogue_of o'; objects = objects; polls = polls; writes = writes; faults = faults }) f
-  beside-onward stored' o' objects polls writes faults holds on f s =
+  pub beside-onward : (stored' : Line) (o' : Objects) (objects : List Object) (polls : List (Option Begun)) (owed : ℕ → ℕ) (writes : List Write) (faults : ℕ) → Holds o w → Onward stored' o' objects → (f : Follower) → StandsBeside o w f →
+      StandsBeside o' (record { stored = stored'; catalogue = catalogue_of o'; objects = objects; polls = polls; owed = owed; writes = writes; faults = faults }) f
+  beside-onward stored' o' objects polls owed writes faults holds on f s =
       let past : AreOfPast (catalogue_of o) f.view.manifest.tables = subst (λ c. AreOfPast c f.view.manifest.tables) (sym holds.catalogue) s.past in
       let next = on.follows past.0 past.1 in
       let g = next.1 in
@@ -75,8 +75,10 @@ module _ (w : World) (o : Objects) where
           latest_is = is;
           epochs = omega arith;
           tabled = omega arith;
+          marked = λ same. refl;
           logs = stay-follow o o _ _ refl (logs-same _ _ o o refl);
           logs_are = logs-are_same (OfLine w.stored) o o refl;
+          goes = stay-go _ o o (logs-same _ _ o o refl);
         },
       );
       lasts = λ q low some. refl;

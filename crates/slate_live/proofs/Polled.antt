@@ -1,5 +1,5 @@
 -- A world with other begun polls: all else that holds of it holds as before.
-use Rattle.std.proofs.Common.{◌≡◌, ◌∙◌, ℕ, List, map, Option, Some, ap}
+use Rattle.std.proofs.Common.{◌≡◌, ◌∙◌, ℕ, true, List, map, Option, Some, ap}
 use Rattle.slate_types.specs.declared.batches.Batch.{Batch}
 use Rattle.slate_store.specs.Objects.{Objects}
 use Rattle.slate_model.specs.Begun.{Begun}
@@ -11,9 +11,11 @@ use Rattle.slate_script.specs.declared.options.Options.{Options}
 use Rattle.slate_live.specs.declared.states.Write.{Write}
 use Rattle.slate_model.specs.Object.{Object}
 use Rattle.slate_live.specs.Next.{shown, stored_in}
-use Rattle.slate_live.specs.Represents.{AreInSegments, Holds, IsValid, Represents, RepresentsObjects, StandsAt}
+use Rattle.slate_live.specs.Represents.{AllInSegments, AreInSegments, Holds, IsFollowerAt, IsValid, PollHasSegments, Represents, RepresentsObjects, StandsAt, follows_all}
 use Rattle.slate_live.specs.Standing.{PollStands, StandsBeside}
-use Rattle.slate_live.specs.State.{Live}
+use Rattle.slate_live.specs.State.{IsBegunAt, Live}
+use Rattle.slate_live.specs.Reaching.{ReachesTo}
+use Rattle.slate_live.proofs.Cases.{if-some}
 use Rattle.slate_live.specs.World.{World}
 
 module _ (w : World) (polls : List (Option Begun)) where
@@ -49,18 +51,29 @@ module _ (w : World) (polls : List (Option Begun)) where
     comes = beside-polled o _ p.comes;
     read = λ last at. let read = p.read last at in (read.0, read.1, read.2, beside-polled o _ read.3);
     staged = p.staged;
+    bare = p.bare;
     anew = p.anew;
     numbered = p.numbered;
     risen = p.risen;
     above = p.above;
     tabled = p.tabled;
+    lasts = p.lasts;
   }
 
+  pub reach-polled : (o : Objects) (n : ℕ) (reader : Follower) (begun : Begun) → ReachesTo (w.owed n) o w reader begun → ReachesTo (w.owed n) o polled reader begun
+  reach-polled o n reader begun r = record { stored = r.stored; tabled = r.tabled; anew = r.anew; next = r.next }
+
   pub at-polled : (o : Objects) (n : ℕ) (begun : Begun) → StandsAt o w n begun → StandsAt o polled n begun
-  at-polled o n begun (reader, there, open_, stands) = (reader, there, open_, λ free. poll-polled o reader begun (stands free))
+  at-polled o n begun (reader, there, open_, stands) =
+      (reader, there, open_, λ free. (poll-polled o reader begun (stands free).0, if-some begun.history.first (λ _. ReachesTo (w.owed n) o w reader begun) (λ _. ReachesTo (w.owed n) o polled reader begun) (λ _ r. reach-polled o n reader begun r) (stands free).1))
 
   pub segments-polled : (extractor : Option Extractor) → AreInSegments extractor w → AreInSegments extractor polled
   segments-polled extractor s = record { unstored = s.unstored; stored = s.stored }
+
+  -- where the begun polls have segments
+  pub all-polled : (extractor : Option Extractor) → AllInSegments extractor w →
+      ((n : ℕ) (reader : Follower) (begun : Begun) → IsFollowerAt w.objects n reader → IsBegunAt polls n begun → follows_all reader.mode reader.skips ≡ true → PollHasSegments extractor w.stored reader begun) → AllInSegments extractor polled
+  all-polled extractor s have = record { keys = segments-polled extractor s.keys; viewed = s.viewed; polled = have }
 
 -- the live state and the store that represent a world are what it shows
 pub shown-is : (options : Options) (live : Live) (store : Known (List Batch)) (w : World) → live.options ≡ options → Represents live store w → live ≡ shown options w

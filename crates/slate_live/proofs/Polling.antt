@@ -1,16 +1,10 @@
 -- Over a run, a poll finds no key without a segment.
-use Rattle.std.proofs.Common.{◌≡◌, ◌++◌, ◌∷◌, ◌∙◌, ◌≤◌, [], inl, inr, ℕ, ℤ, Bool, true, false, cond, zero, suc, List, map, Option, Some, None, Result, Ok, Err, refl, sym, subst, ap, arith}
+use Rattle.std.proofs.Common.{◌≡◌, ◌⊎◌, ◌++◌, ◌∷◌, ◌∙◌, ◌≤◌, [], inl, inr, ℕ, ℤ, Bool, true, false, cond, zero, suc, List, map, Option, Some, None, Result, Ok, Err, refl, sym, subst, ap, arith}
 use Rattle.std.specs.List.{All, slice_get}
-use Rattle.std.specs.Prelude.{nat_lt}
 use Rattle.std.specs.Option.{unwrap_or}
-use Rattle.std.proofs.lemmas.Bool.{ltb-false}
 use Rattle.std.proofs.lemmas.List.Elements.{All-head, All-tail}
-use Rattle.slate_store.specs.Checkpoints.{Plan, found, lease_end, new_checkpoint, puts_next, refreshed, to_end, to_refresh, to_write, with_checkpoints, without_id}
-use Rattle.slate_store.specs.declared.objects.Checkpoint.{Checkpoint}
-use Rattle.slate_store.specs.declared.objects.VersionedManifest.{VersionedManifest}
 use Rattle.slate_store.specs.declared.reader_modes.DbReaderMode.{DbReaderMode}
 use Rattle.slate_store.specs.declared.reader_modes.DbReaderMode.TheVariants as modes
-use Rattle.slate_store.specs.declared.refusals.StoreRefusal.TheVariants as refusals
 use Rattle.slate_errors.specs.Errors.{closed_error}
 use Rattle.slate_errors.specs.declared.closing.CloseFault.{CloseFault}
 use Rattle.slate_errors.specs.declared.closing.CloseFault.TheVariants as faults
@@ -21,10 +15,14 @@ use Rattle.slate_model.specs.Catalogue.{Span}
 use Rattle.slate_model.specs.Close.{closed_follower}
 use Rattle.slate_model.specs.Follow.{AreFollowed, LacksSegment, Polls}
 use Rattle.slate_model.specs.Follower.{Follower, is_managed, is_pinned}
-use Rattle.slate_model.specs.Handle.{CloseResult}
+use Rattle.slate_model.specs.Handle.{CloseResult, Handle}
+use Rattle.slate_model.specs.Open.{replayed}
+use Rattle.slate_model.proofs.Reduced.{some-same}
+use Rattle.slate_types.specs.Line.{Line, batches_above}
+use Rattle.slate_store.specs.declared.objects.Manifest.{Manifest}
+use Rattle.slate_store.specs.declared.objects.VersionedManifest.{VersionedManifest}
 use Rattle.slate_model.specs.Knowledge.{Knowledge}
 use Rattle.slate_model.specs.Known.{Known, Untouched}
-use Rattle.slate_model.specs.Lease.{is_due, leased, replaces, to_keep}
 use Rattle.slate_model.specs.Managed.{KeepsLease, PollsManaged, poll_result}
 use Rattle.slate_model.specs.Object.{Object, Handle as AHandle, Snapshot as ASnapshot, Follower as AFollower}
 use Rattle.slate_model.specs.Stores.{by_catalogue}
@@ -38,69 +36,33 @@ use Rattle.slate_script.specs.declared.commands.Command.{Command}
 use Rattle.slate_script.specs.declared.replies.Reply.{Reply}
 use Rattle.slate_script.specs.declared.replies.Reply.TheVariants as replies
 use Rattle.slate_live.specs.declared.states.Write.{Write}
-use Rattle.slate_live.specs.Calls.{Call, Write as WriteCall, Merge as MergeCall, Flush, Refresh, Compact, Get, Scan, Seek, Close, Poll, Status, FindTime, FindNumber, Nothing, call_of, target_of}
+use Rattle.slate_live.specs.Calls.{Begins, Call, Kind, Steps, Whole, Write as WriteCall, Merge as MergeCall, Flush, Refresh, Compact, Get, Scan, Seek, Close, Poll, Status, FindTime, FindNumber, Nothing, call_of, kind_of, target_of}
 use Rattle.slate_live.specs.Commands.{ActsOn, DoesBy, ReadsSnapshot}
 use Rattle.slate_live.specs.Followers.{ClosesAs, FollowerActs, PollsAs}
 use Rattle.slate_live.specs.Replies.{polled_reply, refusal, reply_to}
-use Rattle.slate_live.specs.Represents.{AreInSegments, IsFollowerAt, IsReached}
+use Rattle.slate_live.specs.Next.{IsFull, NextBy, NextStep, StepLeaves}
+use Rattle.slate_live.specs.Represents.{AreInSegments, HaveSegments, IsFollowerAt, IsReached, replays_all}
+use Rattle.slate_live.specs.Rising.{Rise, Rises}
 use Rattle.slate_live.specs.Settings.{Settings}
-use Rattle.slate_live.specs.Statuses.{IsFull, PollsFit}
-use Rattle.slate_live.specs.Steps.{Step}
+use Rattle.slate_live.specs.Statuses.{PollsFit, PollsIt}
+use Rattle.slate_live.specs.Steps.{Chain, Step}
+use Rattle.slate_live.specs.Valid.{Link}
 use Rattle.slate_live.specs.World.{NextWhole, World, state_of}
 use Rattle.slate_live.proofs.Cases.{by-bool, by-option, some-of}
 use Rattle.slate_live.proofs.Everywhere.{everywhere}
+use Rattle.slate_live.proofs.Filling.{broken, keep-full, recorded-is, refused-is}
 use Rattle.slate_live.proofs.Leases.{latest-after, nothing-spared}
 use Rattle.slate_live.proofs.Naming.{follower-did, handle-acted}
 use Rattle.slate_live.proofs.Rising.{managed-mode}
-use Rattle.slate_live.proofs.Segmented.{none-lacks, segmented-next}
-use Rattle.slate_live.proofs.Wholes.{WholeChain}
-
--- ---- a plan that has no id left
-put-full : {A : Type 0} (latest next : VersionedManifest) (answer : A) → puts_next latest next answer ≡ Err refusals.InvalidDBState → last_number ≤ latest.id
-put-full {A} latest next answer is = by (nat_lt latest.id last_number) refl is where
-  by : (b : Bool) → nat_lt latest.id last_number ≡ b → cond {A = Plan A} b (Ok (Some next, answer)) (Err refusals.InvalidDBState) ≡ Err refusals.InvalidDBState → last_number ≤ latest.id
-  by true which is = absurd (cc)
-  by false which is = ltb-false latest.id last_number which
-
-leased-refused : (lifetime : ℕ) (p : Plan Checkpoint) → leased lifetime p ≡ Err refusals.InvalidDBState → p ≡ Err refusals.InvalidDBState
-leased-refused lifetime (Ok given) is = absurd (cc)
-leased-refused lifetime (Err refusal) is = ap Err (let same : refusal ≡ refusals.InvalidDBState = cc in same)
-
-end-full : (id : List ℕ) (end : ℤ) (latest : VersionedManifest) (was : Option Checkpoint) → to_end id end latest was ≡ Err refusals.InvalidDBState → last_number ≤ latest.id
-end-full id end latest None is = absurd (cc)
-end-full id end latest (Some checkpoint) is = put-full latest (with_checkpoints (map (refreshed id end) latest.manifest.checkpoints) latest) (record checkpoint { expire_ms = Some end }) is
-
-keep-full : (view latest : VersionedManifest) (lease : Lease) (moment : ℤ) → to_keep view lease moment latest ≡ Err refusals.InvalidDBState → last_number ≤ latest.id
-keep-full view latest lease moment is = by (replaces view lease moment latest) (is_due moment lease) is where
-  by : (replaced due : Bool) → cond replaced (leased lease.lifetime (to_write (Some lease.id) (Some lease.lifetime) moment latest)) (cond due (leased lease.lifetime (to_refresh lease.id lease.lifetime moment latest)) (Ok (None, lease))) ≡ Err refusals.InvalidDBState → last_number ≤ latest.id
-  by true due is =
-      let checkpoint = new_checkpoint latest (Some lease.lifetime) moment in
-      put-full latest (with_checkpoints (without_id lease.id latest.manifest.checkpoints ++ checkpoint ∷ []) latest) checkpoint (leased-refused lease.lifetime (to_write (Some lease.id) (Some lease.lifetime) moment latest) is)
-  by false true is = end-full lease.id (lease_end moment lease.lifetime) latest (found lease.id latest) (leased-refused lease.lifetime (to_refresh lease.id lease.lifetime moment latest) is)
-  by false false is = absurd (cc)
+use Rattle.slate_live.proofs.Places.{get-set}
+use Rattle.slate_live.proofs.Polled.{segments-polled}
+use Rattle.slate_live.proofs.Segmented.{none-lacks, risen-replays, segmented-next}
 
 -- ---- what is recorded and answered
-abbrev broken : CloseResult
-broken = Some (Err faults.InvalidDBState)
-
-recorded-is : (e : SlateError) → poll_result e ≡ broken → e ≡ errors.InvalidDBState
-recorded-is errors.InvalidDBState is = refl
-recorded-is (errors.TransactionalObjectTimeout tries) is = absurd (cc)
-recorded-is errors.Fenced is = absurd (cc)
-recorded-is (errors.ObjectStoreError fault) is = absurd (cc)
-recorded-is errors.TransactionalObjectVersionExists is = absurd (cc)
-recorded-is errors.LatestTransactionalObjectVersionMissing is = absurd (cc)
-recorded-is e is = absurd (cc)
-
 closed-is : (q : Result (Unit {0}) CloseFault) → closed_error q ≡ errors.InvalidDBState → Some q ≡ broken
 closed-is (Ok u) is = absurd (cc)
 closed-is (Err faults.InvalidDBState) is = refl
 closed-is (Err fault) is = absurd (cc)
-
-refused-is : (e : SlateError) → refusal e ≡ replies.Refused errors.InvalidDBState → e ≡ errors.InvalidDBState
-refused-is errors.NoMemory is = absurd (cc)
-refused-is (errors.Backpressure unflushed limit) is = absurd (cc)
-refused-is e is = cc
 
 polled-not : (answer : PollAnswer) → polled_reply answer ≡ replies.Refused errors.InvalidDBState → ⊥
 polled-not (Whole at) is = absurd (cc)
@@ -282,18 +244,100 @@ module _ (settings : Settings) (w w' : World) (command : Command) (reply : Reply
         let does = subst (λ t. DoesBy known settings command t next.made (state_of w) reply (state_of w')) (ap target_of names) next.does in
         full-after (on-poll (slice_get w.objects n) refl (subst (λ c. ActsOn known settings n command c next.made (slice_get w.objects n) (state_of w) reply (state_of w')) (ap call_of names) does))
 
+-- ---- polls by single calls
+module _ (settings : Settings) (n : ℕ) (w w' : World) (reply : Reply) (reached : IsReached w) (next : NextStep settings n w reply w') (leaves : StepLeaves settings.extractor n w reply w') (rises : Rise w.objects w'.objects) where
+  -- an object after it was there before, or is the reader that it is a step of
+  was-there : (i : ℕ) (object : Object) → slice_get w'.objects i ≡ Some object → (old : Object) × (slice_get w.objects i ≡ Some old) × ((old ≡ object) ⊎ ((i ≡ n) × (new : Follower) × (object ≡ AFollower new)))
+  was-there i object there = elim leaves.objects [
+    | inl same ↦ (object, sym (ap (λ os. slice_get os i) same) ∙ there, inl refl)
+    | inr changed ↦ elim (get-set w.objects n i (AFollower changed.1) object (AFollower changed.0) changed.2 (sym (ap (λ os. slice_get os i) changed.3) ∙ there)) [
+      | inl here ↦ (AFollower changed.0, subst (λ j. slice_get w.objects j ≡ Some (AFollower changed.0)) (sym here.0) changed.2, inr (here.0, changed.1, sym here.1))
+      | inr other ↦ (object, other.1, inl refl)
+    ]
+  ]
+
+  -- what a step leaves of the keys
+  stepped-segments : AreInSegments settings.extractor w → AreInSegments settings.extractor w'
+  stepped-segments segments = record {
+    unstored = λ i h there. segments.unstored i h (handle-was i h (was-there i (AHandle h) there));
+    stored = λ i object latest' there all found.
+        let old = was-there i object there in
+        let past = (reached.0).past i old.0 old.1 in
+        let have = segments.stored i old.0 past.0 old.1 (replays-was i object old.0 there old.1 all) past.1 in
+        let l = leaves.latest past.0 past.1 in
+        let same : l.0 ≡ latest' = some-same l.0 latest' (sym l.1 ∙ found) in
+        let number : latest'.manifest.last_l0_seq ≡ (past.0).manifest.last_l0_seq = sym (ap (λ (v : VersionedManifest). v.manifest.last_l0_seq) same) ∙ ap (λ (m : Manifest). m.last_l0_seq) l.2 in
+        subst (λ (line : Line). HaveSegments settings.extractor (replayed latest' line)) (sym next.stored)
+        (subst (λ k. HaveSegments settings.extractor (batches_above k w.stored.batches)) (sym number) have);
+  }
+    where
+      handle-was : (i : ℕ) (h : Handle) → ((old : Object) × (slice_get w.objects i ≡ Some old) × ((old ≡ AHandle h) ⊎ ((i ≡ n) × (new : Follower) × (AHandle h ≡ AFollower new)))) → slice_get w.objects i ≡ Some (AHandle h)
+      handle-was i h (old, there, inl same) = there ∙ ap Some same
+      handle-was i h (old, there, inr other) = absurd (let no = other.2 in cc)
+
+      replays-was : (i : ℕ) (object old : Object) → slice_get w'.objects i ≡ Some object → slice_get w.objects i ≡ Some old → replays_all object ≡ true → replays_all old ≡ true
+      replays-was i object old there here all =
+          let up = rises i old here in
+          risen-replays old object (subst (Rises old) (some-same up.0 object (sym up.1 ∙ there)) up.2) all
+
+  full-stepped : IsFull w → IsFull w'
+  full-stepped (latest, is, full) = let l = leaves.latest latest is in let up = l.3 in (l.0, l.1, omega (arith, full, up))
+
+  stepped-broken : AllBroken w → AllBroken w'
+  stepped-broken all i (AHandle h) there = tt
+  stepped-broken all i (ASnapshot s) there = tt
+  stepped-broken all i (AFollower f) there = λ is. elim old.2 [
+    | inl same ↦ full-stepped (let had : Broken w (AFollower f) = subst (Broken w) same (all i old.0 old.1) in had is)
+    | inr mine ↦ elim (leaves.closes f (subst (λ j. slice_get w'.objects j ≡ Some (AFollower f)) mine.0 there) is) [
+      | inl replied ↦ leaves.full replied
+      | inr objects ↦ full-stepped (all i (AFollower f) (sym (ap (λ os. slice_get os i) objects) ∙ there) is)
+    ]
+  ]
+    where
+      old : (old : Object) × (slice_get w.objects i ≡ Some old) × ((old ≡ AFollower f) ⊎ ((i ≡ n) × (new : Follower) × (AFollower f ≡ AFollower new)))
+      old = was-there i (AFollower f) there
+
 -- ---- the law
-fit-from : (settings : Settings) (w : World) (steps : List Step) → IsReached w → AreInSegments settings.extractor w → AllBroken w → WholeChain settings w steps → All (λ (step : Step). IsReached step.world) steps → PollsFit steps
-fit-from settings w [] reached segments broken chain all i n step at names replied = absurd (cc)
-fit-from settings w (s ∷ steps) reached segments broken (link, chain) all zero n step at names replied =
+module _ (settings : Settings) (w : World) (s : Step) (reached : IsReached w) (reached' : IsReached s.world) (link : Link settings w s.command s.reply s.world) (segments : AreInSegments settings.extractor w) (broken_are : AllBroken w) where
+  next-of : (kind : Kind) → kind_of s.command.action ≡ kind → NextBy kind settings w s.command s.reply s.world
+  next-of kind is = subst (λ k. NextBy k settings w s.command s.reply s.world) is link.next
+
+  segments-then : AreInSegments settings.extractor s.world
+  segments-then = by (kind_of s.command.action) refl
+    where
+      by : (kind : Kind) → kind_of s.command.action ≡ kind → AreInSegments settings.extractor s.world
+      by Whole is = segmented-next settings w s.world s.command s.reply reached reached' (next-of Whole is) segments
+      by (Begins i) is = subst (AreInSegments settings.extractor) (sym (next-of (Begins i) is).same) (segments-polled w (s.world).polls settings.extractor segments)
+      by (Steps i) is = stepped-segments settings i w s.world s.reply reached (next-of (Steps i) is) (link.leaves i is) link.rises segments
+
+  broken-then : AllBroken s.world
+  broken-then = by (kind_of s.command.action) refl
+    where
+      by : (kind : Kind) → kind_of s.command.action ≡ kind → AllBroken s.world
+      by Whole is = step-broken settings w s.world s.command s.reply reached reached' (next-of Whole is) segments broken_are
+      by (Begins i) is = subst AllBroken (sym (next-of (Begins i) is).same) (λ n object at. same-broken object (broken_are n object at))
+        where
+          same-broken : (object : Object) → Broken w object → Broken (record w { polls = (s.world).polls }) object
+          same-broken (AHandle h) had = tt
+          same-broken (ASnapshot y) had = tt
+          same-broken (AFollower f) had = λ shut. let full = had shut in (full.0, full.1, full.2)
+      by (Steps i) is = stepped-broken settings i w s.world s.reply reached (next-of (Steps i) is) (link.leaves i is) link.rises broken_are
+
+  polls-full : (n : ℕ) → PollsIt n s.command.action → s.reply ≡ refusal errors.InvalidDBState → IsFull s.world
+  polls-full n (inl names) replied = poll-full settings w s.world s.command s.reply reached reached' (next-of Whole (ap kind_of names)) segments broken_are n names replied
+  polls-full n (inr names) replied = (link.leaves n (ap kind_of names)).full replied
+
+fit-from : (settings : Settings) (w : World) (steps : List Step) → IsReached w → AreInSegments settings.extractor w → AllBroken w → Chain settings w steps → All (λ (step : Step). IsReached step.world) steps → PollsFit steps
+fit-from settings w [] reached segments broken_are chain all i n step at names replied = absurd (cc)
+fit-from settings w (s ∷ steps) reached segments broken_are (link, chain) all zero n step at names replied =
     let is : s ≡ step = cc in
     subst (λ (x : Step). IsFull x.world) is
-    (poll-full settings w s.world s.command s.reply reached (All-head (λ (step : Step). IsReached step.world) s steps all) link.next segments broken n (ap (λ (x : Step). (x.command).action) is ∙ names) (ap (λ (x : Step). x.reply) is ∙ replied))
-fit-from settings w (s ∷ steps) reached segments broken (link, chain) all (suc i) n step at names replied =
+    (polls-full settings w s reached (All-head (λ (step : Step). IsReached step.world) s steps all) link segments broken_are n (subst (λ (x : Step). PollsIt n x.command.action) (sym is) names) (ap (λ (x : Step). x.reply) is ∙ replied))
+fit-from settings w (s ∷ steps) reached segments broken_are (link, chain) all (suc i) n step at names replied =
     let reached' = All-head (λ (step : Step). IsReached step.world) s steps all in
-    fit-from settings s.world steps reached' (segmented-next settings w s.world s.command s.reply reached reached' link.next segments)
-    (step-broken settings w s.world s.command s.reply reached reached' link.next segments broken) chain (All-tail (λ (step : Step). IsReached step.world) s steps all) i n step at names replied
+    fit-from settings s.world steps reached' (segments-then settings w s reached reached' link segments broken_are) (broken-then settings w s reached reached' link segments broken_are)
+    chain (All-tail (λ (step : Step). IsReached step.world) s steps all) i n step at names replied
 
-pub polls_fit : (settings : Settings) (w : World) (steps : List Step) → w.objects ≡ [] → IsReached w → AreInSegments settings.extractor w → WholeChain settings w steps → All (λ step. IsReached step.world) steps → PollsFit steps
+pub polls_fit : (settings : Settings) (w : World) (steps : List Step) → w.objects ≡ [] → IsReached w → AreInSegments settings.extractor w → Chain settings w steps → All (λ step. IsReached step.world) steps → PollsFit steps
 polls_fit settings w steps none reached segments chain all =
     fit-from settings w steps reached segments (λ n object at. absurd (let gone = sym (ap (λ os. slice_get os n) none) ∙ at in cc)) chain all

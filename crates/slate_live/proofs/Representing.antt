@@ -7,7 +7,9 @@ use Rattle.std.specs.List.{slice_get}
 use Rattle.slate_types.specs.declared.batches.Batch.{Batch}
 use Rattle.slate_types.specs.Line.{IsLine, Line}
 use Rattle.slate_store.specs.Content.{IsSound}
-use Rattle.slate_store.specs.Objects.{Objects, table_at}
+use Rattle.slate_store.specs.Objects.{Objects, latest_manifest, table_at}
+use Rattle.slate_store.specs.declared.objects.VersionedManifest.{VersionedManifest}
+use Rattle.slate_model.proofs.Moving.{Follows}
 use Rattle.slate_errors.specs.declared.errors.SlateError.{SlateError}
 use Rattle.slate_model.specs.Begun.{Begun}
 use Rattle.slate_model.specs.Catalogue.{catalogue_of}
@@ -157,7 +159,7 @@ module _ (settings : Settings) (w : World) (o : Objects) (is_sound : IsSound o) 
 
   -- the world after, with these objects, where the store holds these
   abbrev world : Objects → List Object → World
-  world o' objects = record { stored = stored'; catalogue = catalogue_of o'; objects = objects; polls = polls; writes = writes; faults = store.faults }
+  world o' objects = record { stored = stored'; catalogue = catalogue_of o'; objects = objects; polls = polls; owed = w.owed; writes = writes; faults = store.faults }
 
   pub record Led : Type 0 where
     pub after : Objects
@@ -615,11 +617,14 @@ module _ (settings : Settings) (w : World) (o : Objects) (is_sound : IsSound o) 
   led-by (OfObject n) is d =
       led-on n (slice_get w.objects n) is refl (subst (λ found. ActsOn (by_objects (Some o)) settings n command (call_of command.action) made found s reply s') (get-map kept w.objects n) d)
 
--- Each reader that stands beside a world stands beside the next one, and each log file was there before or has batches of the line
--- that is stored then.
+-- Each reader that stands beside a world stands beside the next one, each log file was there before or has batches of the line that
+-- is stored then, and the objects follow.
+abbrev pub GoOn : World → World → Objects → Objects → Type 0
+GoOn w w' o o' = (latest : VersionedManifest) → latest_manifest o ≡ Some latest → (next : VersionedManifest) × Follows w.stored w'.stored o o' latest next
+
 abbrev pub BesideThen : Known (List Batch) → World → Known (List Batch) → World → Type 0
 BesideThen store w store' w' =
-    (o o' : Objects) (f : Follower) → store.objects ≡ Some o → store'.objects ≡ Some o' → (StandsBeside o w f → StandsBeside o' w' f) × LogsAre (OfLine w'.stored) o o'
+    (o o' : Objects) (f : Follower) → store.objects ≡ Some o → store'.objects ≡ Some o' → (StandsBeside o w f → StandsBeside o' w' f) × LogsAre (OfLine w'.stored) o o' × GoOn w w' o o'
 
 -- from a world that is represented, a command leads to one that is
 pub leads-beside : (settings : Settings) (live live' : Live) (store store' : Known (List Batch)) (w : World) (command : Command) (made : ℕ) (reply : Reply) (polls : List (Option Begun)) → ArePolls command.action w.polls polls → RepresentsObjects live store w → Does (by_objects store.objects) settings made (running live store) command reply (running live' store') →
@@ -637,21 +642,21 @@ leads-beside settings live live' store store' w command made reply polls are r d
     let l = led-by settings w o (r.held).2 (r.held).3 r.valid (r.held).4 command made reply live'.objects polls live'.writes store' (target_of command.action) refl by_held in
     let lead = l.leads in (
       world settings w o (r.held).2 (r.held).3 r.valid (r.held).4 command made reply live'.objects polls live'.writes store' l.after l.objects,
-      record { made = made; does = l.does; stored = refl; polls = are },
+      record { made = made; does = l.does; stored = refl; polls = are; owed = refl },
       record {
         held = (l.after, l.modelled, lead.sound, record { stored = lead.content; catalogue = refl }, lead.reads);
         faults = refl;
         objects = l.kept;
         writes = refl;
-        valid = record { line = subst IsLine lead.content (lead.sound).line; followers = lead.followers; handles = lead.handles; snapshots = snapshots-kept settings w (world settings w o (r.held).2 (r.held).3 r.valid (r.held).4 command made reply live'.objects polls live'.writes store' l.after l.objects) command reply r.valid (record { made = made; does = l.does; stored = refl; polls = are }); named = lead.named; past = lead.past; distinct = lead.distinct };
+        valid = record { line = subst IsLine lead.content (lead.sound).line; followers = lead.followers; handles = lead.handles; snapshots = snapshots-kept settings w (world settings w o (r.held).2 (r.held).3 r.valid (r.held).4 command made reply live'.objects polls live'.writes store' l.after l.objects) command reply r.valid (record { made = made; does = l.does; stored = refl; polls = are; owed = refl }); named = lead.named; past = lead.past; distinct = lead.distinct };
       },
       λ first second f at at'.
           let is_first : o ≡ first = (let there = (r.held).1 in cc) in
           let is_second : l.after ≡ second = (let there = l.modelled in cc) in
           let w' = world settings w o (r.held).2 (r.held).3 r.valid (r.held).4 command made reply live'.objects polls live'.writes store' l.after l.objects in
-          subst (λ x. (StandsBeside x w f → StandsBeside second w' f) × LogsAre (OfLine w'.stored) x second) is_first
-          (subst (λ x. (StandsBeside o w f → StandsBeside x w' f) × LogsAre (OfLine w'.stored) o x) is_second
-          (beside-onward w o w'.stored l.after l.objects polls live'.writes store'.faults (r.held).3 l.onward f, (l.onward).logs)),
+          subst (λ x. (StandsBeside x w f → StandsBeside second w' f) × LogsAre (OfLine w'.stored) x second × GoOn w w' x second) is_first
+          (subst (λ x. (StandsBeside o w f → StandsBeside x w' f) × LogsAre (OfLine w'.stored) o x × GoOn w w' o x) is_second
+          (beside-onward w o w'.stored l.after l.objects polls w.owed live'.writes store'.faults (r.held).3 l.onward f, (l.onward).logs, (l.onward).follows)),
       refl,
     )
 

@@ -68,7 +68,7 @@ or-none None b is = (refl, is)
 or-none (Some x) b is = absurd (cc)
 
 -- ---- batches whose keys have segments
-have-none : (x : Option Extractor) → HaveSegments x []
+pub have-none : (x : Option Extractor) → HaveSegments x []
 have-none None = refl
 have-none (Some x) = refl
 
@@ -99,10 +99,10 @@ pub have-take : (x : Option Extractor) (n : ℕ) (bs : List Batch) → HaveSegme
 have-take x n bs have = (have-each x (take n bs) (drop n bs) (subst (HaveSegments x) (sym (take-append-drop n bs)) have)).0
 
 -- those above a later number
-have-later : (x : Option Extractor) (n m : ℕ) (bs : List Batch) → n ≤ m → HaveSegments x (batches_above n bs) → HaveSegments x (batches_above m bs)
+pub have-later : (x : Option Extractor) (n m : ℕ) (bs : List Batch) → n ≤ m → HaveSegments x (batches_above n bs) → HaveSegments x (batches_above m bs)
 have-later x n m bs up have = subst (HaveSegments x) (above-twice n m bs up) (have-filter x (λ (b : Batch). ltb m b.number) (batches_above n bs) have)
 
-above-append : (n : ℕ) (xs ys : List Batch) → batches_above n (xs ++ ys) ≡ batches_above n xs ++ batches_above n ys
+pub above-append : (n : ℕ) (xs ys : List Batch) → batches_above n (xs ++ ys) ≡ batches_above n xs ++ batches_above n ys
 above-append n xs ys = filter-append (λ (b : Batch). ltb n b.number) xs ys
 
 -- and those of a line with more
@@ -248,7 +248,7 @@ named-at objects WholeStore h is = absurd (cc)
 named-at objects (OfWrite n) h is = absurd (cc)
 
 -- an object that rose and replays all replayed all
-risen-replays : (x y : Object) → Rises x y → replays_all y ≡ true → replays_all x ≡ true
+pub risen-replays : (x y : Object) → Rises x y → replays_all y ≡ true → replays_all x ≡ true
 risen-replays (AHandle h) (AHandle k) r all = refl
 risen-replays (ASnapshot a) (ASnapshot b) r all = absurd (cc)
 risen-replays (AFollower f) (AFollower g) r all = ap (λ m. follows_all m f.skips) (sym r.mode) ∙ (ap (λ s. follows_all g.mode s) (sym r.skips) ∙ all)
@@ -259,7 +259,7 @@ risen-replays (ASnapshot a) (AFollower g) r all = absurd r
 risen-replays (AFollower f) (AHandle k) r all = absurd r
 risen-replays (AFollower f) (ASnapshot b) r all = absurd r
 
-free-of : (mode : DbReaderMode) (skips : Bool) → follows_all mode skips ≡ true → is_pinned mode ≡ false
+pub free-of : (mode : DbReaderMode) (skips : Bool) → follows_all mode skips ≡ true → is_pinned mode ≡ false
 free-of (modes.Checkpoint id) skips all = absurd (cc)
 free-of modes.FollowLatest skips all = refl
 free-of modes.ManagedCheckpoint skips all = refl
@@ -282,15 +282,19 @@ module _ (settings : Settings) (w w' : World) (command : Command) (reply : Reply
   abbrev Checked : Type 0
   Checked = (latest : VersionedManifest) → latest_manifest w'.catalogue ≡ Some latest → HaveSegments x (replayed latest w'.stored)
 
-  checked-from : (n : ℕ) → HaveSegments x (batches_above n w.stored.batches) → ((latest : VersionedManifest) → latest_manifest w'.catalogue ≡ Some latest → n ≤ latest.manifest.last_l0_seq) → Checked
-  checked-from n have up latest is =
+  -- what has segments of what is stored has them with what the command stores
+  pub still-have : (n m : ℕ) → n ≤ m → HaveSegments x (batches_above n w.stored.batches) → HaveSegments x (batches_above m w'.stored.batches)
+  still-have n m up have =
       elim (grown-is (call_of command.action) made w.stored (named w.objects (target_of command.action))) [
-        | inl same ↦ subst (λ (l : Line). HaveSegments x (replayed latest l)) (sym (next.stored ∙ same)) (have-later x n latest.manifest.last_l0_seq w.stored.batches (up latest is) have)
+        | inl same ↦ subst (λ (l : Line). HaveSegments x (batches_above m l.batches)) (sym (next.stored ∙ same)) (have-later x n m w.stored.batches up have)
         | inr more ↦
             let h = more.0 in
             let at = named-at w.objects (target_of command.action) h more.1 in
-            subst (λ (l : Line). HaveSegments x (replayed latest l)) (sym (next.stored ∙ more.2)) (have-more x n latest.manifest.last_l0_seq w.stored.batches (unstored h) (up latest is) have (segments.unstored at.0 h at.1))
+            subst (λ (l : Line). HaveSegments x (batches_above m l.batches)) (sym (next.stored ∙ more.2)) (have-more x n m w.stored.batches (unstored h) up have (segments.unstored at.0 h at.1))
       ]
+
+  checked-from : (n : ℕ) → HaveSegments x (batches_above n w.stored.batches) → ((latest : VersionedManifest) → latest_manifest w'.catalogue ≡ Some latest → n ≤ latest.manifest.last_l0_seq) → Checked
+  checked-from n have up latest is = still-have n latest.manifest.last_l0_seq (up latest is) have
 
   latest-from : (latest : VersionedManifest) → latest_manifest w.catalogue ≡ Some latest → (latest' : VersionedManifest) → latest_manifest w'.catalogue ≡ Some latest' → latest.manifest.last_l0_seq ≤ latest'.manifest.last_l0_seq
   latest-from latest is latest' is' =
@@ -455,7 +459,7 @@ segmented-start extractor w none = record {
 
 -- ---- a poll of a reader
 -- what is in tables isn't replayed
-front-none : (n : ℕ) (line : Line) → IsLine line → batches_above n (up_to n line).batches ≡ []
+pub front-none : (n : ℕ) (line : Line) → IsLine line → batches_above n (up_to n line).batches ≡ []
 front-none n line numbered =
     elim (cases_lt n line.floor) [
       | inl low ↦

@@ -1,23 +1,29 @@
 -- What a command that makes the next call of a begun poll does over a store makes a link from each world that is represented.
-use Rattle.std.proofs.Common.{◌≡◌, ◌∙◌, ◌⊎◌, inl, inr, ℕ, ◌+◌, ◌-◌, ◌<◌, Bool, true, false, if◌then◌else◌, List, option_map, set, Option, Some, None, Result, Ok, Err, refl, sym, ap, subst, arith}
+use Rattle.std.proofs.Common.{◌≡◌, ◌≢◌, ◌∙◌, ◌⊎◌, ◌==◌, ◌&&◌, not, inl, inr, ℕ, ◌+◌, ◌<◌, ◌≤◌, Bool, true, false, if◌then◌else◌, List, option_map, set, Option, Some, None, Result, Ok, Err, refl, sym, ap, subst, arith, ◌-◌, ◌||◌}
+use Rattle.std.proofs.lemmas.Bool.{eq-eqb, eqb-true}
 use Rattle.std.proofs.lemmas.List.{map-set}
 use Rattle.std.specs.List.{slice_get}
+use Rattle.std.specs.Option.{is_some, IfSome, MatchOption, is_none}
 use Rattle.std.specs.Prelude.{nat_lt}
-use Rattle.std.specs.Option.{is_some}
 use Rattle.std.specs.Result.{IfErr}
 use Rattle.slate_types.specs.declared.batches.Batch.{Batch}
 use Rattle.slate_types.specs.declared.store_errors.StoreFault.TheVariants.{Unavailable}
 use Rattle.slate_store.specs.Calls.{HasRisen, KeepsFaults}
-use Rattle.slate_types.specs.Line.{batches_above}
-use Rattle.slate_store.specs.Objects.{Objects, latest_manifest}
+use Rattle.slate_types.specs.Line.{batches_above, Line, end}
+use Rattle.slate_store.specs.Checkpoints.{found as found_in}
+use Rattle.slate_store.specs.Objects.{Objects, PutManifest, changed, entry_at, is_present, latest_manifest, last_log}
+use Rattle.slate_store.specs.declared.objects.Checkpoint.{Checkpoint}
+use Rattle.slate_store.specs.Content.{content}
 use Rattle.slate_store.specs.declared.objects.VersionedManifest.{VersionedManifest}
+use Rattle.slate_errors.specs.declared.closing.CloseFault.TheVariants as faults
 use Rattle.slate_errors.specs.declared.errors.SlateError.{SlateError}
 use Rattle.slate_errors.specs.declared.errors.SlateError.TheVariants as errors
-use Rattle.slate_model.specs.Begun.{Begun, Breaks, Ends, Fails, Puts, kept_batches, reached_number, view_of}
-use Rattle.slate_model.specs.Catalogue.{catalogue_of}
+use Rattle.slate_model.specs.Begun.{Begun, Breaks, Ends, Fails, Goes, Puts, Turn, kept_batches, reached_number, view_of, ReadsLatest, Stage, taken}
+use Rattle.slate_model.specs.Catalogue.{Catalogue, catalogue_of}
 use Rattle.slate_model.specs.Follower.{Follower, HasSegments, is_managed, is_pinned, kept_follower, number, unsegmented}
 use Rattle.slate_model.specs.Handle.{Handle, up_to}
 use Rattle.slate_model.specs.Known.{Known}
+use Rattle.slate_model.specs.Open.{replayed}
 use Rattle.slate_model.specs.Managed.{poll_result}
 use Rattle.slate_model.specs.Object.{Object, Handle as AHandle, Snapshot as ASnapshot, Follower as AFollower, kept, tables_of}
 use Rattle.slate_model.specs.Segments.{Extractor, segments_of}
@@ -27,24 +33,31 @@ use Rattle.slate_model.specs.declared.answers.PollAnswer.TheVariants as answers
 use Rattle.slate_model.specs.declared.snapshots.HandleSnapshot.{HandleSnapshot}
 use Rattle.slate_model.specs.Write.{last_number}
 use Rattle.slate_model.specs.declared.leases.Lease.{Lease}
+use Rattle.slate_model.specs.declared.polls.FirstRead.{FirstRead}
 use Rattle.slate_model.proofs.Coming.{planned-other}
-use Rattle.slate_model.proofs.Keeping.{above-twice}
-use Rattle.slate_model.proofs.Logging.{OfLine, none-put_logs}
+use Rattle.slate_model.proofs.Keeping.{above-twice, line_above-end}
+use Rattle.slate_model.proofs.Logging.{OfLine, none-put_logs, stay-follow}
 use Rattle.slate_model.proofs.Maintained.{Maintained}
-use Rattle.slate_model.proofs.Prefixes.{prefix-same}
+use Rattle.slate_model.proofs.Prefixes.{prefix-end, prefix-same}
 use Rattle.slate_model.proofs.Reduced.{some-same}
 use Rattle.slate_follow.proofs.Following.{others-keep}
+use Rattle.slate_follow.proofs.Lasting.{few-steps, lasts-breaks, maintained-acts, others-last, tries-eight}
+use Rattle.slate_follow.specs.Following.{FollowsLine}
+use Rattle.slate_follow.specs.Lasting.{IsEighth, IsOfEighth, IsOvertaken, LastsSince, TablesGrew, TriesEight}
 use Rattle.slate_follow.specs.Answering.{IsOfPoll}
 use Rattle.slate_follow.specs.Rebuilding.{Lacks}
-use Rattle.slate_follow.specs.Stepping.{ArrivalLacks, Meets, StepFails, StepLacks, Steps, failed_by}
+use Rattle.slate_follow.specs.Stepping.{ArrivalLacks, Meets, MeetsAt, StepFails, StepLacks, Steps, failed_by}
 use Rattle.slate_script.specs.declared.commands.Action.TheVariants as actions
 use Rattle.slate_script.specs.declared.commands.Command.{Command}
 use Rattle.slate_script.specs.declared.replies.Reply.{Reply}
+use Rattle.slate_script.specs.declared.replies.Reply.TheVariants as replies
 use Rattle.slate_live.specs.Calls.{Steps as StepsKind, kind_of}
 use Rattle.slate_live.specs.Confirmed.{Sees}
-use Rattle.slate_live.specs.Next.{NextBy, StepLeaves, shown, stored_in}
+use Rattle.slate_live.specs.Next.{HasLease, IsFull, NextBy, StepLeaves, shown, stored_in, owed_first, owed_now, tabled_number}
 use Rattle.slate_live.specs.Replies.{polled_reply, refusal, reply_to}
-use Rattle.slate_live.specs.Represents.{AreBefore, AreInSegments, AreOfPast, HaveSegments, Holds, IsFollowerAt, IsHandleAt, IsHeld, IsValid, IsValidFollower, Represents, RepresentsObjects, StandsAt, replays_all}
+use Rattle.slate_live.specs.Represents.{AreBefore, AllInSegments, AreInSegments, AreOfPast, HaveSegments, Holds, IsFollowerAt, IsHandleAt, IsHeld, IsValid, IsValidFollower, PollHasSegments, Represents, RepresentsObjects, StandsAt, follows_all, replays_all, StandsOn}
+use Rattle.slate_live.specs.Causes.{HasCauses}
+use Rattle.slate_live.specs.Reaching.{ReachesTo}
 use Rattle.slate_live.specs.Rising.{FollowerRises}
 use Rattle.slate_live.specs.Settings.{Settings}
 use Rattle.slate_live.specs.Standing.{IsStaged, PollStands, StandsBeside}
@@ -53,18 +66,23 @@ use Rattle.slate_live.specs.Stepping.{MakesCall, StepsAt, StepsObject, StepsOf, 
 use Rattle.slate_live.specs.Valid.{AtObject, CanStep, IsAnswered, IsStepped, IsStoreFault, IsValidCommand, IsValidKind, Link}
 use Rattle.slate_live.specs.World.{World}
 use Rattle.slate_live.proofs.Begun.{begun-set, steps-is}
-use Rattle.slate_live.proofs.Beside.{ends-stored, reader-stands, steps-after, steps-latest, steps-maintain, steps-were}
-use Rattle.slate_live.proofs.Cases.{is-none}
+use Rattle.slate_live.proofs.Beside.{IsLatestBut, IsOfStored, ends-stored, put-tops, reader-stands, steps-after, steps-latest, steps-left, steps-maintain, steps-were, Aims, ends-number, ends-reach, goes-reaches, reaches-on}
+use Rattle.slate_live.proofs.Cases.{is-none, if-some}
 use Rattle.slate_live.proofs.Changing.{followers-set, handles-set-follower}
+use Rattle.slate_live.proofs.Filling.{meets-fails, recorded-is, refused-is}
 use Rattle.slate_live.proofs.Going.{meets-goes}
+use Rattle.slate_live.proofs.Keyed.{bare-lacks, stored-lacks, turn-has}
 use Rattle.slate_live.proofs.Knowing.{unchanged-objects}
 use Rattle.slate_live.proofs.Leading.{Leads}
 use Rattle.slate_live.proofs.Maintaining.{maintained-leads}
 use Rattle.slate_live.proofs.Onward.{beside-onward, onward-maintained}
 use Rattle.slate_live.proofs.Places.{get-map, get-set, get-set_other, get-set_same, set-same}
+use Rattle.slate_live.proofs.Planning.{staged-leased, staged-planned}
 use Rattle.slate_live.proofs.Polled.{shown-is, stored-is}
 use Rattle.slate_live.proofs.Rising.{follower-same, rise-same, rise-set}
-use Rattle.slate_live.proofs.Segmented.{have-each, have-filter, have-take}
+use Rattle.slate_live.proofs.Turns.{OfTurn}
+use Rattle.slate_live.proofs.Sparing.{ComesFrom, IsOfPut, IsSpared, step-leases, step-spares}
+use Rattle.slate_live.proofs.Skipping.{meets-bare}
 
 -- ---- a reader that failed
 failed-kept : (e : SlateError) (reader : Follower) → kept_follower (failed_by e reader) ≡ failed_by e (kept_follower reader)
@@ -78,6 +96,15 @@ failed-tasks : (e : SlateError) (reader : Follower) (managed : Bool) → (if man
 failed-tasks e reader true = refl
 failed-tasks e reader false = refl
 
+failed-lease : (e : SlateError) (reader : Follower) (managed : Bool) → (if managed then record reader { result = poll_result e } else reader).lease ≡ reader.lease
+failed-lease e reader true = refl
+failed-lease e reader false = refl
+
+failed-viewed : (e : SlateError) (reader : Follower) (managed : Bool) (P : VersionedManifest → Type 0) → (follows_all reader.mode reader.skips ≡ true → P reader.view) →
+    follows_all (if managed then record reader { result = poll_result e } else reader).mode (if managed then record reader { result = poll_result e } else reader).skips ≡ true → P (if managed then record reader { result = poll_result e } else reader).view
+failed-viewed e reader true P has = has
+failed-viewed e reader false P has = has
+
 failed-has : (x : Option Extractor) (e : SlateError) (reader : Follower) (managed : Bool) → HasSegments x reader → HasSegments x (if managed then record reader { result = poll_result e } else reader)
 failed-has x e reader true has = has
 failed-has x e reader false has = has
@@ -89,6 +116,40 @@ kept-has x reader has = has ∙ ap (segments_of x) (sym (above-twice reader.view
 whole-has : (x : Option Extractor) (reader : Follower) → HasSegments x (kept_follower reader) → HasSegments x reader
 whole-has x reader has = has ∙ ap (segments_of x) (above-twice reader.view.manifest.last_l0_seq reader.view.manifest.last_l0_seq reader.line.batches (omega arith))
 
+-- ---- the causes of answers
+if-any : {X P : Type 0} (o : Option X) → P → IfSome o (λ _. P)
+if-any None held = tt
+if-any (Some x) held = held
+
+overtaken-stored : (stage : Stage) (o : Objects) → IsOvertaken stage (catalogue_of o) → IsOvertaken stage o
+overtaken-stored (Puts next given replaces) o there = there
+overtaken-stored stage o there = absurd there
+
+overtaken-known : (stage : Stage) (o : Objects) → IsOvertaken stage o → IsOvertaken stage (catalogue_of o)
+overtaken-known (Puts next given replaces) o there = there
+overtaken-known stage o there = absurd there
+
+refusal-not_polled : (e : SlateError) (whole : Bool) (k : ℕ) → refusal e ≡ replies.Polled whole k → ⊥
+refusal-not_polled errors.NoMemory whole k is = cc
+refusal-not_polled (errors.Backpressure unflushed limit) whole k is = cc
+refusal-not_polled e whole k is = cc
+
+refusal-not_stepped : (e : SlateError) → refusal e ≡ replies.Stepped → ⊥
+refusal-not_stepped errors.NoMemory is = cc
+refusal-not_stepped (errors.Backpressure unflushed limit) is = cc
+refusal-not_stepped e is = cc
+
+refusal-timeout : (e : SlateError) (tries : ℕ) → refusal e ≡ replies.Refused (errors.TransactionalObjectTimeout tries) → e ≡ errors.TransactionalObjectTimeout tries
+refusal-timeout errors.NoMemory tries is = absurd (cc)
+refusal-timeout (errors.Backpressure unflushed limit) tries is = absurd (cc)
+refusal-timeout e tries is = cc
+
+answers-eighth : {reply : Reply} (e : SlateError) → IsOfEighth (Err e) → reply ≡ refusal e → (e ≡ errors.ObjectStoreError Unavailable → ⊥) → (reply ≡ replies.Refused (errors.TransactionalObjectTimeout 8)) ⊎ (reply ≡ replies.NoMemory)
+answers-eighth (errors.TransactionalObjectTimeout tries) of replied calm = inl (replied ∙ ap (λ k. replies.Refused (errors.TransactionalObjectTimeout k)) of)
+answers-eighth (errors.ObjectStoreError Unavailable) of replied calm = absurd (calm refl)
+answers-eighth errors.NoMemory of replied calm = inr replied
+answers-eighth e of replied calm = absurd of
+
 -- a poll that a step ended, also one at a log file that was removed
 polled-stepped : (answer : PollAnswer) → IsStepped (polled_reply answer)
 polled-stepped (answers.Whole at) = tt
@@ -96,9 +157,9 @@ polled-stepped (answers.Truncated at) = tt
 
 -- ---- step
 module _ (settings : Settings) (n : ℕ) (command : Command) (live live' : Live) (store store' : Known (List Batch)) (reply : Reply) (opts : live.options ≡ settings.options) (kind : kind_of command.action ≡ StepsKind n) (did : StepsPoll settings.extractor n live store reply live' store')
-    (w : World) (r : Represents live store w) (segments : AreInSegments settings.extractor w) where
+    (w : World) (r : Represents live store w) (segments : AllInSegments settings.extractor w) where
   abbrev Out : Type 0
-  Out = (w' : World) × Link settings w command reply w' × Represents live' store' w' × AreInSegments settings.extractor w'
+  Out = (w' : World) × Link settings w command reply w' × Represents live' store' w' × AllInSegments settings.extractor w'
 
   abbrev ro : RepresentsObjects live store w
   ro = r.represents
@@ -132,14 +193,14 @@ module _ (settings : Settings) (n : ℕ) (command : Command) (live live' : Live)
   can-step can found is = subst (λ x. AtObject x (λ handle. ⊥) (λ snapshot. ⊥) (CanStep settings w n)) is (subst (λ k. IsValidKind k settings w command) kind can)
 
   -- no step was made
-  unstepped : live' ≡ before → store' ≡ stored_in o w → (IsValidCommand settings w command → ⊥) → Out
-  unstepped same same_store refused =
+  unstepped : live' ≡ before → store' ≡ stored_in o w → reply ≡ replies.Unknown → (IsValidCommand settings w command → ⊥) → ((reader : Follower) (begun : Begun) → IsFollowerAt w.objects n reader → IsBegunAt w.polls n begun → ⊥) → Out
+  unstepped same same_store unknown refused nobody =
       let steps : StepsPoll settings.extractor n before (stored_in o w) reply before (stored_in o w) =
       subst (λ l. StepsPoll settings.extractor n before (stored_in o w) reply l (stored_in o w)) same (subst (StepsPoll settings.extractor n before (stored_in o w) reply live') same_store did-shown) in
       let again : Represents live' store' w = subst (λ k. Represents live' k w) (is-store ∙ sym same_store) (subst (λ l. Represents l store w) (is ∙ sym same) r) in (
         w,
         record {
-          next = subst (λ k. NextBy k settings w command reply w) (sym kind) (record { before = o; after = o; holds = (ro.held).3; holds_then = (ro.held).3; steps = steps; others = λ m other. refl; stored = refl });
+          next = subst (λ k. NextBy k settings w command reply w) (sym kind) (record { before = o; after = o; holds = (ro.held).3; holds_then = (ro.held).3; steps = steps; others = λ m other. refl; stored = refl; owed = λ reader begun at there. absurd (nobody reader begun at there); owed_others = λ m other. refl });
           completes = λ can none. absurd (refused can);
           faults = inl refl;
           grows = prefix-same w.stored;
@@ -147,14 +208,25 @@ module _ (settings : Settings) (n : ℕ) (command : Command) (live live' : Live)
           rises = rise-same w.objects w.objects refl;
           confirms = λ i asks durable. absurd (no-confirm i asks);
           sees = λ batch stands. subst (λ action. Sees batch action reply w) (sym action-is) tt;
-          leaves = λ i steps. record { objects = inl refl; latest = λ latest there. (latest, there, refl) };
+          leaves = λ i steps. record {
+            objects = inl refl;
+            polls = λ m other. refl;
+            latest = λ latest there. (latest, there, refl, omega arith);
+            checkpoints = λ latest id c there found others. (latest, there, found, refl);
+            full = λ invalid. absurd (let no = sym unknown ∙ invalid in cc);
+            closes = λ f there shut. inr refl;
+            leases = λ lease has. inl (lease, has, refl);
+          };
+          causes = λ i reader begun steps at there.
+              let place : n ≡ i = (let same : StepsKind n ≡ StepsKind i = sym kind ∙ steps in cc) in
+              absurd (nobody reader begun (subst (λ j. IsFollowerAt w.objects j reader) (sym place) at) (subst (λ j. IsBegunAt w.polls j begun) (sym place) there));
         },
         again,
         segments,
       )
 
   -- a step of the begun poll of a reader
-  module _ (g : Follower) (at : IsFollowerAt w.objects n g) (o' : Objects) (there' : store'.objects ≡ Some o') (m : Maintained o o') (g' : Follower) (poll' : Option Begun)
+  module _ (g : Follower) (at : IsFollowerAt w.objects n g) (b : Begun) (begun_at_n : IsBegunAt w.polls n b) (o' : Objects) (there' : store'.objects ≡ Some o') (m : Maintained o o') (g' : Follower) (poll' : Option Begun)
       (same : live' ≡ record before { objects = set before.objects n (AFollower (kept_follower g')); polls = set before.polls n poll' }) where
     abbrev w1 : World
     w1 = record w { catalogue = catalogue_of o'; faults = store'.faults }
@@ -162,8 +234,21 @@ module _ (settings : Settings) (n : ℕ) (command : Command) (live live' : Live)
     abbrev objects' : List Object
     objects' = set w.objects n (AFollower g')
 
+    abbrev owed' : ℕ → ℕ
+    owed' i = if i == n then owed_first w n g b else w.owed i
+
     abbrev w' : World
-    w' = record { stored = w.stored; catalogue = catalogue_of o'; objects = objects'; polls = live'.polls; writes = w.writes; faults = store'.faults }
+    w' = record { stored = w.stored; catalogue = catalogue_of o'; objects = objects'; polls = live'.polls; owed = owed'; writes = w.writes; faults = store'.faults }
+
+    owed-mine : owed' n ≡ owed_first w n g b
+    owed-mine = ap (λ x. if x then owed_first w n g b else w.owed n) (eq-eqb n n refl)
+
+    owed-other : (i : ℕ) → i ≢ n → owed' i ≡ w.owed i
+    owed-other i other = by (i == n) refl
+      where
+        by : (x : Bool) → (i == n) ≡ x → (if x then owed_first w n g b else w.owed i) ≡ w.owed i
+        by true same = absurd (other (eqb-true i n same))
+        by false apart = refl
 
     old-leads : Leads w.stored o' w.objects
     old-leads = maintained-leads w o (ro.held).2 (ro.held).3 ro.valid (ro.held).4 o' m
@@ -183,14 +268,21 @@ module _ (settings : Settings) (n : ℕ) (command : Command) (live live' : Live)
     pub record Went : Type 0 where
       pub stands : StandsBeside o' w1 g'
       pub rises : FollowerRises g g'
-      pub begun : (b : Begun) → poll' ≡ Some b → (g'.result ≡ None) × (is_pinned g'.mode ≡ false → PollStands o' w1 g' b)
+      pub begun : (b' : Begun) → poll' ≡ Some b' → (g'.result ≡ None) × (is_pinned g'.mode ≡ false → PollStands o' w1 g' b' × IfSome b'.history.first (λ _. ReachesTo (owed_first w n g b) o' w1 g' b'))
       pub were : (last : VersionedManifest) → WasLatest o last → WasLatest o' last
       pub open_ : g.result ≡ None
       pub tasks : g'.tasks ≡ g.tasks
       pub has_segments : HasSegments settings.extractor g → HasSegments settings.extractor g'
-      pub latest : (latest : VersionedManifest) → latest_manifest o ≡ Some latest → (latest' : VersionedManifest) × (latest_manifest o' ≡ Some latest') × (latest'.manifest ≡ record latest.manifest { checkpoints = latest'.manifest.checkpoints })
+      pub latest : (latest : VersionedManifest) → latest_manifest o ≡ Some latest → IsLatestBut o' latest
+      pub spares : (latest : VersionedManifest) (id : List ℕ) (c : Checkpoint) → latest_manifest o ≡ Some latest → found_in id latest ≡ Some c → ((lease : Lease) → HasLease w n lease → lease.id ≢ id) → IsSpared id c o o'
+      pub leases : (lease : Lease) → (g'.lease ≡ Some lease) ⊎ ((b : Begun) × (poll' ≡ Some b) × (b.lease ≡ Some lease)) → ((old : Lease) × HasLease w n old × (old.id ≡ lease.id)) ⊎ IsOfPut o o' lease
+      pub full : reply ≡ refusal errors.InvalidDBState → (latest : VersionedManifest) × (latest_manifest o' ≡ Some latest) × (last_number ≤ latest.id)
+      pub closes : g'.result ≡ Some (Err faults.InvalidDBState) → reply ≡ refusal errors.InvalidDBState
+      pub viewed : follows_all g'.mode g'.skips ≡ true → HaveSegments settings.extractor (replayed g'.view w.stored)
+      pub polled : (b : Begun) → poll' ≡ Some b → follows_all g'.mode g'.skips ≡ true → PollHasSegments settings.extractor w.stored g' b
       pub fault : (store'.faults ≡ w.faults) ⊎ IsStoreFault reply
       pub answers : IsValidCommand settings w command → (HasRisen w.faults store'.faults → ⊥) → IsStepped reply
+      pub causes : HasCauses n w g b reply w'
 
     module _ (went : Went) where
       leads : Leads w.stored o' objects'
@@ -227,7 +319,7 @@ module _ (settings : Settings) (n : ℕ) (command : Command) (live live' : Live)
 
       -- a reader beside the world, or a begun poll of it, stands then
       beside-then : (f : Follower) → StandsBeside o w f → StandsBeside o' w' f
-      beside-then f s = beside-onward w o w.stored o' objects' live'.polls w.writes store'.faults (ro.held).3 (onward-maintained w o (ro.held).2 (ro.held).3 ro.valid (ro.held).4 o' m objects' handle-before) f s
+      beside-then f s = beside-onward w o w.stored o' objects' live'.polls owed' w.writes store'.faults (ro.held).3 (onward-maintained w o (ro.held).2 (ro.held).3 ro.valid (ro.held).4 o' m objects' handle-before) f s
 
       poll-then : (f : Follower) (b : Begun) → PollStands o w f b → PollStands o' w' f b
       poll-then f b p = record {
@@ -240,11 +332,13 @@ module _ (settings : Settings) (n : ℕ) (command : Command) (live live' : Live)
         comes = beside-then _ p.comes;
         read = λ last is. let read = p.read last is in (went.were last read.0, read.1, read.2, beside-then _ read.3);
         staged = p.staged;
+        bare = p.bare;
         anew = p.anew;
         numbered = p.numbered;
         risen = p.risen;
         above = p.above;
         tabled = p.tabled;
+        lasts = others-last o o' (kept_follower f) b (maintained-acts o o' m went.were) p.lasts;
       }
 
       -- and so does what stands beside the world with the new catalogue
@@ -262,12 +356,29 @@ module _ (settings : Settings) (n : ℕ) (command : Command) (live live' : Live)
         comes = beside-same _ p.comes;
         read = λ last is. let read = p.read last is in (read.0, read.1, read.2, beside-same _ read.3);
         staged = p.staged;
+        bare = p.bare;
         anew = p.anew;
         numbered = p.numbered;
         risen = p.risen;
         above = p.above;
         tabled = p.tabled;
+        lasts = p.lasts;
       }
+
+      -- and reaches what its reader was owed
+      reach-mine : (i : ℕ) → i ≡ n → (f : Follower) (b' : Begun) → IfSome b'.history.first (λ _. ReachesTo (owed_first w n g b) o' w1 f b') → IfSome b'.history.first (λ _. ReachesTo (owed' i) o' w' f b')
+      reach-mine i here f b' = if-some b'.history.first (λ _. ReachesTo (owed_first w n g b) o' w1 f b') (λ _. ReachesTo (owed' i) o' w' f b')
+          (λ _ x. subst (λ k. ReachesTo k o' w' f b') (sym (ap owed' here ∙ owed-mine)) (record { stored = x.stored; tabled = x.tabled; anew = x.anew; next = x.next }))
+
+      reach-then : (i : ℕ) → (i ≡ n → ⊥) → (f : Follower) (b' : Begun) → PollStands o w f b' → IfSome b'.history.first (λ _. ReachesTo (w.owed i) o w f b') → IfSome b'.history.first (λ _. ReachesTo (owed' i) o' w' f b')
+      reach-then i other f b' p =
+          let l = p.lasts.latest in
+          let next = m.latest l.0 l.1 in
+          let tabled = next.3 in
+          if-some b'.history.first (λ _. ReachesTo (w.owed i) o w f b') (λ _. ReachesTo (owed' i) o' w' f b')
+          (λ _ x. subst (λ k. ReachesTo k o' w' f b') (sym (owed-other i other))
+          (reaches-on (w.owed i) w w' o o' l.0 next.0 l.1 next.1 (ro.held).3 holds' (prefix-same w.stored) (omega (arith, tabled))
+          (stay-follow o o' (l.0).manifest.replay_after_wal_id (next.0).manifest.replay_after_wal_id (sym next.4) (m.logs l.0 l.1)) (m.goes (last_log (l.0).manifest.replay_after_wal_id o)) f b' x))
 
       polls-are : live'.polls ≡ set w.polls n poll'
       polls-are = ap (λ (l : Live). l.polls) same
@@ -277,10 +388,10 @@ module _ (settings : Settings) (n : ℕ) (command : Command) (live live' : Live)
         | inl mine ↦
             let new = went.begun b mine.1 in
             let here : IsFollowerAt objects' i g' = subst (λ j. IsFollowerAt objects' j g') (sym mine.0) (set-there w.objects n at) in
-            (g', here, new.0, λ free. poll-same g' b (new.1 free))
+            (g', here, new.0, λ free. (poll-same g' b (new.1 free).0, reach-mine i mine.0 g' b (new.1 free).1))
         | inr other ↦
             let old = r.begun o i b (ro.held).1 other.1 in
-            (old.0, get-set_other w.objects n i (AFollower g') other.0 ∙ old.1, old.2, λ free. poll-then old.0 b (old.3 free))
+            (old.0, get-set_other w.objects n i (AFollower g') other.0 ∙ old.1, old.2, λ free. (poll-then old.0 b (old.3 free).0, reach-then i other.0 old.0 b (old.3 free).0 (old.3 free).1))
       ]
         where
           set-there : (xs : List Object) (k : ℕ) → slice_get xs k ≡ Some (AFollower g) → slice_get (set xs k (AFollower g')) k ≡ Some (AFollower g')
@@ -300,16 +411,16 @@ module _ (settings : Settings) (n : ℕ) (command : Command) (live live' : Live)
       }
 
       -- the keys that an opening replays
-      segments-then : AreInSegments settings.extractor w'
-      segments-then = record {
-        unstored = λ i a there. segments.unstored i a (handle-before i a there);
+      keys-then : AreInSegments settings.extractor w'
+      keys-then = record {
+        unstored = λ i a there. (segments.keys).unstored i a (handle-before i a there);
         stored = λ i x latest' there all found.
             let old : (y : Object) × (slice_get w.objects i ≡ Some y) × (replays_all y ≡ true) = (elim (get-set w.objects n i (AFollower g') x (AFollower g) at there) [
               | inl here ↦ (AFollower g, subst (λ j. slice_get w.objects j ≡ Some (AFollower g)) (sym here.0) at, was-all x here.1 all)
               | inr other ↦ (x, other.1, all)
             ]) in
             let past = ro.valid.past i old.0 old.1 in
-            let have = segments.stored i old.0 past.0 old.1 old.2 past.1 in
+            let have = (segments.keys).stored i old.0 past.0 old.1 old.2 past.1 in
             let found_before : latest_manifest o ≡ Some past.0 = ap latest_manifest (ro.held).3.catalogue ∙ past.1 in
             let next = m.latest past.0 found_before in
             let same_latest : next.0 ≡ latest' = some-same next.0 latest' (sym next.1 ∙ found) in
@@ -324,6 +435,42 @@ module _ (settings : Settings) (n : ℕ) (command : Command) (live live' : Live)
               let mine : replays_all (AFollower g') ≡ true = subst (λ y. replays_all y ≡ true) (sym here) all in
               subst (λ mode. replays_all (AFollower (record g { mode = mode })) ≡ true) modes_same (subst (λ skips. replays_all (AFollower (record g { mode = g'.mode; skips = skips })) ≡ true) skips_same mine)
 
+      reader-then : (i : ℕ) (f : Follower) → slice_get objects' i ≡ Some (AFollower f) → ((i ≡ n) × (g' ≡ f)) ⊎ ((i ≢ n) × (slice_get w.objects i ≡ Some (AFollower f)))
+      reader-then i f there = by (i == n) refl
+        where
+          by : (b : Bool) → (i == n) ≡ b → ((i ≡ n) × (g' ≡ f)) ⊎ ((i ≢ n) × (slice_get w.objects i ≡ Some (AFollower f)))
+          by true same =
+              let here : i ≡ n = eqb-true i n same in
+              let mine = get-set_same w.objects n (AFollower g') (AFollower g) at in
+              let other = subst (λ j. slice_get objects' j ≡ Some (AFollower f)) here there in
+              inl (here, let e : g' ≡ f = (cc (mine, other)) in e)
+          by false apart =
+              let other : i ≢ n = (λ e. let yes = eq-eqb i n e in absurd (cc (yes, apart))) in
+              inr (other, sym (get-set_other w.objects n i (AFollower g') other) ∙ there)
+
+      segments-then : AllInSegments settings.extractor w'
+      segments-then = record {
+        keys = keys-then;
+        viewed = λ i f there replays. elim (reader-then i f there) [
+          | inl mine ↦ subst (λ (y : Follower). HaveSegments settings.extractor (replayed y.view w.stored)) mine.1 (went.viewed (subst (λ (y : Follower). follows_all y.mode y.skips ≡ true) (sym mine.1) replays))
+          | inr other ↦ segments.viewed i f other.1 replays
+        ];
+        polled = λ i f b there begun replays. elim (begun-set w.polls n i poll' b (subst (λ ps. IsBegunAt ps i b) polls-are begun)) [
+          | inl mine ↦
+              let same : g' ≡ f = (elim (reader-then i f there) [ inl here ↦ here.1 | inr other ↦ absurd (other.0 mine.0) ]) in
+              subst (λ (y : Follower). PollHasSegments settings.extractor w.stored y b) same (went.polled b mine.1 (subst (λ (y : Follower). follows_all y.mode y.skips ≡ true) (sym same) replays))
+          | inr other ↦
+              let old : slice_get w.objects i ≡ Some (AFollower f) = (elim (reader-then i f there) [ inl here ↦ absurd (other.0 here.0) | inr was ↦ was.1 ]) in
+              segments.polled i f b old other.1 replays
+        ];
+      }
+
+      reader-same : (reader : Follower) → IsFollowerAt w.objects n reader → g ≡ reader
+      reader-same reader at_n = (let same : ◌≡◌ {A = Option Object} (Some (AFollower g)) (Some (AFollower reader)) = sym at ∙ at_n in cc)
+
+      begun-same : (begun : Begun) → IsBegunAt w.polls n begun → b ≡ begun
+      begun-same begun there = some-same b begun (some-same (Some b) (Some begun) (sym begun_at_n ∙ there))
+
       pub stepped : Out
       stepped = (
         w',
@@ -336,6 +483,8 @@ module _ (settings : Settings) (n : ℕ) (command : Command) (live live' : Live)
             steps = subst (λ l. StepsPoll settings.extractor n before (stored_in o w) reply l (stored_in o' w')) live-is (subst (StepsPoll settings.extractor n before (stored_in o w) reply live') store-is did-shown);
             others = λ i other. get-set_other w.objects n i (AFollower g') other;
             stored = refl;
+            owed = λ reader begun at_n there. owed-mine ∙ (ap (λ x. owed_first w n x b) (reader-same reader at_n) ∙ ap (owed_first w n reader) (begun-same begun there));
+            owed_others = λ i other. owed-other i other;
           });
           completes = λ can none. subst (λ k. IsAnswered k reply) (sym kind) (went.answers can none);
           faults = went.fault;
@@ -346,15 +495,47 @@ module _ (settings : Settings) (n : ℕ) (command : Command) (live live' : Live)
           sees = λ batch stands. subst (λ action. Sees batch action reply w') (sym action-is) tt;
           leaves = λ i steps.
               let place : n ≡ i = (let same : StepsKind n ≡ StepsKind i = sym kind ∙ steps in cc) in
-              subst (λ i. StepLeaves settings.extractor i w w') place (record {
+              subst (λ i. StepLeaves settings.extractor i w reply w') place (record {
                 objects = inr (g, g', at, refl, went.open_, went.rises.mode, went.tasks, went.has_segments);
+                polls = λ m other. ap (λ (ps : List (Option Begun)). slice_get ps m) polls-are ∙ get-set_other w.polls n m poll' other;
                 latest = λ latest there. went.latest latest (ap latest_manifest (ro.held).3.catalogue ∙ there);
+                checkpoints = λ latest id c there found others.
+                    let spared = went.spares latest id c (ap latest_manifest (ro.held).3.catalogue ∙ there) found others in
+                    (spared.0, spared.1, spared.2, spared.3 ∙ entries c.manifest_id);
+                full = went.full;
+                closes = λ f there shut. inl (went.closes (subst (λ (y : Follower). y.result ≡ Some (Err faults.InvalidDBState)) (sym (mine-is f there)) shut));
+                leases = λ lease has. elim (went.leases lease (own lease has)) [
+                  | inl old ↦ inl old
+                  | inr put ↦ inr (put.0, put.1, put.2, sym (entries put.0) ∙ put.3, put.4, put.5, put.6)
+                ];
               });
+          causes = λ i reader begun steps at_i there.
+              let place : n ≡ i = (let same : StepsKind n ≡ StepsKind i = sym kind ∙ steps in cc) in
+              let at_n = subst (λ j. IsFollowerAt w.objects j reader) (sym place) at_i in
+              let there_n = subst (λ j. IsBegunAt w.polls j begun) (sym place) there in
+              subst (λ j. HasCauses j w reader begun reply w') place (subst (λ x. HasCauses n w x begun reply w') (reader-same reader at_n) (subst (λ x. HasCauses n w g x reply w') (begun-same begun there_n) went.causes));
         },
         represents-then,
         segments-then,
       )
         where
+          entries : (k : ℕ) → entry_at k o.manifests ≡ entry_at k w.catalogue.manifests
+          entries k = ap (λ (x : Catalogue). entry_at k x.manifests) (ro.held).3.catalogue
+
+          mine-is : (f : Follower) → IsFollowerAt objects' n f → g' ≡ f
+          mine-is f there = let mine = get-set_same w.objects n (AFollower g') (AFollower g) at in (cc (mine, there))
+
+          -- a lease of the reader, or of the begun poll that is left
+          own : (lease : Lease) → HasLease w' n lease → (g'.lease ≡ Some lease) ⊎ ((b : Begun) × (poll' ≡ Some b) × (b.lease ≡ Some lease))
+          own lease (inl (f, here, has)) =
+              let mine = get-set_same w.objects n (AFollower g') (AFollower g) at in
+              let same : g' ≡ f = cc in
+              inl (ap (λ (x : Follower). x.lease) same ∙ has)
+          own lease (inr (b, here, has)) = elim (begun-set w.polls n n poll' b (subst (λ ps. IsBegunAt ps n b) polls-are here)) [
+            | inl mine ↦ inr (b, mine.1, has)
+            | inr other ↦ absurd (other.0 refl)
+          ]
+
           live-is : live' ≡ shown settings.options w'
           live-is =
               ap (λ (l : Live). record l { polls = live'.polls }) same-alone
@@ -386,8 +567,8 @@ module _ (settings : Settings) (n : ℕ) (command : Command) (live live' : Live)
     open_ : g.result ≡ None
     open_ = subst (λ (f : Follower). f.result ≡ None) reader-is stand.2
 
-    free-stands : is_pinned g.mode ≡ false → PollStands o w g b
-    free-stands = subst (λ (f : Follower). is_pinned f.mode ≡ false → PollStands o w f b) reader-is stand.3
+    free-stands : is_pinned g.mode ≡ false → StandsOn o w n g b
+    free-stands = subst (λ (f : Follower). is_pinned f.mode ≡ false → StandsOn o w n f b) reader-is stand.3
 
     by-kept : (g' : Follower) → kept_follower g' ≡ new → live' ≡ record before { objects = set before.objects n (AFollower (kept_follower g')); polls = set before.polls n poll' }
     by-kept g' kept_is = same ∙ ap (λ (f : Follower). record before { objects = set before.objects n (AFollower f); polls = set before.polls n poll' }) (sym kept_is)
@@ -397,14 +578,30 @@ module _ (settings : Settings) (n : ℕ) (command : Command) (live live' : Live)
 
     -- a reader beside the world stands beside the one with another catalogue
     onward-stands : (o' : Objects) → Maintained o o' → (f : Follower) → StandsBeside o w f → StandsBeside o' (record w { catalogue = catalogue_of o'; faults = store'.faults }) f
-    onward-stands o' m f stands = beside-onward w o w.stored o' w.objects w.polls w.writes store'.faults (ro.held).3 (onward-maintained w o (ro.held).2 (ro.held).3 ro.valid (ro.held).4 o' m w.objects (λ i a there. there)) f stands
+    onward-stands o' m f stands = beside-onward w o w.stored o' w.objects w.polls w.owed w.writes store'.faults (ro.held).3 (onward-maintained w o (ro.held).2 (ro.held).3 ro.valid (ro.held).4 o' m w.objects (λ i a there. there)) f stands
 
-    pinned-steps : (s.result ≡ Ok (Some (answers.Whole (number (kept_follower g))))) × (new ≡ kept_follower g) × (store' ≡ stored_in o w) → Out
-    pinned-steps (result_is, new_is, after_is) =
+    -- a step of a reader that stays at a checkpoint has its causes
+    pinned-causes : is_pinned g.mode ≡ true → reply ≡ replies.Polled true (number (kept_follower g)) → (v : World) → v.owed n ≡ owed_first w n g b → HasCauses n w g b reply v
+    pinned-causes pinned replied v owed =
+        let now : owed_now w g ≡ number g = ap (λ x. if x then number g else (if g.skips then tabled_number (latest_manifest w.catalogue) else end w.stored)) pinned in
+        let first : v.owed n ≡ number g = owed ∙ (ap (λ x. if x || is_none b.history.first then owed_now w g else w.owed n) pinned ∙ now) in
+        let same = line_above-end g.view.manifest.last_l0_seq g.line in
+        record {
+          truncated = λ k is. absurd (let no = sym replied ∙ is in cc);
+          tried = λ tries is. absurd (let no = sym replied ∙ is in cc);
+          eighth = λ free. absurd (cc (pinned, free));
+          stepped = λ is. absurd (let no = sym replied ∙ is in cc);
+          whole = λ k is.
+              let here : number (kept_follower g) ≡ k = (let both = sym replied ∙ is in cc) in
+              (omega (arith, first, same, here), omega (arith, now, same, here));
+        }
+
+    pinned-steps : is_pinned g.mode ≡ true → (s.result ≡ Ok (Some (answers.Whole (number (kept_follower g))))) × (new ≡ kept_follower g) × (store' ≡ stored_in o w) → Out
+    pinned-steps pinned (result_is, new_is, after_is) =
         let m = unchanged-objects o o (ro.held).2 refl in
         let there' : store'.objects ≡ Some o = ap (λ (k : Known (List Batch)). k.objects) after_is in
         let left : poll' ≡ None = s.leaves ∙ ap (λ x. poll_left x s.left) result_is in
-        stepped g at o there' m g poll' (by-kept g (sym new_is)) (record {
+        stepped g at b begun_at_n o there' m g poll' (by-kept g (sym new_is)) (record {
           stands = onward-stands o m g reader_stands;
           rises = follower-same g g refl;
           begun = λ b' is. absurd (let no = sym left ∙ is in cc);
@@ -412,9 +609,19 @@ module _ (settings : Settings) (n : ℕ) (command : Command) (live live' : Live)
           open_ = open_;
           tasks = refl;
           has_segments = λ has. has;
-          latest = λ latest there. (latest, there, refl);
+          latest = λ latest there. (latest, there, refl, omega arith);
+          spares = λ latest id c there found others. (latest, there, found, refl);
+          leases = λ lease has. elim has [
+            | inl mine ↦ inl (lease, inl (g, at, mine), refl)
+            | inr begun ↦ absurd (let no = sym left ∙ begun.1 in cc)
+          ];
+          full = λ invalid. absurd (let no = sym (s.replied ∙ ap (reply_to stepped_reply) result_is) ∙ invalid in cc);
+          closes = λ shut. absurd (let no = sym open_ ∙ shut in cc);
+          viewed = λ replays. segments.viewed n g at replays;
+          polled = λ b' is. absurd (let no = sym left ∙ is in cc);
           fault = inl (ap (λ (k : Known (List Batch)). k.faults) after_is);
           answers = λ can calm. subst IsStepped (sym (s.replied ∙ ap (reply_to stepped_reply) result_is)) tt;
+          causes = pinned-causes pinned (s.replied ∙ ap (reply_to stepped_reply) result_is) _ (owed-mine g at b begun_at_n o there' m g poll' (by-kept g (sym new_is)));
         })
 
     module _ (free : is_pinned g.mode ≡ false) (c : MakesCall settings.extractor (kept_follower g) b (stored_in o w) s.result new s.left store') where
@@ -428,7 +635,33 @@ module _ (settings : Settings) (n : ℕ) (command : Command) (live live' : Live)
       there' = found.1
 
       p : PollStands o w g b
-      p = free-stands free
+      p = (free-stands free).0
+
+      -- what its reader was owed at the first step
+      abbrev target : ℕ
+      target = owed_first w n g b
+
+      aims : Aims live store store' w o o' (ro.held).2 (ro.held).3 ro.valid (ro.held).4 ro there' g open_ free b p target
+      aims = by b.history.first refl p.lasts.since (free-stands free).1
+        where
+          now : owed_now w g ≡ (if g.skips then tabled_number (latest_manifest w.catalogue) else end w.stored)
+          now = ap (λ x. if x then number g else (if g.skips then tabled_number (latest_manifest w.catalogue) else end w.stored)) free
+
+          by : (first : Option FirstRead) → b.history.first ≡ first → MatchOption first ((b.stage ≡ ReadsLatest) × (b.history.steps ≡ 0)) (λ first. LastsSince first o (kept_follower g) b) → IfSome b.history.first (λ _. ReachesTo (w.owed n) o w g b) →
+              Aims live store store' w o o' (ro.held).2 (ro.held).3 ro.valid (ro.held).4 ro there' g open_ free b p target
+          by None none start reaches =
+              let is : target ≡ (if g.skips then tabled_number (latest_manifest w.catalogue) else end w.stored) =
+              ap (λ x. if is_pinned g.mode || is_none x then owed_now w g else w.owed n) none ∙ (ap (λ x. if x || true then owed_now w g else w.owed n) free ∙ now) in
+              record {
+                stored = λ reads. (let e = is ∙ ap (λ x. if x then tabled_number (latest_manifest w.catalogue) else end w.stored) reads in omega (arith, e));
+                tabled = λ skips l there. (let e = is ∙ (ap (λ x. if x then tabled_number (latest_manifest w.catalogue) else end w.stored) skips ∙ ap tabled_number there) in omega (arith, e));
+                before = inl start.0;
+              }
+          by (Some first) some since reaches =
+              let x = subst (λ y. IfSome y (λ _. ReachesTo (w.owed n) o w g b)) some reaches in
+              let is : w.owed n ≡ target = sym (ap (λ x. if is_pinned g.mode || is_none x then owed_now w g else w.owed n) some ∙ ap (λ x. if x || false then owed_now w g else w.owed n) free) in
+              let to = subst (λ k. ReachesTo k o w g b) is x in
+              record { stored = to.stored; tabled = to.tabled; before = inr (to.anew, to.next) }
 
       m : Maintained o o'
       m = steps-maintain live store store' w o o' (ro.held).2 (ro.held).3 ro.valid (ro.held).4 ro there' g open_ free b p new s.left s.result found.2
@@ -436,8 +669,39 @@ module _ (settings : Settings) (n : ℕ) (command : Command) (live live' : Live)
       were : (last : VersionedManifest) → WasLatest o last → WasLatest o' last
       were = steps-were live store store' w o o' (ro.held).2 (ro.held).3 ro.valid (ro.held).4 ro there' g open_ free b p new s.left s.result found.2
 
-      latest-then : (latest : VersionedManifest) → latest_manifest o ≡ Some latest → (latest' : VersionedManifest) × (latest_manifest o' ≡ Some latest') × (latest'.manifest ≡ record latest.manifest { checkpoints = latest'.manifest.checkpoints })
+      latest-then : (latest : VersionedManifest) → latest_manifest o ≡ Some latest → IsLatestBut o' latest
       latest-then = steps-latest live store store' w o o' (ro.held).2 (ro.held).3 ro.valid (ro.held).4 ro there' g open_ free b p new s.left s.result found.2
+
+      spares-then : (latest : VersionedManifest) (id : List ℕ) (c : Checkpoint) → latest_manifest o ≡ Some latest → found_in id latest ≡ Some c → ((lease : Lease) → HasLease w n lease → lease.id ≢ id) → IsSpared id c o o'
+      spares-then latest id c is there others =
+          step-spares o o' (ro.held).2 w g b p latest is id c there (λ lease has. others lease (inr (b, begun_at_n, has)))
+          (steps-left live store store' w o o' (ro.held).2 (ro.held).3 ro.valid (ro.held).4 ro there' g open_ free b p new s.left s.result found.2)
+
+      -- a manifest is stored, since the reader was opened
+      stored : (latest : VersionedManifest) × (latest_manifest o ≡ Some latest)
+      stored = let past = ro.valid.past n (AFollower g) at in (past.0, ap latest_manifest (ro.held).3.catalogue ∙ past.1)
+
+      abbrev Comes : Option Lease → Type 0
+      Comes = ComesFrom o o' (ro.held).2 w g b p stored.0 stored.1
+
+      -- what a turn of its call leads to has a lease that comes from one before
+      turn-leases : (turn : Turn) → Meets (kept_follower g) b o turn o' → OfTurn (λ (x : Begun). Comes x.lease) turn
+      turn-leases = step-leases o o' (ro.held).2 w g b p stored.0 stored.1
+
+      from-own : (after : Option Lease) → Comes after → (lease : Lease) → after ≡ Some lease → ((old : Lease) × HasLease w n old × (old.id ≡ lease.id)) ⊎ IsOfPut o o' lease
+      from-own after comes lease has = elim (comes lease has) [
+        | inl old ↦ inl (old.0, elim old.1 [ inl its ↦ inl (g, at, its) | inr polled ↦ inr (b, begun_at_n, polled) ], old.2)
+        | inr put ↦ inr put
+      ]
+
+      -- what it came to has the lease of the poll
+      came-leases : (answer : PollAnswer) → Steps (kept_follower g) b (Ok (Some answer)) o new s.left o' → Comes new.lease
+      came-leases (answers.Whole at) steps = subst Comes (sym (ap (λ (f : Follower). f.lease) steps.2)) (turn-leases (Ends steps.0) steps.1)
+      came-leases (answers.Truncated at) steps = subst Comes (sym (ap (λ (f : Follower). f.lease) steps.2)) (turn-leases (Breaks steps.0) steps.1)
+
+      came-open : (answer : PollAnswer) → Steps (kept_follower g) b (Ok (Some answer)) o new s.left o' → new.result ≡ None
+      came-open (answers.Whole k) steps = ap (λ (f : Follower). f.result) steps.2 ∙ open_
+      came-open (answers.Truncated k) steps = ap (λ (f : Follower). f.result) steps.2 ∙ open_
 
       fault : (store'.faults ≡ w.faults) ⊎ IsStoreFault reply
       fault = fault-of s.result s.replied (c.faults).stays
@@ -447,42 +711,117 @@ module _ (settings : Settings) (n : ℕ) (command : Command) (live live' : Live)
       answered-tasks (answers.Whole at) steps whole is = sym (ap (λ (f : Follower). f.tasks) is) ∙ ap (λ (f : Follower). f.tasks) steps.2
       answered-tasks (answers.Truncated at) steps whole is = sym (ap (λ (f : Follower). f.tasks) is) ∙ ap (λ (f : Follower). f.tasks) steps.2
 
+      -- ---- the keys that it meets
+      -- what its turn leaves has segments, where the reader replays all
+      turn-keys : follows_all g.mode g.skips ≡ true → (turn : Turn) (after : Objects) → Meets (kept_follower g) b o turn after → OfTurn (PollHasSegments settings.extractor w.stored g) turn
+      turn-keys replays turn after meets =
+          turn-has settings.extractor w g o after b p (segments.viewed n g at replays)
+          (λ l is. (segments.keys).stored n (AFollower g) l at replays (sym (ap latest_manifest (ro.held).3.catalogue) ∙ is)) (segments.polled n g b at begun_at_n replays) turn meets
+
+      -- the manifest that it goes by then
+      own-replays : (f : Follower) → f.mode ≡ g.mode → f.skips ≡ g.skips → follows_all f.mode f.skips ≡ true → follows_all g.mode g.skips ≡ true
+      own-replays f mode skips replays = ap (λ m. follows_all m g.skips) (sym mode) ∙ (ap (follows_all f.mode) (sym skips) ∙ replays)
+
+      came-viewed : (answer : PollAnswer) → Steps (kept_follower g) b (Ok (Some answer)) o new s.left o' → follows_all g.mode g.skips ≡ true → HaveSegments settings.extractor (replayed new.view w.stored)
+      came-viewed (answers.Whole k) steps replays =
+          subst (λ (v : VersionedManifest). HaveSegments settings.extractor (replayed v w.stored)) (sym (ap (λ (f : Follower). f.view) steps.2)) (turn-keys replays (Ends steps.0) o' steps.1).1
+      came-viewed (answers.Truncated k) steps replays =
+          subst (λ (v : VersionedManifest). HaveSegments settings.extractor (replayed v w.stored)) (sym (ap (λ (f : Follower). f.view) steps.2)) (turn-keys replays (Breaks steps.0) o' steps.1).1
+
+      -- each key that the poll comes to has one
+      ends-lack : (after : Objects) (last : Begun) → Meets (kept_follower g) b o (Ends last) after ⊎ Meets (kept_follower g) b o (Breaks last) after → ArrivalLacks settings.extractor (kept_follower g) last → ⊥
+      ends-lack after last ends lack = by g.skips refl
+        where
+          stored_is : IsOfStored live store (record { objects = Some after; faults = store'.faults }) w o after (ro.held).2 (ro.held).3 ro.valid (ro.held).4 ro refl g open_ free b p last
+          stored_is = ends-stored live store (record { objects = Some after; faults = store'.faults }) w o after (ro.held).2 (ro.held).3 ro.valid (ro.held).4 ro refl g open_ free b p last ends
+
+          by : (skips : Bool) → g.skips ≡ skips → ⊥
+          by true skips =
+              bare-lacks settings.extractor w g last stored_is.0.0 stored_is.0.1 stored_is.2 ro.valid.line
+              (elim ends [
+                | inl whole ↦ meets-bare g skips (taken b) o after b.stage (Ends last) p.staged (p.bare skips) whole
+                | inr cut ↦ meets-bare g skips (taken b) o after b.stage (Breaks last) p.staged (p.bare skips) cut
+              ]) lack
+          by false reads =
+              let replays : follows_all g.mode g.skips ≡ true = ap (λ q. not q && not g.skips) free ∙ ap (λ q. not q) reads in
+              stored-lacks settings.extractor w g last stored_is.0.0 stored_is.0.1 stored_is.2 stored_is.1
+              (elim ends [
+                | inl whole ↦ turn-keys replays (Ends last) after whole
+                | inr cut ↦ turn-keys replays (Breaks last) after cut
+              ]) lack
+
+      -- it answers InvalidDBState only where no manifest can follow the latest one
+      abbrev IsFullThen : Type 0
+      IsFullThen = (latest : VersionedManifest) × (latest_manifest o' ≡ Some latest) × (last_number ≤ latest.id)
+
+      latest-full : (last : VersionedManifest) → latest_manifest o ≡ Some last → last_number ≤ last.id → IsFullThen
+      latest-full last is high = let l = latest-then last is in let up = l.3 in (l.0, l.1, omega (arith, up, high))
+
+      full-by : (last : VersionedManifest) → (latest_manifest o ≡ Some last) ⊎ ((b.latest ≡ Some last) ⊎ ((given : Lease) × (replaces : Bool) × (b.stage ≡ Puts last given replaces) × (is_present (PutManifest last.id last.manifest) o ≡ false))) → last_number ≤ last.id → StepFails errors.InvalidDBState (kept_follower g) b o o' → IsFullThen
+      full-by last (inl is) high fails = latest-full last is high
+      full-by last (inr (inl read)) high fails =
+          let was = (p.read last read).0 in
+          let low = was.2 in
+          latest-full was.0 was.1 (omega (arith, low, high))
+      full-by last (inr (inr (given, replaces, at_stage, absent))) high fails =
+          let staged : IsStaged g b (Puts last given replaces) = subst (IsStaged g b) at_stage p.staged in
+          let tops = put-tops o (ro.held).2 staged.0 last (p.read staged.0 staged.1).0 (staged-planned g b last given replaces staged) absent stored.0 stored.1 in
+          subst (λ x. (latest : VersionedManifest) × (latest_manifest x ≡ Some latest) × (last_number ≤ latest.id)) (sym put)
+          (elim tops [
+            | inl (same, above, top) ↦ (last, top, high)
+            | inr (less, stale) ↦ (stored.0, stale, omega (arith, less, high))
+          ])
+        where
+          made : (turn : Turn) → Meets (kept_follower g) b o turn o' → o' ≡ changed (PutManifest last.id last.manifest) o
+          made turn meets = by (subst (λ x. MeetsAt x (kept_follower g) (taken b) o turn o') at_stage meets)
+            where
+              by : MeetsAt (Puts last given replaces) (kept_follower g) (taken b) o turn o' → o' ≡ changed (PutManifest last.id last.manifest) o
+              by (inl (free, turn_is, put)) = put
+              by (inr (there, turn_is, same)) = absurd (cc (there, absent))
+
+          put : o' ≡ changed (PutManifest last.id last.manifest) o
+          put = elim fails [
+            | inl meets ↦ made (Fails errors.InvalidDBState) meets
+            | inr (last', ends) ↦ elim ends [ inl whole ↦ made (Ends last') whole | inr cut ↦ made (Breaks last') cut ]
+          ]
+
+      full-then : reply ≡ refusal errors.InvalidDBState → IsFullThen
+      full-then invalid = by s.result refl
+        where
+          failed : {e : SlateError} → e ≡ errors.InvalidDBState → s.result ≡ Err e → StepFails errors.InvalidDBState (kept_follower g) b o o'
+          failed {e} same is = subst (λ x. Steps (kept_follower g) b x o new s.left o') (is ∙ ap Err same) found.2
+
+          by : (result : Result (Option PollAnswer) SlateError) → s.result ≡ result → IsFullThen
+          by (Ok None) is = absurd (let no = sym (s.replied ∙ ap (reply_to stepped_reply) is) ∙ invalid in cc)
+          by (Ok (Some (answers.Whole k))) is = absurd (let no = sym (s.replied ∙ ap (reply_to stepped_reply) is) ∙ invalid in cc)
+          by (Ok (Some (answers.Truncated k))) is = absurd (let no = sym (s.replied ∙ ap (reply_to stepped_reply) is) ∙ invalid in cc)
+          by (Err e) is =
+              let same : e ≡ errors.InvalidDBState = refused-is e (sym (s.replied ∙ ap (reply_to stepped_reply) is) ∙ invalid) in
+              elim (c.lacks (is ∙ ap Err same)) [
+                | inl fails ↦ let why = meets-fails (λ (v : VersionedManifest). last_number ≤ v.id) (λ v high. high) b.stage (kept_follower g) (taken b) o fails.0 fails.1 in full-by why.0 why.1 why.2 (failed same is)
+                | inr lacks ↦ absurd (ends-lack (lacks.1).0 lacks.0 (lacks.1).1 lacks.2)
+              ]
+
       -- ---- a valid step answers no error but want of memory
       module _ (can : CanStep settings w n g) where
         few : b.overtaken < 7
         few =
-            let begun = can.1 in
+            let begun = can.0 in
             let same : begun.0 ≡ b = some-same begun.0 b (some-same (Some begun.0) (Some b) (sym begun.1 ∙ begun_at_n)) in
             subst (λ (x : Begun). x.overtaken < 7) same begun.2
 
         latest : (l : VersionedManifest) × (latest_manifest o ≡ Some l) × (is_managed g.mode ≡ true → l.id + 1 < last_number)
-        latest = let found = can.2 free in (found.0, ap latest_manifest (ro.held).3.catalogue ∙ found.1, found.2)
+        latest = let found = can.1 free in (found.0, ap latest_manifest (ro.held).3.catalogue ∙ found.1, found.2)
 
         staged-puts : (next : VersionedManifest) (given : Lease) (replaces : Bool) → b.stage ≡ Puts next given replaces → (last : VersionedManifest) × (b.latest ≡ Some last) × (is_some b.lease ≡ true) × (next.id ≡ last.id + 1)
         staged-puts next given replaces at_stage =
             let staged : IsStaged g b (Puts next given replaces) = subst (IsStaged g b) at_stage p.staged in
-            let other = planned-other staged.0 next staged.3 in
-            (staged.0, staged.1, staged.2, ap (λ (v : VersionedManifest). v.id) other.1)
+            let other = planned-other staged.0 next (staged-planned g b next given replaces staged) in
+            (staged.0, staged.1, staged-leased g b next given replaces staged, ap (λ (v : VersionedManifest). v.id) other.1)
 
         never : (error : SlateError) (after : Objects) → Meets (kept_follower g) b o (Fails error) after → ⊥
         never error after meets =
             meets-goes (kept_follower g) b o after few latest.0 latest.1 (λ held. latest.2 (sym p.fits.leased ∙ held)) (λ last is. (p.read last is).0) staged-puts b.stage refl (Fails error) meets
-
-        none-lack : (batches : List Batch) (key : List ℕ) → HaveSegments settings.extractor batches → Lacks settings.extractor batches key → ⊥
-        none-lack batches key have lacks = absurd (cc (have, lacks))
-
-        -- each key that the poll comes to is stored
-        ends-lack : (after : Objects) (last : Begun) → Meets (kept_follower g) b o (Ends last) after ⊎ Meets (kept_follower g) b o (Breaks last) after → ArrivalLacks settings.extractor (kept_follower g) last → ⊥
-        ends-lack after last ends lack =
-            let stored = ends-stored live store (record { objects = Some after; faults = store'.faults }) w o after (ro.held).2 (ro.held).3 ro.valid (ro.held).4 ro refl g open_ free b p last ends in
-            let x = settings.extractor in
-            let fresh : HaveSegments x last.fresh = (have-each x last.fresh stored.0.0 (subst (HaveSegments x) stored.0.1 (have-filter x (λ (batch : Batch). nat_lt last.floor batch.number) w.stored.batches can.0))).0 in
-            let whole : HaveSegments x (kept_batches (kept_follower g) last) =
-            subst (HaveSegments x) (sym stored.1) (have-filter x (λ (batch : Batch). nat_lt (view_of (kept_follower g) last).manifest.last_l0_seq batch.number) (up_to (reached_number last) w.stored).batches (have-take x (reached_number last - w.stored.floor) w.stored.batches can.0)) in
-            elim lack.1 [
-              | inl fresh_lack ↦ none-lack last.fresh lack.0 fresh fresh_lack
-              | inr whole_lack ↦ none-lack (kept_batches (kept_follower g) last) lack.0 whole whole_lack
-            ]
 
         lacks-none : StepLacks settings.extractor (kept_follower g) b o → ⊥
         lacks-none (inl (after, fails)) = never errors.InvalidDBState after fails
@@ -496,6 +835,84 @@ module _ (settings : Settings) (n : ℕ) (command : Command) (live live' : Live)
         free-by errors.NoMemory is kind fails calm = refl
         free-by error is kind fails calm = absurd kind
 
+      -- ---- it has its causes
+      follows-content : FollowsLine o (content o) (kept_follower g) b
+      follows-content = subst (λ (x : Line). FollowsLine o x (kept_follower g) b) (sym (ro.held).3.stored) p.follows
+
+      eighth-stored : IsEighth w.catalogue b → IsEighth o b
+      eighth-stored (there, seven) = (overtaken-stored b.stage o (subst (λ c. IsOvertaken b.stage c) (sym (ro.held).3.catalogue) there), seven)
+
+      eighth-known : IsEighth o b → IsEighth w.catalogue b
+      eighth-known (there, seven) = (subst (λ c. IsOvertaken b.stage c) (ro.held).3.catalogue (overtaken-known b.stage o there), seven)
+
+      module _ (v : World) (owed : v.owed n ≡ target) (faults : v.faults ≡ store'.faults) where
+        tries-of : (r : Result (Option PollAnswer) SlateError) → Steps (kept_follower g) b r o new s.left o' → TriesEight o b r
+        tries-of r steps = tries-eight o o' (kept_follower g) new b s.left r steps
+
+        none-eighth : (r : Result (Option PollAnswer) SlateError) → Steps (kept_follower g) b r o new s.left o' → (IsOfEighth r → ⊥) → IsEighth w.catalogue b → ⊥
+        none-eighth r steps never eighth = never ((tries-of r steps).exact (eighth-stored eighth))
+
+        whole-causes : (k : ℕ) → reply ≡ replies.Polled true k → Steps (kept_follower g) b (Ok (Some (answers.Whole k))) o new s.left o' → (v.owed n ≤ k) × (k ≤ owed_now w g)
+        whole-causes k replied steps =
+            let last = steps.0 in
+            let here : k ≡ number new = (let e = steps.3 in cc) in
+            let low = ends-reach live store store' w o o' (ro.held).2 (ro.held).3 ro.valid (ro.held).4 ro there' g open_ free b p m target aims last steps.1 in
+            let reached = ends-number live store store' w o o' (ro.held).2 (ro.held).3 ro.valid (ro.held).4 ro there' g open_ free b p m target aims last steps.1 new steps.2 in
+            let after = steps-after live store store' w o o' (ro.held).2 (ro.held).3 ro.valid (ro.held).4 ro there' g open_ free b p m new s.left (Ok (Some (answers.Whole k))) steps in
+            let whole = after.0 in
+            let number_is : number new ≡ number whole = ap (λ (f : Follower). number f) after.1 ∙ line_above-end whole.view.manifest.last_l0_seq whole.line in
+            (omega (arith, owed, here, low, reached), subst (λ j. j ≤ owed_now w g) (sym (here ∙ number_is)) (up-to whole after.2 after.3 g.skips refl))
+          where
+            now : owed_now w g ≡ (if g.skips then tabled_number (latest_manifest w.catalogue) else end w.stored)
+            now = ap (λ x. if x then number g else (if g.skips then tabled_number (latest_manifest w.catalogue) else end w.stored)) free
+
+            up-to : (whole : Follower) → StandsBeside o' (record w { catalogue = catalogue_of o'; faults = store'.faults }) whole → FollowerRises g whole → (skips : Bool) → g.skips ≡ skips → number whole ≤ owed_now w g
+            up-to whole stands rises true skips =
+                let l = p.lasts.latest in
+                let next = m.latest l.0 l.1 in
+                let tabled = next.3 in
+                let mode : is_pinned whole.mode ≡ false = ap is_pinned rises.mode ∙ free in
+                let low = stands.valid.1 (rises.skips ∙ skips) mode next.0 next.1 in
+                let at_latest : latest_manifest w.catalogue ≡ Some l.0 = sym (ap latest_manifest (ro.held).3.catalogue) ∙ l.1 in
+                let is : owed_now w g ≡ (l.0).manifest.last_l0_seq = now ∙ (ap (λ x. if x then tabled_number (latest_manifest w.catalogue) else end w.stored) skips ∙ ap tabled_number at_latest) in
+                omega (arith, low, tabled, is)
+            up-to whole stands rises false reads =
+                let low = prefix-end whole.line w.stored stands.valid.0 in
+                let is : owed_now w g ≡ end w.stored = now ∙ ap (λ x. if x then tabled_number (latest_manifest w.catalogue) else end w.stored) reads in
+                omega (arith, low, is)
+
+        causes-of : (r : Result (Option PollAnswer) SlateError) → s.result ≡ r → reply ≡ reply_to stepped_reply r → Steps (kept_follower g) b r o new s.left o' → HasCauses n w g b reply v
+        causes-of (Ok None) is replied steps = record {
+          truncated = λ k at. absurd (let no = sym replied ∙ at in cc);
+          tried = λ tries at. absurd (let no = sym replied ∙ at in cc);
+          eighth = λ unpinned eighth calm. absurd (none-eighth (Ok None) steps (λ never. never) eighth);
+          stepped = λ at. (free, few-steps o (ro.held).2 (kept_follower g) b follows-content p.lasts);
+          whole = λ k at. absurd (let no = sym replied ∙ at in cc);
+        }
+        causes-of (Ok (Some (answers.Whole k))) is replied steps = record {
+          truncated = λ j at. absurd (let no = sym replied ∙ at in cc);
+          tried = λ tries at. absurd (let no = sym replied ∙ at in cc);
+          eighth = λ unpinned eighth calm. absurd (none-eighth (Ok (Some (answers.Whole k))) steps (λ never. never) eighth);
+          stepped = λ at. absurd (let no = sym replied ∙ at in cc);
+          whole = λ j at. let same : k ≡ j = (let both = sym replied ∙ at in cc) in subst (λ x. (v.owed n ≤ x) × (x ≤ owed_now w g)) same (whole-causes k replied steps);
+        }
+        causes-of (Ok (Some (answers.Truncated k))) is replied steps = record {
+          truncated = λ j at.
+              let broke = lasts-breaks o (ro.held).2 (kept_follower g) b follows-content p.lasts steps.0 o' steps.1 in
+              (broke.0, broke.1, subst (λ c. TablesGrew broke.0 c) (ro.held).3.catalogue broke.2);
+          tried = λ tries at. absurd (let no = sym replied ∙ at in cc);
+          eighth = λ unpinned eighth calm. absurd (none-eighth (Ok (Some (answers.Truncated k))) steps (λ never. never) eighth);
+          stepped = λ at. absurd (let no = sym replied ∙ at in cc);
+          whole = λ j at. absurd (let no = sym replied ∙ at in cc);
+        }
+        causes-of (Err e) is replied steps = record {
+          truncated = λ j at. absurd (refusal-not_polled e false j (sym replied ∙ at));
+          tried = λ tries at. eighth-known ((tries-of (Err e) steps).only tries (ap (λ x. Err x) (refusal-timeout e tries (sym replied ∙ at))));
+          eighth = λ unpinned eighth calm. answers-eighth e ((tries-of (Err e) steps).exact (eighth-stored eighth)) replied (λ fault. calm (subst (HasRisen w.faults) (sym faults) (c.faults.unavailable (is ∙ ap (λ x. Err x) fault))));
+          stepped = λ at. absurd (refusal-not_stepped e (sym replied ∙ at));
+          whole = λ j at. absurd (refusal-not_polled e true j (sym replied ∙ at));
+        }
+
       free-of : (e : SlateError) → s.result ≡ Err e → CanStep settings w n g → (HasRisen w.faults store'.faults → ⊥) → e ≡ errors.NoMemory
       free-of e is can calm = free-by can e is (subst (λ x. IfErr x (IsOfPoll g.mode)) is c.kinds) (subst (λ x. Steps (kept_follower g) b x o new s.left o') is found.2) calm
 
@@ -504,17 +921,38 @@ module _ (settings : Settings) (n : ℕ) (command : Command) (live live' : Live)
           let steps = subst (λ x. Steps (kept_follower g) b x o new s.left o') is found.2 in
           let after = steps-after live store store' w o o' (ro.held).2 (ro.held).3 ro.valid (ro.held).4 ro there' g open_ free b p m new s.left (Ok None) steps in
           let left : poll' ≡ Some s.left = s.leaves ∙ ap (λ x. poll_left x s.left) is in
-          stepped g at o' there' m g poll' (by-kept g (sym steps.1)) (record {
+          stepped g at b begun_at_n o' there' m g poll' (by-kept g (sym steps.1)) (record {
             stands = onward-stands o' m g reader_stands;
             rises = follower-same g g refl;
-            begun = λ b' here. (open_, λ unpinned. let mine : s.left ≡ b' = (let e = sym left ∙ here in cc) in subst (PollStands o' (record w { catalogue = catalogue_of o'; faults = store'.faults }) g) mine after);
+            begun = λ b' here. (
+              open_,
+              λ unpinned. let mine : s.left ≡ b' = (let e = sym left ∙ here in cc) in (
+                subst (PollStands o' (record w { catalogue = catalogue_of o'; faults = store'.faults }) g) mine after,
+                subst (λ x. IfSome x.history.first (λ _. ReachesTo target o' (record w { catalogue = catalogue_of o'; faults = store'.faults }) g x)) mine
+                    (if-any s.left.history.first (goes-reaches live store store' w o o' (ro.held).2 (ro.held).3 ro.valid (ro.held).4 ro there' g open_ free b p m target aims s.left steps.0)),
+              ),
+            );
             were = were;
             open_ = open_;
             tasks = refl;
             has_segments = λ has. has;
             latest = latest-then;
+            spares = spares-then;
+            leases = λ lease has. elim has [
+              | inl mine ↦ inl (lease, inl (g, at, mine), refl)
+              | inr (b', here, had) ↦
+                  let mine : s.left ≡ b' = (let e = sym left ∙ here in cc) in
+                  from-own b'.lease (subst (λ (x : Begun). Comes x.lease) mine (turn-leases (Goes s.left) steps.0)) lease had
+            ];
+            full = full-then;
+            closes = λ shut. absurd (let no = sym open_ ∙ shut in cc);
+            viewed = λ replays. segments.viewed n g at replays;
+            polled = λ b' here replays.
+                let mine : s.left ≡ b' = (let e = sym left ∙ here in cc) in
+                subst (PollHasSegments settings.extractor w.stored g) mine (turn-keys replays (Goes s.left) o' steps.0);
             fault = fault;
             answers = λ can calm. subst IsStepped (sym (s.replied ∙ ap (reply_to stepped_reply) is)) tt;
+            causes = causes-of _ (owed-mine g at b begun_at_n o' there' m g poll' (by-kept g (sym steps.1))) refl (Ok None) is (s.replied ∙ ap (reply_to stepped_reply) is) steps;
           })
       by (Ok (Some answer)) is =
           let steps = subst (λ x. Steps (kept_follower g) b x o new s.left o') is found.2 in
@@ -526,7 +964,7 @@ module _ (settings : Settings) (n : ℕ) (command : Command) (live live' : Live)
           let left : poll' ≡ None = s.leaves ∙ ap (λ x. poll_left x s.left) is in
           let g' = record whole { segments = new.segments } in
           let kept_is : kept_follower g' ≡ new = ap (λ (f : Follower). record f { segments = new.segments }) (sym after.1) in
-          stepped g at o' there' m g' poll' (by-kept g' kept_is) (record {
+          stepped g at b begun_at_n o' there' m g' poll' (by-kept g' kept_is) (record {
             stands = record {
               valid = stands.valid;
               named = stands.named;
@@ -540,14 +978,24 @@ module _ (settings : Settings) (n : ℕ) (command : Command) (live live' : Live)
             tasks = whole-tasks;
             has_segments = λ has. whole-has settings.extractor g' (subst (HasSegments settings.extractor) (sym kept_is) (c.segments (kept-has settings.extractor g has)));
             latest = latest-then;
+            spares = spares-then;
+            leases = λ lease has. elim has [
+              | inl mine ↦ from-own new.lease (came-leases answer steps) lease (ap (λ (f : Follower). f.lease) (sym kept_is) ∙ mine)
+              | inr begun ↦ absurd (let no = sym left ∙ begun.1 in cc)
+            ];
+            full = full-then;
+            closes = λ shut. absurd (let no = sym (came-open answer steps) ∙ (ap (λ (f : Follower). f.result) (sym kept_is) ∙ shut) in cc);
+            viewed = λ replays. subst (λ (v : VersionedManifest). HaveSegments settings.extractor (replayed v w.stored)) (ap (λ (f : Follower). f.view) (sym kept_is)) (came-viewed answer steps (own-replays g' rises.mode rises.skips replays));
+            polled = λ b' here replays. absurd (let no = sym left ∙ here in cc);
             fault = fault;
             answers = λ can calm. subst IsStepped (sym (s.replied ∙ ap (reply_to stepped_reply) is)) (polled-stepped answer);
+            causes = causes-of _ (owed-mine g at b begun_at_n o' there' m g' poll' (by-kept g' kept_is)) refl (Ok (Some answer)) is (s.replied ∙ ap (reply_to stepped_reply) is) steps;
           })
       by (Err e) is =
           let failed : new ≡ failed_by e (kept_follower g) = subst (λ x. IfErr x (λ error. new ≡ failed_by error (kept_follower g))) is c.failed in
           let left : poll' ≡ None = s.leaves ∙ ap (λ x. poll_left x s.left) is in
           let f = failing (is_managed g.mode) in
-          stepped g at o' there' m (failed_by e g) poll' (by-kept (failed_by e g) (failed-kept e g ∙ sym failed)) (record {
+          stepped g at b begun_at_n o' there' m (failed_by e g) poll' (by-kept (failed_by e g) (failed-kept e g ∙ sym failed)) (record {
             stands = f.0;
             rises = f.1;
             begun = λ b' here. absurd (let no = sym left ∙ here in cc);
@@ -556,10 +1004,24 @@ module _ (settings : Settings) (n : ℕ) (command : Command) (live live' : Live)
             tasks = failed-tasks e g (is_managed g.mode);
             has_segments = λ has. failed-has settings.extractor e g (is_managed g.mode) has;
             latest = latest-then;
+            spares = spares-then;
+            leases = λ lease has. elim has [
+              | inl mine ↦ inl (lease, inl (g, at, sym (failed-lease e g (is_managed g.mode)) ∙ mine), refl)
+              | inr begun ↦ absurd (let no = sym left ∙ begun.1 in cc)
+            ];
+            full = full-then;
+            closes = failed-closes (is_managed g.mode);
+            viewed = λ replays. failed-viewed e g (is_managed g.mode) (λ y. HaveSegments settings.extractor (replayed y w.stored)) (λ all. segments.viewed n g at all) replays;
+            polled = λ b' here replays. absurd (let no = sym left ∙ here in cc);
             fault = fault;
             answers = λ can calm. subst IsStepped (sym (s.replied ∙ ap (reply_to stepped_reply) is ∙ ap refusal (free-of e is (can-step can (Some (AFollower g)) at) calm))) tt;
+            causes = causes-of _ (owed-mine g at b begun_at_n o' there' m (failed_by e g) poll' (by-kept (failed_by e g) (failed-kept e g ∙ sym failed))) refl (Err e) is (s.replied ∙ ap (reply_to stepped_reply) is) (subst (λ x. Steps (kept_follower g) b x o new s.left o') is found.2);
           })
         where
+          failed-closes : (managed : Bool) → (if managed then record g { result = poll_result e } else g).result ≡ Some (Err faults.InvalidDBState) → reply ≡ refusal errors.InvalidDBState
+          failed-closes true shut = s.replied ∙ (ap (reply_to stepped_reply) is ∙ ap refusal (recorded-is e shut))
+          failed-closes false shut = absurd (let no = sym open_ ∙ shut in cc)
+
           before_stands : StandsBeside o' (record w { catalogue = catalogue_of o'; faults = store'.faults }) g
           before_stands = onward-stands o' m g reader_stands
 
@@ -576,18 +1038,18 @@ module _ (settings : Settings) (n : ℕ) (command : Command) (live live' : Live)
           failing false = (before_stands, follower-same g g refl)
 
     by-mode : (pinned : Bool) → is_pinned g.mode ≡ pinned → StepsReader pinned settings.extractor (kept_follower g) b (stored_in o w) s.result new s.left store' → Out
-    by-mode true stays steps = pinned-steps steps
+    by-mode true stays steps = pinned-steps stays steps
     by-mode false free c = by free c s.result refl
 
     pub steps-link : Out
     steps-link = by-mode (is_pinned g.mode) refl s.steps
 
   -- what isn't a reader with a begun poll does nothing
-  nothing : (object : Object) (a : StepsAt settings.extractor n object before (stored_in o w) reply live' store') → slice_get before.objects n ≡ Some object → a.object' ≡ object → a.poll' ≡ a.poll → store' ≡ stored_in o w → (IsValidCommand settings w command → ⊥) → Out
-  nothing object a here same_object same_poll same_store refused =
+  nothing : (object : Object) (a : StepsAt settings.extractor n object before (stored_in o w) reply live' store') → slice_get before.objects n ≡ Some object → reply ≡ replies.Unknown → a.object' ≡ object → a.poll' ≡ a.poll → store' ≡ stored_in o w → (IsValidCommand settings w command → ⊥) → ((reader : Follower) (begun : Begun) → IsFollowerAt w.objects n reader → IsBegunAt w.polls n begun → ⊥) → Out
+  nothing object a here unknown same_object same_poll same_store refused nobody =
       let objects : set before.objects n a.object' ≡ before.objects = ap (set before.objects n) same_object ∙ set-same before.objects n object here in
       let polls : set before.polls n a.poll' ≡ before.polls = ap (set before.polls n) same_poll ∙ set-same before.polls n a.poll a.there in
-      unstepped (a.same ∙ (ap (λ (xs : List Object). record before { objects = xs; polls = set before.polls n a.poll' }) objects ∙ ap (λ (ps : List (Option Begun)). record before { polls = ps }) polls)) same_store refused
+      unstepped (a.same ∙ (ap (λ (xs : List Object). record before { objects = xs; polls = set before.polls n a.poll' }) objects ∙ ap (λ (ps : List (Option Begun)). record before { polls = ps }) polls)) same_store unknown refused nobody
 
   of-reader : (g : Follower) → slice_get w.objects n ≡ Some (AFollower g) → (a : StepsAt settings.extractor n (AFollower (kept_follower g)) before (stored_in o w) reply live' store') → Out
   of-reader g at a = by a.poll a.object' a.there a.does refl refl
@@ -596,21 +1058,21 @@ module _ (settings : Settings) (n : ℕ) (command : Command) (live live' : Live)
       here = get-map kept w.objects n ∙ ap (option_map kept) at
 
       unbegun : slice_get w.polls n ≡ Some None → IsValidCommand settings w command → ⊥
-      unbegun none can = let begun = (can-step can (Some (AFollower g)) at).1 in let some : IsBegunAt w.polls n begun.0 = begun.1 in absurd (cc (none, some))
+      unbegun none can = let begun = (can-step can (Some (AFollower g)) at).0 in let some : IsBegunAt w.polls n begun.0 = begun.1 in absurd (cc (none, some))
 
       by : (poll : Option Begun) (object' : Object) → slice_get w.polls n ≡ Some poll → StepsObject settings.extractor (AFollower (kept_follower g)) poll (stored_in o w) reply object' a.poll' store' → a.poll ≡ poll → a.object' ≡ object' → Out
       by (Some b) (AFollower new) begun does poll_is object_is = steps-link g at b begun new a.poll' does (a.same ∙ ap (λ x. record before { objects = set before.objects n x; polls = set before.polls n a.poll' }) object_is)
       by (Some b) (AHandle h) begun does poll_is object_is = absurd (let no = does.1 in cc)
       by (Some b) (ASnapshot x) begun does poll_is object_is = absurd (let no = does.1 in cc)
-      by None (AFollower new) begun does poll_is object_is = nothing _ a here (object_is ∙ does.1) (does.2 ∙ sym poll_is) does.3 (unbegun begun)
-      by None (AHandle h) begun does poll_is object_is = nothing _ a here (object_is ∙ does.1) (does.2 ∙ sym poll_is) does.3 (unbegun begun)
-      by None (ASnapshot x) begun does poll_is object_is = nothing _ a here (object_is ∙ does.1) (does.2 ∙ sym poll_is) does.3 (unbegun begun)
+      by None (AFollower new) begun does poll_is object_is = nothing _ a here does.0 (object_is ∙ does.1) (does.2 ∙ sym poll_is) does.3 (unbegun begun) (λ reader b at_n some. absurd (let none = begun in cc (none, some)))
+      by None (AHandle h) begun does poll_is object_is = nothing _ a here does.0 (object_is ∙ does.1) (does.2 ∙ sym poll_is) does.3 (unbegun begun) (λ reader b at_n some. absurd (let none = begun in cc (none, some)))
+      by None (ASnapshot x) begun does poll_is object_is = nothing _ a here does.0 (object_is ∙ does.1) (does.2 ∙ sym poll_is) does.3 (unbegun begun) (λ reader b at_n some. absurd (let none = begun in cc (none, some)))
 
   pub step-links : Out
   step-links = by (slice_get w.objects n) refl (subst (λ found. StepsOn settings.extractor n found before (stored_in o w) reply live' store') (get-map kept w.objects n) did-shown)
     where
       by : (found : Option Object) → slice_get w.objects n ≡ found → StepsOn settings.extractor n (option_map kept found) before (stored_in o w) reply live' store' → Out
-      by None none (replied, same, same_store) = unstepped same same_store (λ can. can-step can None none)
-      by (Some (AHandle h)) at a = nothing _ a (get-map kept w.objects n ∙ ap (option_map kept) at) (a.does).1 (a.does).2 (a.does).3 (λ can. can-step can (Some (AHandle h)) at)
-      by (Some (ASnapshot x)) at a = nothing _ a (get-map kept w.objects n ∙ ap (option_map kept) at) (a.does).1 (a.does).2 (a.does).3 (λ can. can-step can (Some (ASnapshot x)) at)
+      by None none (replied, same, same_store) = unstepped same same_store replied (λ can. can-step can None none) (λ reader b at_n some. absurd (cc (none, at_n)))
+      by (Some (AHandle h)) at a = nothing _ a (get-map kept w.objects n ∙ ap (option_map kept) at) (a.does).0 (a.does).1 (a.does).2 (a.does).3 (λ can. can-step can (Some (AHandle h)) at) (λ reader b at_n some. absurd (let no : ◌≡◌ {A = Option Object} (Some (AHandle h)) (Some (AFollower reader)) = sym at ∙ at_n in cc))
+      by (Some (ASnapshot x)) at a = nothing _ a (get-map kept w.objects n ∙ ap (option_map kept) at) (a.does).0 (a.does).1 (a.does).2 (a.does).3 (λ can. can-step can (Some (ASnapshot x)) at) (λ reader b at_n some. absurd (let no : ◌≡◌ {A = Option Object} (Some (ASnapshot x)) (Some (AFollower reader)) = sym at ∙ at_n in cc))
       by (Some (AFollower g)) at a = of-reader g at a

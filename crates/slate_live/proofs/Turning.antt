@@ -1,5 +1,5 @@
 -- A reader holds its checkpoint after its opening, and after each poll that took all log files.
-use Rattle.std.proofs.Common.{◌≡◌, ◌++◌, ◌∷◌, ◌/◌, ◌∙◌, [], ℕ, ℤ, int_lt, Bool, true, false, find, length, Option, Some, None, Result, Ok, Err, refl, sym, subst, ap, arith}
+use Rattle.std.proofs.Common.{◌≡◌, ◌++◌, ◌∷◌, ◌/◌, ◌∙◌, [], inl, inr, ℕ, ℤ, int_lt, Bool, true, false, find, length, Option, Some, None, Result, Ok, Err, refl, sym, subst, ap, arith}
 use Rattle.std.proofs.lemmas.Bool.{eqb-true}
 use Rattle.std.specs.Bool.{MatchBool}
 use Rattle.std.specs.List.{slice_get}
@@ -31,7 +31,7 @@ use Rattle.slate_script.specs.declared.commands.Action.TheVariants as actions
 use Rattle.slate_script.specs.declared.commands.Command.{Command}
 use Rattle.slate_script.specs.declared.replies.Reply.{Reply}
 use Rattle.slate_script.specs.declared.replies.Reply.TheVariants as replies
-use Rattle.slate_live.specs.Calls.{Poll, call_of, target_of}
+use Rattle.slate_live.specs.Calls.{NewFollower, OfObject, Poll, call_of, target_of}
 use Rattle.slate_live.specs.Commands.{ActsOn, Adds, DoesBy, added, interval_of, lifetime_of}
 use Rattle.slate_live.specs.Followers.{PollsAs}
 use Rattle.slate_live.specs.Leases.{is_whole, polls}
@@ -44,11 +44,11 @@ use Rattle.slate_live.proofs.Cases.{by-option, some-of}
 use Rattle.slate_live.proofs.Distinct.{put-low}
 use Rattle.slate_live.proofs.Finding.{find-last}
 use Rattle.slate_live.proofs.Holding.{Holds, new-apart, polled-holds, renewed-ahead}
-use Rattle.slate_live.proofs.Leases.{AreApart, HasCheckpoint, rising}
+use Rattle.slate_live.proofs.Leases.{ArePast, HasCheckpoint, Names, alone-new, rising}
 use Rattle.slate_live.proofs.Naming.{follower-did}
 use Rattle.slate_live.proofs.Places.{get-seam, get-set_same}
 
-polls-is : (n : ℕ) (action : Action) → polls n action ≡ true → action ≡ actions.Poll n
+pub polls-is : (n : ℕ) (action : Action) → polls n action ≡ true → action ≡ actions.Poll n
 polls-is n (actions.Poll m) is = ap actions.Poll (eqb-true m n is)
 polls-is n action is = absurd (cc)
 
@@ -57,20 +57,20 @@ refusal-not_whole errors.NoMemory whole = absurd (cc)
 refusal-not_whole (errors.Backpressure unflushed limit) whole = absurd (cc)
 refusal-not_whole e whole = absurd (cc)
 
-module _ (settings : Settings) (w w' : World) (command : Command) (reply : Reply) (reached : IsReached w) (reached' : IsReached w') (next : NextWhole settings w command reply w') (apart : AreApart w) (n lifetime : ℕ) (last : ℤ) (h : Holds n lifetime last w) where
+module _ (settings : Settings) (w w' : World) (command : Command) (reply : Reply) (reached : IsReached w) (reached' : IsReached w') (next : NextWhole settings w command reply w') (past : ArePast w) (n lifetime : ℕ) (last : ℤ) (h : Holds n lifetime last w) where
   abbrev k : Knowledge Span
   k = by_catalogue w.stored w.catalogue
 
   -- a poll that was answered
-  answered-holds : (f' : Follower) (answer : PollAnswer) → IsFollowerAt w'.objects n f' → KeepsLease k settings.extractor next.made h.lease command.moment h.follower (state_of w).store (Ok answer) f' (state_of w').store → Holds n lifetime command.moment w'
-  answered-holds f' answer at' p =
+  answered-holds : target_of command.action ≡ OfObject n → (f' : Follower) (answer : PollAnswer) → IsFollowerAt w'.objects n f' → KeepsLease k settings.extractor next.made h.lease command.moment h.follower (state_of w).store (Ok answer) f' (state_of w').store → Holds n lifetime command.moment w'
+  answered-holds names f' answer at' p =
       let puts = (p.puts).some w.catalogue refl in
       let q = ((p.keeps).some w.catalogue refl).2 in
       let after_is : w'.catalogue ≡ puts.0 = some-same w'.catalogue puts.0 puts.1 in
       let same : q.latest ≡ h.has.latest = some-same q.latest h.has.latest (sym q.is_latest ∙ h.has.is) in
       let gives = subst (λ (v : VersionedManifest). to_keep h.follower.view h.lease command.moment v ≡ Ok (q.next, q.given)) same q.plan in
       let view = subst (λ (v : VersionedManifest). MatchBool (replaces h.follower.view h.lease command.moment v) (q.next ≡ Some f'.view) (f'.view ≡ h.follower.view)) same q.view in
-      polled-holds settings w w' command reply reached reached' next apart n lifetime last h f' at' p.answers.2 p.answers.0 next.made q.next q.given gives q.leased view (puts.2).part (after_is ∙ (puts.2).after)
+      polled-holds settings w w' command reply reached reached' next past n lifetime last h names f' at' p.answers.2 p.answers.0 next.made q.next q.given gives q.leased view (puts.2).part (after_is ∙ (puts.2).after)
 
   pub poll-holds : polls n command.action ≡ true → is_whole reply ≡ true → Holds n lifetime command.moment w'
   poll-holds asks whole =
@@ -83,7 +83,7 @@ module _ (settings : Settings) (w w' : World) (command : Command) (reply : Reply
       let managed = subst (λ m. PollsAs k settings.extractor (is_managed m) next.made command.moment h.follower (state_of w).store p.result d.new (state_of w').store) h.managed p.does in
       by d.new p.result p.replied at' (managed.keeps h.lease h.live h.leased) where
         by : (f' : Follower) (r : Result PollAnswer SlateError) → reply ≡ reply_to polled_reply r → IsFollowerAt w'.objects n f' → KeepsLease k settings.extractor next.made h.lease command.moment h.follower (state_of w).store r f' (state_of w').store → Holds n lifetime command.moment w'
-        by f' (Ok answer) replied at' p = answered-holds f' answer at' p
+        by f' (Ok answer) replied at' p = answered-holds (ap target_of (polls-is n command.action asks)) f' answer at' p
         by f' (Err e) replied at' p = absurd (refusal-not_whole e (sym (ap is_whole replied) ∙ whole))
 
 -- ---- an opening
@@ -96,7 +96,7 @@ followed-number : (m n at : ℕ) (answer : PollAnswer) → followed_reply m answ
 followed-number m n at (Whole k) is = cc
 followed-number m n at (Truncated k) is = absurd (cc)
 
-module _ (settings : Settings) (w w' : World) (command : Command) (reply : Reply) (reached : IsReached w) (reached' : IsReached w') (next : NextWhole settings w command reply w') (managed : Option (ℕ × ℕ)) (skips : Bool) (n at : ℕ) (is : command.action ≡ actions.Follow modes.ManagedCheckpoint managed skips) (opened : reply ≡ replies.Follower n true at) where
+module _ (settings : Settings) (w w' : World) (command : Command) (reply : Reply) (reached : IsReached w) (reached' : IsReached w') (next : NextWhole settings w command reply w') (managed : Option (ℕ × ℕ)) (skips : Bool) (n at : ℕ) (is : command.action ≡ actions.Follow modes.ManagedCheckpoint managed skips) (opened : reply ≡ replies.Follower n true at) (past : ArePast w) where
   abbrev known : Knowledge Span
   known = by_catalogue w.stored w.catalogue
 
@@ -106,8 +106,8 @@ module _ (settings : Settings) (w w' : World) (command : Command) (reply : Reply
   abbrev Opens : Result (Follower × PollAnswer) SlateError → Type 0
   Opens r = OpensManaged known settings.extractor next.made lifetime (interval_of managed) skips command.moment (state_of w).store r (state_of w').store
 
-  taken-holds : (b : Follower × PollAnswer) → TakesLease known settings.extractor next.made lifetime skips command.moment (state_of w).store (Ok b) (state_of w').store → IsFollowerAt w'.objects n b.0 → Holds n (lifetime / 2) command.moment w'
-  taken-holds b t at' =
+  taken-holds : length w.objects ≡ n → (b : Follower × PollAnswer) → TakesLease known settings.extractor next.made lifetime skips command.moment (state_of w).store (Ok b) (state_of w').store → IsFollowerAt w'.objects n b.0 → Holds n (lifetime / 2) command.moment w'
+  taken-holds number b t at' =
       let puts = (t.puts).some w.catalogue refl in
       let q = ((t.takes).some w.catalogue refl).2 in
       let after_is : w'.catalogue ≡ after_part next.made (checkpoint_changes (to_take lifetime command.moment) w.catalogue) w.catalogue = some-same w'.catalogue puts.0 puts.1 ∙ (puts.2).after in
@@ -143,7 +143,13 @@ module _ (settings : Settings) (w w' : World) (command : Command) (reply : Reply
         });
         expires = ap (λ (l : Lease). Some l.end) given_is;
         tables = refl;
+        low = (let free = low.0 in omega (arith, free));
+        alone = alone-new settings w w' command reply reached reached' next past n q.given.id latest is_latest low.0 (ap (λ (l : Lease). l.id) (sym given_is)) added-alone;
       }
+    where
+      added-alone : (m : ℕ) → Names settings w w' command reply reached reached' next past m → m ≡ n
+      added-alone m (inl other) = absurd (let both : OfObject m ≡ NewFollower modes.ManagedCheckpoint managed skips = sym other ∙ ap target_of is in cc)
+      added-alone m (inr added) = added.0 ∙ number
 
   pub opening-holds : Holds n (lifetime / 2) command.moment w'
   opening-holds = by d.result d.replied d.does d.objects where
@@ -156,5 +162,5 @@ module _ (settings : Settings) (w w' : World) (command : Command) (reply : Reply
         let number : length w.objects ≡ n = followed-number (length w.objects) n at b.1 (sym replied ∙ opened) in
         let at' : IsFollowerAt w'.objects n b.0 = subst (λ i. IsFollowerAt w'.objects i b.0) number (subst (λ os. slice_get os (length w.objects) ≡ Some (AFollower b.0)) (sym objects) (get-seam w.objects (AFollower b.0))) in
         by-option (lease_refusal lifetime (interval_of managed))
-        (λ none. taken-holds b (does.takes none) at')
+        (λ none. taken-holds number b (does.takes none) at')
         (λ error refused. absurd (let c = some-of (λ error. (◌≡◌ {A = Result (Follower × PollAnswer) SlateError} (Ok b) (Err error)) × Untouched next.made (state_of w).store (state_of w').store) (lease_refusal lifetime (interval_of managed)) error refused does.refused in let no = c.0 in cc))

@@ -3,7 +3,7 @@ use Rattle.std.specs.Prelude.{◌≡◌, ℕ, ℤ, List, Option, Some, None, is_
 use Rattle.slate_types.specs.declared.batches.Batch.{Batch}
 use Rattle.slate_store.specs.Objects.{Objects}
 use Rattle.slate_errors.specs.declared.errors.SlateError.{SlateError}
-use Rattle.slate_model.specs.Begun.{Begun, begun_at}
+use Rattle.slate_model.specs.Begun.{Begun, begun_at, no_step}
 use Rattle.slate_model.specs.declared.answers.PollAnswer.{PollAnswer}
 use Rattle.slate_model.specs.Follower.{Follower, is_managed, is_pinned, kept_follower, unsegmented}
 use Rattle.slate_model.specs.Known.{Known}
@@ -49,7 +49,7 @@ PollsBegin =
     (live : Live) (store : Known (List Batch)) (w : World) (o : Objects) (reader : Follower) (moment : ℤ) →
     RepresentsObjects live store w → store.objects ≡ Some o → StandsBeside o w reader → is_pinned reader.mode ≡ false → is_some reader.lease ≡ is_managed reader.mode →
     (kept_follower reader).line.floor ≡ reader.view.manifest.last_l0_seq →
-    PollStands o w reader (begun_at moment 0 (kept_follower reader))
+    PollStands o w reader (begun_at moment 0 no_step (kept_follower reader))
 
 -- A step of it leads to a world with the same line and the same objects, in which what it left stands.
 abbrev pub StepsStand : Type 0

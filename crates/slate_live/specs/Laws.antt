@@ -1,16 +1,17 @@
 -- What holds of the handles and readers that a program holds over an honest store.
-use Rattle.std.specs.Prelude.{◌≡◌, ℕ, List, [], slice_get, Some}
+use Rattle.std.specs.Prelude.{◌≡◌, ℕ, List, [], slice_get, Option, Some}
 use Rattle.slate_types.specs.declared.batches.Batch.{Batch}
 use Rattle.slate_store.specs.Content.{IsSound}
 use Rattle.slate_store.specs.Objects.{Objects}
 use Rattle.slate_model.specs.Known.{Known}
 use Rattle.slate_model.specs.Object.{Object, batches_of, kept}
+use Rattle.slate_model.specs.Segments.{Extractor}
 use Rattle.slate_model.specs.Stores.{by_objects, kept_rows}
 use Rattle.slate_script.specs.declared.commands.Command.{Command}
 use Rattle.slate_script.specs.declared.options.Options.{Options}
 use Rattle.slate_script.specs.declared.replies.Reply.{Reply}
 use Rattle.slate_live.specs.Commands.{Does}
-use Rattle.slate_live.specs.Represents.{Represents, RepresentsObjects}
+use Rattle.slate_live.specs.Represents.{AllInSegments, Represents, RepresentsObjects}
 use Rattle.slate_live.specs.Settings.{Settings}
 use Rattle.slate_live.specs.State.{Live, running}
 use Rattle.slate_live.specs.World.{NextWhole, World, start}
@@ -28,6 +29,14 @@ CallsAreSteps =
     (settings : Settings) (live live' : Live) (store store' : Known (List Batch)) (w : World) (command : Command) (made : ℕ) (reply : Reply) →
     RepresentsObjects live store w → Does (by_objects store.objects) settings made (running live store) command reply (running live' store') →
     (w' : World) × NextWhole settings w command reply w' × RepresentsObjects live' store' w'
+
+-- A call of others that leaves the store's objects as they are, and may fail, leaves state and store representing the same world, but
+-- for how often the store has failed; and its keys are in segments as before.
+abbrev pub OthersMayFail : Type 0
+OthersMayFail =
+    (live : Live) (store store' : Known (List Batch)) (w : World) → Represents live store w → store'.objects ≡ store.objects →
+    Represents live store' (record w { faults = store'.faults })
+    × ((extractor : Option Extractor) → AllInSegments extractor w → AllInSegments extractor (record w { faults = store'.faults }))
 
 -- the batches that one of them reads are those of its line
 abbrev pub ReadTheirLines : Type 0

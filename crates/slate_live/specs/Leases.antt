@@ -35,6 +35,12 @@ reads n (actions.Scan m range order remote) = m == n
 reads n (actions.Seek m range take key order remote) = m == n
 reads n action = false
 
+-- whether it begins a poll of the reader by single calls, or makes a step of one
+abbrev pub steps_poll : ℕ → Action → Bool
+steps_poll n (actions.Begin m) = m == n
+steps_poll n (actions.Step m) = m == n
+steps_poll n action = false
+
 -- whether a reply says that a poll took all log files
 abbrev pub is_whole : Reply → Bool
 is_whole (replies.Polled true at) = true
@@ -56,12 +62,12 @@ ComesBefore lifetime last moment = (int_lt moment (last +ℤ pos lifetime) ≡ t
 abbrev pub IsInTime : (lifetime : ℕ) → (last : ℤ) → Step → Type 0
 IsInTime lifetime last step = ComesBefore lifetime last step.command.moment
 
--- Each sweep of these steps does, the reader isn't closed, and each poll of it took all log files.
+-- Each sweep of these steps does, the reader isn't closed, each poll of it took all log files, and none is made by single calls.
 abbrev pub AreInTime : (n lifetime : ℕ) → (last : ℤ) → List Step → Type 0
 AreInTime n lifetime last [] = Unit {0}
 AreInTime n lifetime last (step ∷ steps) =
     (step.command.action ≡ actions.Sweep → IsInTime lifetime last step) × (closes n step.command.action ≡ false) × (polls n step.command.action ≡ true → is_whole step.reply ≡ true)
-    × AreInTime n lifetime (turn n last step) steps
+    × (steps_poll n step.command.action ≡ false) × AreInTime n lifetime (turn n last step) steps
 
 -- A reader keeps its checkpoint at a moment: that is in the latest manifest and not over, and the tables are stored that the
 -- reader reads.
@@ -79,7 +85,7 @@ pub record KeepsCheckpoint (n : ℕ) (moment : ℤ) (w : World) : Type 0 where
 
 -- Take an opening of a reader that keeps a checkpoint with a lifetime, steps after it of which each sweep comes less than half
 -- the lifetime after the reader's last turn, and one step more. Where that comes so too, the reader keeps its checkpoint at it,
--- and where it is a read of the reader, at any moment, it finds no table missing.
+-- and where it is a read of the reader, at any moment, it finds no table missing. Polls of other readers may be made by single calls.
 abbrev pub LeasesHold : List Step → Type 0
 LeasesHold steps =
     (before later rest : List Step) (opened step : Step) (n at : ℕ) (managed : Option (ℕ × ℕ)) (skips : Bool) → steps ≡ before ++ opened ∷ (later ++ step ∷ rest) →

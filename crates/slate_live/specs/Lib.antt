@@ -1,5 +1,6 @@
 pub mod Beside
 pub mod Calls
+pub mod Causes
 pub mod Closings
 pub mod Commands
 pub mod Confirmed
@@ -7,10 +8,13 @@ pub mod Followers
 pub mod Handles
 pub mod Leases
 pub mod Maintenance
+pub mod Publishing
+pub mod Reaching
 pub mod Replies
 pub mod Represents
 pub mod Rising
 pub mod Run
+pub mod Running
 pub mod Sampling
 pub mod Scans
 pub mod Session

@@ -9,7 +9,6 @@ use Rattle.slate_model.specs.Known.{Known}
 use Rattle.slate_script.specs.declared.commands.Command.{Command}
 use Rattle.slate_script.specs.declared.options.Options.{Options}
 use Rattle.slate_script.specs.declared.replies.Reply.{Reply}
-use Rattle.slate_live.specs.Calls.{Whole, kind_of}
 use Rattle.slate_live.specs.Closings.{ListTasks, RepeatErrors}
 use Rattle.slate_live.specs.State.{Live}
 use Rattle.slate_live.specs.Stepping.{IsDone}
@@ -37,16 +36,12 @@ none_live options = record { options = options; objects = []; polls = []; writes
 abbrev pub DidAll : Settings → List Command → List Reply → Known (List Batch) → Known (List Batch) → Type 0
 DidAll settings commands replies store store' = (last : Live) × DoAll settings (none_live settings.options) store commands replies last store'
 
--- each of these commands makes a call whole: none begins a poll by single calls, or makes a step of one
-abbrev pub AreWhole : List Command → Type 0
-AreWhole commands = All (λ command. kind_of command.action ≡ Whole) commands
-
 -- The commands lead from the world of these objects, by one step each with its reply and each to a valid world, to one that the store
 -- holds afterwards. What was stored before is stored afterwards, a write that is reported durable is confirmed for good, what a snapshot
 -- gives stays, the first close of a handle or a reader lists the tasks that its opening registered, a close of a reader that an error
--- closed answers that, a handle that is opened has the tracker of the one that flushed to a table before, and a status names the
--- segments above the view. Where none of the commands begins or steps a poll by single calls, a reader whose polls are whole keeps its
--- checkpoint while sweeps come in time, and a poll finds no key without a segment.
+-- closed answers that, a handle that is opened has the tracker of the one that flushed to a table before, a status names the segments
+-- above the view, a reader that is polled by whole calls keeps its checkpoint while sweeps come in time, and no poll finds a key
+-- without a segment.
 pub record LeadsTo (settings : Settings) (commands : List Command) (replies : List Reply) (before : Objects) (faults : ℕ) (store : Known (List Batch)) : Type 0 where
   pub steps : List Step
   pub commands_are : map (λ step. step.command) steps ≡ commands
@@ -62,8 +57,8 @@ pub record LeadsTo (settings : Settings) (commands : List Command) (replies : Li
   pub repeated : RepeatErrors steps
   pub trackers : TrackersStay (start before faults) steps
   pub statuses : StatusesName settings.extractor steps
-  pub leases : AreWhole commands → LeasesHold steps
-  pub polls : AreWhole commands → PollsFit steps
+  pub leases : LeasesHold steps
+  pub polls : PollsFit steps
   pub after : Objects
   pub modelled : store.objects ≡ Some after
   pub sound : IsSound after

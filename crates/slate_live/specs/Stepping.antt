@@ -5,7 +5,7 @@ use Rattle.slate_store.specs.Calls.{WhereModelled}
 use Rattle.slate_errors.specs.declared.errors.SlateError.{SlateError}
 use Rattle.slate_errors.specs.declared.errors.SlateError.TheVariants as errors
 use Rattle.slate_errors.specs.Errors.{closed_error}
-use Rattle.slate_model.specs.Begun.{Begun, begun_at}
+use Rattle.slate_model.specs.Begun.{Begun, begun_at, no_step}
 use Rattle.slate_model.specs.Follower.{Follower, HasSegments, is_pinned, number}
 use Rattle.slate_model.specs.Handle.{CloseResult}
 use Rattle.slate_model.specs.Known.{CountsFaults, Known}
@@ -28,7 +28,7 @@ use Rattle.slate_live.specs.State.{Live, running}
 -- ---- begin
 -- a poll of a reader is begun at a moment, in place of one that was begun; a closed reader answers its result
 abbrev pub BeginsReader : CloseResult → ℤ → Follower → Reply → Option Begun → Type 0
-BeginsReader None moment reader reply poll = (reply ≡ replies.Begun) × (poll ≡ Some (begun_at moment 0 reader))
+BeginsReader None moment reader reply poll = (reply ≡ replies.Begun) × (poll ≡ Some (begun_at moment 0 no_step reader))
 BeginsReader (Some result) moment reader reply poll = (reply ≡ refusal (closed_error result)) × (poll ≡ None)
 
 -- only a reader's poll is begun

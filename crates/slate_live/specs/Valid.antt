@@ -48,7 +48,8 @@ use Rattle.slate_live.specs.Handles.{IsPlainRead, IsPlainScan, flush_type_by}
 use Rattle.slate_live.specs.Scans.{scanned, sought}
 use Rattle.slate_live.specs.Rising.{Rise}
 use Rattle.slate_live.specs.Settings.{Settings}
-use Rattle.slate_live.specs.Represents.{up_to}
+use Rattle.slate_live.specs.Represents.{IsFollowerAt, up_to}
+use Rattle.slate_live.specs.Causes.{HasCauses}
 use Rattle.slate_live.specs.Next.{Next, StepLeaves}
 use Rattle.slate_live.specs.World.{World}
 
@@ -228,12 +229,11 @@ IsValidAt settings w moment second call (OfWrite n) = IsDurable w (slice_get w.w
 IsValidAt settings w moment second call (OfObject n) =
     AtObject (slice_get w.objects n) (CanAsk settings w moment second call) (CanAskSnapshot settings w moment second call) (CanAskFollower settings w moment call)
 
--- A step of a begun poll: fewer than seven of its puts were overtaken, each key that is stored has a segment, and a reader that doesn't
--- stay at a checkpoint finds a manifest, after which the ids of two more are left for one that keeps a checkpoint.
+-- A step of a begun poll: fewer than seven of its puts were overtaken, and a reader that doesn't stay at a checkpoint finds a manifest,
+-- after which the ids of two more are left for one that keeps a checkpoint.
 abbrev pub CanStep : Settings → World → ℕ → Follower → Type 0
 CanStep settings w n follower =
-    (unsegmented_refusal settings.extractor (ops_of w.stored.batches) ≡ None)
-    × ((begun : Begun) × IsBegunAt w.polls n begun × (begun.overtaken < 7))
+    ((begun : Begun) × IsBegunAt w.polls n begun × (begun.overtaken < 7))
     × (is_pinned follower.mode ≡ false → (latest : VersionedManifest) × (latest_manifest w.catalogue ≡ Some latest) × (is_managed follower.mode ≡ true → latest.id + 1 < last_number))
 
 -- by its kind: a poll of an open reader is begun
@@ -283,8 +283,8 @@ pub record IsConfirmed (w : World) (n : ℕ) : Type 0 where
 
 -- The link of a command: its reply and the world that it leads to are such as follow. A valid command that meets no
 -- fault of the store is refused nothing, and one that meets a fault answers it. What is stored stays stored, what a handle knows to
--- be durable is, the number of no follower falls, a write that is reported durable is stored, and what is stored is
--- seen by each opening and each poll.
+-- be durable is, the number of no follower falls, a write that is reported durable is stored, what is stored is seen by each opening
+-- and each poll, and what a step of a begun poll answers has its cause.
 pub record Link (settings : Settings) (w : World) (command : Command) (reply : Reply) (w' : World) : Type 0 where
   pub next : Next settings w command reply w'
   pub completes : IsValidCommand settings w command → (HasRisen w.faults w'.faults → ⊥) → IsAnswered (kind_of command.action) reply
@@ -294,4 +294,5 @@ pub record Link (settings : Settings) (w : World) (command : Command) (reply : R
   pub rises : Rise w.objects w'.objects
   pub confirms : (n : ℕ) → command.action ≡ actions.Await n → reply ≡ replies.Durable → IsConfirmed w n
   pub sees : (batch : Batch) → StandsIn batch w.stored → Sees batch command.action reply w'
-  pub leaves : (n : ℕ) → kind_of command.action ≡ Steps n → StepLeaves settings.extractor n w w'
+  pub leaves : (n : ℕ) → kind_of command.action ≡ Steps n → StepLeaves settings.extractor n w reply w'
+  pub causes : (n : ℕ) (reader : Follower) (begun : Begun) → kind_of command.action ≡ Steps n → IsFollowerAt w.objects n reader → IsBegunAt w.polls n begun → HasCauses n w reader begun reply w'

@@ -17,13 +17,14 @@ use Rattle.slate_live.specs.Commands.{Does}
 use Rattle.slate_live.specs.Settings.{Settings}
 use Rattle.slate_live.specs.State.{State}
 
--- What commands change: the line that is stored, what is known of the store's objects, the objects, the begun polls and the
--- accepted writes by their numbers, and how often the store has failed.
+-- What commands change: the line that is stored, what is known of the store's objects, the objects, the begun polls, what a reader
+-- was owed at the first step of its begun poll, and the accepted writes, by their numbers, and how often the store has failed.
 pub record World : Type 0 where
   pub stored : Line
   pub catalogue : Catalogue
   pub objects : List Object
   pub polls : List (Option Begun)
+  pub owed : ℕ → ℕ
   pub writes : List Write
   pub faults : ℕ
 
@@ -35,6 +36,7 @@ start objects faults =
       catalogue = catalogue_of objects;
       objects = [];
       polls = [];
+      owed = λ n. 0;
       writes = [];
       faults = faults;
     }
@@ -59,3 +61,4 @@ pub record NextWhole (settings : Settings) (w : World) (command : Command) (repl
   pub does : Does (by_catalogue w.stored w.catalogue) settings made (state_of w) command reply (state_of w')
   pub stored : w'.stored ≡ stored_after made w command.action
   pub polls : ArePolls command.action w.polls w'.polls
+  pub owed : w'.owed ≡ w.owed

@@ -3,8 +3,7 @@ use Rattle.slate_model.specs.Known.{known}
 use Rattle.slate_live.specs.Run.{none_live}
 use Rattle.slate_live.specs.State.{Live}
 use Rattle.slate_live.specs.World.{start}
-use Rattle.slate_live.proofs.Chains.{do-all, do-next, do-none, done-next, done_none, leads_all, reached, segments-push, stands-push, stands_start}
-use Rattle.slate_live.proofs.Segmented.{segmented-start}
+use Rattle.slate_live.proofs.Chains.{all-start, do-all, do-next, do-none, done-next, done_none, leads_all, reached, segments-push, stands-push, stands_start}
 use Rattle.slate_live.proofs.runs.run.Goals as goal
 
 pub loop-command-init : goal.loop-command-init
@@ -20,7 +19,7 @@ loop-command-init g c =
         [],
         done_none settings _ _ c.in_ok-replies.ensures.items,
         stands_start before _ c.new-live.result (ap (λ (l : Live). l.objects) c.new-live.ensures) (ap (λ (l : Live). l.polls) c.new-live.ensures) (ap (λ (l : Live). l.writes) c.new-live.ensures) is sound,
-        segmented-start settings.extractor (start before (g.S.Store.faults c.args.store.now)) refl,
+        all-start settings.extractor (start before (g.S.Store.faults c.args.store.now)) refl,
       );
     }
 

@@ -7,7 +7,7 @@ use Rattle.slate_model.specs.Known.{known}
 use Rattle.slate_model.specs.Segments.{IsExtractor}
 use Rattle.slate_live.specs.Run.{DoAll, none_live}
 use Rattle.slate_live.specs.Steps.{Step, last_world}
-use Rattle.slate_live.specs.Represents.{AreInSegments, Represents}
+use Rattle.slate_live.specs.Represents.{AllInSegments, Represents}
 use Rattle.slate_live.specs.Settings.{Settings}
 use Rattle.slate_live.specs.World.{start}
 use Rattle.slate_live.proofs.Chains.{Done}
@@ -28,5 +28,5 @@ invariant-loop-command g l =
           (before : Objects) → g.S.Store.objects l.fn.store ≡ Some before → IsSound before →
           (steps : List Step) × Done settings (start before (g.S.Store.faults l.fn.store)) (take l.command-index l.commands) l.replies.items steps
           × Represents l.live (known g.S.Store.objects g.S.Store.faults l.store) (last_world (start before (g.S.Store.faults l.fn.store)) steps)
-          × AreInSegments settings.extractor (last_world (start before (g.S.Store.faults l.fn.store)) steps);
+          × AllInSegments settings.extractor (last_world (start before (g.S.Store.faults l.fn.store)) steps);
     }

@@ -16,9 +16,9 @@ use Rattle.slate_jobs.specs.declared.jobs.JobRefusal.TheVariants as refusals
 use Rattle.slate_jobs.specs.declared.jobs.JobReply.{JobReply}
 use Rattle.slate_jobs.specs.Calls.{Calls, Leaves, RefusesBatch, Stands, Stores, Takes, failing_by, refused_by}
 use Rattle.slate_jobs.specs.Machine.{kept_reply, stepped}
-use Rattle.slate_jobs.specs.Queue.{IsHeld, Queue, error_of, failing, refusal_of}
+use Rattle.slate_jobs.specs.Queue.{IsCurrent, IsHeld, Queue, error_of, failing, refusal_of}
 use Rattle.slate_jobs.specs.Rows.{Holds}
-use Rattle.slate_jobs.proofs.Calling.{IsStored, accept-held, leaves, steps-kept, steps-new}
+use Rattle.slate_jobs.proofs.Calling.{IsStored, accept-current, accept-held, leaves, steps-kept, steps-new}
 
 abbrev IsTick : Result (Unit {0}) JobRefusal → Type 0
 IsTick result = (previous next : ℤ) → result ≡ Err (refusals.Writer (errors.InvalidClockTick previous next)) → ⊥
@@ -79,6 +79,12 @@ module _ (request : ℕ) (op : JobOp) (moment : ℤ) (old : Queue) where
         | inr new ↦ accept-held o request op moment old mid held new.1
       ]
 
+      pub took-current : (o : Objects) → IsCurrent o old.handle → IsCurrent o mid.handle
+      took-current o current = elim takes [
+        | inl kept ↦ subst (λ (x : Queue). IsCurrent o x.handle) (sym kept.2) current
+        | inr new ↦ accept-current o request op moment old mid new.1 current
+      ]
+
       module _ (before after : Known (List Batch)) (new : Queue) (first : Result (Unit {0}) JobRefusal) (stores : Stores before mid first new after) where
         stored-machine : new.machine ≡ stepped old.machine request op moment
         stored-machine = elim stores [
@@ -115,7 +121,7 @@ module _ (request : ℕ) (op : JobOp) (moment : ℤ) (old : Queue) where
         reply-calls done is (Err refusal) short = refused-calls new refusal (subst (Leaves request op moment old new) (sym short) (stored-open done is, inr stored-machine))
 
 -- ---- what an honest store holds then
-pub batch-stands : (o : Objects) (request : ℕ) (op : JobOp) (moment : ℤ) (old new : Queue) (refusal : JobRefusal) → IsHeld o old → RefusesBatch request op moment old new refusal → Stands o o new (Err refusal)
+pub batch-stands : (o : Objects) (request : ℕ) (op : JobOp) (moment : ℤ) (old new : Queue) (refusal : JobRefusal) → IsHeld o old → RefusesBatch request op moment old new refusal → Stands o o old new (Err refusal)
 batch-stands o request op moment old new refusal held why = record {
   sound = held.handle.sound;
   answered = tt;
@@ -124,20 +130,25 @@ batch-stands o request op moment old new refusal held why = record {
     | inl full ↦ subst (IsHeld o) (sym full.2) held
     | inr other ↦ subst (IsHeld o) (sym other.2) (record { handle = held.handle; holds = held.holds })
   ];
+  current = λ _ current. elim why [
+    | inl full ↦ subst (λ (x : Queue). IsCurrent o x.handle) (sym full.2) current
+    | inr other ↦ subst (λ (x : Queue). IsCurrent o x.handle) (sym other.2) current
+  ];
 }
 
-pub ended-stands : (o : Objects) (old : Queue) (refusal : JobRefusal) → IsHeld o old → Stands o o old (Err refusal)
-ended-stands o old refusal held = record { sound = held.handle.sound; answered = tt; stored = inl refl; held = λ _. held }
+pub ended-stands : (o : Objects) (old : Queue) (refusal : JobRefusal) → IsHeld o old → Stands o o old old (Err refusal)
+ended-stands o old refusal held = record { sound = held.handle.sound; answered = tt; stored = inl refl; held = λ _. held; current = λ _ current. current }
 
-pub store-stands : (o o' : Objects) (new : Queue) (first : Result (Unit {0}) JobRefusal) (refusal : JobRefusal) → IsStored o o' new first → Stands o o' new (Err refusal)
-store-stands o o' new first refusal s = record { sound = s.sound; answered = tt; stored = s.either; held = s.held }
+pub store-stands : (o o' : Objects) (old mid new : Queue) → (IsCurrent o old.handle → IsCurrent o mid.handle) → (first : Result (Unit {0}) JobRefusal) (refusal : JobRefusal) → IsStored o o' mid new first → Stands o o' old new (Err refusal)
+store-stands o o' old mid new keeps first refusal s = record { sound = s.sound; answered = tt; stored = s.either; held = s.held; current = λ _ current. s.current (keeps current) }
 
-pub reply-stands : (o o' : Objects) (new : Queue) (first : Result (Unit {0}) JobRefusal) (done : Unit {0}) → first ≡ Ok done → IsStored o o' new first → (result : Result JobReply JobRefusal) → Stands o o' new result
-reply-stands o o' new first done is s result = record {
+pub reply-stands : (o o' : Objects) (old mid new : Queue) → (IsCurrent o old.handle → IsCurrent o mid.handle) → (first : Result (Unit {0}) JobRefusal) (done : Unit {0}) → first ≡ Ok done → IsStored o o' mid new first → (result : Result JobReply JobRefusal) → Stands o o' old new result
+reply-stands o o' old mid new keeps first done is s result = record {
   sound = s.sound;
   answered = by result;
   stored = s.either;
   held = s.held;
+  current = λ _ current. s.current (keeps current);
 } where
   by : (r : Result JobReply JobRefusal) → IfOk r (λ _. Holds (content o').batches new.machine)
   by (Ok reply) = subst (λ x. IfOk x (λ _. Holds (content o').batches new.machine)) is s.answered

@@ -30,14 +30,14 @@ use Rattle.slate_jobs.specs.declared.jobs.JobState.{JobState}
 use Rattle.slate_jobs.specs.declared.jobs.JobState.TheVariants.{Waiting, Claimed, Done}
 use Rattle.slate_jobs.specs.Calls.{Accepts, Leaves, MayStep, RefusesBatch, Stores, Takes, failing_by, puts_for, refused_by}
 use Rattle.slate_jobs.specs.Machine.{Machine, after, claim_at, jobs_after, claim_of, completion_by, completion_of, effect_of, first_claimable, kept_reply, stepped, stepped_by}
-use Rattle.slate_jobs.specs.Queue.{IsHeld, IsInStep, Queue, failing, failure_of, refusal_of}
+use Rattle.slate_jobs.specs.Queue.{IsCurrent, IsHeld, IsInStep, Queue, failing, failure_of, refusal_of}
 use Rattle.slate_jobs.specs.Rows.{Holds, puts_of}
 use Rattle.std.specs.BTreeMap.{insert_entry}
 use Rattle.std.specs.Ordering.{nat_cmp}
 use Rattle.slate_types.specs.declared.batches.KeyOp.{KeyOp}
 use Rattle.slate_model.specs.Write.{write_refusal, written}
 use Rattle.slate_jobs.proofs.Holding.{IsWithin, holds-after}
-use Rattle.slate_jobs.proofs.Standing.{accepted-more, accepted-step, fate, flush-all, flush-either, flush-sound, ok-none, ok-step, short-same, short-step, short-unstored}
+use Rattle.slate_jobs.proofs.Standing.{accepted-more, accepted-step, fate, flush-all, flush-current, flush-either, flush-sound, ok-none, ok-step, short-same, short-step, short-unstored}
 
 -- ---- an effect moves a job that is there
 module _ (jobs : List Job) (room : length jobs < 2 ^ 64) where
@@ -85,12 +85,17 @@ accept-held o request op moment q q' held a =
       holds = subst (Holds ((content o).batches ++ unstored q'.handle)) (sym a.machine) (subst (λ bs. Holds bs (after q.machine request effect)) (sym seen) holds);
     }
 
+-- and its handle stays current
+pub accept-current : (o : Objects) (request : ℕ) (op : JobOp) (moment : ℤ) (q q' : Queue) → Accepts request op moment q q' → IsCurrent o q.handle → IsCurrent o q'.handle
+accept-current o request op moment q q' a current = subst (IsCurrent o) (sym a.handle.1) (current.0, current.1, current.2)
+
 -- ---- and stored
-pub record IsStored (o o' : Objects) (q' : Queue) (result : Result (Unit {0}) JobRefusal) : Type 0 where
+pub record IsStored (o o' : Objects) (q q' : Queue) (result : Result (Unit {0}) JobRefusal) : Type 0 where
   pub sound : IsSound o'
   pub answered : IfOk result (λ _. Holds (content o').batches q'.machine)
   pub either : (content o' ≡ content o) ⊎ Holds (content o').batches q'.machine
   pub held : q'.failure ≡ None → IsHeld o' q'
+  pub current : IsCurrent o q.handle → IsCurrent o' q'.handle
 
 module _ (o : Objects) (q q' : Queue) (held : IsHeld o q) where
   none-holds : unstored q.handle ≡ [] → Holds (content o).batches q.machine
@@ -103,7 +108,7 @@ module _ (o : Objects) (q q' : Queue) (held : IsHeld o q) where
     by (b ∷ bs) none = absurd (omega (arith, none))
 
   -- all was stored before
-  before-stored : (result : Result (Unit {0}) JobRefusal) → accepted q.handle ≤ q.handle.durable → q' ≡ q → IsStored o o q' result
+  before-stored : (result : Result (Unit {0}) JobRefusal) → accepted q.handle ≤ q.handle.durable → q' ≡ q → IsStored o o q q' result
   before-stored result all same =
       let holds : Holds (content o).batches q'.machine = subst (λ (x : Queue). Holds (content o).batches x.machine) (sym same) (none-holds (nothing-unstored all)) in
       record {
@@ -111,6 +116,7 @@ module _ (o : Objects) (q q' : Queue) (held : IsHeld o q) where
         answered = by result holds;
         either = inl refl;
         held = λ live. subst (IsHeld o) (sym same) held;
+        current = subst (λ (x : Queue). IsCurrent o x.handle) (sym same);
       } where
         by : (r : Result (Unit {0}) JobRefusal) → Holds (content o).batches q'.machine → IfOk r (λ _. Holds (content o).batches q'.machine)
         by (Ok done) h = h
@@ -159,7 +165,7 @@ module _ (o : Objects) (q q' : Queue) (held : IsHeld o q) where
       answered-holds (Ok done) ok = all-holds (flush-all o o' before.objects q.handle q'.handle made r held.handle (f.flushed can) s done ok)
       answered-holds (Err e) ok = tt
 
-      flush-stored : IsStored o o' q' result
+      flush-stored : IsStored o o' q q' result
       flush-stored = record {
         sound = flush-sound o o' before.objects q.handle q'.handle made r held.handle (f.flushed can) s;
         answered = subst (λ x. IfOk x (λ _. Holds (content o').batches q'.machine)) (sym answer) (answered-holds r refl);
@@ -168,15 +174,16 @@ module _ (o : Objects) (q q' : Queue) (held : IsHeld o q) where
           | inr new ↦ inr (all-holds new)
         ];
         held = open-held;
+        current = flush-current o o' before.objects q.handle q'.handle made r held.handle (f.flushed can) s;
       }
 
-    by-flush : (o' : Objects) × (after.objects ≡ Some o') × IsStored o o' q' result
+    by-flush : (o' : Objects) × (after.objects ≡ Some o') × IsStored o o' q q' result
     by-flush =
         let left = (f.stored can).objects.some o is in
         (left.0, left.1, flush-stored left.0 left.2)
 
 pub stores-stand : (o : Objects) (q q' : Queue) (result : Result (Unit {0}) JobRefusal) (before after : Known (List Batch)) → before.objects ≡ Some o → IsHeld o q → Stores before q result q' after →
-    (o' : Objects) × (after.objects ≡ Some o') × IsStored o o' q' result
+    (o' : Objects) × (after.objects ≡ Some o') × IsStored o o' q q' result
 stores-stand o q q' result before after is held (inl kept) = (o, ap (λ (k : Known (List Batch)). k.objects) kept.3 ∙ is, before-stored o q q' held result kept.0 kept.2)
 stores-stand o q q' result before after is held (inr f) = by-flush o q q' held f.0 f.1 result before after is f.2 f.3 f.4
 

@@ -17,3 +17,4 @@ pub mod Openable
 pub mod Opened
 pub mod Turning
 pub mod Ticking
+pub mod Running

@@ -31,7 +31,7 @@ use Rattle.slate_jobs.specs.declared.jobs.JobRefusal.{JobRefusal}
 use Rattle.slate_jobs.specs.declared.jobs.JobRefusal.TheVariants as refusals
 use Rattle.slate_jobs.specs.Decoding.{AreOfBytes, AreRows, machine_at}
 use Rattle.slate_jobs.specs.Machine.{Machine}
-use Rattle.slate_jobs.specs.Queue.{IsInStep, OpeningPuts, Opens, OpensWriter, Queue}
+use Rattle.slate_jobs.specs.Queue.{IsCurrent, IsInStep, OpeningPuts, Opens, OpensWriter, Queue}
 use Rattle.slate_jobs.specs.Rows.{Holds}
 use Rattle.slate_jobs.proofs.Decoded.{decoded-holds}
 
@@ -71,7 +71,6 @@ module _ (o : Objects) (sound : IsSound o) where
         sound = left.sound;
         latest = view;
         is_latest = left.latest;
-        current = omega arith;
         unclosed = refl;
         logs = refl;
         durable = sym (ap end left.content);
@@ -79,6 +78,9 @@ module _ (o : Objects) (sound : IsSound o) where
         ends = (let none = ap length none-unstored in let same = line_above-end low (content o) in omega (arith, none, same));
         tabled = tabled;
       }
+
+      fresh-current : IsCurrent o' fresh
+      fresh-current = (view, left.latest, omega arith)
 
       fresh-reads : (rows : List Batch) → kept_rows (Some o') (AHandle fresh) rows → rows ≡ (content o).batches
       fresh-reads rows reads =
@@ -106,7 +108,7 @@ pub refused-opens : (o : Objects) (before after : Known (List Batch)) (made limi
 refused-opens o before after made limit tasks e refusal is sound opens other =
     let got = opens.opens.some o is in
     let kept = opening-keeps o sound _ (Err e) made got.0 got.2 in
-    (got.0, got.1, record { sound = kept.sound; kept = kept.kept; puts = (made, puts-some refusal made other (part_le {A = Handle} (Err e) 2 made got.2.part), got.2.after); step = tt; whole = tt; tabled = tt; reads = tt; foreign = λ no. other (let both = no in cc) })
+    (got.0, got.1, record { sound = kept.sound; kept = kept.kept; puts = (made, puts-some refusal made other (part_le {A = Handle} (Err e) 2 made got.2.part), got.2.after); step = tt; current = tt; whole = tt; tabled = tt; reads = tt; foreign = λ no. other (let both = no in cc) })
 
 -- and one that gives a handle
 pub handle-opens : (o : Objects) (before after : Known (List Batch)) (made limit : ℕ) (tasks : List TaskName) (h : Handle) → before.objects ≡ Some o → IsSound o →
@@ -124,6 +126,7 @@ handle-opens o before after made limit tasks h is sound opens =
         kept = left.content;
         puts = (made, got.2.part, got.2.after);
         step = subst (IsInStep got.0) (sym same) (fresh-step o sound limit tasks got.0 left tabled);
+        current = subst (IsCurrent got.0) (sym same) (fresh-current o sound limit tasks got.0 left tabled);
         whole = ap unstored same ∙ none-unstored o sound limit tasks got.0 left tabled;
         tabled = subst (λ (x : Handle). AreStored got.0 x.view.manifest.tables) (sym same) (latest-stored got.0 (opened_manifest None o) left.sound left.latest);
         reads = λ rows reads. fresh-reads o sound limit tasks got.0 left tabled rows (subst (λ (x : Handle). kept_rows (Some got.0) (AHandle x) rows) same reads);
@@ -147,6 +150,7 @@ module _ (o o' : Objects) (h : Handle) (opens : OpensWriter o o' (Ok h)) where
           handle = opens.step;
           holds = subst (λ bs. Holds bs m) (sym (ap (λ bs. (content o').batches ++ bs) opens.whole ∙ (append-nil (content o').batches ∙ ap (λ (l : Line). l.batches) opens.kept))) holds;
         };
+        current = opens.current;
         found = holds;
         foreign = λ no. absurd (let both = no in cc);
       }
@@ -155,7 +159,7 @@ module _ (o o' : Objects) (h : Handle) (opens : OpensWriter o o' (Ok h)) where
   pub none-opens : (t : Option Objects) → t ≡ Some o' → (rows : List KeyValue) (batches : List Batch) → kept_rows t (AHandle h) batches → AreRows batches rows None → machine_at rows ≡ None → Opens o o' (Err refusals.Foreign)
   none-opens t is rows batches reads are none =
       let same = opens.reads batches (subst (λ x. kept_rows x (AHandle h) batches) is reads) in
-      record { sound = opens.sound; kept = opens.kept; puts = opens.puts; held = tt; found = tt; foreign = λ _. record { rows = rows; fault = None; are = subst (λ bs. AreRows bs rows None) same are; why = inr none } }
+      record { sound = opens.sound; kept = opens.kept; puts = opens.puts; held = tt; current = tt; found = tt; foreign = λ _. record { rows = rows; fault = None; are = subst (λ bs. AreRows bs rows None) same are; why = inr none } }
 
   -- rows that end with a fault, and rows that weren't read
   pub fault-opens : (t : Option Objects) → t ≡ Some o' → (refusal : JobRefusal) →
@@ -165,6 +169,7 @@ module _ (o o' : Objects) (h : Handle) (opens : OpensWriter o o' (Ok h)) where
     kept = opens.kept;
     puts = (opens.puts.0, puts-both (let r : Result Queue JobRefusal = Err refusal in r) opens.puts.0 opens.puts.1, opens.puts.2);
     held = tt;
+    current = tt;
     found = tt;
     foreign = λ foreign.
         let its = why (let both = foreign in cc) in
@@ -174,7 +179,7 @@ module _ (o o' : Objects) (h : Handle) (opens : OpensWriter o o' (Ok h)) where
 
 -- want of memory
 pub short-opens : (o o' : Objects) (h : Handle) → OpensWriter o o' (Ok h) → Opens o o' (Err refusals.NoMemory)
-short-opens o o' h opens = record { sound = opens.sound; kept = opens.kept; puts = (opens.puts.0, puts-both (let r : Result Queue JobRefusal = Err refusals.NoMemory in r) opens.puts.0 opens.puts.1, opens.puts.2); held = tt; found = tt; foreign = λ no. absurd (let both = no in cc) }
+short-opens o o' h opens = record { sound = opens.sound; kept = opens.kept; puts = (opens.puts.0, puts-both (let r : Result Queue JobRefusal = Err refusals.NoMemory in r) opens.puts.0 opens.puts.1, opens.puts.2); held = tt; current = tt; found = tt; foreign = λ no. absurd (let both = no in cc) }
 
 -- a handle that wasn't opened
 puts-same : (refusal : JobRefusal) (made : ℕ) → OpeningPuts {A = Handle} (Err refusal) made → OpeningPuts {A = Queue} (Err refusal) made
@@ -184,7 +189,7 @@ puts-same refusals.NoMemory made puts = puts
 puts-same (refusals.Writer e) made puts = puts
 
 pub unopened : (o o' : Objects) (refusal : JobRefusal) → OpensWriter o o' (Err refusal) → Opens o o' (Err refusal)
-unopened o o' refusal opens = record { sound = opens.sound; kept = opens.kept; puts = (opens.puts.0, puts-same refusal opens.puts.0 opens.puts.1, opens.puts.2); held = tt; found = tt; foreign = λ no. absurd (opens.foreign (let same : refusal ≡ refusals.Foreign = cc in ap Err same)) }
+unopened o o' refusal opens = record { sound = opens.sound; kept = opens.kept; puts = (opens.puts.0, puts-same refusal opens.puts.0 opens.puts.1, opens.puts.2); held = tt; current = tt; found = tt; foreign = λ no. absurd (opens.foreign (let same : refusal ≡ refusals.Foreign = cc in ap Err same)) }
 
 -- the rows that an iterator had left
 module _ (has : List Batch → Type 0) (batches : List Batch) (there : has batches) (rows : List KeyValue) (fault : Option ReadFault) (are : AreRows batches rows fault) where

@@ -23,7 +23,7 @@ use Rattle.slate_model.proofs.Flushed.{part_le}
 use Rattle.slate_model.proofs.Keeping.{above-twice, line_above-end}
 use Rattle.slate_model.proofs.Prefixes.{extended-nil}
 use Rattle.slate_model.proofs.Tabled.{tables-within}
-use Rattle.slate_jobs.specs.Queue.{IsInStep}
+use Rattle.slate_jobs.specs.Queue.{IsCurrent as NoneOpened, IsInStep}
 use Rattle.slate_jobs.specs.Calls.{failing_by}
 
 -- the line doesn't end before the last number in tables
@@ -51,7 +51,6 @@ module _ (o : Objects) (h : Handle) (ops : List KeyOp) (at : ℤ) (step : IsInSt
         sound = step.sound;
         latest = step.latest;
         is_latest = step.is_latest;
-        current = step.current;
         unclosed = step.unclosed;
         logs = step.logs;
         durable = step.durable;
@@ -153,7 +152,6 @@ module _ (o o' : Objects) (objects : Option Objects) (h k : Handle) (made : ℕ)
     sound = left.sound;
     latest = latest;
     is_latest = left.latest_is;
-    current = (let e = ap (λ (a : Handle). a.epoch) f.same in let c = step.current in omega (arith, e, c));
     unclosed = ap (λ (a : Handle). a.result) f.same ∙ live;
     logs = ap (λ (a : Handle). a.keeps_log) f.same ∙ step.logs;
     durable = durable;
@@ -161,6 +159,13 @@ module _ (o o' : Objects) (objects : Option Objects) (h k : Handle) (made : ℕ)
     ends = ends;
     tabled = tabled;
   }
+
+  pub flush-current : NoneOpened o h → NoneOpened o' k
+  flush-current c =
+      let same : c.0 ≡ latest = (let a = step.is_latest in let b = c.1 in cc) in
+      let e = ap (λ (a : Handle). a.epoch) f.same in
+      let low : latest.manifest.writer_epoch ≤ h.epoch = subst (λ (v : VersionedManifest). v.manifest.writer_epoch ≤ h.epoch) same c.2 in
+      (latest, left.latest_is, omega (arith, e, low))
 
   -- after Ok, where the answer has found the latest manifest
   module _ (done : Unit {0}) (ok : r ≡ Ok done) where

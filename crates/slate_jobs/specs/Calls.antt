@@ -18,7 +18,7 @@ use Rattle.slate_jobs.specs.declared.jobs.JobRefusal.{JobRefusal}
 use Rattle.slate_jobs.specs.declared.jobs.JobRefusal.TheVariants as refusals
 use Rattle.slate_jobs.specs.declared.jobs.JobReply.{JobReply}
 use Rattle.slate_jobs.specs.Machine.{Machine, after, effect_of, is_full, kept_reply, stepped}
-use Rattle.slate_jobs.specs.Queue.{IsHeld, Queue, error_of, failing, refusal_of}
+use Rattle.slate_jobs.specs.Queue.{IsCurrent, IsHeld, Queue, error_of, failing, refusal_of}
 use Rattle.slate_jobs.specs.Rows.{Holds, puts_of}
 
 -- the machine is as before, or has the effect of the request
@@ -51,12 +51,14 @@ pub record Calls (request : ℕ) (op : JobOp) (moment : ℤ) (old : Queue) (resu
   pub refused : old.failure ≡ None → IfErr result (Leaves request op moment old new)
 
 -- What a call leaves of an honest store that held the job store. After an answer the machine is stored. After a refusal the
--- machine that was stored is, or this one. While the job store isn't ended, the store goes on to hold it.
-pub record Stands (objects objects' : Objects) (new : Queue) (result : Result JobReply JobRefusal) : Type 0 where
+-- machine that was stored is, or this one. While the job store isn't ended, the store goes on to hold it, and its handle stays
+-- current.
+pub record Stands (objects objects' : Objects) (old new : Queue) (result : Result JobReply JobRefusal) : Type 0 where
   pub sound : IsSound objects'
   pub answered : IfOk result (λ reply. Holds (content objects').batches new.machine)
   pub stored : (content objects' ≡ content objects) ⊎ Holds (content objects').batches new.machine
   pub held : new.failure ≡ None → IsHeld objects' new
+  pub current : new.failure ≡ None → IsCurrent objects old.handle → IsCurrent objects' new.handle
 
 -- the operations of a request's batch
 abbrev pub puts_for : (request : ℕ) → JobOp → (moment : ℤ) → Queue → List KeyOp

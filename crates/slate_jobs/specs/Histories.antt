@@ -22,11 +22,11 @@ pub data Event : Type 0 where
   Reopened : Event
   Unopened : (refusal : JobRefusal) → Event
 
--- What the store of a request holds then: what the call says, where the store held the job store, which nobody else opened since;
+-- What the store of a request holds then: what the call says, where the store held the job store, to which nobody else wrote since;
 -- a job store that was ended leaves it.
 abbrev pub StoreAfter : Standing → Result JobReply JobRefusal → Standing → Type 0
 StoreAfter old result new =
-    (IsHeld old.objects old.queue × Stands old.objects new.objects new.queue result) ⊎ (IsSome old.queue.failure × (new.objects ≡ old.objects))
+    (IsHeld old.objects old.queue × Stands old.objects new.objects old.queue new.queue result) ⊎ (IsSome old.queue.failure × (new.objects ≡ old.objects))
 
 -- an event, by the clauses of the calls
 abbrev pub IsEvent : Event → Standing → Standing → Type 0

@@ -4,8 +4,11 @@ pub mod Decoding
 pub mod Histories
 pub mod JobLists
 pub mod Laws
+pub mod Lines
 pub mod Machine
 pub mod Queue
 pub mod Rows
+pub mod Session
+pub mod Texts
 pub mod Turns
 pub mod TurnsFall

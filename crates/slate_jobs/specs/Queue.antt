@@ -67,19 +67,23 @@ pub record AreForeign (batches : List Batch) : Type 0 where
   pub are : AreRows batches rows fault
   pub why : (fault ≢ None) ⊎ (machine_at rows ≡ None)
 
--- A handle over an honest store that holds these objects, and that nobody opened since: it is open and keeps a log, and what it
--- accepted and didn't store yet goes on from what is stored.
+-- A handle over an honest store that holds these objects, and to which nobody else wrote since: it is open and keeps a log, and what
+-- it accepted and didn't store yet goes on from what is stored.
 pub record IsInStep (objects : Objects) (handle : Handle) : Type 0 where
   pub sound : IsSound objects
   pub latest : VersionedManifest
   pub is_latest : latest_manifest objects ≡ Some latest
-  pub current : latest.manifest.writer_epoch ≤ handle.epoch
   pub unclosed : handle.result ≡ None
   pub logs : handle.keeps_log ≡ true
   pub durable : handle.durable ≡ end (content objects)
   pub numbered : AreNumberedFrom handle.durable (unstored handle)
   pub ends : handle.durable + length (unstored handle) ≡ accepted handle
   pub tabled : handle.view.manifest.last_l0_seq ≤ handle.durable
+
+-- and nobody opened the store since
+abbrev pub IsCurrent : Objects → Handle → Type 0
+IsCurrent objects handle =
+    (latest : VersionedManifest) × (latest_manifest objects ≡ Some latest) × (latest.manifest.writer_epoch ≤ handle.epoch)
 
 -- An honest store that holds these objects holds a job store: what is stored, and then what its handle accepted and didn't store
 -- yet, holds its machine.
@@ -104,6 +108,7 @@ pub record Opens (objects objects' : Objects) (result : Result Queue JobRefusal)
   pub kept : content objects' ≡ content objects
   pub puts : PutsOpening objects objects' result
   pub held : IfOk result (IsHeld objects')
+  pub current : IfOk result (λ queue. IsCurrent objects' queue.handle)
   pub found : IfOk result (λ queue. Holds (content objects).batches queue.machine)
   pub foreign : result ≡ Err refusals.Foreign → AreForeign (content objects).batches
 
@@ -113,6 +118,7 @@ pub record OpensWriter (objects objects' : Objects) (result : Result Handle JobR
   pub kept : content objects' ≡ content objects
   pub puts : PutsOpening objects objects' result
   pub step : IfOk result (IsInStep objects')
+  pub current : IfOk result (IsCurrent objects')
   pub whole : IfOk result (λ handle. unstored handle ≡ [])
   pub tabled : IfOk result (λ handle. AreStored objects' handle.view.manifest.tables)
   pub reads : IfOk result (λ handle. (rows : List Batch) → kept_rows (Some objects') (AHandle handle) rows → rows ≡ (content objects).batches)

@@ -170,8 +170,8 @@ impl JobStore {
         moment: i64,
     ) -> Result<JobReply, JobRefusal>
         ensures answers { Calls request op moment self.old result self.new }
-        // Over an honest store that held it, which nobody else opened since.
-        ensures stands { (o : Objects) → S.objects store.old ≡ Some o → IsHeld o self.old → (o' : Objects) × (S.objects store.new ≡ Some o') × Stands o o' self.new result }
+        // Over an honest store that held it, to which nobody else wrote since.
+        ensures stands { (o : Objects) → S.objects store.old ≡ Some o → IsHeld o self.old → (o' : Objects) × (S.objects store.new ≡ Some o') × Stands o o' self.old self.new result }
         // A job store is ready from its opening on, until a refusal of the writer ends it.
         ensures causes { (o : Objects) → S.objects store.old ≡ Some o → IsSound o → IsReady self.old →
             IfErr result (IsCallRefusal (HasRisen (S.faults store.old) (S.faults store.new)) o self.old op moment) }

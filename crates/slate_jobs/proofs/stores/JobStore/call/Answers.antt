@@ -4,7 +4,7 @@ use Rattle.std.specs.Int.{w64}
 use Rattle.slate_model.specs.Known.{known}
 use Rattle.slate_jobs.specs.Calls.{Takes}
 use Rattle.slate_jobs.specs.Queue.{Queue}
-use Rattle.slate_jobs.proofs.Asking.{reply-stands, store-stands, took-held}
+use Rattle.slate_jobs.proofs.Asking.{reply-stands, store-stands, took-current, took-held}
 use Rattle.slate_store.specs.Calls.{HasRisen}
 use Rattle.slate_jobs.proofs.Causing.{batch-refused, store-refused, took-epoch, took-ready}
 use Rattle.slate_jobs.proofs.Calling.{stores-stand}
@@ -17,7 +17,7 @@ returns-in-Err-store-clause-stands g c = λ o is held.
     subst (λ m. Takes c.args.request c.args.op m c.args.self.now c.take.new.self) (to_z-of_z w64 c.args.moment c.ranges.moment) c.in_default-take.ensures.taken in
     let s = stores-stand o c.take.new.self c.store.new.self c.store.result (known g.S.Store.objects g.S.Store.faults c.args.store.now) (known g.S.Store.objects g.S.Store.faults c.store.new.store) is
     (took-held c.args.request c.args.op c.args.moment c.args.self.now live c.take.new.self takes o held) c.store.ensures.stored in
-    (s.0, s.1, store-stands o s.0 c.store.new.self c.store.result c.in-Err-store.refusal s.2)
+    (s.0, s.1, store-stands o s.0 c.args.self.now c.take.new.self c.store.new.self (took-current c.args.request c.args.op c.args.moment c.args.self.now live c.take.new.self takes o) c.store.result c.in-Err-store.refusal s.2)
 
 pub returns-clause-stands : goal.returns-clause-stands
 returns-clause-stands g c = λ o is held.
@@ -26,7 +26,7 @@ returns-clause-stands g c = λ o is held.
     subst (λ m. Takes c.args.request c.args.op m c.args.self.now c.take.new.self) (to_z-of_z w64 c.args.moment c.ranges.moment) c.in_default-take.ensures.taken in
     let s = stores-stand o c.take.new.self c.store.new.self c.store.result (known g.S.Store.objects g.S.Store.faults c.args.store.now) (known g.S.Store.objects g.S.Store.faults c.store.new.store) is
     (took-held c.args.request c.args.op c.args.moment c.args.self.now live c.take.new.self takes o held) c.store.ensures.stored in
-    (s.0, s.1, reply-stands o s.0 c.store.new.self c.store.result tt c.in_default-store.is s.2 c.reply_to.result)
+    (s.0, s.1, reply-stands o s.0 c.args.self.now c.take.new.self c.store.new.self (took-current c.args.request c.args.op c.args.moment c.args.self.now live c.take.new.self takes o) c.store.result tt c.in_default-store.is s.2 c.reply_to.result)
 
 pub returns-in-Err-clause-causes : goal.returns-in-Err-clause-causes
 returns-in-Err-clause-causes g c = λ o is sound ready.

@@ -5,3 +5,5 @@ pub mod Passing
 pub mod Reaching
 pub mod Running
 pub mod Stored
+pub mod Feeding
+pub mod Fed

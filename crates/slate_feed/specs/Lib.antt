@@ -7,3 +7,6 @@ pub mod Reading
 pub mod Refusal
 pub mod Stepping
 pub mod Taking
+pub mod Lines
+pub mod Session
+pub mod Texts

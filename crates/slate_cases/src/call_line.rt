@@ -286,6 +286,17 @@ impl<'a> CallLine<'a> {
         }
     }
 
+    /// The texts whose bytes the words that are left spell.
+    pub fn strings(&mut self) -> Vec<String> {
+        let mut strings = Vec::new(self.alloc);
+        for _ in 0..self.left() {
+            let string = self.string();
+            let pushed = strings.push(string);
+            self.note(pushed.is_ok());
+        }
+        strings
+    }
+
     /// The words that are left, with a blank between each two.
     pub fn joined(&mut self) -> Vec<u8> {
         let mut joined = Vec::new(self.alloc);

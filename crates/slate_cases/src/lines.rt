@@ -81,10 +81,7 @@ fn print_fields(text: &[u8], line: &mut CallLine<'_>) {
 
 /// Prints what the words of a command line say, or that they are refused.
 fn print_options(line: &mut CallLine<'_>) {
-    let mut words = Vec::new(line.alloc());
-    for _ in 0..line.left() {
-        words.push(line.string()).print(line);
-    }
+    let words = line.strings();
     match read_words(words.as_slice()) {
         Some(options) => line.print_debug(&options),
         None => line.print_text("refused"),

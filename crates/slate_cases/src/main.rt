@@ -32,6 +32,7 @@ mod ranges;
 mod readers;
 mod replies;
 mod rows;
+mod sessions;
 mod statuses;
 mod store_calls;
 mod streams;

@@ -3,11 +3,10 @@ ghost use Rattle.std.specs.Prelude.{◌≤◌};
 
 use crate::answers::Answer;
 use crate::call_line::CallLine;
+use crate::sessions::run_session;
 use crate::store_calls::print_stored;
 use crate::subjects::Subject;
-use slate_live::{
-    InputFault, ReadAnswer, SliceSource, Source, VecSink, read_whole, session, write_whole,
-};
+use slate_live::{InputFault, ReadAnswer, SliceSource, Source, VecSink, read_whole, write_whole};
 use slate_store::MemoryStore;
 use slate_types::Seq;
 use std::alloc::Global;
@@ -85,10 +84,17 @@ impl Streams {
         line.print_text(if is_whole { "whole" } else { "failed" });
     }
 
-    /// Runs the source as a script, and prints the exit status.
+    /// Runs the source as a script, of the session that words ask for, and prints the exit status.
     fn run(&mut self, line: &mut CallLine<'_>) {
+        let words = line.strings();
         let (source, sink) = (&mut self.source, &mut self.sink);
-        let finished = session(line.alloc(), &[], source, sink, &mut self.store);
+        let finished = run_session(
+            line.alloc(),
+            words.as_slice(),
+            source,
+            sink,
+            &mut self.store,
+        );
         line.print_number(u64::from(finished.status));
     }
 }

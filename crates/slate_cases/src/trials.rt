@@ -1,7 +1,8 @@
 // Running a case over a fresh store, and comparing what came of it.
 use crate::cases::Case;
 use crate::failures::Failure;
-use slate_live::{SliceSource, VecSink, session};
+use crate::sessions::run_session;
+use slate_live::{SliceSource, VecSink};
 use slate_store::{FailingCall, FaultyStore, MemoryStore};
 use slate_types::Seq;
 use std::alloc::{AllocError, Global};
@@ -33,7 +34,7 @@ fn run_script(
 ) -> u8 {
     let mut source = SliceSource::new(script, PIECE, Seq::of(Vec::new(alloc)));
     let mut store = FaultyStore::new(MemoryStore::new(alloc), failing);
-    session(alloc, words, &mut source, sink, &mut store).status
+    run_session(alloc, words, &mut source, sink, &mut store).status
 }
 
 /// Compares the replies and the status that were found with those that are wanted.

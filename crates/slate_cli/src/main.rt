@@ -1,5 +1,5 @@
 //! The program `slate`: runs a script from standard input over a fresh store in memory, or over a directory, and prints
-//! its replies.
+//! its replies. The script is one of commands, one with feeds, or one of a job store.
 #![tactic(auto)]
 
 mod looks;
@@ -7,6 +7,8 @@ mod streams;
 
 use looks::{check_directory, show_directory};
 use slate_directory::open_directory;
+use slate_feed::feed_session;
+use slate_jobs::jobs_session;
 use slate_live::{Outcome, session};
 use slate_script::read_words;
 use slate_store::{MemoryStore, Store};
@@ -22,6 +24,8 @@ store in memory or over a directory, and prints a reply per command.
 usage: slate [--store DIR] [--merge concat] [--segments N] [--limit N] [--bare]
              < SCRIPT
        slate [--store DIR] gen SEED COUNT
+       slate [--store DIR] jobs < SCRIPT
+       slate [--store DIR] feed < SCRIPT
        slate check --store DIR
        slate show --store DIR [--sweep MOMENT]
        slate --help | --version
@@ -42,6 +46,22 @@ collector; the tasks of the rest are ended by its close.
 With gen no script is read: COUNT puts, at most 20,000, under 101 keys by SEED
 are run, with flushes, polls, compactions and sweeps between, and a summary of
 the replies is printed in four lines.
+
+With jobs the database holds a job store, and a line of the script is a moment
+and a request, as in
+  0 enqueue 1 a
+  0 claim 2 100
+  50 complete 3 0 2
+which adds a job with the payload a, claims the first one for 100 milliseconds,
+and completes job 0 by the number of the request that claimed it. The number
+behind the name is the request's: one that comes again is answered as before.
+reopen opens the job store anew.
+
+With feed the script may also have lines of feeds, as in
+  0 feed 0
+  0 next 0 100
+which opens a feed of the stored batches after number 0, and asks it for the
+next ones, at most 100; feeds are numbered from 0.
 
 With check no script is read either, and no file is changed: whether the database
 in DIR is sound is printed, as sound at K, where K is the number of the last
@@ -105,18 +125,18 @@ fn answer(rt: &HostRuntime, words: &[String]) -> u8 {
         [word, path, others @ ..] if word.as_str() == "--store" => {
             run_over_directory(rt, path.as_str(), others)
         }
-        _ => run_session(rt, words, &mut MemoryStore::new(rt.alloc())),
+        _ => run_words(rt, words, &mut MemoryStore::new(rt.alloc())),
     }
 }
 
-/// Runs the script from standard input, or the generator, over a directory, which isn't touched where the words ask for
-/// neither. It answers the exit status.
+/// Runs what these words ask for over a directory, which isn't touched where they ask for nothing. It answers the exit
+/// status.
 fn run_over_directory(rt: &HostRuntime, path: &str, words: &[String]) -> u8 {
-    if read_words(words).is_none() {
+    if !is_word(words, "jobs") && !is_word(words, "feed") && read_words(words).is_none() {
         return report(rt, Outcome::WordsRefused);
     }
     match open_directory(*rt, rt.alloc(), path) {
-        Ok(mut store) => run_session(rt, words, &mut store),
+        Ok(mut store) => run_words(rt, words, &mut store),
         Err(error) if error.kind() == io::ErrorKind::OutOfMemory => report(rt, Outcome::NoMemory),
         Err(error) => {
             let _ = eprintln!(rt; "slate: the directory {path:?} can't be used: {error}");
@@ -125,11 +145,23 @@ fn run_over_directory(rt: &HostRuntime, path: &str, words: &[String]) -> u8 {
     }
 }
 
-/// Runs the script from standard input over a store. It answers the exit status.
-fn run_session<S: Store>(rt: &HostRuntime, words: &[String], store: &mut S) -> u8 {
+/// Whether these words are this one.
+fn is_word(words: &[String], wanted: &str) -> bool {
+    matches!(words, [word] if word.as_str() == wanted)
+}
+
+/// Runs the script from standard input, of commands, with feeds or of a job store, or the generator, over a store. It answers the exit
+/// status.
+fn run_words<S: Store>(rt: &HostRuntime, words: &[String], store: &mut S) -> u8 {
     let mut source = Counted::new(rt.stdin());
     let mut sink = Counted::new(rt.stdout());
-    let finished = session(rt.alloc(), words, &mut source, &mut sink, store);
+    let finished = if is_word(words, "jobs") {
+        jobs_session(rt.alloc(), &mut source, &mut sink, store)
+    } else if is_word(words, "feed") {
+        feed_session(rt.alloc(), &mut source, &mut sink, store)
+    } else {
+        session(rt.alloc(), words, &mut source, &mut sink, store)
+    };
     report(rt, finished.outcome())
 }
 

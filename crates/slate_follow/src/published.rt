@@ -7,12 +7,20 @@ ghost use Rattle.slate_follow.specs.Publishing.{published_state};
 use crate::FollowerState;
 use slate_published::PublishedState;
 use slate_reads::{IndexedTable, Table};
-use slate_store::TableId;
+use slate_store::{TableId, VersionedManifest};
 use slate_types::{NoMemory, Seq};
 use std::alloc::Global;
 use std::sync::Arc;
 
 impl FollowerState {
+    /// The manifest that it goes by: the latest, when it was opened or last polled, or that of its checkpoint. It takes constant
+    /// time.
+    pub fn manifest(&self) -> &VersionedManifest
+        ensures { result.now ≡ self.now.view }
+    {
+        self.status.manifest()
+    }
+
     /// What it sees, to be published. It is answered of a closed reader, too, and changes nothing. It takes time and memory
     /// linear in the ids of its tables and in the operations of its batches in memory: these get indexes of their own, since
     /// a poll adds to the ones that it has. It copies no key and no value.
@@ -21,7 +29,7 @@ impl FollowerState {
     {
         let tables = ids(alloc, self.tables())?;
         let memory = tables_of(alloc, self.kept.as_slice())?;
-        let view = self.status.manifest();
+        let view = self.manifest();
         let floor = view.manifest.last_l0_seq;
         let state = PublishedState::of(self.number, view.id, tables, floor, memory);
         Ok(Arc::new(alloc, state)?)

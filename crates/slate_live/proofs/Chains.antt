@@ -54,11 +54,11 @@ stands_start o store live no_object no_poll no_write is sound = record {
   begun = λ objects n begun there at. absurd (cc);
 }
 
-chain-push : (settings : Settings) (first : World) (steps : List Step) (step : Step) → Chain settings first steps → Link settings (last_world first steps) step.command step.reply step.world → Chain settings first (steps ++ step ∷ [])
+pub chain-push : (settings : Settings) (first : World) (steps : List Step) (step : Step) → Chain settings first steps → Link settings (last_world first steps) step.command step.reply step.world → Chain settings first (steps ++ step ∷ [])
 chain-push settings first [] step chain link = (link, tt)
 chain-push settings first (s ∷ steps) step chain link = (chain.0, chain-push settings s.world steps step chain.1 link)
 
-last-push : (first : World) (steps : List Step) (step : Step) → last_world first (steps ++ step ∷ []) ≡ step.world
+pub last-push : (first : World) (steps : List Step) (step : Step) → last_world first (steps ++ step ∷ []) ≡ step.world
 last-push first [] step = refl
 last-push first (s ∷ steps) step = last-push s.world steps step
 
@@ -141,8 +141,14 @@ leads_all settings commands i replies o faults live store steps sound all done s
     all-whole : AreWhole commands → WholeChain settings (start o faults) steps
     all-whole whole = chain-whole settings (start o faults) steps (subst AreWhole (sym (done.commands_are ∙ take_all i commands all)) whole) done.chain
 
+-- by these steps
+pub leads_all-steps : (settings : Settings) (commands : List Command) (i : ℕ) (replies : List Reply) (o : Objects) (faults : ℕ) (live : Live) (store : Known (List Batch)) (steps : List Step) (sound : IsSound o) (all : length commands ≤ i)
+    (done : Done settings (start o faults) (take i commands) replies steps) (stands : Represents live store (last_world (start o faults) steps)) → (leads_all settings commands i replies o faults live store steps sound all done stands).steps ≡ steps
+unfolding leads_all
+leads_all-steps settings commands i replies o faults live store steps sound all done stands = refl
+
 -- commands that are done one after another, and one more
-do-push : (settings : Settings) (live mid last : Live) (store between store' : Known (List Batch)) (commands : List Command) (replies : List Reply) (command : Command) (reply : Reply) → DoAll settings live store commands replies mid between → IsDone settings mid between command reply last store' →
+pub do-push : (settings : Settings) (live mid last : Live) (store between store' : Known (List Batch)) (commands : List Command) (replies : List Reply) (command : Command) (reply : Reply) → DoAll settings live store commands replies mid between → IsDone settings mid between command reply last store' →
     DoAll settings live store (commands ++ command ∷ []) (replies ++ reply ∷ []) last store'
 do-push settings live mid last store between store' [] [] command reply all does = (
   last,

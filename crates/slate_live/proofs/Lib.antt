@@ -36,10 +36,12 @@ pub mod Places
 pub mod Polled
 pub mod Polling
 pub mod Prefixes
+pub mod Publishing
 pub mod Reading
 pub mod Repeating
 pub mod Representing
 pub mod Rising
+pub mod Running
 pub mod Seeing
 pub mod Segmented
 pub mod Snapshots

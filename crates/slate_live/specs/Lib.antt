@@ -7,10 +7,12 @@ pub mod Followers
 pub mod Handles
 pub mod Leases
 pub mod Maintenance
+pub mod Publishing
 pub mod Replies
 pub mod Represents
 pub mod Rising
 pub mod Run
+pub mod Running
 pub mod Sampling
 pub mod Scans
 pub mod Session

@@ -1,6 +1,7 @@
-// Laws for programs that hold handles and readers of their own, beside a store and without a `LiveState`.
+// Laws for programs that do commands on a `LiveState` of their own, or hold handles and readers beside a store without one.
 ghost use Rattle.slate_live.specs.Beside.{OthersLeaveThem, PollsBegin, ReadersStand, StepsStand};
 ghost use Rattle.slate_live.specs.Laws.{CallsAreSteps, NoneRepresentsTheStart, ReadTheirLines};
+ghost use Rattle.slate_live.specs.Running.{EachIsDone, EachLeadsOn, NoneHasLed, TheyLead};
 
 /// The calls of handles and readers that a program holds over an honest store are steps of one world, as the commands of a run
 /// are. Before the first opening the store alone represents the world of the start. What a call does to its object and to the
@@ -25,4 +26,14 @@ pub fn begun_polls_stand()
     ensures begin { PollsBegin }
     ensures others { OthersLeaveThem }
     ensures steps { StepsStand }
+{}
+
+/// The commands that a program does by `LiveState::apply`, one after another on a state of its own, come to what those of a run
+/// come to: over any store each is done in its turn, and over an honest one they lead through worlds, with all that is said of
+/// these. So a program that looks at the state between commands needs no other proof than that of `run`.
+pub fn commands_lead_on()
+    ensures begins { NoneHasLed }
+    ensures each { EachLeadsOn }
+    ensures all { TheyLead }
+    ensures done { EachIsDone }
 {}

@@ -13,7 +13,7 @@ mod scans;
 mod sessions;
 mod states;
 
-pub use laws::{begun_polls_stand, calls_are_steps};
+pub use laws::{begun_polls_stand, calls_are_steps, commands_lead_on};
 pub use runs::run;
 pub use sessions::{Finished, Outcome, session};
 pub use slate_receivers::{

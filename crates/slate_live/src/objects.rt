@@ -16,11 +16,13 @@ ghost use Rattle.slate_live.specs.Stepping.{BeginsOf, StepsObject};
 ghost use Rattle.slate_live.specs.Settings.{Settings};
 ghost use Rattle.slate_live.specs.Sampling.{ActsAsOf, snapshot_of, taken_of};
 ghost use Rattle.slate_live.specs.declared.states.Write.{Write as AWrite};
+ghost use Rattle.slate_live.specs.Publishing.{reader_of};
 
 use crate::handles;
 use crate::readers::Reader;
 use crate::states::Write;
 use slate_errors::SlateError;
+use slate_follow::FollowerState;
 use slate_model::HandleSnapshot;
 use slate_script::{Command, Reply};
 use slate_store::Store;
@@ -141,6 +143,16 @@ impl Object {
     {
         match self {
             Object::Snapshot(snapshot) => Some(*snapshot),
+            _ => None,
+        }
+    }
+
+    /// The reader, where it is one.
+    pub(crate) fn reader(&self) -> Option<&FollowerState>
+        ensures { option_copied result ≡ reader_of (Some (object_of self.now)) }
+    {
+        match self {
+            Object::Follower(reader) => Some(reader.state()),
             _ => None,
         }
     }

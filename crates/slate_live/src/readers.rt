@@ -56,6 +56,13 @@ impl Reader {
         Reader { state, poll: None }
     }
 
+    /// What it keeps, but for its begun poll.
+    pub(crate) fn state(&self) -> &FollowerState
+        ensures { result.now ≡ self.now.state }
+    {
+        &self.state
+    }
+
     /// Does a command that names it and makes a call whole. A poll and a close drop the begun poll.
     pub(crate) fn act<S: Store, M: MergeOperator, E: PrefixExtractor>(
         &mut self,

@@ -1,7 +1,8 @@
 // The live objects of a run and its writes, and what one command does to them.
-ghost use Rattle.std.specs.Prelude.{◌≡◌, ◌≤◌, ◌+◌, ℕ, [], true, None, List, Option, slice_get, IfSome, Some, is_some};
+ghost use Rattle.std.specs.Prelude.{◌≡◌, ◌≤◌, ◌+◌, ℕ, [], true, None, List, Option, length, slice_get, IfSome, Some, is_some};
 ghost use Rattle.slate_types.specs.declared.batches.Batch.{Batch as AnyBatch};
-ghost use Rattle.std.specs.Option.{option_copied};
+ghost use Rattle.std.specs.Option.{option_copied, option_map};
+ghost use Rattle.slate_follow.specs.Publishing.{published_state};
 ghost use Rattle.slate_reads.specs.Read.{IsOperator};
 ghost use Rattle.slate_model.specs.Known.{Known, known};
 ghost use Rattle.slate_model.specs.Open.{replayed_logs};
@@ -11,7 +12,8 @@ ghost use Rattle.slate_live.specs.Calls.{ArePolls, HaveSamePolls, OfObject, Whol
 ghost use Rattle.slate_live.specs.Commands.{ActsOn, Does, interval_of, lifetime_of, OpensFollowerIn, OpensHandleIn, OpensSnapshot, ReadsSnapshot, write_reply};
 ghost use Rattle.slate_live.specs.Sampling.{Pushes};
 ghost use Rattle.slate_live.specs.Replies.{followed_reply};
-ghost use Rattle.slate_live.specs.Represents.{Links};
+ghost use Rattle.slate_live.specs.Publishing.{reader_of, seen_at};
+ghost use Rattle.slate_live.specs.Represents.{Links, Represents};
 ghost use Rattle.slate_live.specs.State.{running};
 ghost use Rattle.slate_model.specs.Follower.{Follower, is_managed};
 ghost use Rattle.slate_model.specs.Object.{Follower as AFollower};
@@ -20,6 +22,7 @@ ghost use Rattle.slate_script.specs.declared.replies.Reply.TheVariants as replie
 ghost use Rattle.slate_live.specs.Settings.{Settings, option_tasks};
 ghost use Rattle.slate_live.specs.Stepping.{BeginsPoll, IsDone, StepsPoll};
 ghost use Rattle.slate_live.specs.Valid.{Link};
+ghost use Rattle.slate_live.specs.World.{World};
 ghost use Rattle.slate_writer.specs.Tasks.{tasks_of};
 
 use crate::handles::refusal;
@@ -114,6 +117,29 @@ impl LiveState {
             Action::Step { follower } => self.step(alloc, store, *follower, extractor),
             _ => self.make_call(alloc, store, operator, extractor, command),
         }
+    }
+
+    /// How many objects it has. The next one gets this number.
+    pub fn object_count(&self) -> u64
+        ensures { result ≡ length self.now.objects }
+    {
+        self.objects.len() as u64
+    }
+
+    /// The reader with a number; None where there is no object with it, or one of another kind. It takes constant time.
+    ///
+    /// Over an honest store it sees what is said of it in the world that state and store represent: what may be published of it
+    /// has the number, the manifest's id, its tables and the last number in them that the reader has there, and the batches of
+    /// the stored line above that up to its number.
+    pub fn reader(&self, number: u64) -> Option<&FollowerState>
+        ensures reader { option_copied result ≡ reader_of (slice_get self.now.objects number) }
+        ensures sees { (store : Known (List AnyBatch)) (w : World) → Represents self.now store w → option_map published_state (option_copied result) ≡ seen_at w number }
+    {
+        let place = number as usize;
+        if place >= self.objects.len() {
+            return None;
+        }
+        self.objects[place].reader()
     }
 
     /// Does a command that makes a call whole.

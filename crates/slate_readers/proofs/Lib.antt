@@ -1,0 +1,5 @@
+pub mod Changing
+pub mod Firsts
+pub mod Prefixes
+pub mod Publishing
+pub mod Showing

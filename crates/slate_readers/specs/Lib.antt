@@ -1,0 +1,4 @@
+pub mod Aired
+pub mod Changes
+pub mod Published
+pub mod Watching

@@ -11,20 +11,21 @@ use Rattle.slate_script.specs.declared.options.RunOptions.{RunOptions}
 use Rattle.slate_script.specs.declared.options.SessionWords.{SessionWords}
 use Rattle.slate_script.specs.declared.options.SessionWords.TheVariants.{Script, Generator}
 use Rattle.slate_script.specs.declared.replies.Reply.{Reply}
-use Rattle.slate_live.specs.Session.{Ends, KeepsOutput, KeepsSource, Sides, fixed_extractor}
-use Rattle.slate_live.specs.declared.sessions.Outcome.TheVariants.{NoMemory, WordsRefused}
+use Rattle.slate_script.specs.Sessions.{KeepsOutput, KeepsSource}
+use Rattle.slate_script.specs.declared.sessions.Outcome.TheVariants.{NoMemory, WordsRefused}
+use Rattle.slate_live.specs.Session.{Ends, StoreSides, fixed_extractor}
 
 -- words that ask for nothing end a session before anything is read
-pub ends-refused : (words : Option SessionWords) (replies : List Reply) (s : Sides) → words ≡ None → replies ≡ [] → Ends words replies WordsRefused s s
+pub ends-refused : (words : Option SessionWords) (replies : List Reply) (s : StoreSides) → words ≡ None → replies ≡ [] → Ends words replies WordsRefused s s
 ends-refused words replies s refused none =
     inl (record { refused = refused; ending_is = refl; nothing = refl; no_reply = none })
 
 -- want of memory ends it before anything is run
-pub ends-unrun : (options : RunOptions) (replies : List Reply) (s s' : Sides) → KeepsOutput s s' → replies ≡ [] → Ends (Some (Script options)) replies NoMemory s s'
+pub ends-unrun : (options : RunOptions) (replies : List Reply) (s s' : StoreSides) → KeepsOutput s s' → replies ≡ [] → Ends (Some (Script options)) replies NoMemory s s'
 ends-unrun options replies s s' output none =
     inr (inl (record { asked = Script options; accepted = refl; stops = tt; output = output; no_reply = none }))
 
-pub ends-ungenerated : (seed count : ℕ) (replies : List Reply) (s s' : Sides) → KeepsSource s s' → KeepsOutput s s' → replies ≡ [] → Ends (Some (Generator seed count)) replies NoMemory s s'
+pub ends-ungenerated : (seed count : ℕ) (replies : List Reply) (s s' : StoreSides) → KeepsSource s s' → KeepsOutput s s' → replies ≡ [] → Ends (Some (Generator seed count)) replies NoMemory s s'
 ends-ungenerated seed count replies s s' source output none =
     inr (inl (record { asked = Generator seed count; accepted = refl; stops = (refl, source); output = output; no_reply = none }))
 

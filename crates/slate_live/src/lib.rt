@@ -15,14 +15,14 @@ mod states;
 
 pub use laws::{begun_polls_stand, calls_are_steps, commands_lead_on};
 pub use runs::run;
-pub use sessions::{Finished, Outcome, session};
+pub use sessions::session;
 pub use slate_receivers::{
     Clock, DurabilityWaiter, HandClock, StatusManager, StatusReceiver, SystemClock, WriteHandle,
 };
 pub use slate_script::{
-    Action, Command, LineAnswer, MAX_GENERATED, MAX_SCRIPT, Options, Reply, RunOptions,
-    ScriptFault, SessionWords, generate, print_replies, print_summary, read_line, read_script,
-    script_fields,
+    Action, Command, Finished, LineAnswer, MAX_GENERATED, MAX_SCRIPT, Options, Outcome, Reply,
+    RunOptions, ScriptFault, SessionWords, generate, print_replies, print_summary, read_line,
+    read_script, script_fields,
 };
 pub use slate_seqtrack::FindOption;
 pub use slate_streams::{

@@ -1,150 +1,24 @@
 // A whole session: a script is read from a source and run, and its replies are written to a sink.
-ghost use Rattle.std.specs.Prelude.{All, IfOk, ◌≡◌, ◌≤◌, ◌⊎◌, List, Option, Some, length, map, string_bytes, ℕ};
-ghost use Rattle.slate_script.specs.Generator.{generated, summary_text};
+ghost use Rattle.std.specs.Prelude.{IfOk, ◌≡◌, ◌≤◌, ◌⊎◌, List, Option, Some, map, string_bytes, ℕ};
+ghost use Rattle.slate_script.specs.Generator.{summary_text};
 ghost use Rattle.slate_script.specs.Options.{words_of};
 ghost use Rattle.slate_script.specs.declared.options.SessionWords.TheVariants.{Script, Generator};
 ghost use Rattle.slate_script.specs.Replies.{replies_text};
+ghost use Rattle.slate_script.specs.Scripts.{script_of};
+ghost use Rattle.slate_script.specs.Sessions.{EndsWriting, HasScript, refused_line, sides, status_of};
 ghost use Rattle.slate_model.specs.Known.{known};
 ghost use Rattle.slate_types.specs.Counts.{HasRisen};
-ghost use Rattle.slate_live.specs.Session.{Ends, EndsWriting, HasScript, IsGiven, ReadsScript, input_ending, refused_line, script_ending, sides, status_of};
+ghost use Rattle.slate_live.specs.Session.{Ends, IsGiven};
 
 use crate::run;
 use slate_script::{
-    Command, MAX_SCRIPT, Reply, RunOptions, ScriptFault, SessionWords, generate, print_replies,
-    print_summary, read_script, read_words,
+    Finished, Outcome, Reply, RunOptions, SessionWords, generate, print_replies, print_summary,
+    read_commands, read_words, write_text,
 };
 use slate_store::Store;
-use slate_streams::{InputFault, Sink, Source, read_whole, write_whole};
-use slate_types::{FixedPrefix, NoMemory, Seq};
+use slate_streams::{Sink, Source};
+use slate_types::{FixedPrefix, NoMemory};
 use std::alloc::Global;
-use thiserror::Error;
-
-/// How a session ended. Its text says so in a few words.
-#[derive(Clone, Copy, Debug, PartialEq, Eq, Error)]
-pub enum Outcome {
-    /// The text of all replies was written.
-    #[error("done")]
-    Done,
-    /// The line with this number is the first that isn't a script line.
-    #[error("line {0} refused")]
-    LineRefused(u64),
-    /// The source failed.
-    #[error("read fault")]
-    ReadFault,
-    /// The sink failed.
-    #[error("write fault")]
-    WriteFault,
-    /// Memory ran out.
-    #[error("no memory")]
-    NoMemory,
-    /// The script is longer than the limit.
-    #[error("script too long")]
-    TooLong,
-    /// The words spell no options.
-    #[error("words refused")]
-    WordsRefused,
-}
-
-/// What a session did.
-#[derive(Debug, Drop)]
-pub struct Finished {
-    /// The exit status of the program.
-    pub status: u8,
-    /// With status 2 the number, from 1, of the first line that isn't a script line; else 0.
-    pub line: u64,
-    /// The replies of the run; none where nothing was run.
-    pub replies: Seq<Reply>,
-}
-
-impl From<InputFault> for Outcome {
-    ghost from_gives = { λ fault ending. ending ≡ input_ending fault };
-
-    fn from(fault: InputFault) -> Outcome {
-        match fault {
-            InputFault::Failed => Outcome::ReadFault,
-            InputFault::TooLong => Outcome::TooLong,
-            InputFault::NoMemory => Outcome::NoMemory,
-        }
-    }
-}
-
-impl From<ScriptFault> for Outcome {
-    ghost from_gives = { λ fault ending. ending ≡ script_ending fault };
-
-    fn from(fault: ScriptFault) -> Outcome {
-        match fault {
-            ScriptFault::Line(number) => Outcome::LineRefused(number),
-            ScriptFault::NoMemory => Outcome::NoMemory,
-        }
-    }
-}
-
-impl Outcome {
-    /// The exit status of a program whose session ended so.
-    pub fn status(self) -> u8
-        ensures { result ≡ status_of self }
-    {
-        match self {
-            Outcome::Done => 0,
-            Outcome::LineRefused(_) => 2,
-            Outcome::ReadFault => 3,
-            Outcome::WriteFault => 4,
-            Outcome::NoMemory => 5,
-            Outcome::TooLong => 6,
-            Outcome::WordsRefused => 64,
-        }
-    }
-
-    /// The number of the line that was refused, or 0.
-    fn line(self) -> u64
-        ensures { result ≡ refused_line self }
-    {
-        match self {
-            Outcome::LineRefused(number) => number,
-            _ => 0,
-        }
-    }
-
-    /// A session that ended so, with these replies.
-    fn finished(self, replies: Vec<Reply>) -> Finished
-        ensures status { result.status ≡ status_of self }
-        ensures line { result.line ≡ refused_line self }
-        ensures replies { result.replies ≡ replies.items }
-    {
-        Finished {
-            status: self.status(),
-            line: self.line(),
-            replies: Seq::of(replies),
-        }
-    }
-}
-
-impl Finished {
-    /// How the session ended.
-    pub fn outcome(&self) -> Outcome
-        ensures { (ending : Outcome) → self.now.status ≡ status_of ending → self.now.line ≡ refused_line ending → result ≡ ending }
-    {
-        match self.status {
-            0 => Outcome::Done,
-            2 => Outcome::LineRefused(self.line),
-            3 => Outcome::ReadFault,
-            4 => Outcome::WriteFault,
-            5 => Outcome::NoMemory,
-            6 => Outcome::TooLong,
-            _ => Outcome::WordsRefused,
-        }
-    }
-}
-
-/// Reads the commands of a script from a source, to its end.
-fn read_commands<I: Source>(alloc: Global, source: &mut I) -> Result<Vec<Command>, Outcome>
-    ensures faults { I.faults source.old ≤ I.faults source.new }
-    ensures reads { ReadsScript result (I.left source.old) (I.left source.new) (I.faults source.old) (I.faults source.new) }
-{
-    let bytes = read_whole(alloc, source, MAX_SCRIPT)?;
-    let commands = read_script(alloc, bytes.as_slice())?;
-    Ok(commands)
-}
 
 /// Writes the text of replies to a sink.
 fn write_replies<O: Sink>(alloc: Global, sink: &mut O, replies: &[Reply]) -> Outcome
@@ -155,7 +29,7 @@ fn write_replies<O: Sink>(alloc: Global, sink: &mut O, replies: &[Reply]) -> Out
     if print_replies(&mut text, replies).is_err() {
         return Outcome::NoMemory;
     }
-    write_out(sink, text.as_slice())
+    write_text(sink, text.as_slice())
 }
 
 /// Writes the summary of the replies to so many commands of the generator to a sink.
@@ -167,19 +41,7 @@ fn write_summary<O: Sink>(alloc: Global, sink: &mut O, commands: u64, replies: &
     if print_summary(&mut text, commands, replies).is_err() {
         return Outcome::NoMemory;
     }
-    write_out(sink, text.as_slice())
-}
-
-/// Writes a text to a sink.
-fn write_out<O: Sink>(sink: &mut O, text: &[u8]) -> Outcome
-    ensures faults { O.faults sink.old ≤ O.faults sink.new }
-    ensures writes { EndsWriting result text.now (O.written sink.old) (O.written sink.new) (O.faults sink.old) (O.faults sink.new) }
-{
-    if write_whole(sink, text) {
-        Outcome::Done
-    } else {
-        Outcome::WriteFault
-    }
+    write_text(sink, text.as_slice())
 }
 
 /// No extractor, for the commands of the generator.
@@ -217,11 +79,11 @@ pub fn session<I: Source, O: Sink, S: Store>(
     ensures store_faults { S.faults store.old ≤ S.faults store.new }
     ensures ends { (ending : Outcome) × (result.status ≡ status_of ending) × (result.line ≡ refused_line ending)
         × Ends (words_of (map string_bytes words.now)) result.replies ending
-        (sides I.left I.faults O.written O.faults S.objects S.faults source.old sink.old store.old)
-        (sides I.left I.faults O.written O.faults S.objects S.faults source.new sink.new store.new) }
+        (sides I.left I.faults O.written O.faults source.old sink.old (known S.objects S.faults store.old))
+        (sides I.left I.faults O.written O.faults source.new sink.new (known S.objects S.faults store.new)) }
     ensures completes { IsGiven (words_of (map string_bytes words.now))
-        (sides I.left I.faults O.written O.faults S.objects S.faults source.old sink.old store.old)
-        (sides I.left I.faults O.written O.faults S.objects S.faults source.new sink.new store.new)
+        (sides I.left I.faults O.written O.faults source.old sink.old (known S.objects S.faults store.old))
+        (sides I.left I.faults O.written O.faults source.new sink.new (known S.objects S.faults store.new))
         → (result.status ≡ 0) ⊎ (result.status ≡ 5) }
 {
     match read_words(words) {
@@ -246,11 +108,11 @@ fn run_script<I: Source, O: Sink, S: Store>(
     ensures store_faults { S.faults store.old ≤ S.faults store.new }
     ensures ends { (ending : Outcome) × (result.status ≡ status_of ending) × (result.line ≡ refused_line ending)
         × Ends (Some (Script options)) result.replies ending
-        (sides I.left I.faults O.written O.faults S.objects S.faults source.old sink.old store.old)
-        (sides I.left I.faults O.written O.faults S.objects S.faults source.new sink.new store.new) }
-    ensures completes { HasScript
-        (sides I.left I.faults O.written O.faults S.objects S.faults source.old sink.old store.old)
-        (sides I.left I.faults O.written O.faults S.objects S.faults source.new sink.new store.new)
+        (sides I.left I.faults O.written O.faults source.old sink.old (known S.objects S.faults store.old))
+        (sides I.left I.faults O.written O.faults source.new sink.new (known S.objects S.faults store.new)) }
+    ensures completes { HasScript script_of
+        (sides I.left I.faults O.written O.faults source.old sink.old (known S.objects S.faults store.old))
+        (sides I.left I.faults O.written O.faults source.new sink.new (known S.objects S.faults store.new))
         → (result.status ≡ 0) ⊎ (result.status ≡ 5) }
 {
     let commands = match read_commands(alloc, source) {

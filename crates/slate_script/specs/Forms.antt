@@ -1,5 +1,5 @@
 -- The forms of a script's commands, and what a line is.
-use Rattle.std.specs.Prelude.{ℕ, ◌==◌, Bool, true, false, List, [], ◌∷◌, Option, Some, None, codes, if◌then◌else◌}
+use Rattle.std.specs.Prelude.{ℕ, Bool, true, false, List, [], ◌∷◌, Option, Some, None, codes, if◌then◌else◌}
 use Rattle.std.specs.Option.{option_map, option_or}
 use Rattle.std.specs.Str.{bytes_eq}
 use Rattle.slate_types.specs.declared.options.CloseOptions.{CloseOptions}
@@ -8,12 +8,11 @@ use Rattle.slate_types.specs.declared.options.FlushType.TheVariants.{Wal, MemTab
 use Rattle.slate_store.specs.Checkpoints.{checkpoint_id}
 use Rattle.slate_store.specs.declared.reader_modes.DbReaderMode.TheVariants.{Checkpoint, FollowLatest, ManagedCheckpoint}
 use Rattle.slate_text.specs.Numbers.{number_of, moment_of}
-use Rattle.slate_script.specs.Lines.{fields_of}
+use Rattle.slate_script.specs.Lines.{line_by}
 use Rattle.slate_script.specs.declared.commands.Action.{Action}
 use Rattle.slate_script.specs.declared.commands.Action.TheVariants as actions
 use Rattle.slate_script.specs.declared.commands.Command.{Command}
 use Rattle.slate_script.specs.declared.commands.LineAnswer.{LineAnswer}
-use Rattle.slate_script.specs.declared.commands.LineAnswer.TheVariants as answers
 use Rattle.slate_script.specs.Lookups.{lookup_of}
 use Rattle.slate_script.specs.Queries.{query_of}
 use Rattle.slate_script.specs.Values.{◌>>=◌}
@@ -150,11 +149,6 @@ command_of (m ∷ name ∷ fields) = do
   action ← action_of name fields
   Some (record { moment = moment.0; second = moment.1; action = action })
 
-abbrev pub answer_of : Option Command → LineAnswer
-answer_of None = answers.Refused
-answer_of (Some command) = answers.Command command
-
--- what a line is: one without bytes and one that begins with `#` hold no command
-abbrev pub line_of : List ℕ → LineAnswer
-line_of [] = answers.Blank
-line_of (b ∷ bs) = if b == 35 then answers.Blank else answer_of (command_of (fields_of (b ∷ bs)))
+-- what a line is
+abbrev pub line_of : List ℕ → LineAnswer Command
+line_of line = line_by command_of line

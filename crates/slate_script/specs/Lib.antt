@@ -8,3 +8,4 @@ pub mod Generator
 pub mod Scripts
 pub mod Replies
 pub mod Options
+pub mod Sessions

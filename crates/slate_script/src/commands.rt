@@ -142,13 +142,13 @@ pub struct Command {
     pub action: Action,
 }
 
-/// What a line of a script is.
+/// What a line of a script is, whose lines spell commands of this type.
 #[derive(Debug, Drop)]
-pub enum LineAnswer {
+pub enum LineAnswer<C = Command> {
     /// A line without bytes, or a comment.
     Blank,
     /// A command.
-    Command(Command),
+    Command(C),
     /// No script line.
     Refused,
 }

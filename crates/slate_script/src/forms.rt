@@ -4,11 +4,11 @@ ghost use Rattle.slate_script.specs.declared.commands.Command.{Command};
 ghost use Rattle.slate_script.specs.Forms.{wal_of, open_form, flush_type_of, flush_form, one_number, checkpoint_form, sweep_form, close_options_of, close_form};
 ghost use Rattle.slate_script.specs.Forms.{skip_of, pinned_form, managed_form, follow_form, reader_of, other_of, action_of, command_of, line_of};
 
-use crate::fields::cut_fields;
+use crate::lines::read_line_of;
 use crate::lookups::read_lookup;
 use crate::queries::read_query;
 use crate::writes::read_write;
-use crate::{Action, Command, LineAnswer};
+use crate::{Action, Command, FromFields, LineAnswer};
 use bytes::Bytes;
 use slate_store::DbReaderMode;
 use slate_text::{read_moment, read_number};
@@ -303,18 +303,13 @@ fn read_command(alloc: Global, fields: &[Bytes]) -> Result<Option<Command>, NoMe
     }))
 }
 
-/// What `read_line` answers of the same bytes. Keys and values share the line's storage.
-pub(crate) fn read_shared_line(alloc: Global, line: Bytes) -> Result<LineAnswer, NoMemory>
-    ensures line { IfOk result (λ answer. answer ≡ line_of line) }
-{
-    match line.as_slice() {
-        [] | [b'#', ..] => return Ok(LineAnswer::Blank),
-        _ => {}
-    }
-    let fields = cut_fields(alloc, line)?;
-    match read_command(alloc, fields.as_slice())? {
-        Some(command) => Ok(LineAnswer::Command(command)),
-        None => Ok(LineAnswer::Refused),
+impl FromFields for Command {
+    ghost use Rattle.slate_script.specs.Forms.{command_of as spelled_command};
+
+    ghost spelled = { spelled_command };
+
+    fn from_fields(alloc: Global, fields: &[Bytes]) -> Result<Option<Command>, NoMemory> {
+        read_command(alloc, fields)
     }
 }
 
@@ -325,5 +320,5 @@ pub(crate) fn read_shared_line(alloc: Global, line: Bytes) -> Result<LineAnswer,
 pub fn read_line(alloc: Global, line: &[u8]) -> Result<LineAnswer, NoMemory>
     ensures { IfOk result (λ answer. answer ≡ line_of line.now) }
 {
-    read_shared_line(alloc, Bytes::copy_from_slice(alloc, line)?)
+    read_line_of(alloc, Bytes::copy_from_slice(alloc, line)?)
 }

@@ -23,8 +23,8 @@ fn write_expiry(out: &mut Vec<u8>, time: Option<i64>) -> Result<(), NoMemory>
     Ok(())
 }
 
-// A number behind a text.
-pub(crate) fn write_labelled(out: &mut Vec<u8>, label: &str, number: u64) -> Result<(), NoMemory>
+/// Writes a text and a number in decimal digits at the end. Where memory runs out, a part of them may be written.
+pub fn write_labelled(out: &mut Vec<u8>, label: &str, number: u64) -> Result<(), NoMemory>
     ensures ok { OnOk result (out.new.items ≡ out.old.items ++ (label.now ++ decimal number)) }
     ensures err { OnErr result (take (length out.old.items) out.new.items ≡ out.old.items) }
 {
@@ -32,8 +32,8 @@ pub(crate) fn write_labelled(out: &mut Vec<u8>, label: &str, number: u64) -> Res
     write_number(out, number)
 }
 
-// Bytes as a byte word behind a text.
-fn write_shown(out: &mut Vec<u8>, label: &str, bytes: &[u8]) -> Result<(), NoMemory>
+/// Writes a text and bytes as a byte word at the end. Where memory runs out, a part of them may be written.
+pub fn write_shown(out: &mut Vec<u8>, label: &str, bytes: &[u8]) -> Result<(), NoMemory>
     ensures ok { OnOk result (out.new.items ≡ out.old.items ++ (label.now ++ word_text bytes.now)) }
     ensures err { OnErr result (take (length out.old.items) out.new.items ≡ out.old.items) }
 {
@@ -263,7 +263,8 @@ fn write_backpressure(out: &mut Vec<u8>, unflushed: u64, limit: u64) -> Result<(
     Ok(())
 }
 
-fn write_words(out: &mut Vec<u8>, reply: &Reply) -> Result<(), NoMemory>
+/// Writes the text of a reply at the end, without its newline. Where memory runs out, a part of it may be written.
+pub fn write_reply_words(out: &mut Vec<u8>, reply: &Reply) -> Result<(), NoMemory>
     ensures ok { OnOk result (out.new.items ≡ out.old.items ++ reply_words reply.now) }
     ensures err { OnErr result (take (length out.old.items) out.new.items ≡ out.old.items) }
 {
@@ -300,7 +301,7 @@ fn write_reply(out: &mut Vec<u8>, reply: &Reply) -> Result<(), NoMemory>
     ensures ok { OnOk result (out.new.items ≡ out.old.items ++ reply_text reply.now) }
     ensures err { OnErr result (take (length out.old.items) out.new.items ≡ out.old.items) }
 {
-    write_words(out, reply)?;
+    write_reply_words(out, reply)?;
     write_text(out, "\n")?;
     Ok(())
 }

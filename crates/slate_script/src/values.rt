@@ -8,8 +8,9 @@ use slate_text::{read_shared_word, read_time};
 use slate_types::{ByteRange, IterationOrder, KeyBound, NoMemory};
 use std::alloc::Global;
 
-/// A key or a value, which shares the field's storage.
-pub(crate) fn read_word(alloc: Global, field: &Bytes) -> Result<Option<Bytes>, NoMemory>
+/// The bytes that a field spells as a byte word, as those of keys and values. They share the field's storage, unless they are
+/// spelled with `%`.
+pub fn read_word(alloc: Global, field: &Bytes) -> Result<Option<Bytes>, NoMemory>
     ensures { IfOk result (λ word. word ≡ word_of field.now) }
 {
     read_shared_word(alloc, field.clone()?)

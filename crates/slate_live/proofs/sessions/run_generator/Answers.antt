@@ -4,8 +4,9 @@ use Rattle.slate_reads.specs.Read.{IsOperator}
 use Rattle.slate_script.specs.Generator.{generated, summary_text}
 use Rattle.slate_script.specs.declared.options.RunOptions.{RunOptions}
 use Rattle.slate_live.specs.Run.{DidAll, IsRun}
-use Rattle.slate_live.specs.Session.{EndsWriting, generator_settings}
-use Rattle.slate_live.specs.declared.sessions.Outcome.TheVariants.{NoMemory}
+use Rattle.slate_script.specs.Sessions.{EndsWriting}
+use Rattle.slate_live.specs.Session.{generator_settings}
+use Rattle.slate_script.specs.declared.sessions.Outcome.TheVariants.{NoMemory}
 use Rattle.slate_model.specs.Known.{known}
 use Rattle.slate_live.proofs.Endings.{ends-ungenerated}
 use Rattle.slate_live.proofs.sessions.run_generator.Goals as goal

@@ -7,8 +7,9 @@ use Rattle.slate_model.specs.Segments.{IsExtractor}
 use Rattle.slate_reads.specs.Read.{IsOperator}
 use Rattle.slate_script.specs.Replies.{replies_text}
 use Rattle.slate_live.specs.Run.{DidAll, IsRun}
-use Rattle.slate_live.specs.Session.{EndsWriting, fixed_extractor, settings_of}
-use Rattle.slate_live.specs.declared.sessions.Outcome.TheVariants.{NoMemory}
+use Rattle.slate_script.specs.Sessions.{EndsWriting}
+use Rattle.slate_live.specs.Session.{fixed_extractor, settings_of}
+use Rattle.slate_script.specs.declared.sessions.Outcome.TheVariants.{NoMemory}
 use Rattle.slate_model.specs.Known.{known}
 use Rattle.slate_live.proofs.Endings.{appends, ends-unrun, extracts}
 use Rattle.slate_live.proofs.sessions.run_script.Goals as goal
@@ -51,14 +52,20 @@ returns-clause-ends g c =
       inr (inr (inl (record {
         options = words;
         accepted = refl;
-        bytes = script.0;
-        read = script.1;
-        commands = c.in-Ok.commands.items;
-        script = script.2;
-        done = subst (λ commands. DidAll (settings_of words) commands c.finished-2.result.replies before after) c.as_slice.ensures.value
-            (subst (λ replies. DidAll (settings_of words) c.as_slice.result.now replies before after) (sym c.finished-2.ensures.replies) (c.in-Ok-run.ensures.does (settings_of words) lawful cuts refl));
-        run = subst (λ commands. IsRun (settings_of words) commands c.finished-2.result.replies before after) c.as_slice.ensures.value
-            (subst (λ replies. IsRun (settings_of words) c.as_slice.result.now replies before after) (sym c.finished-2.ensures.replies) (c.in-Ok-run.ensures.leads (settings_of words) lawful cuts refl));
-        writing = subst (λ replies. EndsWriting c.write_replies-ending.result (replies_text replies) (g.O.Sink.written c.args.sink.now) (g.O.Sink.written c.write_replies-ending.new.sink) (g.O.Sink.faults c.args.sink.now) (g.O.Sink.faults c.write_replies-ending.new.sink)) same c.write_replies-ending.ensures.writes;
+        whole = record {
+          bytes = script.0;
+          read = script.1;
+          commands = c.in-Ok.commands.items;
+          spelled = script.2;
+          text = replies_text c.finished-2.result.replies;
+          runs = record {
+            text_is = refl;
+            done = subst (λ commands. DidAll (settings_of words) commands c.finished-2.result.replies before after) c.as_slice.ensures.value
+                (subst (λ replies. DidAll (settings_of words) c.as_slice.result.now replies before after) (sym c.finished-2.ensures.replies) (c.in-Ok-run.ensures.does (settings_of words) lawful cuts refl));
+            run = subst (λ commands. IsRun (settings_of words) commands c.finished-2.result.replies before after) c.as_slice.ensures.value
+                (subst (λ replies. IsRun (settings_of words) c.as_slice.result.now replies before after) (sym c.finished-2.ensures.replies) (c.in-Ok-run.ensures.leads (settings_of words) lawful cuts refl));
+          };
+          writing = subst (λ replies. EndsWriting c.write_replies-ending.result (replies_text replies) (g.O.Sink.written c.args.sink.now) (g.O.Sink.written c.write_replies-ending.new.sink) (g.O.Sink.faults c.args.sink.now) (g.O.Sink.faults c.write_replies-ending.new.sink)) same c.write_replies-ending.ensures.writes;
+        };
       }))),
     )

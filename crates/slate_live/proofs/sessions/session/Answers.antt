@@ -1,5 +1,5 @@
 use Rattle.std.proofs.Common.{rules, sym, ◌∙◌}
-use Rattle.slate_live.specs.declared.sessions.Outcome.TheVariants.{WordsRefused}
+use Rattle.slate_script.specs.declared.sessions.Outcome.TheVariants.{WordsRefused}
 use Rattle.slate_live.proofs.Endings.{ends-refused}
 use Rattle.slate_live.proofs.sessions.session.Goals as goal
 

@@ -7,11 +7,15 @@ mod streams;
 
 use looks::{check_directory, show_directory};
 use slate_directory::open_directory;
-use slate_live::{Outcome, session};
+use slate_live::{Finished, Outcome, Sink, Source, session};
+use slate_readers::{Live, OpenGate, live_session, read_live_words};
 use slate_script::read_words;
 use slate_store::{MemoryStore, Store};
 use slate_text::read_time;
+use std::alloc::Global;
 use std::process::ExitCode;
+use std::sync::Wait;
+use std::thread::Threads;
 use std::{env, io};
 use streams::Counted;
 
@@ -22,6 +26,7 @@ store in memory or over a directory, and prints a reply per command.
 usage: slate [--store DIR] [--merge concat] [--segments N] [--limit N] [--bare]
              < SCRIPT
        slate [--store DIR] gen SEED COUNT
+       slate [--store DIR] live --readers N [the options above] < SCRIPT
        slate check --store DIR
        slate show --store DIR [--sweep MOMENT]
        slate --help | --version
@@ -42,6 +47,11 @@ collector; the tasks of the rest are ended by its close.
 With gen no script is read: COUNT puts, at most 20,000, under 101 keys by SEED
 are run, with flushes, polls, compactions and sweeps between, and a summary of
 the replies is printed in four lines.
+
+With live the script is run beside N readers, from 1 to 16, which view on threads
+of their own, without a lock, what the first reader of the script sees. Behind the
+replies a line is printed for each, as reader 0 at 5, with the number of the last
+batch that it saw.
 
 With check no script is read either, and no file is changed: whether the database
 in DIR is sound is printed, as sound at K, where K is the number of the last
@@ -70,7 +80,7 @@ pub(crate) const NO_DIRECTORY: u8 = 74;
 
 fn main(rt: HostRuntime) -> ExitCode {
     let status = match read_arguments(&rt) {
-        Ok(words) => answer(&rt, words.as_slice()),
+        Ok(words) => answer(&rt, &rt, words.as_slice()),
         Err(error) => report(&rt, outcome_of(error.kind())),
     };
     ExitCode::from(status)
@@ -82,8 +92,8 @@ fn read_arguments(rt: &HostRuntime) -> io::Result<Vec<String>> {
     Ok(words)
 }
 
-/// Does what these words ask for. It answers the exit status.
-fn answer(rt: &HostRuntime, words: &[String]) -> u8 {
+/// Does what these words ask for, with threads by `threads`. It answers the exit status.
+fn answer<R: Threads + Wait + Sync>(rt: &HostRuntime, threads: &R, words: &[String]) -> u8 {
     match words {
         [word] if word.as_str() == "--help" => print(rt, HELP),
         [word] if word.as_str() == "--version" => print(rt, VERSION),
@@ -103,20 +113,25 @@ fn answer(rt: &HostRuntime, words: &[String]) -> u8 {
             }
         }
         [word, path, others @ ..] if word.as_str() == "--store" => {
-            run_over_directory(rt, path.as_str(), others)
+            run_over_directory(rt, threads, path.as_str(), others)
         }
-        _ => run_session(rt, words, &mut MemoryStore::new(rt.alloc())),
+        _ => run_session(rt, threads, words, &mut MemoryStore::new(rt.alloc())),
     }
 }
 
 /// Runs the script from standard input, or the generator, over a directory, which isn't touched where the words ask for
 /// neither. It answers the exit status.
-fn run_over_directory(rt: &HostRuntime, path: &str, words: &[String]) -> u8 {
-    if read_words(words).is_none() {
+fn run_over_directory<R: Threads + Wait + Sync>(
+    rt: &HostRuntime,
+    threads: &R,
+    path: &str,
+    words: &[String],
+) -> u8 {
+    if read_words(words).is_none() && read_live_words(words).is_none() {
         return report(rt, Outcome::WordsRefused);
     }
     match open_directory(*rt, rt.alloc(), path) {
-        Ok(mut store) => run_session(rt, words, &mut store),
+        Ok(mut store) => run_session(rt, threads, words, &mut store),
         Err(error) if error.kind() == io::ErrorKind::OutOfMemory => report(rt, Outcome::NoMemory),
         Err(error) => {
             let _ = eprintln!(rt; "slate: the directory {path:?} can't be used: {error}");
@@ -125,12 +140,42 @@ fn run_over_directory(rt: &HostRuntime, path: &str, words: &[String]) -> u8 {
     }
 }
 
-/// Runs the script from standard input over a store. It answers the exit status.
-fn run_session<S: Store>(rt: &HostRuntime, words: &[String], store: &mut S) -> u8 {
+/// Runs the script from standard input over a store, beside readers where the first word is `live`. It answers the exit status.
+fn run_session<R: Threads + Wait + Sync, S: Store + Send>(
+    rt: &HostRuntime,
+    threads: &R,
+    words: &[String],
+    store: &mut S,
+) -> u8 {
     let mut source = Counted::new(rt.stdin());
     let mut sink = Counted::new(rt.stdout());
-    let finished = session(rt.alloc(), words, &mut source, &mut sink, store);
+    let finished = match words.first() {
+        Some(word) if word.as_str() == "live" => {
+            run_live(threads, rt.alloc(), words, &mut source, &mut sink, store)
+        }
+        _ => session(rt.alloc(), words, &mut source, &mut sink, store),
+    };
     report(rt, finished.outcome())
+}
+
+/// Runs the script beside readers, and ends what published to them.
+fn run_live<R: Threads + Wait + Sync, I: Source, O: Sink, S: Store + Send>(
+    threads: &R,
+    alloc: Global,
+    words: &[String],
+    source: &mut I,
+    sink: &mut O,
+    store: &mut S,
+) -> Finished {
+    let Live {
+        finished,
+        publisher,
+        readers: _,
+    } = live_session(threads, alloc, words, source, sink, store, &OpenGate);
+    if let Some(publisher) = publisher {
+        publisher.end(threads);
+    }
+    finished
 }
 
 /// Prints a text. It answers the exit status.

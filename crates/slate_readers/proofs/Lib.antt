@@ -2,4 +2,5 @@ pub mod Changing
 pub mod Firsts
 pub mod Prefixes
 pub mod Publishing
+pub mod Endings
 pub mod Showing

@@ -4,8 +4,15 @@
 mod beside;
 mod broadcasts;
 mod gates;
+mod printing;
 mod runs;
+mod sessions;
 mod states;
+#[cfg(test)]
+mod tests;
 mod watchers;
+mod words;
 
 pub use gates::{Gate, OpenGate};
+pub use sessions::{Live, live_session};
+pub use words::{LiveWords, read_live_words};

@@ -35,12 +35,13 @@ readers-push place (r ∷ readers) reader =
     ∙ sym (append_assoc first (readers_text (place + 1) readers) (reader_text (place + length (r ∷ readers)) number))
 
 -- the line of the reader at a place, after those before it
-pub readers-next : (readers : List Beginning) (place number : ℕ) (reader : Beginning) → place < length readers → reader ≡ get_or readers place reader → (last_of reader.states).number ≡ number →
+pub readers-next : (readers : List Beginning) (place number : ℕ) (d : Beginning) → place < length readers → (last_of (get_or readers place d).states).number ≡ number →
     readers_text 0 (take (place + 1) readers) ≡ readers_text 0 (take place readers) ++ reader_text place number
-readers-next readers place number reader low at is =
-    let count : length (take place readers) ≡ place = length-take-le place readers (omega arith) in
-    ap (readers_text 0) (take_more readers place reader low ∙ ap (λ r. take place readers ++ r ∷ []) (sym at)) ∙ (readers-push 0 (take place readers) reader
-    ∙ ap (λ n. readers_text 0 (take place readers) ++ reader_text n (last_of reader.states).number) count ∙ ap (λ n. readers_text 0 (take place readers) ++ reader_text place n) is)
+readers-next readers place number d low is =
+    let count : 0 + length (take place readers) ≡ place = omega (arith, length-take-le place readers (omega arith)) in
+    let before = readers_text 0 (take place readers) in
+    ap (readers_text 0) (take_more readers place d low) ∙ (readers-push 0 (take place readers) (get_or readers place d)
+    ∙ (ap (λ n. before ++ reader_text n (last_of (get_or readers place d).states).number) count ∙ ap (λ n. before ++ reader_text place n) is))
 
 -- ---- the operator of a session is lawful
 pub appends : (o : Option ConcatOperator) → IsOperator (λ operator key existing operand answer. answer ≡ concat key existing operand) o (option_map (λ operator. concat) o)

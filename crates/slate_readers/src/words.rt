@@ -22,9 +22,9 @@ const MAX_READERS: u32 = 16;
 pub fn read_live_words(words: &[String]) -> Option<LiveWords>
     ensures { result ≡ live_words_of (map string_bytes words.now) }
 {
-    let [first, option, count, others @ ..] = words else {
-        return None;
-    };
+    let (first, behind) = words.split_first()?;
+    let (option, behind) = behind.split_first()?;
+    let (count, others) = behind.split_first()?;
     if first.as_str() != "live" || option.as_str() != "--readers" {
         return None;
     }

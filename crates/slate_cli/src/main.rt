@@ -1,5 +1,5 @@
 //! The program `slate`: runs a script from standard input over a fresh store in memory, or over a directory, and prints
-//! its replies. The script is one of commands, one with feeds, or one of a job store.
+//! its replies. The script is one of commands, one with feeds, one of a job store, or one of a router.
 #![tactic(auto)]
 
 mod looks;
@@ -10,6 +10,7 @@ use slate_directory::open_directory;
 use slate_feed::feed_session;
 use slate_jobs::jobs_session;
 use slate_live::{Outcome, session};
+use slate_route::route_session;
 use slate_script::read_words;
 use slate_store::{MemoryStore, Store};
 use slate_text::read_time;
@@ -26,6 +27,7 @@ usage: slate [--store DIR] [--merge concat] [--segments N] [--limit N] [--bare]
        slate [--store DIR] gen SEED COUNT
        slate [--store DIR] jobs < SCRIPT
        slate [--store DIR] feed < SCRIPT
+       slate [--store DIR] route < SCRIPT
        slate check --store DIR
        slate show --store DIR [--sweep MOMENT]
        slate --help | --version
@@ -62,6 +64,16 @@ With feed the script may also have lines of feeds, as in
   0 next 0 100
 which opens a feed of the stored batches after number 0, and asks it for the
 next ones, at most 100; feeds are numbered from 0.
+
+With route a handle of the database is open, a router has readers, and a line of
+the script is a moment and one of these, as in
+  0 put a x
+  0 flush
+  0 add 1000 500
+  0 read 1 a
+which writes a row, stores it, adds a reader whose checkpoint lasts 1000
+milliseconds and is to be polled each 500, and reads the key a of a reader that
+sees at least the batches up to number 1.
 
 With check no script is read either, and no file is changed: whether the database
 in DIR is sound is printed, as sound at K, where K is the number of the last
@@ -132,7 +144,7 @@ fn answer(rt: &HostRuntime, words: &[String]) -> u8 {
 /// Runs what these words ask for over a directory, which isn't touched where they ask for nothing. It answers the exit
 /// status.
 fn run_over_directory(rt: &HostRuntime, path: &str, words: &[String]) -> u8 {
-    if !is_word(words, "jobs") && !is_word(words, "feed") && read_words(words).is_none() {
+    if !asks_for_part(words) && read_words(words).is_none() {
         return report(rt, Outcome::WordsRefused);
     }
     match open_directory(*rt, rt.alloc(), path) {
@@ -150,8 +162,13 @@ fn is_word(words: &[String], wanted: &str) -> bool {
     matches!(words, [word] if word.as_str() == wanted)
 }
 
-/// Runs the script from standard input, of commands, with feeds or of a job store, or the generator, over a store. It answers the exit
-/// status.
+/// Whether these words ask for a script of a job store, with feeds or of a router.
+fn asks_for_part(words: &[String]) -> bool {
+    is_word(words, "jobs") || is_word(words, "feed") || is_word(words, "route")
+}
+
+/// Runs the script from standard input, of commands, with feeds, of a job store or of a router, or the generator, over a store. It
+/// answers the exit status.
 fn run_words<S: Store>(rt: &HostRuntime, words: &[String], store: &mut S) -> u8 {
     let mut source = Counted::new(rt.stdin());
     let mut sink = Counted::new(rt.stdout());
@@ -159,6 +176,8 @@ fn run_words<S: Store>(rt: &HostRuntime, words: &[String], store: &mut S) -> u8 
         jobs_session(rt.alloc(), &mut source, &mut sink, store)
     } else if is_word(words, "feed") {
         feed_session(rt.alloc(), &mut source, &mut sink, store)
+    } else if is_word(words, "route") {
+        route_session(rt.alloc(), &mut source, &mut sink, store)
     } else {
         session(rt.alloc(), words, &mut source, &mut sink, store)
     };

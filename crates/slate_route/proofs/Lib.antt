@@ -1,0 +1,6 @@
+pub mod Adding
+pub mod Finding
+pub mod Leading
+pub mod Polling
+pub mod Running
+pub mod Turning

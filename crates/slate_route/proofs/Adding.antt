@@ -1,6 +1,6 @@
 -- An opening of a reader for a router is a step of the world to which its readers belong.
 use Rattle.std.proofs.Common.{◌≡◌, ◌≢◌, ◌∙◌, ◌+◌, ◌<◌, ◌≤◌, ◌⊎◌, ◌++◌, ◌∷◌, inl, inr, ℕ, ℤ, Bool, true, false, List, [], get_or, length, map, Option, Some, None, Result, Ok, Err, refl, sym, subst, ap, arith}
-use Rattle.std.specs.Prelude.{IfErr, IfOk, IfSome, slice_get}
+use Rattle.std.specs.Prelude.{IfErr, IfOk, IfSome, is_none, slice_get}
 use Rattle.std.proofs.lemmas.List.{length-append, length-map}
 use Rattle.std.proofs.lemmas.Option.{slice_get_within, slice_get-get_or}
 use Rattle.slate_types.specs.declared.batches.Batch.{Batch}
@@ -10,12 +10,13 @@ use Rattle.slate_store.specs.Content.{content}
 use Rattle.slate_store.specs.Objects.{Objects}
 use Rattle.slate_store.specs.declared.reader_modes.DbReaderMode.TheVariants.{ManagedCheckpoint}
 use Rattle.slate_errors.specs.declared.errors.SlateError.{SlateError}
+use Rattle.slate_errors.specs.declared.errors.SlateError.TheVariants as errors
 use Rattle.slate_model.specs.declared.answers.PollAnswer.{PollAnswer}
 use Rattle.slate_model.specs.declared.answers.PollAnswer.TheVariants as answers
 use Rattle.slate_model.specs.Begun.{Begun}
 use Rattle.slate_model.specs.Follow.{AnswersAt}
 use Rattle.slate_model.specs.Follower.{Follower, is_managed, number}
-use Rattle.slate_model.specs.Known.{Known, Untouched}
+use Rattle.slate_model.specs.Known.{FaultsRise, IsContent, Known, Untouched}
 use Rattle.slate_model.specs.Lease.{lease_refusal}
 use Rattle.slate_model.specs.Managed.{OpensManaged, TakesLease}
 use Rattle.slate_model.specs.Object.{Object, Follower as AFollower, kept}
@@ -36,7 +37,12 @@ use Rattle.slate_live.proofs.Doing.{opens-follower, refuses-follower}
 use Rattle.slate_live.proofs.Linking.{linked}
 use Rattle.slate_live.proofs.Places.{get-before, get-push, get-seam}
 use Rattle.slate_live.proofs.Wholes.{next-whole}
-use Rattle.slate_route.specs.Standing.{AreAt, RoutesOver, opens_at, routing}
+use Rattle.slate_route.specs.declared.answers.Added.{Added}
+use Rattle.slate_route.specs.declared.answers.RouteRefusal.{RouteRefusal}
+use Rattle.slate_route.specs.declared.answers.RouteRefusal.TheVariants as refusals
+use Rattle.slate_route.specs.Reading.{is_open, opening_refusal}
+use Rattle.slate_route.specs.Standing.{AddEnds, AddLeads, AreAt, Grows, RoutesOver, opens_at, routing}
+use Rattle.slate_route.specs.Turns.{OpensReader, reader_of}
 
 -- ---- one reader more
 module _ (objects : List Object) (places : List ℕ) (readers : List Follower) (a : AreAt objects places readers) (reader : Follower) (managed : (is_managed reader.mode ≡ true) × (reader.skips ≡ false)) where
@@ -102,7 +108,8 @@ module _ {made lifetime interval : ℕ} {moment : ℤ} {store store' : Known (Li
       let r = (over.represents).represents in
       let o = (r.held).0 in
       let t = takes.takes.some o (r.held).1 in
-      let all = ((t.2).sees).sees (content o) (o, (r.held).1, (r.held).2, refl) tt in
+      let stored : IsContent store.objects (content o) = (o, (r.held).1, (r.held).2, refl) in
+      let all = ((t.2).sees).sees (content o) stored tt in
       let numbers = answered (takes.answers).3 all.3 in
       (numbers ∙ (ap end all.1 ∙ ap end ((r.held).3).stored), all.3 ∙ ap answers.Whole (sym numbers))
     where
@@ -150,7 +157,7 @@ module _ (merge : Option Merge) (live : Live) (store store' : Known (List Batch)
         over = record {
           represents = led.2;
           segments = led.3;
-          readers = are-pushed live.objects places readers over.readers b.0 (opened-managed b opens);
+          are_at = are-pushed live.objects places readers over.are_at b.0 (opened-managed b opens);
           unbegun = λ i m begun at is. elim (get-push places n m i at) [
             | inl old ↦ over.unbegun i m begun old is
             | inr new ↦ next-unbegun begun (subst (λ k. IsBegunAt live.polls k begun) (sym new.1) is)
@@ -167,6 +174,75 @@ module _ (merge : Option Merge) (live : Live) (store store' : Known (List Batch)
       record {
         world = led.0;
         link = led.1;
-        over = record { represents = led.2; segments = led.3; readers = over.readers; unbegun = over.unbegun };
+        over = record { represents = led.2; segments = led.3; are_at = over.are_at; unbegun = over.unbegun };
         stored = (next-whole settings w command (refusal error) led.0 refl (led.1).next).stored;
       }
+
+-- ---- what an opening leads to, by what it gives the router
+ends-of : (settings : Settings) (command : Command) (n : ℕ) (w w' : World) (error : SlateError) → Link settings w command (refusal error) w' → AddEnds settings command n w (Err (opening_refusal error)) w'
+ends-of settings command n w w' errors.NoMemory link = inr link
+ends-of settings command n w w' error link = link
+
+grows-same : (live : Live) → Grows live live
+grows-same live = record { options = refl; writes = refl; polls = refl; objects = λ n object at. at }
+
+module _ (merge : Option Merge) (live : Live) (store store' : Known (List Batch)) (places : List ℕ) (readers : List Follower) (w : World) (over : RoutesOver live store places readers w) (lifetime interval : ℕ) (moment : ℤ) where
+  abbrev Left : List Follower → Result Added RouteRefusal → Known (List Batch) → Type 0
+  Left new result after = AddLeads (routing merge live) moment lifetime interval live places w new result after
+
+  added-by : (b : Follower × PollAnswer) (made : ℕ) → OpensManaged (by_objects store.objects) None made lifetime interval false moment store (Ok b) store' → (added : Added) → added.at ≡ number b.0 → Left (readers ++ b.0 ∷ []) (Ok added) store'
+  added-by b made opens added at =
+      let l = add-leads merge live store store' places readers w over made lifetime interval moment b opens in
+      let sees = (opened-end b opens live places readers w over).0 in
+      record {
+        next = record live { objects = live.objects ++ AFollower b.0 ∷ [] };
+        grows = record { options = refl; writes = refl; polls = refl; objects = λ n object there. get-before live.objects (AFollower b.0 ∷ []) n object there };
+        last = l.world;
+        over = l.over;
+        stored = l.stored;
+        ends = (subst (λ k. Link (routing merge live) w (opens_at moment lifetime interval) (replies.Follower (length live.objects) true k) l.world) (sym at) l.link, at ∙ sees);
+      }
+
+  refused-by : (error : SlateError) (made : ℕ) → OpensManaged (by_objects store.objects) None made lifetime interval false moment store (Err error) store' → Left readers (Err (opening_refusal error)) store'
+  refused-by error made opens =
+      let l = refuse-leads merge live store store' places readers w over made lifetime interval moment error opens in
+      record {
+        next = live;
+        grows = grows-same live;
+        last = l.world;
+        over = l.over;
+        stored = l.stored;
+        ends = ends-of (routing merge live) (opens_at moment lifetime interval) (length live.objects) w l.world error l.link;
+      }
+
+  pub opening-adds : (reader : Follower) → OpensReader moment lifetime interval store (Ok reader) store' → (added : Added) → added.at ≡ number reader → Left (readers ++ reader ∷ []) (Ok added) store'
+  opening-adds reader o added at = by o.opened o.result_is (o.opens).0 (o.opens).1 where
+    by : (opened : Result (Follower × PollAnswer) SlateError) → Ok reader ≡ reader_of opened → (made : ℕ) → OpensManaged (by_objects store.objects) None made lifetime interval false moment store opened store' → Left (readers ++ reader ∷ []) (Ok added) store'
+    by (Ok b) is made opens =
+        let it : b.0 ≡ reader = cc in
+        subst (λ (f : Follower). Left (readers ++ f ∷ []) (Ok added) store') it (added-by b made opens added (at ∙ ap number (sym it)))
+    by (Err error) is made opens = absurd (cc)
+
+  pub opening-refused : (refused : RouteRefusal) → OpensReader moment lifetime interval store (Err refused) store' → Left readers (Err refused) store'
+  opening-refused refused o = by o.opened o.result_is (o.opens).0 (o.opens).1 where
+    by : (opened : Result (Follower × PollAnswer) SlateError) → Err refused ≡ reader_of opened → (made : ℕ) → OpensManaged (by_objects store.objects) None made lifetime interval false moment store opened store' → Left readers (Err refused) store'
+    by (Ok b) is made opens = absurd (cc)
+    by (Err error) is made opens =
+        let it : opening_refusal error ≡ refused = cc in
+        subst (λ (r : RouteRefusal). Left readers (Err r) store') it (refused-by error made opens)
+
+  -- nothing was done
+  pub full-leads : Left readers (Err refusals.Full) store
+  full-leads = record { next = live; grows = grows-same live; last = w; over = over; stored = refl; ends = refl }
+
+  pub no-room-leads : Left readers (Err refusals.NoMemory) store
+  no-room-leads = record { next = live; grows = grows-same live; last = w; over = over; stored = refl; ends = inl refl }
+
+-- over any store the reader is open, and the store hasn't failed
+pub opening-ready : {moment : ℤ} {lifetime interval : ℕ} {before after : Known (List Batch)} (reader : Follower) → OpensReader moment lifetime interval before (Ok reader) after → (is_open reader ≡ true) × (after.faults ≡ before.faults)
+opening-ready {moment} {lifetime} {interval} {before} {after} reader o = by o.opened o.result_is o.faults (o.opens).0 (o.opens).1 where
+  by : (opened : Result (Follower × PollAnswer) SlateError) → Ok reader ≡ reader_of opened → FaultsRise before.faults after.faults opened → (made : ℕ) → OpensManaged (by_objects before.objects) None made lifetime interval false moment before opened after → (is_open reader ≡ true) × (after.faults ≡ before.faults)
+  by (Ok b) is faults made opens =
+      let it : b.0 ≡ reader = cc in
+      (ap (λ (f : Follower). is_none f.result) (sym it) ∙ ap is_none (opened-open b opens), faults.stays)
+  by (Err error) is faults made opens = absurd (cc)

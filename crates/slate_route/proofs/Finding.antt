@@ -1,9 +1,9 @@
 -- The first reader that passes a test, and how many pass it.
 use Rattle.std.proofs.Common.{◌≡◌, ◌∙◌, ◌+◌, ◌<◌, ◌≤◌, ◌⊎◌, inl, inr, ℕ, zero, suc, Bool, true, false, cond, ltb, List, [], ◌∷◌, get_or, length, take, Option, Some, None, refl, sym, subst, ap, arith}
-use Rattle.std.specs.Prelude.{count_by, filter, position, slice_get}
-use Rattle.std.specs.List.{position_or_len}
+use Rattle.std.specs.Prelude.{◌||◌, count_by, position, slice_get}
+use Rattle.std.specs.List.{list_any, position_or_len}
 use Rattle.std.proofs.lemmas.Bool.{cases_lt, le-ltb, lt-ltb}
-use Rattle.std.proofs.lemmas.List.Sums.{count_by_more_no, count_by_more_yes, fails_before_first, length-filter, position_or_len_is}
+use Rattle.std.proofs.lemmas.List.Sums.{count_by_more_no, count_by_more_yes, fails_before_first, position_or_len_is, sum_by-take-le}
 use Rattle.std.proofs.lemmas.Option.{slice_get-get_or, slice_get_past, slice_get_within, get_or_from_slice_get}
 
 module _ {X : Type 0} (p : X → Bool) where
@@ -36,21 +36,23 @@ module _ {X : Type 0} (p : X → Bool) where
       ]
 
   -- where some pass there is one
-  one-passes : (xs : List X) → 0 < length (filter p xs) → (i : ℕ) × (x : X) × (slice_get xs i ≡ Some x) × (p x ≡ true)
-  one-passes [] some = absurd (omega (arith, some))
-  one-passes (x ∷ xs) some = by (p x) refl (λ few. one-passes xs few) where
-    by : (b : Bool) → p x ≡ b → (0 < length (filter p xs) → (i : ℕ) × (y : X) × (slice_get xs i ≡ Some y) × (p y ≡ true)) → (i : ℕ) × (y : X) × (slice_get (x ∷ xs) i ≡ Some y) × (p y ≡ true)
+  pub some-pass : (xs : List X) → list_any p xs ≡ true → (i : ℕ) × (x : X) × (slice_get xs i ≡ Some x) × (p x ≡ true)
+  some-pass [] some = absurd (cc)
+  some-pass (x ∷ xs) some = by (p x) refl (λ few. some-pass xs few) where
+    by : (b : Bool) → p x ≡ b → (list_any p xs ≡ true → (i : ℕ) × (y : X) × (slice_get xs i ≡ Some y) × (p y ≡ true)) → (i : ℕ) × (y : X) × (slice_get (x ∷ xs) i ≡ Some y) × (p y ≡ true)
     by true is rest = (0, x, refl, is)
     by false is rest =
-        let same : filter p (x ∷ xs) ≡ filter p xs = ap (λ b. cond b (x ∷ filter p xs) (filter p xs)) is in
-        let found = rest (subst (λ ys. 0 < length ys) same some) in
+        let found = rest (ap (λ b. b || list_any p xs) (sym is) ∙ some) in
         (suc found.0, found.1, found.2, found.3)
-
-  pub some-pass : (xs : List X) → 0 < count_by p xs → (i : ℕ) × (x : X) × (slice_get xs i ≡ Some x) × (p x ≡ true)
-  some-pass xs some = one-passes xs (let same = length-filter p xs in omega (arith, same, some))
 
   -- one more of them
   pub count-more : (xs : List X) (i : ℕ) (x : X) (b : Bool) → slice_get xs i ≡ Some x → p x ≡ b → count_by p (take (i + 1) xs) ≡ count_by p (take i xs) + cond b 1 0
   count-more xs i x true at is = count_by_more_yes p xs i x (slice_get_within xs i x at) (ap p (get_or_from_slice_get xs i x x at) ∙ is)
   count-more xs i x false at is =
       let same = count_by_more_no p xs i x (slice_get_within xs i x at) (ap p (get_or_from_slice_get xs i x x at) ∙ is) in omega (arith, same)
+
+  pub count-some : (xs : List X) (i : ℕ) (x : X) → slice_get xs i ≡ Some x → p x ≡ true → 0 < count_by p xs
+  count-some xs i x at passes =
+      let more = count-more xs i x true at passes in
+      let few = sum_by-take-le (λ y. cond (p y) 1 0) xs (i + 1) in
+      omega (arith, more, few)

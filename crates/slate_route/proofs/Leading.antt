@@ -65,7 +65,7 @@ module _ (merge : Option Merge) (base live : Live) (same : live.options ≡ base
   reply = reply_to found_reply result
 
   object : slice_get live.objects n ≡ Some (AFollower reader)
-  object = (over.readers).there i n reader named there
+  object = (over.are_at).there i n reader named there
 
   whole : WholeAt w.objects n reader
   whole = whole-at w.objects n reader (subst (λ os. slice_get os n ≡ Some (AFollower reader)) ((over.represents).represents).objects object)
@@ -120,7 +120,7 @@ module _ (merge : Option Merge) (base live : Live) (same : live.options ≡ base
   get-leads = record {
     world = led.0;
     link = led.1;
-    over = record { represents = led.2; segments = led.3; readers = over.readers; unbegun = over.unbegun };
+    over = record { represents = led.2; segments = led.3; are_at = over.are_at; unbegun = over.unbegun };
     stored = (next-whole settings w command reply led.0 refl (led.1).next).stored;
     row = rows-found;
     fails = λ error is. refused error is (subst (AnswersRead (kept_rows store.objects (AFollower reader)) (λ rows answer. answer ≡ read_at merge rows (Some (number reader)) key)) is answers);

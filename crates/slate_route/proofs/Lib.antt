@@ -1,6 +1,7 @@
 pub mod Adding
 pub mod Finding
 pub mod Leading
+pub mod Opening
 pub mod Polling
 pub mod Running
 pub mod Turning

@@ -1,7 +1,7 @@
 -- A poll of one reader of a router, and a read and an opening of one, are steps of the world to which they belong.
 use Rattle.std.proofs.Common.{◌≡◌, ◌≢◌, ◌∙◌, ◌+◌, ◌<◌, ◌≤◌, ◌⊎◌, inl, inr, ℕ, ℤ, Bool, true, false, List, [], ◌∷◌, ◌++◌, length, map, set, Option, Some, None, Result, Ok, Err, refl, sym, subst, ap, arith}
 use Rattle.std.specs.List.{slice_get}
-use Rattle.std.specs.Option.{is_some, option_map}
+use Rattle.std.specs.Option.{is_some, option_map, unwrap_or}
 use Rattle.std.specs.Prelude.{IfOk}
 use Rattle.std.proofs.lemmas.Bool.{cases_eq}
 use Rattle.std.proofs.lemmas.List.{length-set}
@@ -20,10 +20,10 @@ use Rattle.slate_model.specs.declared.answers.PollAnswer.TheVariants as answers
 use Rattle.slate_model.specs.declared.leases.Lease.{Lease}
 use Rattle.slate_model.specs.Follow.{AnswersAt, IsOwed}
 use Rattle.slate_model.specs.Follower.{Follower, is_managed, kept_follower, number}
-use Rattle.slate_model.specs.Known.{Known}
+use Rattle.slate_model.specs.Known.{IsContent, Known}
 use Rattle.slate_model.specs.Managed.{PollsManaged}
 use Rattle.slate_model.specs.Object.{Object, Follower as AFollower, Handle as AHandle, Snapshot as ASnapshot, kept}
-use Rattle.slate_model.specs.Stores.{by_objects}
+use Rattle.slate_model.specs.Stores.{by_objects, kept_seen}
 use Rattle.slate_model.proofs.Keeping.{line_above-end}
 use Rattle.slate_script.specs.declared.commands.Action.TheVariants as actions
 use Rattle.slate_script.specs.declared.commands.Command.{Command}
@@ -113,9 +113,10 @@ module _ (live : Live) (store store' : Known (List Batch)) (w : World) (r : Repr
           let k = polls.keeps lease opened is in
           let t = (k.keeps).some o (r.held).1 in
           let line = content o in
-          let seen = (whole.whole, sym whole.kept, prefix-of, (((r.held).4 n (AFollower whole.whole) whole.at).1 (managed-free (whole.whole).mode whole-managed))) in
-          let all = ((t.2).sees).sees line (o, (r.held).1, (r.held).2, refl) seen in
-          let owed : all.0 ≡ line = subst (λ s. IsOwed (by_objects store.objects) ManagedCheckpoint s t.0 _ line all.0 ) reads all.1 in
+          let seen : kept_seen reader o line = (whole.whole, sym whole.kept, prefix-of, (((r.held).4 n (AFollower whole.whole) whole.at).1 (managed-free (whole.whole).mode whole-managed))) in
+          let stored : IsContent store.objects line = (o, (r.held).1, (r.held).2, refl) in
+          let all = ((t.2).sees).sees line stored seen in
+          let owed : all.0 ≡ line = subst (λ s. IsOwed (by_objects store.objects) ManagedCheckpoint s t.0 (unwrap_or (t.2).next (t.2).latest) line all.0) reads all.1 in
           ((k.answers).2, answered (k.answers).3 all.3 ∙ (ap end owed ∙ ap end ((r.held).3).stored))
         where
           prefix-of : IsPrefix (whole.whole).line (content o)
@@ -158,10 +159,10 @@ module _ (merge : Option Merge) (base live : Live) (same : live.options ≡ base
   next = record live { objects = set live.objects n (AFollower left) }
 
   managed : (is_managed reader.mode ≡ true) × (reader.skips ≡ false)
-  managed = (over.readers).managed i reader there
+  managed = (over.are_at).managed i reader there
 
   object : slice_get live.objects n ≡ Some (AFollower reader)
-  object = (over.readers).there i n reader named there
+  object = (over.are_at).there i n reader named there
 
   whole : WholeAt w.objects n reader
   whole = whole-at w.objects n reader (subst (λ os. slice_get os n ≡ Some (AFollower reader)) ((over.represents).represents).objects object)
@@ -214,7 +215,7 @@ module _ (merge : Option Merge) (base live : Live) (same : live.options ≡ base
     over = record {
       represents = led.2;
       segments = led.3;
-      readers = are-set live.objects places readers over.readers i n named reader left there still-managed;
+      are_at = are-set live.objects places readers over.are_at i n named reader left there still-managed;
       unbegun = over.unbegun;
     };
     stored = (next-whole settings w command reply led.0 refl (led.1).next).stored;

@@ -110,8 +110,8 @@ module _ (live : Live) (store : Known (List Batch)) (readers : List Follower) (r
         over = record {
           represents = led.2;
           segments = led.3;
-          readers =
-              let a = (s.over).readers in
+          are_at =
+              let a = (s.over).are_at in
               record {
                 count = a.count;
                 there = λ i n f at is. get-set_other s.joined.objects 0 n (AHandle acted.new) (λ same. s.apart i (at ∙ ap Some same)) ∙ a.there i n f at is;
@@ -204,7 +204,7 @@ module _ (live : Live) (store : Known (List Batch)) (readers : List Follower) (r
   pub stands-reached : IsReachedRoute route
   stands-reached = record {
     reached = reached s.joined store route.world ((s.over).represents).represents;
-    readers = subst (λ os. AreAt os route.places route.readers) objects-are (s.over).readers;
+    readers = subst (λ os. AreAt os route.places route.readers) objects-are (s.over).are_at;
   }
 
   pub stands-holds : HoldsWorld store route.world
@@ -234,15 +234,15 @@ module _ (o : Objects) (live' : Live) (store store' : Known (List Batch)) (reply
   joined : Live
   joined = record { options = route_settings.options; objects = live'.objects; polls = []; writes = live'.writes }
 
-  led : (w' : World) × Link route_settings (start o store.faults) opening reply w' × Represents joined store' w' × AllInSegments None w'
-  led =
+  opened-led : (w' : World) × Link route_settings (start o store.faults) opening reply w' × Represents joined store' w' × AllInSegments None w'
+  opened-led =
       linked route_settings opening none_yet joined store store' reply refl (done.0, λ n begun. (λ there. absurd (cc), λ there. absurd (cc))) (λ m f begins. absurd (let no = begins in cc))
       (start o store.faults) (stands_start o store none_yet refl refl refl at sound) (all-start None (start o store.faults) refl)
 
   abbrev adds : OpensHandleIn (by_objects store.objects) route_settings true (done.0).0 (running none_yet store) reply (running live' store')
   adds = (done.0).1
 
-  by-result : (r : Result Handle SlateError) → adds.result ≡ r → (n : ℕ) → reply ≡ replies.Handle n → (reply ≡ replies.Handle 0) × StandFor live' store' [] (none_routed led.0)
+  by-result : (r : Result Handle SlateError) → adds.result ≡ r → (n : ℕ) → reply ≡ replies.Handle n → (reply ≡ replies.Handle 0) × StandFor live' store' [] (none_routed opened-led.0)
   by-result (Err error) is n opens = absurd (refusal-other error n (sym (adds.replied ∙ ap (reply_to (λ (h : Handle). replies.Handle 0)) is) ∙ opens))
   by-result (Ok h) is n opens =
       let objects : live'.objects ≡ AHandle h ∷ [] = adds.objects ∙ ap (added AHandle) is in
@@ -251,9 +251,9 @@ module _ (o : Objects) (live' : Live) (store store' : Known (List Batch)) (reply
         record {
           joined = joined;
           over = record {
-            represents = led.2;
-            segments = led.3;
-            readers = record { count = refl; there = λ i m f no is. absurd (cc); distinct = λ i j m no other. absurd (cc); managed = λ i f no. absurd (cc) };
+            represents = opened-led.2;
+            segments = opened-led.3;
+            are_at = record { count = refl; there = λ i m f no is. absurd (cc); distinct = λ i j m no other. absurd (cc); managed = λ i f no. absurd (cc) };
             unbegun = λ i m begun no. absurd (cc);
           };
           same = refl;
@@ -268,9 +268,9 @@ module _ (o : Objects) (live' : Live) (store store' : Known (List Batch)) (reply
 
   pub opening-leads : Opened o live' store store' reply
   opening-leads = record {
-    world = led.0;
-    link = led.1;
-    left = (let r = (led.2).represents in record { after = (r.held).0; modelled = (r.held).1; sound = (r.held).2; holds = (r.held).3; fault_count = r.faults });
+    world = opened-led.0;
+    link = opened-led.1;
+    left = (let r = (opened-led.2).represents in record { after = (r.held).0; modelled = (r.held).1; sound = (r.held).2; holds = (r.held).3; fault_count = r.faults });
     stands = by-result adds.result refl;
   }
 

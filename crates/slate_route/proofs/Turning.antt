@@ -1,6 +1,7 @@
 -- The polls of a read, one after another.
 use Rattle.std.proofs.Common.{◌≡◌, ◌≢◌, ◌∙◌, ◌+◌, ◌<◌, ◌≤◌, ◌⊎◌, ◌++◌, ◌∷◌, inl, inr, ℕ, ℤ, Bool, true, false, cond, List, [], get_or, length, set, take, Option, Some, None, Result, Ok, Err, refl, sym, subst, ap, arith}
 use Rattle.std.specs.Prelude.{IfErr, IfOk, IfSome, ◌&&◌, count_by, is_none, nat_le, slice_get}
+use Rattle.std.specs.List.{list_any}
 use Rattle.std.specs.Option.{option_or}
 use Rattle.std.proofs.lemmas.Bool.{cases_eq, leb-false, lt-leb}
 use Rattle.std.proofs.lemmas.List.{length-set, take_all}
@@ -20,6 +21,7 @@ use Rattle.slate_model.specs.Follower.{Follower, number}
 use Rattle.slate_model.specs.Known.{FaultsRise, Known}
 use Rattle.slate_model.specs.Object.{Follower as AFollower}
 use Rattle.slate_follow.specs.Answering.{IsOfPoll}
+use Rattle.slate_script.specs.declared.commands.Action.TheVariants as actions
 use Rattle.slate_live.specs.Replies.{polled_reply, refusal, reply_to}
 use Rattle.slate_live.specs.State.{Live}
 use Rattle.slate_live.specs.Steps.{Step, last_world}
@@ -34,7 +36,7 @@ use Rattle.slate_route.specs.declared.routers.Covering.{Covering}
 use Rattle.slate_route.specs.Reading.{FindsNone, GoesBy, HasFailed, IsBest, IsOpenOne, NoneCovers, Stay, covers, first_covering, is_open}
 use Rattle.slate_route.specs.Standing.{CanCover, IsPoll, PollsLead, RoutesOver, command_at, first_error, refused, routing}
 use Rattle.slate_route.specs.Turns.{CoverLeads, PollsAt}
-use Rattle.slate_route.proofs.Finding.{count-more, fails-at, first-at, none-at, some-pass}
+use Rattle.slate_route.proofs.Finding.{count-more, count-some, fails-at, first-at, none-at, some-pass}
 use Rattle.slate_route.proofs.Polling.{TurnLeads, turn-leads, whole-at}
 
 -- ---- one reader
@@ -49,13 +51,13 @@ none-open f none = ap is_none none
 
 -- one that is open and doesn't cover sees less
 sees-less : (at_least : ℕ) (f : Follower) → is_open f ≡ true → covers at_least f ≡ false → number f < at_least
-sees-less at_least f opened no = leb-false at_least (number f) (ap (λ b. b && nat_le at_least (number f)) (sym opened) ∙ no)
+sees-less at_least f opened uncovers = leb-false at_least (number f) (ap (λ b. b && nat_le at_least (number f)) (sym opened) ∙ uncovers)
 
 -- and does so with the same number
 same-covers : (at_least : ℕ) (f g : Follower) → is_open f ≡ true → covers at_least f ≡ false → number g ≡ number f → covers at_least g ≡ false
-same-covers at_least f g opened no same = by (is_open g) where
+same-covers at_least f g opened uncovers same = by (is_open g) where
   less : nat_le at_least (number g) ≡ false
-  less = lt-leb at_least (number g) (let low = sees-less at_least f opened no in omega (arith, low, same))
+  less = lt-leb at_least (number g) (let low = sees-less at_least f opened uncovers in omega (arith, low, same))
 
   by : (b : Bool) → (b && nat_le at_least (number g)) ≡ false
   by true = less
@@ -63,10 +65,10 @@ same-covers at_least f g opened no same = by (is_open g) where
 
 -- one that covers is open
 covers-open : (at_least : ℕ) (f : Follower) → covers at_least f ≡ true → is_open f ≡ true
-covers-open at_least f yes = by (is_open f) yes where
+covers-open at_least f covering = by (is_open f) covering where
   by : (b : Bool) → (b && nat_le at_least (number f)) ≡ true → b ≡ true
-  by true yes = refl
-  by false yes = absurd (cc)
+  by true is = refl
+  by false is = absurd (cc)
 
 shut-covers : (at_least : ℕ) (f : Follower) → is_open f ≡ false → covers at_least f ≡ false
 shut-covers at_least f shut = ap (λ b. b && nat_le at_least (number f)) shut
@@ -138,17 +140,17 @@ pub record Progress (at_least : ℕ) (moment : ℤ) (old : List Follower) (befor
   pub behind : (i : ℕ) → place ≤ i → slice_get cur i ≡ slice_get old i
   pub uncovered : (i : ℕ) (f : Follower) → i < place → slice_get cur i ≡ Some f → covers at_least f ≡ false
   pub shut : (i : ℕ) (f : Follower) → slice_get old i ≡ Some f → is_open f ≡ false → slice_get cur i ≡ Some f
-  pub polls : polls ≡ count_by is_open (take place old)
+  pub counted : polls ≡ count_by is_open (take place old)
   pub faults : before.faults ≤ after.faults
   pub kind : IfSome first (λ error. IsOfPoll ManagedCheckpoint error × HasFailed error before.faults after.faults)
   pub leads : (merge : Option Merge) (live : Live) (places : List ℕ) (w : World) → RoutesOver live before places old w → Led merge live places w at_least moment old place cur after polls first
 
 module _ (at_least : ℕ) (moment : ℤ) (old : List Follower) (before : Known (List Batch)) where
-  none-led : (merge : Option Merge) (live : Live) (places : List ℕ) (w : World) → RoutesOver live before places old w → PollsLead (routing merge live) moment live places w old before
+  abbrev none-led : (merge : Option Merge) (live : Live) (places : List ℕ) (w : World) → RoutesOver live before places old w → PollsLead (routing merge live) moment live places w old before
   none-led merge live places w over = record {
     steps = [];
     chain = tt;
-    polls = All-nil;
+    polls = All-nil (λ (s : Step). IsPoll moment places s.command);
     next = live;
     over = over;
     stored = refl;
@@ -162,7 +164,7 @@ module _ (at_least : ℕ) (moment : ℤ) (old : List Follower) (before : Known (
     behind = λ i above. refl;
     uncovered = λ i f below at. absurd (omega (arith, below));
     shut = λ i f at closed. at;
-    polls = refl;
+    counted = refl;
     faults = omega arith;
     kind = tt;
     leads = λ merge live places w over. record {
@@ -190,7 +192,7 @@ module _ (at_least : ℕ) (moment : ℤ) (old : List Follower) (before : Known (
             | inr other ↦ p.uncovered i g (omega (arith, below, other)) there
           ];
           shut = p.shut;
-          polls = (let more = count-more is_open old place f false was closed in let had = p.polls in omega (arith, more, had));
+          counted = (let more = count-more is_open old place f false was closed in let had = p.counted in omega (arith, more, had));
           faults = p.faults;
           kind = p.kind;
           leads = λ merge live places w over.
@@ -237,7 +239,7 @@ module _ (at_least : ℕ) (moment : ℤ) (old : List Follower) (before : Known (
       ]
 
       polls' : polls + 1 ≡ count_by is_open (take (place + 1) old)
-      polls' = let more = count-more is_open old place q.reader true was opened in let had = p.polls in omega (arith, more, had)
+      polls' = let more = count-more is_open old place q.reader true was opened in let had = p.counted in omega (arith, more, had)
 
       faults' : before.faults ≤ after'.faults
       faults' = let had = p.faults in let more = (q.faults).count in omega (arith, had, more)
@@ -245,14 +247,14 @@ module _ (at_least : ℕ) (moment : ℤ) (old : List Follower) (before : Known (
       pub stay : Stay old cur'
       stay = record { count = count'; closed = shut' }
 
-      error-of : Option SlateError
+      abbrev pub error-of : Option SlateError
       error-of = refused (reply_to polled_reply result)
 
       module _ (merge : Option Merge) (live : Live) (places : List ℕ) (w : World) (over : RoutesOver live before places old w) where
-        l : Led merge live places w at_least moment old place cur after polls first
+        abbrev l : Led merge live places w at_least moment old place cur after polls first
         l = p.leads merge live places w over
 
-        mid : World
+        abbrev mid : World
         mid = last_world w ((l.polled).steps)
 
         record Turned : Type 0 where
@@ -262,7 +264,7 @@ module _ (at_least : ℕ) (moment : ℤ) (old : List Follower) (before : Known (
 
         turned : Turned
         turned =
-            let readers = ((l.polled).over).readers in
+            let readers = ((l.polled).over).are_at in
             let within : place < length places = (let less = slice_get_within cur place q.reader q.there in let same = readers.count in omega (arith, less, same)) in
             let i = get_or places place 0 in
             let named = slice_get-get_or places place 0 within in
@@ -270,10 +272,10 @@ module _ (at_least : ℕ) (moment : ℤ) (old : List Follower) (before : Known (
             let t = turn-leads merge live (l.polled).next ((l.polled).others).options after after' places cur mid (l.polled).over place i named q.reader q.left q.there (open-none q.reader opened) made.0 moment result made.1 in
             record { i = i; named = named; turn = subst (λ xs. TurnLeads (routing merge live) ((l.polled).next) places xs mid moment i result q.left after') (sym q.new_is) t }
 
-        t : TurnLeads (routing merge live) ((l.polled).next) places cur' mid moment turned.i result q.left after'
+        abbrev t : TurnLeads (routing merge live) ((l.polled).next) places cur' mid moment turned.i result q.left after'
         t = turned.turn
 
-        step : Step
+        abbrev step : Step
         step = record { command = command_at moment (actions.Poll turned.i); reply = reply_to polled_reply result; world = t.world }
 
         pub polled-on : PollsLead (routing merge live) moment live places w cur' after'
@@ -294,6 +296,7 @@ module _ (at_least : ℕ) (moment : ℤ) (old : List Follower) (before : Known (
         }
 
         pub error-on : first_error polled-on.steps ≡ option_or first error-of
+        unfolding polled-on
         error-on = error-push (l.polled).steps step ∙ ap (λ e. option_or e error-of) l.error
 
         mid-is : (polls ≡ 0) → mid ≡ w
@@ -314,6 +317,7 @@ module _ (at_least : ℕ) (moment : ℤ) (old : List Follower) (before : Known (
             omega (arith, a, b, up)
 
         last-is : last_world w ((polled-on).steps) ≡ t.world
+        unfolding polled-on
         last-is = last-push w (l.polled).steps step
 
         -- where nothing stands against it, a poll is answered no error but want of memory
@@ -328,7 +332,7 @@ module _ (at_least : ℕ) (moment : ℤ) (old : List Follower) (before : Known (
           where
             live-open : (f : Follower) → IsFollowerAt mid.objects turned.i f → f.result ≡ None
             live-open f at =
-                let object = ((((l.polled).over).readers).there place turned.i q.reader turned.named q.there) in
+                let object = ((((l.polled).over).are_at).there place turned.i q.reader turned.named q.there) in
                 let shown = subst (λ os. slice_get os turned.i ≡ Some (AFollower q.reader)) ((((l.polled).over).represents).represents).objects object in
                 let whole = whole-at mid.objects turned.i q.reader shown in
                 let it : whole.whole ≡ f = (let here = whole.at in cc) in
@@ -359,7 +363,7 @@ module _ (at_least : ℕ) (moment : ℤ) (old : List Follower) (before : Known (
         behind = λ i above. behind' i (omega (arith, above));
         uncovered = uncovered' less;
         shut = shut';
-        polls = polls';
+        counted = polls';
         faults = faults';
         kind = kind-more;
         leads = λ merge live places w over.
@@ -396,7 +400,7 @@ module _ (at_least : ℕ) (moment : ℤ) (old : List Follower) (before : Known (
         behind = λ i above. behind' i (omega (arith, above));
         uncovered = uncovered' (same-covers at_least q.reader q.left opened (fails-at (covers at_least) old nothing place q.reader was) (error-kind error is).0);
         shut = shut';
-        polls = polls';
+        counted = polls';
         faults = faults';
         kind = kinds first kind-more;
         leads = λ merge live places w over. record {
@@ -413,8 +417,8 @@ module _ (at_least : ℕ) (moment : ℤ) (old : List Follower) (before : Known (
 
       -- ---- the polls end there
       pub goes-by : (nothing : first_covering at_least old ≡ None) → covers at_least q.left ≡ true → GoesBy at_least old place (polls + 1) cur'
-      goes-by nothing yes = record {
-        first = first-at (covers at_least) cur' place q.left here yes (λ j y below at. p.uncovered j y below (sym (elsewhere j (λ same. omega (arith, below, same))) ∙ at));
+      goes-by nothing covering = record {
+        first = first-at (covers at_least) cur' place q.left here covering (λ j y below at. p.uncovered j y below (sym (elsewhere j (λ same. omega (arith, below, same))) ∙ at));
         at_once = λ n some. absurd (let no = sym nothing ∙ some in cc);
         polled = λ none. (omega arith, polls', behind');
         stay = stay;
@@ -435,7 +439,7 @@ module _ (at_least : ℕ) (moment : ℤ) (old : List Follower) (before : Known (
       memory-leads merge live places w over = record { polled = polled-on merge live places w over; ends = tt; completes = λ can. tt }
 
     -- ---- all open ones were polled
-    module _ (nothing : first_covering at_least old ≡ None) (some : 0 < count_by is_open old) (over-all : length old ≤ place) where
+    module _ (nothing : first_covering at_least old ≡ None) (some : list_any is_open old ≡ true) (over-all : length old ≤ place) where
       within : (i : ℕ) (f : Follower) → slice_get cur i ≡ Some f → i < place
       within i f at = let less = slice_get_within cur i f at in let same = p.count in omega (arith, less, same, over-all)
 
@@ -448,7 +452,12 @@ module _ (at_least : ℕ) (moment : ℤ) (old : List Follower) (before : Known (
       }
 
       all-polled : 0 < polls
-      all-polled = let had = p.polls in let all = ap (count_by is_open) (take_all place old over-all) in omega (arith, had, all, some)
+      all-polled =
+          let one = some-pass is_open old some in
+          let had = p.counted in
+          let all = ap (count_by is_open) (take_all place old over-all) in
+          let low = count-some is_open old one.0 one.1 one.2 one.3 in
+          omega (arith, had, all, low)
 
       pub failed-finds : (error : SlateError) → first ≡ Some error → FindsNone at_least old cur before.faults after.faults (refusals.Poll error)
       failed-finds error is = let k = subst (λ f. IfSome f (λ e. IsOfPoll ManagedCheckpoint e × HasFailed e before.faults after.faults)) is p.kind in (none-covers, k.0, k.1)
@@ -486,13 +495,13 @@ module _ (at_least : ℕ) (moment : ℤ) (old : List Follower) (before : Known (
           let bound = bests.bounds one.0 reached.0 reached.1 reached.2 in
           record {
             polled = l.polled;
-            ends = (l.error ∙ is, omega (arith, below, sees), attained bests.attained sees bound);
+            ends = (l.error ∙ is, omega (arith, below, sees), attained reached.0 bests.attained sees bound);
             completes = λ can. (let no = l.completes can in let low = all-polled in absurd (omega (arith, no, low)));
           }
         where
-          attained : {f : Follower} → (best ≡ 0) ⊎ IsOpenOne cur best → number f ≡ end w.stored → number f ≤ best → best ≡ end w.stored
-          attained {f} (inl zero_best) sees bound = omega (arith, zero_best, sees, bound)
-          attained {f} (inr one) sees bound =
+          attained : (f : Follower) → (best ≡ 0) ⊎ IsOpenOne cur best → number f ≡ end w.stored → number f ≤ best → best ≡ end w.stored
+          attained f (inl zero_best) sees bound = omega (arith, zero_best, sees, bound)
+          attained f (inr one) sees bound =
               let before_polls = was-open one.place one.reader one.there one.opened in
               let reached = (p.leads merge live places w over).reached is one.place before_polls.0 (within one.place one.reader one.there) before_polls.1 before_polls.2 in
               let it : reached.0 ≡ one.reader = (let a = reached.1 in let b = one.there in cc) in
@@ -506,11 +515,11 @@ module _ (at_least : ℕ) (moment : ℤ) (old : List Follower) (before : Known (
     completes = λ can. tt;
   }
 
-  pub closed-leads : count_by is_open old ≡ 0 → (merge : Option Merge) (live : Live) (places : List ℕ) (w : World) → RoutesOver live before places old w → CoverLeads (routing merge live) moment at_least live places w old old (Err refusals.NoFollower) before
+  pub closed-leads : list_any is_open old ≡ false → (merge : Option Merge) (live : Live) (places : List ℕ) (w : World) → RoutesOver live before places old w → CoverLeads (routing merge live) moment at_least live places w old old (Err refusals.NoFollower) before
   closed-leads none merge live places w over = record {
     polled = none-led merge live places w over;
     ends = tt;
-    completes = λ can. (let low = can.some in absurd (omega (arith, low, none)));
+    completes = λ can. (let no : true ≡ false = sym can.some ∙ none in absurd (cc));
   }
 
 -- a read at once

@@ -1,5 +1,6 @@
 -- What a router answers, over any store: which reader a read goes by, how many are polled for it, and why it is refused.
 use Rattle.std.specs.Prelude.{◌≡◌, ℕ, ◌+◌, ◌<◌, ◌≤◌, Bool, true, false, ◌&&◌, ◌⊎◌, nat_le, count_by, take, is_none, length, List, [], ◌∷◌, ◌++◌, position, slice_get, Option, Some, None, Result, Ok, Err}
+use Rattle.std.specs.List.{list_any}
 use Rattle.slate_types.specs.declared.store_errors.StoreFault.TheVariants.{Unavailable}
 use Rattle.slate_types.specs.Counts.{HasRisen}
 use Rattle.slate_errors.specs.declared.errors.SlateError.{SlateError}
@@ -74,14 +75,14 @@ pub record GoesBy (at_least : ℕ) (old : List Follower) (place polls : ℕ) (ne
 
 -- No reader covered, and none does after all open ones were polled; there is one.
 pub record NoneCovers (at_least : ℕ) (old new : List Follower) : Type 0 where
-  pub some : 0 < count_by is_open old
+  pub some : list_any is_open old ≡ true
   pub before : first_covering at_least old ≡ None
   pub after : first_covering at_least new ≡ None
   pub stay : Stay old new
 
 -- Why the polls of a read left no reader to read. That no reader is open is looked at first, and nothing changes then.
 abbrev pub FindsNone : (at_least : ℕ) → (old new : List Follower) → (faults faults' : ℕ) → RouteRefusal → Type 0
-FindsNone at_least old new faults faults' refusals.NoFollower = (count_by is_open old ≡ 0) × (new ≡ old) × (faults' ≡ faults)
+FindsNone at_least old new faults faults' refusals.NoFollower = (list_any is_open old ≡ false) × (new ≡ old) × (faults' ≡ faults)
 FindsNone at_least old new faults faults' (refusals.Poll error) = NoneCovers at_least old new × IsOfPoll ManagedCheckpoint error × HasFailed error faults faults'
 FindsNone at_least old new faults faults' (refusals.Behind asked best) = (asked ≡ at_least) × NoneCovers at_least old new × IsBest new best
 FindsNone at_least old new faults faults' refusals.NoMemory = Stay old new

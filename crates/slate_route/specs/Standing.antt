@@ -1,5 +1,6 @@
 -- What a router's calls lead to over an honest store: its readers are objects of a world, and each call of one is a command's step.
-use Rattle.std.specs.Prelude.{◌≡◌, ◌<◌, ◌≤◌, ◌⊎◌, ℕ, ℤ, true, false, All, List, [], ◌∷◌, ◌++◌, count_by, length, slice_get, Option, Some, None, Result, Ok, Err}
+use Rattle.std.specs.Prelude.{◌≡◌, ◌<◌, ◌≤◌, ◌⊎◌, ℕ, ℤ, true, false, All, List, [], ◌∷◌, ◌++◌, length, slice_get, Option, Some, None, Result, Ok, Err}
+use Rattle.std.specs.List.{list_any}
 use Rattle.std.specs.Option.{option_or}
 use Rattle.slate_types.specs.declared.batches.Batch.{Batch}
 use Rattle.slate_types.specs.declared.batches.KeyValue.{KeyValue}
@@ -49,7 +50,7 @@ pub record AreAt (objects : List Object) (places : List ℕ) (readers : List Fol
 pub record RoutesOver (live : Live) (store : Known (List Batch)) (places : List ℕ) (readers : List Follower) (w : World) : Type 0 where
   pub represents : Represents live store w
   pub segments : AllInSegments None w
-  pub readers : AreAt live.objects places readers
+  pub are_at : AreAt live.objects places readers
   pub unbegun : (i n : ℕ) (begun : Begun) → slice_get places i ≡ Some n → IsBegunAt live.polls n begun → ⊥
 
 -- the other objects are as before
@@ -123,7 +124,7 @@ ReadEnds settings moment key at_least places stored steps readers w (Err refusal
 -- What stands against no cover: a reader is open, the end of what is stored reaches what is asked for, each open reader may be polled
 -- (`CanPoll`: an id for the next manifest is left), and the store didn't fail.
 pub record CanCover (moment : ℤ) (at_least : ℕ) (places : List ℕ) (old : List Follower) (w w' : World) : Type 0 where
-  pub some : 0 < count_by is_open old
+  pub some : list_any is_open old ≡ true
   pub reaches : at_least ≤ end w.stored
   pub polls : (i n : ℕ) (f : Follower) → slice_get places i ≡ Some n → IsFollowerAt w.objects n f → f.result ≡ None → CanPoll w moment f
   pub faults : HasRisen w.faults w'.faults → ⊥

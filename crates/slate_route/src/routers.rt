@@ -1,5 +1,6 @@
 // A router: its readers, adding one, and reading one that is as new as asked.
-ghost use Rattle.std.specs.Prelude.{◌≡◌, ◌<◌, ◌≤◌, ℕ, true, false, List, [], count_by, length, nat_lt, slice_get, None, Some, Option, IfSome, option_map, unwrap_or};
+ghost use Rattle.std.specs.Prelude.{◌≡◌, ◌<◌, ◌≤◌, ℕ, true, false, List, [], length, slice_get, None, Some, Option, IfSome, option_map, unwrap_or};
+ghost use Rattle.std.specs.List.{list_any};
 ghost use Rattle.std.specs.Option.{option_copied};
 ghost use Rattle.slate_types.specs.Operator.{Merge};
 ghost use Rattle.slate_reads.specs.Read.{IsOperator};
@@ -125,10 +126,14 @@ impl Router {
             return Err(RouteRefusal::Full);
         }
         self.followers.reserve(1).map_err(NoMemory::from)?;
-        let reader = open_reader(alloc, store, lifetime_ms, interval_ms, moment)?;
-        let at = reader.number();
-        self.followers.push_reserved(reader);
-        Ok(Added { follower, at })
+        match open_reader(alloc, store, lifetime_ms, interval_ms, moment) {
+            Ok(reader) => {
+                let at = reader.number();
+                self.followers.push_reserved(reader);
+                Ok(Added { follower, at })
+            }
+            Err(refusal) => Err(refusal),
+        }
     }
 
     /// Reads a key of a reader that sees at least the batches up to the number `at_least`: of the first open one that does, and then
@@ -174,7 +179,10 @@ impl Router {
             ReadLeads (routing merge live) moment key.now at_least live places w self.old self.new result (known S.objects S.faults store.new) }
         ensures faults { S.faults store.old ≤ S.faults store.new }
     {
-        let Covering { place, polls } = self.cover(alloc, store, at_least, moment)?;
+        let Covering { place, polls } = match self.cover(alloc, store, at_least, moment) {
+            Ok(covering) => covering,
+            Err(refusal) => return Err(refusal),
+        };
         let follower = &self.followers[place as usize];
         let number = follower.number();
         match follower.get(alloc, store, key, operator) {
@@ -201,11 +209,14 @@ impl Router {
             CoverLeads (routing merge live) moment at_least live places w self.old self.new result (known S.objects S.faults store.new) }
         ensures faults { S.faults store.old ≤ S.faults store.new }
     {
-        if !self.has_open() {
+        if !has_open(self.followers.as_slice()) {
             return Err(RouteRefusal::NoFollower);
         }
-        match self.first_covering(at_least) {
-            Some(place) => Ok(Covering { place, polls: 0 }),
+        match first_covering(self.followers.as_slice(), at_least) {
+            Some(place) => Ok(Covering {
+                place: place as u32,
+                polls: 0,
+            }),
             None => self.poll_until(alloc, store, at_least, moment),
         }
     }
@@ -219,7 +230,7 @@ impl Router {
         moment: i64,
     ) -> Result<Covering, RouteRefusal>
         requires none { first_covering at_least self.old ≡ None }
-        requires some { 0 < count_by is_open self.old }
+        requires some { list_any is_open self.old ≡ true }
         ensures covers { Covers at_least self.old self.new (S.faults store.old) (S.faults store.new) result }
         ensures leads { (live : Live) (places : List ℕ) (w : World) (merge : Option Merge) → RoutesOver live (known S.objects S.faults store.old) places self.old w →
             CoverLeads (routing merge live) moment at_least live places w self.old self.new result (known S.objects S.faults store.new) }
@@ -250,7 +261,7 @@ impl Router {
             Some(error) => Err(RouteRefusal::Poll(error)),
             None => Err(RouteRefusal::Behind {
                 at_least,
-                best: self.best(),
+                best: best(self.followers.as_slice()),
             }),
         }
     }
@@ -270,40 +281,12 @@ impl Router {
         follower.poll(alloc, store, NO_EXTRACTOR, moment)
     }
 
-    /// Whether a reader is open.
-    fn has_open(&self) -> bool
-        ensures { result ≡ nat_lt 0 (count_by is_open self.now) }
-    {
-        self.followers.iter().any(is_open)
-    }
-
-    /// The place of the first reader that is open and sees the batches up to a number.
-    fn first_covering(&self, at_least: u64) -> Option<u32>
-        ensures { result ≡ first_covering at_least self.now }
-    {
-        let place = self.followers.iter().position(|f| covers(f, at_least))?;
-        Some(place as u32)
-    }
-
     /// Whether the reader at a place is open and sees the batches up to a number.
     fn covers_at(&self, place: u32, at_least: u64) -> bool
         requires { place < length self.now }
         ensures { IfSome (slice_get self.now place) (λ reader. result ≡ covers at_least reader) }
     {
         covers(&self.followers[place as usize], at_least)
-    }
-
-    /// The greatest number of an open reader.
-    fn best(&self) -> u64
-        ensures { IsBest self.now result }
-    {
-        let mut best = 0;
-        for follower in &self.followers {
-            if is_open(follower) {
-                best = follower.number().max(best);
-            }
-        }
-        best
     }
 }
 
@@ -326,6 +309,35 @@ fn covers(follower: &FollowerState, at_least: u64) -> bool
     ensures { result ≡ covers at_least follower.now }
 {
     is_open(follower) && at_least <= follower.number()
+}
+
+/// Whether a reader is open.
+fn has_open(followers: &[FollowerState]) -> bool
+    ensures { result ≡ list_any is_open followers.now }
+{
+    followers.iter().any(is_open)
+}
+
+/// The place of the first reader that is open and sees the batches up to a number.
+fn first_covering(followers: &[FollowerState], at_least: u64) -> Option<usize>
+    ensures { result ≡ first_covering at_least followers.now }
+{
+    followers
+        .iter()
+        .position(|follower| covers(follower, at_least))
+}
+
+/// The greatest number of an open reader, or 0.
+fn best(followers: &[FollowerState]) -> u64
+    ensures { IsBest followers.now result }
+{
+    let mut best = 0;
+    for follower in followers {
+        if is_open(follower) {
+            best = follower.number().max(best);
+        }
+    }
+    best
 }
 
 /// Opens a reader with a checkpoint of its own.

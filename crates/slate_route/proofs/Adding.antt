@@ -246,3 +246,8 @@ opening-ready {moment} {lifetime} {interval} {before} {after} reader o = by o.op
       let it : b.0 ≡ reader = cc in
       (ap (λ (f : Follower). is_none f.result) (sym it) ∙ ap is_none (opened-open b opens), faults.stays)
   by (Err error) is faults made opens = absurd (cc)
+
+pub leads-with : {settings : Settings} {lifetime interval : ℕ} {live : Live} {places : List ℕ} {w : World} {new new' : List Follower} {result : Result Added RouteRefusal} {store : Known (List Batch)} (at moment : ℤ) → at ≡ moment → new ≡ new' →
+    AddLeads settings at lifetime interval live places w new result store → AddLeads settings moment lifetime interval live places w new' result store
+leads-with {settings} {lifetime} {interval} {live} {places} {w} {new} {new'} {result} {store} at moment same items l =
+    subst (λ m. AddLeads settings m lifetime interval live places w new' result store) same (subst (λ xs. AddLeads settings at lifetime interval live places w xs result store) items l)

@@ -1,8 +1,8 @@
 -- The polls of a read, one after another.
-use Rattle.std.proofs.Common.{◌≡◌, ◌≢◌, ◌∙◌, ◌+◌, ◌<◌, ◌≤◌, ◌⊎◌, ◌++◌, ◌∷◌, inl, inr, ℕ, ℤ, Bool, true, false, cond, List, [], get_or, length, set, take, Option, Some, None, Result, Ok, Err, refl, sym, subst, ap, arith}
-use Rattle.std.specs.Prelude.{IfErr, IfOk, IfSome, ◌&&◌, count_by, is_none, nat_le, slice_get}
+use Rattle.std.proofs.Common.{◌≡◌, ◌≢◌, ◌∙◌, ◌+◌, ◌<◌, ◌≤◌, ◌⊎◌, ◌++◌, ◌∷◌, inl, inr, ℕ, zero, suc, ℤ, Bool, true, false, cond, List, [], get_or, length, set, take, Option, Some, None, Result, Ok, Err, refl, sym, subst, ap, arith}
+use Rattle.std.specs.Prelude.{IfErr, IfOk, IfSome, ◌&&◌, count_by, is_none, nat_le, not, slice_get}
 use Rattle.std.specs.List.{list_any}
-use Rattle.std.specs.Option.{option_or}
+use Rattle.std.specs.Option.{option_map, option_or, unwrap_or}
 use Rattle.std.proofs.lemmas.Bool.{cases_eq, leb-false, lt-leb}
 use Rattle.std.proofs.lemmas.List.{length-set, take_all}
 use Rattle.std.proofs.lemmas.List.Elements.{All-nil, All-push}
@@ -23,6 +23,7 @@ use Rattle.slate_model.specs.Object.{Follower as AFollower}
 use Rattle.slate_follow.specs.Answering.{IsOfPoll}
 use Rattle.slate_script.specs.declared.commands.Action.TheVariants as actions
 use Rattle.slate_live.specs.Replies.{polled_reply, refusal, reply_to}
+use Rattle.slate_live.specs.Settings.{Settings}
 use Rattle.slate_live.specs.State.{Live}
 use Rattle.slate_live.specs.Steps.{Step, last_world}
 use Rattle.slate_live.specs.World.{World}
@@ -31,9 +32,10 @@ use Rattle.slate_live.specs.Worlds.{IsFollowerAt}
 use Rattle.slate_live.proofs.Cases.{if-some}
 use Rattle.slate_live.proofs.Chains.{chain-push, last-push}
 use Rattle.slate_live.proofs.Places.{get-set_other, get-set_same}
+use Rattle.slate_route.specs.declared.answers.RouteRefusal.{RouteRefusal}
 use Rattle.slate_route.specs.declared.answers.RouteRefusal.TheVariants as refusals
 use Rattle.slate_route.specs.declared.routers.Covering.{Covering}
-use Rattle.slate_route.specs.Reading.{FindsNone, GoesBy, HasFailed, IsBest, IsOpenOne, NoneCovers, Stay, covers, first_covering, is_open}
+use Rattle.slate_route.specs.Reading.{FindsNone, GoesBy, HasFailed, IsBest, IsOpenOne, NoneCovers, Stay, covers, first_covering, is_memory, is_open}
 use Rattle.slate_route.specs.Standing.{CanCover, IsPoll, PollsLead, RoutesOver, command_at, first_error, refused, routing}
 use Rattle.slate_route.specs.Turns.{CoverLeads, PollsAt}
 use Rattle.slate_route.proofs.Finding.{count-more, count-some, fails-at, first-at, none-at, some-pass}
@@ -530,3 +532,33 @@ at-once at_least readers place is = record {
   polled = λ none. absurd (let no = sym none ∙ is in cc);
   stay = record { count = refl; closed = λ i f at closed. at };
 }
+
+-- ---- what the loop over the polls finds
+-- a place of a list has an element
+pub at-place : {X : Type 0} (xs : List X) (i : ℕ) → i < length xs → (x : X) × (slice_get xs i ≡ Some x)
+at-place [] i less = absurd (omega (arith, less))
+at-place (x ∷ xs) zero less = (x, refl)
+at-place (x ∷ xs) (suc i) less = at-place xs i (omega (arith, less))
+
+-- whether the reader at a place is open
+pub open-at : (readers : List Follower) (place : ℕ) (f : Follower) (r : Bool) → r ≡ unwrap_or (option_map is_open (slice_get readers place)) false → slice_get readers place ≡ Some f → is_open f ≡ r
+open-at readers place f r is at = sym (is ∙ ap (λ (o : Option Follower). unwrap_or (option_map is_open o) false) at)
+
+pub polls-with : {place : ℕ} {old new : List Follower} {before after : Known (List Batch)} {result : Result PollAnswer SlateError} (at moment : ℤ) → at ≡ moment → PollsAt place at old before result new after → PollsAt place moment old before result new after
+polls-with {place} {old} {new} {before} {after} {result} at moment same q = subst (λ m. PollsAt place m old before result new after) same q
+
+pub covers-with : {settings : Settings} {at_least : ℕ} {live : Live} {places : List ℕ} {w : World} {old new : List Follower} {result : Result Covering RouteRefusal} {store : Known (List Batch)} (at moment : ℤ) → at ≡ moment →
+    CoverLeads settings at at_least live places w old new result store → CoverLeads settings moment at_least live places w old new result store
+covers-with {settings} {at_least} {live} {places} {w} {old} {new} {result} {store} at moment same l = subst (λ m. CoverLeads settings m at_least live places w old new result store) same l
+
+-- the reader that was polled is there
+pub left-there : {place : ℕ} {moment : ℤ} {old new : List Follower} {before after : Known (List Batch)} {result : Result PollAnswer SlateError} (q : PollsAt place moment old before result new after) → slice_get new place ≡ Some q.left
+left-there {place} {moment} {old} {new} {before} {after} {result} q = subst (λ xs. slice_get xs place ≡ Some q.left) (sym q.new_is) (get-set_same old place q.left q.reader q.there)
+
+-- want of memory
+pub memory-is : (error : SlateError) → is_memory error ≡ true → error ≡ errors.NoMemory
+memory-is errors.NoMemory is = refl
+memory-is error is = absurd (cc)
+
+pub memory-other : (error : SlateError) → is_memory error ≡ false → error ≢ errors.NoMemory
+memory-other error is same = let no : is_memory error ≡ true = ap is_memory same in absurd (cc)

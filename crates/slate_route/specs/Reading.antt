@@ -42,6 +42,10 @@ pub record IsBest (readers : List Follower) (best : ℕ) : Type 0 where
   pub bounds : (i : ℕ) (reader : Follower) → slice_get readers i ≡ Some reader → is_open reader ≡ true → number reader ≤ best
   pub attained : (best ≡ 0) ⊎ IsOpenOne readers best
 
+abbrev pub is_memory : SlateError → Bool
+is_memory errors.NoMemory = true
+is_memory error = false
+
 -- Want of memory is a refusal of its own, and stands in no other.
 abbrev pub poll_refusal : SlateError → RouteRefusal
 poll_refusal errors.NoMemory = refusals.NoMemory

@@ -1,14 +1,14 @@
 // A router: its readers, adding one, and reading one that is as new as asked.
 ghost use Rattle.std.specs.Prelude.{◌≡◌, ◌<◌, ◌≤◌, ℕ, true, false, List, [], length, slice_get, None, Some, Option, IfSome, option_map, unwrap_or};
 ghost use Rattle.std.specs.List.{list_any};
-ghost use Rattle.std.specs.Option.{option_copied};
+ghost use Rattle.std.specs.Option.{option_copied, option_or};
 ghost use Rattle.slate_types.specs.Operator.{Merge};
 ghost use Rattle.slate_reads.specs.Read.{IsOperator};
 ghost use Rattle.slate_model.specs.Follower.{Follower, number};
 ghost use Rattle.slate_model.specs.Known.{known};
 ghost use Rattle.slate_live.specs.State.{Live};
 ghost use Rattle.slate_live.specs.World.{World};
-ghost use Rattle.slate_route.specs.Reading.{Adds, Answers, IsBest, covers, first_covering, is_open};
+ghost use Rattle.slate_route.specs.Reading.{Adds, Answers, IsBest, covers, first_covering, is_memory, is_open};
 ghost use Rattle.slate_route.specs.Standing.{AddLeads, ReadLeads, RoutesOver, routing};
 ghost use Rattle.slate_route.specs.Turns.{CoverLeads, Covers, OpensReader, PollsAt};
 
@@ -237,7 +237,7 @@ impl Router {
         ensures faults { S.faults store.old ≤ S.faults store.new }
     {
         let mut polls = 0;
-        let mut first = None;
+        let mut first = FirstError::none();
         for place in 0..self.count() {
             if !self.is_open(place) {
                 continue;
@@ -249,15 +249,15 @@ impl Router {
                         return Ok(Covering { place, polls });
                     }
                 }
-                Err(SlateError::NoMemory) => return Err(RouteRefusal::NoMemory),
                 Err(error) => {
-                    if first.is_none() {
-                        first = Some(error);
+                    if is_memory(&error) {
+                        return Err(RouteRefusal::of_poll(error));
                     }
+                    first.note(error);
                 }
             }
         }
-        match first {
+        match first.into_error() {
             Some(error) => Err(RouteRefusal::Poll(error)),
             None => Err(RouteRefusal::Behind {
                 at_least,
@@ -295,6 +295,49 @@ impl Router {
 struct Covering {
     place: u32,
     polls: u32,
+}
+
+/// The first error of a read's polls, where one failed.
+struct FirstError {
+    error: Option<SlateError>,
+}
+
+impl Drop for FirstError {
+    fn drop(self) {
+        let FirstError { error: _ } = self;
+    }
+}
+
+impl FirstError {
+    /// No error yet.
+    fn none() -> FirstError
+        ensures { result.error ≡ None }
+    {
+        FirstError { error: None }
+    }
+
+    /// Keeps an error, where none came before.
+    fn note(&mut self, error: SlateError)
+        ensures { self.new.error ≡ option_or self.old.error (Some error) }
+    {
+        if self.error.is_none() {
+            self.error = Some(error);
+        }
+    }
+
+    fn into_error(self) -> Option<SlateError>
+        ensures { result ≡ self.error }
+    {
+        let FirstError { error } = self;
+        error
+    }
+}
+
+/// Whether an error is want of memory.
+fn is_memory(error: &SlateError) -> bool
+    ensures { result ≡ is_memory error.now }
+{
+    matches!(error, SlateError::NoMemory)
 }
 
 /// Whether a reader is open.

@@ -13,7 +13,7 @@ use Rattle.slate_store.specs.Content.{IsSound}
 use Rattle.slate_store.specs.Objects.{Objects}
 use Rattle.slate_errors.specs.declared.errors.SlateError.{SlateError}
 use Rattle.slate_errors.specs.declared.errors.SlateError.TheVariants as errors
-use Rattle.slate_model.specs.Catalogue.{Catalogue}
+use Rattle.slate_model.specs.Catalogue.{Catalogue, catalogue_of}
 use Rattle.slate_model.specs.Follower.{Follower, number}
 use Rattle.slate_model.specs.Known.{Known}
 use Rattle.slate_model.specs.Object.{Follower as AFollower}
@@ -49,6 +49,7 @@ pub record GetLeads (settings : Settings) (live : Live) (places : List ℕ) (rea
   pub link : Link settings w (command_at moment (actions.Get n key false)) (reply_to found_reply result) world
   pub over : RoutesOver live store' places readers world
   pub stored : world.stored ≡ w.stored
+  pub catalogue : world.catalogue ≡ w.catalogue
   pub row : (found : Option KeyValue) → result ≡ Ok found → read_at settings.merge w.stored.batches (Some (number reader)) key ≡ Ok found
   pub fails : (error : SlateError) → result ≡ Err error → (error ≡ errors.NoMemory) ⊎ ReadFails settings.merge w.stored w reader key error
 
@@ -116,12 +117,24 @@ module _ (merge : Option Merge) (base live : Live) (same : live.options ≡ base
   refused errors.NoMemory is a = inl refl
   refused error is a = absurd a
 
+  -- it leaves the store's objects
+  same-catalogue : (led.0).catalogue ≡ w.catalogue
+  same-catalogue =
+      let r = (over.represents).represents in
+      let r' = (led.2).represents in
+      let kept = (read.read opened).kept in
+      let there = (r.held).1 in
+      let there' = (r'.held).1 in
+      let objects : (r'.held).0 ≡ (r.held).0 = cc in
+      sym ((r'.held).3).catalogue ∙ (ap catalogue_of objects ∙ ((r.held).3).catalogue)
+
   pub get-leads : GetLeads settings live places readers w moment n key reader result store'
   get-leads = record {
     world = led.0;
     link = led.1;
     over = record { represents = led.2; segments = led.3; are_at = over.are_at; unbegun = over.unbegun };
     stored = (next-whole settings w command reply led.0 refl (led.1).next).stored;
+    catalogue = same-catalogue;
     row = rows-found;
     fails = λ error is. refused error is (subst (AnswersRead (kept_rows store.objects (AFollower reader)) (λ rows answer. answer ≡ read_at merge rows (Some (number reader)) key)) is answers);
   }

@@ -42,7 +42,7 @@ use Rattle.slate_route.proofs.Finding.{count-more, count-some, fails-at, first-a
 use Rattle.slate_route.proofs.Polling.{TurnLeads, turn-leads, whole-at}
 
 -- ---- one reader
-open-none : (f : Follower) → is_open f ≡ true → f.result ≡ None
+pub open-none : (f : Follower) → is_open f ≡ true → f.result ≡ None
 open-none f is = by f.result is where
   by : {A : Type 0} (r : Option A) → is_none r ≡ true → r ≡ None
   by None is = refl
@@ -66,7 +66,7 @@ same-covers at_least f g opened uncovers same = by (is_open g) where
   by false = refl
 
 -- one that covers is open
-covers-open : (at_least : ℕ) (f : Follower) → covers at_least f ≡ true → is_open f ≡ true
+pub covers-open : (at_least : ℕ) (f : Follower) → covers at_least f ≡ true → is_open f ≡ true
 covers-open at_least f covering = by (is_open f) covering where
   by : (b : Bool) → (b && nat_le at_least (number f)) ≡ true → b ≡ true
   by true is = refl
@@ -97,7 +97,7 @@ risen-more : (a b c : ℕ) → b ≤ c → HasRisen a b → HasRisen a c
 risen-more a b c more (inl up) = inl (omega (arith, more, up))
 risen-more a b c more (inr full) = inr (omega (arith, more, full))
 
-risen-first : (a b c : ℕ) → a ≤ b → HasRisen b c → HasRisen a c
+pub risen-first : (a b c : ℕ) → a ≤ b → HasRisen b c → HasRisen a c
 risen-first a b c more (inl up) = inl (omega (arith, more, up))
 risen-first a b c more (inr full) = inr full
 
@@ -106,7 +106,7 @@ failed-more (errors.ObjectStoreError Unavailable) a b c more failed = risen-more
 failed-more (errors.ObjectStoreError NotFound) a b c more failed = tt
 failed-more error a b c more failed = tt
 
-failed-of : (error : SlateError) (a b c : ℕ) {A : Type 0} → a ≤ b → FaultsRise b c (let r : Result A SlateError = Err error in r) → HasFailed error a c
+pub failed-of : (error : SlateError) (a b c : ℕ) {A : Type 0} → a ≤ b → FaultsRise b c (let r : Result A SlateError = Err error in r) → HasFailed error a c
 failed-of (errors.ObjectStoreError Unavailable) a b c {A} more faults = risen-first a b c more (faults.unavailable refl)
 failed-of (errors.ObjectStoreError NotFound) a b c {A} more faults = tt
 failed-of error a b c {A} more faults = tt

@@ -61,25 +61,25 @@ module _ (objects : List Object) (places : List ℕ) (readers : List Follower) (
     count = (let one = length-append places (n ∷ []) in let two = length-append readers (reader ∷ []) in let same = a.count in omega (arith, one, two, same));
     there = λ i m f at is. elim (get-push places n m i at) [
       | inl old ↦ elim (get-push readers reader f i is) [
-          | inl was ↦ get-before objects (AFollower reader ∷ []) m (AFollower f) (a.there i m f old was)
-          | inr last ↦ absurd (let below = slice_get_within places i m old in let same = a.count in let e = last.0 in omega (arith, below, same, e))
-        ]
+        | inl was ↦ get-before objects (AFollower reader ∷ []) m (AFollower f) (a.there i m f old was)
+        | inr last ↦ absurd (let below = slice_get_within places i m old in let same = a.count in let e = last.0 in omega (arith, below, same, e))
+      ]
       | inr new ↦ elim (get-push readers reader f i is) [
-          | inl was ↦ absurd (let below = slice_get_within readers i f was in let same = a.count in let e = new.0 in omega (arith, below, same, e))
-          | inr last ↦
-              subst (λ k. slice_get (objects ++ AFollower reader ∷ []) k ≡ Some (AFollower f)) new.1
-              (get-seam objects (AFollower reader) ∙ ap (λ (g : Follower). Some (AFollower g)) last.1)
-        ]
+        | inl was ↦ absurd (let below = slice_get_within readers i f was in let same = a.count in let e = new.0 in omega (arith, below, same, e))
+        | inr last ↦
+            subst (λ k. slice_get (objects ++ AFollower reader ∷ []) k ≡ Some (AFollower f)) new.1
+            (get-seam objects (AFollower reader) ∙ ap (λ (g : Follower). Some (AFollower g)) last.1)
+      ]
     ];
     distinct = λ i j m at_i at_j. elim (get-push places n m i at_i) [
       | inl old ↦ elim (get-push places n m j at_j) [
-          | inl other ↦ a.distinct i j m old other
-          | inr last ↦ absurd (let below = place-within i m old in let e = last.1 in omega (arith, below, e))
-        ]
+        | inl other ↦ a.distinct i j m old other
+        | inr last ↦ absurd (let below = place-within i m old in let e = last.1 in omega (arith, below, e))
+      ]
       | inr new ↦ elim (get-push places n m j at_j) [
-          | inl other ↦ absurd (let below = place-within j m other in let e = new.1 in omega (arith, below, e))
-          | inr last ↦ new.0 ∙ sym last.0
-        ]
+        | inl other ↦ absurd (let below = place-within j m other in let e = new.1 in omega (arith, below, e))
+        | inr last ↦ new.0 ∙ sym last.0
+      ]
     ];
     managed = λ i f is. elim (get-push readers reader f i is) [
       | inl was ↦ a.managed i f was

@@ -73,10 +73,12 @@ module _ (merge : Option Merge) (base live : Live) (same : live.options ≡ base
 
   led : (w' : World) × Link settings w command reply w' × Represents live store' w' × AllInSegments None w'
   led =
-      linked settings command live live store store' reply same
-      (
-        (0, acts_on (by_objects store.objects) settings n command (Get key false None) 0 (slice_get live.objects n) (running live store) reply (running live store') (AFollower reader) (AFollower reader) object
-        (record { result = result; replied = refl; does = read }, refl, refl, refl) (sym (set-same live.objects n (AFollower reader) object))),
+      linked settings command live live store store' reply same (
+        (
+          0,
+          acts_on (by_objects store.objects) settings n command (Get key false None) 0 (slice_get live.objects n) (running live store) reply (running live store') (AFollower reader) (AFollower reader) object
+              (record { result = result; replied = refl; does = read }, refl, refl, refl) (sym (set-same live.objects n (AFollower reader) object)),
+        ),
         are-same_named command.action n live.polls refl (λ b. over.unbegun i n b named),
       )
       (λ m f begins. absurd (let no = begins in cc)) w over.represents over.segments

@@ -172,8 +172,7 @@ module _ (merge : Option Merge) (base live : Live) (same : live.options ≡ base
 
   led : (w' : World) × Link settings w command reply w' × Represents next store' w' × AllInSegments None w'
   led =
-      linked settings command live next store store' reply same
-      (
+      linked settings command live next store store' reply same (
         (made, acts_on (by_objects store.objects) settings n command Poll made (slice_get live.objects n) (running live store) reply (running next store') (AFollower reader) (AFollower left) object (record { result = result; replied = refl; does = polls-as }, refl) refl),
         are-same_named command.action n live.polls refl (λ b. over.unbegun i n b named),
       )

@@ -37,10 +37,13 @@ use Rattle.slate_live.proofs.Places.{get-map, get-push, get-set_other, get-set_s
 use Rattle.slate_route.specs.declared.answers.Added.{Added}
 use Rattle.slate_route.specs.declared.answers.RouteRefusal.{RouteRefusal}
 use Rattle.slate_route.specs.declared.answers.Routed.{Routed}
+use Rattle.slate_route.specs.declared.commands.RouteAction.{RouteAction}
+use Rattle.slate_route.specs.declared.commands.RouteAction.TheVariants as asked
 use Rattle.slate_route.specs.declared.commands.RouteAnswer.{RouteAnswer}
+use Rattle.slate_route.specs.declared.commands.RouteAnswer.TheVariants as answers
 use Rattle.slate_route.specs.declared.commands.RouteCommand.{RouteCommand}
 use Rattle.slate_route.specs.Reading.{Adds, Answers}
-use Rattle.slate_route.specs.Session.{AddsTo, HoldsWorld, IsReachedRoute, ReadsTo, Route, RouteChain, RouteLink, RouteStep, RoutesOn, Runs, StandFor, last_route, none_routed, opening, route_settings}
+use Rattle.slate_route.specs.Session.{AddsTo, HoldsWorld, IsReachedRoute, ReadsTo, Route, RouteChain, RouteLink, RouteLinks, RouteStep, RoutesOn, Runs, StandFor, flush_command, last_route, none_routed, opening, put_command, route_settings}
 use Rattle.slate_route.specs.Standing.{AddEnds, AddLeads, AreAt, CanRead, ReadLeads, RoutesOver, opens_at, places_after, routing}
 
 -- ---- one line
@@ -67,10 +70,10 @@ module _ (live : Live) (store : Known (List Batch)) (readers : List Follower) (r
 
   -- a command of the handle
   module _ (live' : Live) (store' : Known (List Batch)) (command : Command) (reply : Reply) (names : target_of command.action ≡ OfObject 0) (whole : kind_of command.action ≡ Whole) (done : IsDone route_settings live store command reply live' store') where
-    did : ((made : ℕ) × DoesBy (by_objects store.objects) route_settings command (target_of command.action) made (running live store) reply (running live' store')) × ArePolls command.action live.polls live'.polls
+    abbrev did : ((made : ℕ) × DoesBy (by_objects store.objects) route_settings command (target_of command.action) made (running live store) reply (running live' store')) × ArePolls command.action live.polls live'.polls
     did = subst (λ k. DoesKind k route_settings live store command reply live' store') whole done
 
-    made : ℕ
+    abbrev made : ℕ
     made = (did.0).0
 
     acted : HandleDid (by_objects store.objects) route_settings 0 command (call_of command.action) made (running live store) reply (running live' store') s.handle
@@ -78,7 +81,7 @@ module _ (live : Live) (store : Known (List Batch)) (readers : List Follower) (r
         handle-did (by_objects store.objects) route_settings 0 command (call_of command.action) made (running live store) reply (running live' store') (slice_get live.objects 0) s.handle s.there
         (subst (λ t. DoesBy (by_objects store.objects) route_settings command t made (running live store) reply (running live' store')) names (did.0).1)
 
-    next : Live
+    abbrev next : Live
     next = record s.joined { objects = set s.joined.objects 0 (AHandle acted.new); writes = live'.writes }
 
     acts : HandleActs (by_objects store.objects) route_settings 0 command.moment command.second (call_of command.action) made s.handle store s.joined.writes reply acted.new store' live'.writes
@@ -87,8 +90,7 @@ module _ (live : Live) (store : Known (List Batch)) (readers : List Follower) (r
     led : (w' : World) × Link route_settings route.world command reply w' × Represents next store' w' × AllInSegments None w'
     led =
         linked route_settings command s.joined next store store' reply s.options
-        (subst (λ k. DoesKind k route_settings s.joined store command reply next store') (sym whole)
-        (
+        (subst (λ k. DoesKind k route_settings s.joined store command reply next store') (sym whole) (
           (
             made,
             does-at (by_objects store.objects) route_settings command made (running s.joined store) reply (running next store') (OfObject 0) names
@@ -98,7 +100,7 @@ module _ (live : Live) (store : Known (List Batch)) (readers : List Follower) (r
         ))
         (λ m f begins. absurd (let no : Whole ≡ Begins m = sym whole ∙ begins in cc)) route.world (s.over).represents (s.over).segments
 
-    then : Route
+    abbrev then : Route
     then = record { world = led.0; places = route.places; readers = route.readers }
 
     pub run-leads : (route' : Route) × Runs command reply route route' × StandFor live' store' readers route'
@@ -231,7 +233,7 @@ pub record Opened (o : Objects) (live' : Live) (store store' : Known (List Batch
   pub stands : (n : ℕ) → reply ≡ replies.Handle n → (reply ≡ replies.Handle 0) × StandFor live' store' [] (none_routed world)
 
 module _ (o : Objects) (live' : Live) (store store' : Known (List Batch)) (reply : Reply) (at : store.objects ≡ Some o) (sound : IsSound o) (done : IsDone route_settings none_yet store opening reply live' store') where
-  joined : Live
+  abbrev joined : Live
   joined = record { options = route_settings.options; objects = live'.objects; polls = []; writes = live'.writes }
 
   opened-led : (w' : World) × Link route_settings (start o store.faults) opening reply w' × Represents joined store' w' × AllInSegments None w'
@@ -304,3 +306,21 @@ done-next first steps commands command routed routed' answer next pushed done li
 
 pub runs-on : (first : Route) (steps : List RouteStep) (commands : List RouteCommand) (routed : List RouteAnswer) (store : Known (List Batch)) → Done first commands routed steps → HoldsWorld store (last_route first steps).world → RoutesOn commands routed first store
 runs-on first steps commands routed store done holds = record { steps = steps; commands_are = done.commands_are; answers_are = done.answers_are; chain = done.chain; left = holds }
+
+-- ---- the links of lines, by their actions
+pub put-link : (action : RouteAction) (moment : ℤ) (second : Option ℤ) (key value : List ℕ) (command : Command) (reply : Reply) (a b : Route) → action ≡ asked.Put key value → command ≡ put_command moment second key value → Runs command reply a b → RouteLinks action moment second (answers.Replied reply) a b
+put-link action moment second key value command reply a b is same runs =
+    subst (λ (x : RouteAction). RouteLinks x moment second (answers.Replied reply) a b) (sym is) (subst (λ (x : Command). Runs x reply a b) same runs)
+
+pub flush-link : (action : RouteAction) (moment : ℤ) (second : Option ℤ) (command : Command) (reply : Reply) (a b : Route) → action ≡ asked.Flush → command ≡ flush_command moment second → Runs command reply a b → RouteLinks action moment second (answers.Replied reply) a b
+flush-link action moment second command reply a b is same runs =
+    subst (λ (x : RouteAction). RouteLinks x moment second (answers.Replied reply) a b) (sym is) (subst (λ (x : Command). Runs x reply a b) same runs)
+
+-- the readers of a session's router are those of its route
+pub over-readers : (live : Live) (store : Known (List Batch)) (readers : List Follower) (route : Route) (s : StandFor live store readers route) → RoutesOver s.joined store route.places readers route.world
+over-readers live store readers route s = subst (λ rs. RoutesOver s.joined store route.places rs route.world) (sym s.same) s.over
+
+pub reads-with : {settings : Settings} {at_least : ℕ} {live : Live} {places : List ℕ} {w : World} {old new : List Follower} {result : Result Routed RouteRefusal} {store : Known (List Batch)} (at moment : ℤ) → at ≡ moment → (found key : List ℕ) → found ≡ key →
+    ReadLeads settings at found at_least live places w old new result store → ReadLeads settings moment key at_least live places w old new result store
+reads-with {settings} {at_least} {live} {places} {w} {old} {new} {result} {store} at moment same found key is l =
+    subst (λ m. ReadLeads settings m key at_least live places w old new result store) same (subst (λ k. ReadLeads settings at k at_least live places w old new result store) is l)

@@ -178,7 +178,6 @@ module _ (at_least : ℕ) (moment : ℤ) (old : List Follower) (before : Known (
     };
   }
 
-
   module _ (place : ℕ) (cur : List Follower) (after : Known (List Batch)) (polls : ℕ) (first : Option SlateError) (p : Progress at_least moment old before place cur after polls first) where
     -- the reader at the place is closed
     pub progress-closed : (f : Follower) → slice_get cur place ≡ Some f → is_open f ≡ false → Progress at_least moment old before (place + 1) cur after polls first

@@ -1,11 +1,12 @@
 // A whole session with a router: a script is read from a source and run, and its answers are written to a sink.
-ghost use Rattle.std.specs.Prelude.{◌≡◌, ◌≤◌, ◌⊎◌, [], Some, length, vec_len, vec_capacity, IfOk, OnErr};
+ghost use Rattle.std.specs.Prelude.{◌≡◌, ◌≤◌, ◌⊎◌, [], Some, length, vec_len, vec_capacity, IfOk, OnErr, None, true};
 ghost use Rattle.slate_store.specs.Content.{IsSound};
 ghost use Rattle.slate_store.specs.Objects.{Objects};
 ghost use Rattle.slate_script.specs.Sessions.{EndsBy, EndsWriting, HasScript, refused_line, sides, status_of};
 ghost use Rattle.slate_model.specs.Known.{known};
+ghost use Rattle.slate_live.specs.Stepping.{IsDone};
 ghost use Rattle.slate_route.specs.Lines.{route_script};
-ghost use Rattle.slate_route.specs.Session.{Leads, Route, RoutesOn, RunsAnswers, RunsRoutes, StandFor, flush_command, put_command, route_settings};
+ghost use Rattle.slate_route.specs.Session.{Leads, Route, RoutesOn, RunsAnswers, RunsRoutes, StandFor, flush_command, opening, put_command, route_settings};
 ghost use Rattle.slate_route.specs.Texts.{answers_text};
 
 use crate::Router;
@@ -90,12 +91,7 @@ fn run_commands<S: Store>(
     let mut answers = Vec::with_capacity(alloc, commands.len().max(1))?;
     let options = RunOptions::default();
     let mut live = LiveState::new(alloc, &options.options);
-    let opening = Command {
-        moment: 0,
-        second: None,
-        action: Action::Open { wal: true },
-    };
-    match live.apply(alloc, store, NO_OPERATOR, NO_EXTRACTOR, &opening) {
+    match HandleCommand::open().run(alloc, store, &mut live) {
         Reply::Handle { .. } => Ok(answer_all(alloc, store, live, commands, answers)),
         refusal => {
             answers.push_reserved(RouteAnswer::Replied(refusal));
@@ -148,12 +144,12 @@ fn answer<S: Store>(
     } = command;
     match action {
         RouteAction::Put { key, value } => {
-            let command = put_command(moment, second, key, value);
-            RouteAnswer::Replied(live.apply(alloc, store, NO_OPERATOR, NO_EXTRACTOR, &command))
+            let command = HandleCommand::put(moment, second, key, value);
+            RouteAnswer::Replied(command.run(alloc, store, live))
         }
         RouteAction::Flush => {
-            let command = flush_command(moment, second);
-            RouteAnswer::Replied(live.apply(alloc, store, NO_OPERATOR, NO_EXTRACTOR, &command))
+            let command = HandleCommand::flush(moment, second);
+            RouteAnswer::Replied(command.run(alloc, store, live))
         }
         RouteAction::Add {
             lifetime_ms,
@@ -172,35 +168,67 @@ fn answer<S: Store>(
     }
 }
 
-/// The put of a key to the handle.
-fn put_command(moment: i64, second: Option<i64>, key: Bytes, value: Bytes) -> Command
-    ensures { result ≡ put_command moment second key value }
-{
-    let action = Action::Put {
-        handle: HANDLE,
-        key,
-        value,
-        expire: None,
-    };
-    Command {
-        moment,
-        second,
-        action,
+/// A command of the session's handle.
+struct HandleCommand {
+    command: Command,
+}
+
+impl Drop for HandleCommand {
+    fn drop(self) {
+        let HandleCommand { command: _ } = self;
     }
 }
 
-/// A flush of the handle to the log.
-fn flush_command(moment: i64, second: Option<i64>) -> Command
-    ensures { result ≡ flush_command moment second }
-{
-    let action = Action::Flush {
-        handle: HANDLE,
-        flush_type: Some(FlushType::Wal),
-    };
-    Command {
-        moment,
-        second,
-        action,
+impl HandleCommand {
+    fn open() -> HandleCommand
+        ensures { result.command ≡ opening }
+    {
+        HandleCommand::new(0, None, Action::Open { wal: true })
+    }
+
+    fn put(moment: i64, second: Option<i64>, key: Bytes, value: Bytes) -> HandleCommand
+        ensures { result.command ≡ put_command moment second key value }
+    {
+        let action = Action::Put {
+            handle: HANDLE,
+            key,
+            value,
+            expire: None,
+        };
+        HandleCommand::new(moment, second, action)
+    }
+
+    /// Stores what the handle wrote in a log file.
+    fn flush(moment: i64, second: Option<i64>) -> HandleCommand
+        ensures { result.command ≡ flush_command moment second }
+    {
+        let action = Action::Flush {
+            handle: HANDLE,
+            flush_type: Some(FlushType::Wal),
+        };
+        HandleCommand::new(moment, second, action)
+    }
+
+    fn new(moment: i64, second: Option<i64>, action: Action) -> HandleCommand
+        ensures { result.command ≡ record { moment = moment; second = second; action = action } }
+    {
+        HandleCommand {
+            command: Command {
+                moment,
+                second,
+                action,
+            },
+        }
+    }
+
+    /// Does it.
+    fn run<S: Store>(&self, alloc: Global, store: &mut S, live: &mut LiveState) -> Reply
+        requires options { live.old.options ≡ route_settings.options }
+        ensures options { live.new.options ≡ live.old.options }
+        ensures faults { S.faults store.old ≤ S.faults store.new }
+        ensures done { IsDone route_settings live.old (known S.objects S.faults store.old) self.now.command result live.new (known S.objects S.faults store.new) }
+    {
+        live.apply(alloc, store, NO_OPERATOR, NO_EXTRACTOR, &self.command)
     }
 }
 

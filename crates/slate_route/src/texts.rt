@@ -77,7 +77,13 @@ fn write_words(out: &mut Vec<u8>, answer: &RouteAnswer) -> Result<(), NoMemory>
     match answer {
         RouteAnswer::Replied(reply) => write_replied(out, reply),
         RouteAnswer::Added(added) => {
-            write_pair(out, "follower ", u64::from(added.follower), " at ", added.at)
+            write_pair(
+                out,
+                "follower ",
+                u64::from(added.follower),
+                " at ",
+                added.at,
+            )
         }
         RouteAnswer::Routed(routed) => write_routed(out, routed),
         RouteAnswer::Refused(refusal) => write_refusal(out, refusal),

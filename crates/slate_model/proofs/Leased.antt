@@ -35,6 +35,11 @@ leased-is lifetime (Ok (put, checkpoint)) next given gives =
     (checkpoint, ap (λ n. Ok (n, checkpoint)) (ap (λ (p : Option VersionedManifest × Lease). p.0) both), ap (λ (p : Option VersionedManifest × Lease). p.1) both)
 leased-is lifetime (Err refusal) next given gives = absurd (cc)
 
+-- and why it gives none
+pub leased-refused : (lifetime : ℕ) (p : Plan Checkpoint) → leased lifetime p ≡ Err refusals.InvalidDBState → p ≡ Err refusals.InvalidDBState
+leased-refused lifetime (Ok given) is = absurd (cc)
+leased-refused lifetime (Err refusal) is = ap Err (let same : refusal ≡ refusals.InvalidDBState = cc in same)
+
 -- a manifest is put only where its id is left
 pub put-low : {A : Type 0} (latest put : VersionedManifest) (x : A) (next : Option VersionedManifest) (answer : A) → puts_next latest put x ≡ Ok (next, answer) → (latest.id < last_number) × (next ≡ Some put) × (answer ≡ x)
 put-low {A} latest put x next answer gives = by (nat_lt latest.id last_number) refl gives where
@@ -92,7 +97,7 @@ module _ {A : Type 0} (latest : VersionedManifest) (next : Option VersionedManif
 
 -- one that a plan puts is the latest one then, and stored under its id
 module _ {L A : Type 0} (plan : VersionedManifest → Plan A) (o : ObjectsOf L) (latest put : VersionedManifest) (answer : A) (rising : AreRising (map (λ e. e.0) o.manifests)) (is : latest_manifest o ≡ Some latest) (gives : plan latest ≡ Ok (Some put, answer)) (puts : Recheckpoints latest (plan latest)) where
-  changes-are : checkpoint_changes {L = L} plan o ≡ PutManifest put.id put.manifest ∷ []
+  pub changes-are : checkpoint_changes {L = L} plan o ≡ PutManifest put.id put.manifest ∷ []
   changes-are = ap (planned_after plan) is ∙ ap planned gives
 
   put-is_next : (checkpoints : List Checkpoint) × (put ≡ with_checkpoints checkpoints latest)

@@ -19,7 +19,7 @@ use Rattle.slate_model.specs.Lease.{differs, is_due, lease_of, leased, replaces,
 use Rattle.slate_errors.specs.declared.errors.SlateError.{SlateError}
 use Rattle.slate_model.specs.Handle.{CloseResult}
 use Rattle.slate_model.specs.Managed.{Keeps, KeepsLease, PollsLeased, PollsTwice, follower_under, poll_result}
-use Rattle.slate_model.proofs.Rounds.{Rounds, rounds}
+use Rattle.slate_model.proofs.Rounds.{Rounds, Took, rounds, took}
 use Rattle.slate_model.specs.Segments.{Extractor}
 use Rattle.slate_model.specs.Stores.{by_objects, kept_seen}
 use Rattle.slate_model.specs.declared.answers.PollAnswer.{PollAnswer}
@@ -176,15 +176,18 @@ module _ (x : Option Extractor) (made : ℕ) (lease : Lease) (moment : ℤ) (old
     abbrev middle : Follower
     middle = p.middle
 
-    both : Rounds (by_objects (Some o)) x made lease moment old o o-sound.manifests f result new (record { objects = t'; faults = f' }) p
-    both = rounds (by_objects (Some o)) x made lease moment old o o-sound.manifests f result new (record { objects = t'; faults = f' }) p
+    before : Took (by_objects (Some o)) x made lease moment old o f result new (record { objects = t'; faults = f' }) p
+    before = took (by_objects (Some o)) x made lease moment old o f result new (record { objects = t'; faults = f' }) p
+
+    both : Rounds (by_objects (Some o)) x made lease moment old o f result new (record { objects = t'; faults = f' }) p
+    both = rounds (by_objects (Some o)) x made lease moment old o f result new (record { objects = t'; faults = f' }) p o-sound.manifests
 
     first-seen : kept_seen middle both.between line
     first-seen = lease-handed x p.first (Some o) p.between.objects f p.between.faults lease moment old (Ok p.answer) middle p.round managed o both.between line refl both.there stored seen
 
     stored-between : IsContent (Some both.between) line
     stored-between =
-        let kept = written o both.latest both.is lease.lifetime moment middle.view p.given (Some lease.id) both.written in
+        let kept = written o before.latest before.is lease.lifetime moment middle.view p.given (Some lease.id) before.written in
         let its = kept.keeps o-sound in
         (both.between, refl, subst IsSound (sym both.put) its.0, line_is (Some o) o refl line stored old managed seen ∙ sym (ap content both.put ∙ its.1))
 

@@ -100,7 +100,7 @@ module _ {L A : Type 0} (plan : VersionedManifest → Plan A) (o : ObjectsOf L) 
   pub changes-are : checkpoint_changes {L = L} plan o ≡ PutManifest put.id put.manifest ∷ []
   changes-are = ap (planned_after plan) is ∙ ap planned gives
 
-  put-is_next : (checkpoints : List Checkpoint) × (put ≡ with_checkpoints checkpoints latest)
+  pub put-is_next : (checkpoints : List Checkpoint) × (put ≡ with_checkpoints checkpoints latest)
   put-is_next = subst (λ p. Recheckpoints latest p) gives puts
 
   after-put : (P : ObjectsOf L → Type 0) (made : ℕ) → made ≡ 1 → P (changed (PutManifest put.id put.manifest) o) → P (after_part made (checkpoint_changes plan o) o)

@@ -1,5 +1,6 @@
 //! The program `slate`: runs a script from standard input over a fresh store in memory, or over a directory, and prints
-//! its replies. The script is one of commands, beside readers on threads or not, one with feeds, or one of a job store.
+//! its replies. The script is one of commands, beside readers on threads or not, one with feeds, one of a job store, or one of a
+//! router.
 #![tactic(auto)]
 
 mod looks;
@@ -11,6 +12,7 @@ use slate_feed::feed_session;
 use slate_jobs::jobs_session;
 use slate_live::{Finished, Outcome, Sink, Source, session};
 use slate_readers::{Live, OpenGate, live_session, read_live_words};
+use slate_route::route_session;
 use slate_script::read_words;
 use slate_store::{MemoryStore, Store};
 use slate_text::read_time;
@@ -31,6 +33,7 @@ usage: slate [--store DIR] [--merge concat] [--segments N] [--limit N] [--bare]
        slate [--store DIR] jobs < SCRIPT
        slate [--store DIR] feed < SCRIPT
        slate [--store DIR] live --readers N [the options above] < SCRIPT
+       slate [--store DIR] route < SCRIPT
        slate check --store DIR
        slate show --store DIR [--sweep MOMENT]
        slate --help | --version
@@ -72,6 +75,16 @@ With live the script is run beside N readers, from 1 to 16, which view on thread
 of their own, without a lock, what the first reader of the script sees. Behind the
 replies a line is printed for each, as reader 0 at 5, with the number of the last
 batch that it saw.
+
+With route a handle of the database is open, a router has readers, and a line of
+the script is a moment and one of these, as in
+  0 put a x
+  0 flush
+  0 add 1000 500
+  0 read 1 a
+which writes a row, stores it, adds a reader whose checkpoint lasts 1000
+milliseconds and is to be polled each 500, and reads the key a of a reader that
+sees at least the batches up to number 1.
 
 With check no script is read either, and no file is changed: whether the database
 in DIR is sound is printed, as sound at K, where K is the number of the last
@@ -164,6 +177,7 @@ fn run_over_directory<R: Threads + Wait + Sync>(
 fn is_script(words: &[String]) -> bool {
     is_word(words, "jobs")
         || is_word(words, "feed")
+        || is_word(words, "route")
         || read_live_words(words).is_some()
         || read_words(words).is_some()
 }
@@ -173,8 +187,8 @@ fn is_word(words: &[String], wanted: &str) -> bool {
     matches!(words, [word] if word.as_str() == wanted)
 }
 
-/// Runs the script from standard input, of commands, beside readers, with feeds or of a job store, or the generator, over a store.
-/// It answers the exit status.
+/// Runs the script from standard input, of commands, beside readers, with feeds, of a job store or of a router, or the generator,
+/// over a store. It answers the exit status.
 fn run_words<R: Threads + Wait + Sync, S: Store + Send>(
     rt: &HostRuntime,
     threads: &R,
@@ -189,6 +203,8 @@ fn run_words<R: Threads + Wait + Sync, S: Store + Send>(
         feed_session(rt.alloc(), &mut source, &mut sink, store)
     } else if is_live(words) {
         run_live(threads, rt.alloc(), words, &mut source, &mut sink, store)
+    } else if is_word(words, "route") {
+        route_session(rt.alloc(), &mut source, &mut sink, store)
     } else {
         session(rt.alloc(), words, &mut source, &mut sink, store)
     };

@@ -25,7 +25,7 @@ use Rattle.slate_model.specs.Managed.{PlanCause, PutsPlanned}
 use Rattle.slate_model.specs.Open.{mark_of, replayed_logs}
 use Rattle.slate_model.specs.Stores.{Stands}
 use Rattle.slate_model.specs.declared.leases.Lease.{Lease}
-use Rattle.slate_follow.specs.Keeping.{CallsKeeping, FindsLatest, IsNews, PutsManifest, calls_to_keep}
+use Rattle.slate_follow.specs.Keeping.{CallsRound, FindsLatest, IsNews, PutsManifest, calls_to_keep}
 use Rattle.slate_follow.specs.Rebuilding.{CallsContinuing, CallsRebuilding, goes_on, last_above, new_logs}
 use Rattle.slate_follow.proofs.Continued.{greatest-greater}
 use Rattle.slate_follow.specs.Growing.{IsPushed, added_to}
@@ -203,7 +203,7 @@ module _ (latest : VersionedManifest) (t t1 : Option Objects) (kept : t1 ≡ t) 
   keeping logs = calls_to_keep old.view lease moment latest logs
 
   -- how many calls it made
-  keeping-at : (n' : ℕ) → ((o : Objects) → t ≡ Some o → n' ≤ n + keeping (new_logs old latest o)) → IfSome t (λ o. CallsKeeping o old lease moment n n')
+  keeping-at : (n' : ℕ) → ((o : Objects) → t ≡ Some o → n' ≤ n + keeping (new_logs old latest o)) → IfSome t (λ o. CallsRound o old lease moment n n')
   keeping-at n' most = if_some t (λ o at found found_is.
       let same : latest ≡ found = some-same latest found (sym (latest_is o at) ∙ found_is) in
       subst (λ v. n' ≤ n + calls_to_keep old.view lease moment v (new_logs old v o)) same (most o at))
@@ -228,7 +228,7 @@ module _ (latest : VersionedManifest) (t t1 : Option Objects) (kept : t1 ≡ t) 
     pub replaced-first : IfSome t (λ o. n' ≤ n + 2 * (replayed_logs o + 2))
     replaced-first = if_some t (λ o at. (let a = then-at o at in let b = below old managed o at in omega (arith, one, a, b)))
 
-    pub replaced-costs : differs old.view latest ≡ true → IfSome t (λ o. CallsKeeping o old lease moment n n')
+    pub replaced-costs : differs old.view latest ≡ true → IfSome t (λ o. CallsRound o old lease moment n n')
     replaced-costs d = keeping-at n' (λ o at. (let a = then-at o at in let k = differing d (new_logs old latest o) in omega (arith, one, a, k)))
 
   -- it takes what is new then
@@ -242,10 +242,10 @@ module _ (latest : VersionedManifest) (t t1 : Option Objects) (kept : t1 ≡ t) 
     pub news-once : n' ≤ n2 + 1 → IfSome t (λ o. n' ≤ n + 2 * (replayed_logs o + 2))
     news-once more = if_some t (λ o at. (let a = some_at (λ o. n' ≤ n + (replayed_logs o + 3)) t o at (news-then more) in omega (arith, a)))
 
-    pub rest-costs : is_due moment lease ≡ false → n' ≤ n2 → IfSome t (λ o. CallsKeeping o old lease moment n n')
+    pub rest-costs : is_due moment lease ≡ false → n' ≤ n2 → IfSome t (λ o. CallsRound o old lease moment n n')
     rest-costs early more = keeping-at n' (λ o at. (let a = news-at o at in let k = resting same early (new_logs old latest o) in omega (arith, one, more, a, k)))
 
-    pub renew-costs : is_due moment lease ≡ true → is_none (found lease.id latest) ≡ false → n' ≤ n2 + 1 → IfSome t (λ o. CallsKeeping o old lease moment n n')
+    pub renew-costs : is_due moment lease ≡ true → is_none (found lease.id latest) ≡ false → n' ≤ n2 + 1 → IfSome t (λ o. CallsRound o old lease moment n n')
     renew-costs due there more = keeping-at n' (λ o at.
         let a = news-at o at in
         let logs = new_logs old latest o in
@@ -263,7 +263,7 @@ module _ (latest : VersionedManifest) (t t1 : Option Objects) (kept : t1 ≡ t) 
       pub news-twice : IfSome t (λ o. n' ≤ n + 2 * (replayed_logs o + 2))
       news-twice = if_some t (λ o at. (let a = news-at o at in let d = more-at o at in let b = below old managed o at in omega (arith, one, a, d, b)))
 
-      pub missing-costs : is_due moment lease ≡ true → is_none (found lease.id latest) ≡ true → IfSome t (λ o. CallsKeeping o old lease moment n n')
+      pub missing-costs : is_due moment lease ≡ true → is_none (found lease.id latest) ≡ true → IfSome t (λ o. CallsRound o old lease moment n n')
       missing-costs due gone = keeping-at n' (λ o at.
           let a = news-at o at in
           let d = more-at o at in
@@ -273,10 +273,10 @@ module _ (latest : VersionedManifest) (t t1 : Option Objects) (kept : t1 ≡ t) 
 
 -- the first try puts what its plan says, unless a manifest is there already, and then each one finds so
 pub first-costs : (plan : VersionedManifest → Plan Lease) (t t1 : Option Objects) (kept : t1 ≡ t) (earlier n n1 n' : ℕ) (old : Follower) (lease : Lease) (moment : ℤ) → IfSome t (λ o. n1 ≤ n + earlier * (replayed_logs o + 3)) →
-    (0 < earlier → IfSome t (λ o. PlanCause (Stands (checkpoint_changes plan o) o) plan o (TransactionalObjectTimeout 8))) → IfSome t1 (λ o. Stands (checkpoint_changes plan o) o → ⊥) → IfSome t1 (λ o. CallsKeeping o old lease moment n1 n') → IfSome t (λ o. CallsKeeping o old lease moment n n')
+    (0 < earlier → IfSome t (λ o. PlanCause (Stands (checkpoint_changes plan o) o) plan o (TransactionalObjectTimeout 8))) → IfSome t1 (λ o. Stands (checkpoint_changes plan o) o → ⊥) → IfSome t1 (λ o. CallsRound o old lease moment n1 n') → IfSome t (λ o. CallsRound o old lease moment n n')
 first-costs plan t t1 kept zero n n1 n' old lease moment before met free costs = if_some t (λ o at latest is.
     let a = some_at (λ o. n1 ≤ n + 0 * (replayed_logs o + 3)) t o at before in
-    let b = some_at (λ o. CallsKeeping o old lease moment n1 n') t1 o (kept ∙ at) costs latest is in
+    let b = some_at (λ o. CallsRound o old lease moment n1 n') t1 o (kept ∙ at) costs latest is in
     omega (arith, a, b))
 first-costs plan t t1 kept (suc earlier) n n1 n' old lease moment before met free costs = if_some t (λ o at.
     absurd (some_at (λ o. Stands (checkpoint_changes plan o) o → ⊥) t1 o (kept ∙ at) free (some_at (λ o. PlanCause (Stands (checkpoint_changes plan o) o) plan o (TransactionalObjectTimeout 8)) t o at (met (omega arith))).1))
@@ -290,7 +290,7 @@ module _ (t t1 : Option Objects) (kept : t1 ≡ t) (earlier n n1 n' : ℕ) (befo
       let one = add-mul earlier 1 (replayed_logs o + 3) in
       omega (arith, a, b, one))
 
-  pub last-try : earlier < 8 → IfSome t1 (λ o. n' ≤ n1 + 2 * (replayed_logs o + 2)) → IfSome t (λ o. n' ≤ n + 9 * (replayed_logs o + 3))
+  pub last-try : earlier < 8 → IfSome t1 (λ o. n' ≤ n1 + 2 * (replayed_logs o + 2)) → IfSome t (λ o. n' ≤ n + (9 * replayed_logs o + 26))
   last-try fewer then = if_some t (λ o at.
       let a = some_at (λ o. n1 ≤ n + earlier * (replayed_logs o + 3)) t o at before in
       let b = some_at (λ o. n' ≤ n1 + 2 * (replayed_logs o + 2)) t1 o (kept ∙ at) then in
@@ -298,7 +298,7 @@ module _ (t t1 : Option Objects) (kept : t1 ≡ t) (earlier n n1 n' : ℕ) (befo
       let seven : earlier * (replayed_logs o + 3) ≤ 7 * (replayed_logs o + 3) = most in
       omega (arith, a, b, seven))
 
-pub all-tries : (t : Option Objects) (earlier n n1 : ℕ) → IfSome t (λ o. n1 ≤ n + earlier * (replayed_logs o + 3)) → earlier ≤ 8 → IfSome t (λ o. n1 ≤ n + 9 * (replayed_logs o + 3))
+pub all-tries : (t : Option Objects) (earlier n n1 : ℕ) → IfSome t (λ o. n1 ≤ n + earlier * (replayed_logs o + 3)) → earlier ≤ 8 → IfSome t (λ o. n1 ≤ n + (9 * replayed_logs o + 26))
 all-tries t earlier n n1 before within = if_some t (λ o at.
     let a = some_at (λ o. n1 ≤ n + earlier * (replayed_logs o + 3)) t o at before in
     let most : earlier * (replayed_logs o + 3) ≤ 8 * (replayed_logs o + 3) = mul-le-mul_right (replayed_logs o + 3) within in

@@ -15,10 +15,11 @@ use Rattle.slate_model.specs.Changes.{after_part}
 use Rattle.slate_model.specs.Follow.{SeesOwed}
 use Rattle.slate_model.specs.Follower.{Follower}
 use Rattle.slate_model.specs.Known.{IsContent}
-use Rattle.slate_model.specs.Lease.{differs, is_due, replaces, to_keep}
+use Rattle.slate_model.specs.Lease.{differs, is_due, lease_of, leased, replaces, to_keep}
 use Rattle.slate_errors.specs.declared.errors.SlateError.{SlateError}
 use Rattle.slate_model.specs.Handle.{CloseResult}
-use Rattle.slate_model.specs.Managed.{Keeps, KeepsLease, follower_under, poll_result}
+use Rattle.slate_model.specs.Managed.{Keeps, KeepsLease, PollsLeased, PollsTwice, follower_under, poll_result}
+use Rattle.slate_model.proofs.Rounds.{Rounds, Took, rounds, took}
 use Rattle.slate_model.specs.Segments.{Extractor}
 use Rattle.slate_model.specs.Stores.{by_objects, kept_seen}
 use Rattle.slate_model.specs.declared.answers.PollAnswer.{PollAnswer}
@@ -150,7 +151,7 @@ module _ (t : Option Objects) (o : Objects) (at : t ≡ Some o) (line : Line) (s
       pub kept-handed : kept_seen new o' line
       kept-handed = by-next keeps.next refl
 
--- ---- a poll
+-- ---- a round of a poll
 pub lease-handed : (x : Option Extractor) (made : ℕ) (t t' : Option Objects) (f f' : ℕ) (lease : Lease) (moment : ℤ) (old : Follower) (result : Result PollAnswer SlateError) (new : Follower) →
     KeepsLease (by_objects t) x made lease moment old (record { objects = t; faults = f }) result new (record { objects = t'; faults = f' }) → old.mode ≡ ManagedCheckpoint →
     (o o' : Objects) (line : Line) → t ≡ Some o → t' ≡ Some o' → IsContent t line → kept_seen old o line → kept_seen new o' line
@@ -165,3 +166,54 @@ lease-handed x made t t' f f' lease moment old (Err e) new k managed o o' line a
     let put : u.0 ≡ o' = some-same u.0 o' (sym u.1 ∙ at') in
     let here = subst (λ s. kept_seen old s line) (sym u.2.after ∙ put) (part-seen t o at line stored old managed seen lease moment made) in
     subst (λ g. kept_seen g o' line) (sym k.failed) (relabelled o' line old new.lease (poll_result e) here)
+
+-- ---- a poll
+module _ (x : Option Extractor) (made : ℕ) (lease : Lease) (moment : ℤ) (old : Follower) (o : Objects) (f : ℕ) (t' : Option Objects) (f' : ℕ) (new : Follower) (managed : old.mode ≡ ManagedCheckpoint) (line : Line) (stored : IsContent (Some o) line) (seen : kept_seen old o line) where
+  o-sound : IsSound o
+  o-sound = sound (Some o) o refl line stored old managed seen
+
+  module _ (result : Result PollAnswer SlateError) (p : PollsTwice (by_objects (Some o)) x made lease moment old (record { objects = Some o; faults = f }) result new (record { objects = t'; faults = f' })) where
+    abbrev middle : Follower
+    middle = p.middle
+
+    before : Took (by_objects (Some o)) x made lease moment old o f result new (record { objects = t'; faults = f' }) p
+    before = took (by_objects (Some o)) x made lease moment old o f result new (record { objects = t'; faults = f' }) p
+
+    both : Rounds (by_objects (Some o)) x made lease moment old o f result new (record { objects = t'; faults = f' }) p
+    both = rounds (by_objects (Some o)) x made lease moment old o f result new (record { objects = t'; faults = f' }) p o-sound.manifests
+
+    first-seen : kept_seen middle both.between line
+    first-seen = lease-handed x p.first (Some o) p.between.objects f p.between.faults lease moment old (Ok p.answer) middle p.round managed o both.between line refl both.there stored seen
+
+    stored-between : IsContent (Some both.between) line
+    stored-between =
+        let kept = written o before.latest before.is lease.lifetime moment middle.view p.given (Some lease.id) before.written in
+        let its = kept.keeps o-sound in
+        (both.between, refl, subst IsSound (sym both.put) its.0, line_is (Some o) o refl line stored old managed seen ∙ sym (ap content both.put ∙ its.1))
+
+    then-seen : kept_seen middle both.last line
+    then-seen = elim both.parts [
+      | inl same ↦ subst (λ s. kept_seen middle s line) (sym same) first-seen
+      | inr again ↦
+          let gives = ap (leased p.given.lifetime) again.2 in
+          subst (λ s. kept_seen middle s line) (sym again.3)
+          (failed-seen (Some both.between) both.between refl line stored-between middle (p.round.answers).0 first-seen middle.view again.0 both.next_is
+          (renewed both.between middle.view both.next_is p.given.lifetime moment again.0 (lease_of p.given.lifetime again.1) p.given.id gives))
+    ]
+
+    last-is : (o' : Objects) → t' ≡ Some o' → both.last ≡ o'
+    last-is o' at' = some-same both.last o' (sym both.there_last ∙ at')
+
+  twice-handed : (r : Result PollAnswer SlateError) → PollsTwice (by_objects (Some o)) x made lease moment old (record { objects = Some o; faults = f }) r new (record { objects = t'; faults = f' }) → (o' : Objects) → t' ≡ Some o' → kept_seen new o' line
+  twice-handed (Ok answer) p o' at' = subst (λ g. kept_seen g o' line) (sym (p.answers).1) (subst (λ s. kept_seen p.middle s line) (last-is (Ok answer) p o' at') (then-seen (Ok answer) p))
+  twice-handed (Err e) p o' at' =
+      let here = subst (λ s. kept_seen p.middle s line) (last-is (Err e) p o' at') (then-seen (Err e) p) in
+      subst (λ g. kept_seen g o' line) (sym p.failed) (relabelled o' line p.middle (p.middle).lease (poll_result e) here)
+
+pub polls-handed : (x : Option Extractor) (made : ℕ) (t t' : Option Objects) (f f' : ℕ) (lease : Lease) (moment : ℤ) (old : Follower) (result : Result PollAnswer SlateError) (new : Follower) →
+    PollsLeased (by_objects t) x made lease moment old (record { objects = t; faults = f }) result new (record { objects = t'; faults = f' }) → old.mode ≡ ManagedCheckpoint →
+    (o o' : Objects) (line : Line) → t ≡ Some o → t' ≡ Some o' → IsContent t line → kept_seen old o line → kept_seen new o' line
+polls-handed x made t t' f f' lease moment old result new (inl once) managed o o' line at at' stored seen = lease-handed x made t t' f f' lease moment old result new once.round managed o o' line at at' stored seen
+polls-handed x made t t' f f' lease moment old result new (inr twice) managed o o' line at at' stored seen =
+    let p = subst (λ s. PollsTwice (by_objects s) x made lease moment old (record { objects = s; faults = f }) result new (record { objects = t'; faults = f' })) at twice in
+    twice-handed x made lease moment old o f t' f' new managed line (subst (λ s. IsContent s line) at stored) seen result p o' at'

@@ -14,6 +14,7 @@ use Rattle.slate_store.specs.declared.objects.VersionedManifest.{VersionedManife
 use Rattle.slate_store.specs.declared.refusals.StoreRefusal.TheVariants as refusals
 use Rattle.slate_store.specs.declared.reader_modes.DbReaderMode.{DbReaderMode}
 use Rattle.slate_store.specs.declared.reader_modes.DbReaderMode.TheVariants.{Checkpoint, FollowLatest, ManagedCheckpoint}
+use Rattle.slate_model.proofs.Leased.{leased-is, put-low}
 use Rattle.slate_model.proofs.Maintained.{put-latest}
 use Rattle.slate_model.proofs.Reduced.{some-same}
 use Rattle.slate_model.specs.Changes.{after_part}
@@ -32,22 +33,9 @@ use Rattle.slate_follow.specs.Rebuilding.{Builds}
 use Rattle.slate_follow.proofs.Rebuilt.{builds-sees, has-all}
 
 -- ---- the manifest that a plan puts
--- what gives a lease gives its checkpoint
-leased-from : (lifetime : ℕ) (plan : Plan AnyCheckpoint) (next : VersionedManifest) (given : Lease) → leased lifetime plan ≡ Ok (Some next, given) → (checkpoint : AnyCheckpoint) × (plan ≡ Ok (Some next, checkpoint))
-leased-from lifetime (Ok (found, checkpoint)) next given is =
-    let pair : (found, lease_of lifetime checkpoint) ≡ (Some next, given) = cc in
-    (checkpoint, ap (λ (p : Option VersionedManifest × Lease). Ok (p.0, checkpoint)) pair)
-leased-from lifetime (Err refusal) next given is = absurd (cc)
-
 -- it is the one that follows, with other checkpoints
 followed-next : (latest next next1 : VersionedManifest) (checkpoint checkpoint1 : AnyCheckpoint) → puts_next latest next1 checkpoint1 ≡ Ok (Some next, checkpoint) → next ≡ next1
-followed-next latest next next1 checkpoint checkpoint1 is = by (nat_lt latest.id 18446744073709551615) is where
-  by : (b : Bool) → cond {A = Plan AnyCheckpoint} b (Ok (Some next1, checkpoint1)) (Err refusals.InvalidDBState) ≡ Ok (Some next, checkpoint) → next ≡ next1
-  by true is =
-      let pair : (Some next1, checkpoint1) ≡ (Some next, checkpoint) = cc in
-      let same : Some next1 ≡ Some next = ap (λ (p : Option VersionedManifest × AnyCheckpoint). p.0) pair in
-      cc
-  by false is = absurd (cc)
+followed-next latest next next1 checkpoint checkpoint1 is = some-same next next1 (put-low latest next1 checkpoint1 (Some next) checkpoint is).1
 
 -- so a manifest with all of another one but its checkpoints
 abbrev pub HasCheckpoints : (latest next : VersionedManifest) → Type 0
@@ -55,7 +43,7 @@ HasCheckpoints latest next = (checkpoints : List AnyCheckpoint) × (next ≡ wit
 
 pub written-form : (latest : VersionedManifest) (lifetime : ℕ) (moment : ℤ) (next : VersionedManifest) (given : Lease) (replaced : Option (List ℕ)) → leased lifetime (to_write replaced (Some lifetime) moment latest) ≡ Ok (Some next, given) → HasCheckpoints latest next
 written-form latest lifetime moment next given replaced gives =
-    let from = leased-from lifetime (to_write replaced (Some lifetime) moment latest) next given gives in
+    let from = leased-is lifetime (to_write replaced (Some lifetime) moment latest) (Some next) given gives in
     (_, followed-next latest next _ from.0 _ from.1)
 
 -- what keeps content, and puts this manifest after the latest one
@@ -67,7 +55,7 @@ module _ (o : Objects) (latest : VersionedManifest) (is : latest_manifest o ≡ 
   pub written : (replaced : Option (List ℕ)) → leased lifetime (to_write replaced (Some lifetime) moment latest) ≡ Ok (Some next, given) → PutsKept o latest next
   written replaced gives =
       let plan = to_write replaced (Some lifetime) moment in
-      let from = leased-from lifetime (plan latest) next given gives in
+      let from = leased-is lifetime (plan latest) (Some next) given gives in
       record {
         form = written-form latest lifetime moment next given replaced gives;
         keeps = subst (KeepsContent o) (ap (λ cs. after_part 1 cs o) (ap (planned_after plan) is ∙ ap planned from.1)) (write-keeps replaced (Some lifetime) moment 1 o);
@@ -80,7 +68,7 @@ module _ (o : Objects) (latest : VersionedManifest) (is : latest_manifest o ≡ 
   pub renewed : (id : List ℕ) → leased lifetime (to_refresh id lifetime moment latest) ≡ Ok (Some next, given) → PutsKept o latest next
   renewed id gives =
       let plan = to_refresh id lifetime moment in
-      let from = leased-from lifetime (plan latest) next given gives in
+      let from = leased-is lifetime (plan latest) (Some next) given gives in
       record {
         form = end-form id (lease_end moment lifetime) from.0 (found id latest) from.1;
         keeps = subst (KeepsContent o) (ap (λ cs. after_part 1 cs o) (ap (planned_after plan) is ∙ ap planned from.1)) (refresh-keeps id lifetime moment 1 o);

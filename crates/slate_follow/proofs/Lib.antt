@@ -15,6 +15,7 @@ pub mod Leased
 pub mod Planned
 pub mod Rebuilt
 pub mod Refusing
+pub mod Renewing
 pub mod Segmented
 pub mod Taken
 pub mod Trying

@@ -1,5 +1,5 @@
 -- What the steps of a reader that keeps a checkpoint of its own put and answer.
-use Rattle.std.specs.Prelude.{◌≡◌, ℕ, ℤ, ◌+◌, ◌*◌, ◌≤◌, ◌⊎◌, is_none, if◌then◌else◌, Bool, true, false, max, List, [], ◌++◌, length, Option, Some, None, Result, Ok, Err, IfErr}
+use Rattle.std.specs.Prelude.{◌≡◌, ℕ, ℤ, ◌+◌, ◌*◌, ◌≤◌, ◌⊎◌, is_none, if◌then◌else◌, Bool, true, false, max, List, [], ◌++◌, length, Option, Some, None, Result, Ok, Err, IfErr, IfSome, IsSome}
 use Rattle.slate_types.specs.declared.batches.Batch.{Batch}
 use Rattle.slate_types.specs.Line.{batches_above}
 use Rattle.slate_types.specs.declared.store_errors.StoreFault.TheVariants.{Unavailable}
@@ -18,12 +18,13 @@ use Rattle.slate_errors.specs.declared.errors.SlateError.TheVariants as errors
 use Rattle.slate_model.specs.Changes.{PartMade, after_part}
 use Rattle.slate_model.specs.Follower.{Follower, number, rebuilt}
 use Rattle.slate_model.specs.Followed.{last_read}
-use Rattle.slate_model.specs.Lease.{differs, is_due, leased, to_keep}
-use Rattle.slate_model.specs.Managed.{follower_under}
+use Rattle.slate_model.specs.Lease.{differs, is_due, leased, renews_taken, to_keep}
+use Rattle.slate_model.specs.Managed.{IsOpenAt, follower_under, poll_result}
 use Rattle.slate_model.specs.Segments.{Extractor}
 use Rattle.slate_model.specs.Stores.{Stands, kept_seen}
 use Rattle.slate_model.specs.declared.answers.PollAnswer.{PollAnswer}
 use Rattle.slate_model.specs.declared.leases.Lease.{Lease}
+use Rattle.slate_follow.specs.declared.keeps.Kept.{Kept}
 use Rattle.slate_follow.specs.Rebuilding.{Builds, GoingLacks, Lacks, Reaches, TakesUnder, TakingLacks, followed, last_above, new_logs, reached}
 
 -- the latest manifest, or why it wasn't read
@@ -55,6 +56,17 @@ abbrev pub tried : {A : Type 0} → Result (Option A) SlateError → Result A Sl
 tried (Ok (Some answer)) = Ok answer
 tried (Ok None) = Err (errors.TransactionalObjectTimeout 8)
 tried (Err error) = Err error
+
+-- so a try of a round of a poll
+abbrev pub answered : Result (Option Kept) SlateError → Result PollAnswer SlateError
+answered (Ok (Some kept)) = Ok kept.answer
+answered (Ok None) = Err (errors.TransactionalObjectTimeout 8)
+answered (Err error) = Err error
+
+-- and all of them
+abbrev pub kept_answer : Result Kept SlateError → Result PollAnswer SlateError
+kept_answer (Ok kept) = Ok kept.answer
+kept_answer (Err error) = Err error
 
 abbrev pub put_tried : Result Bool SlateError → Result (Unit {0}) SlateError
 put_tried (Ok true) = Ok tt
@@ -165,7 +177,24 @@ KeepLacks extractor lease moment follower objects =
     ⊎ (((from : Follower) × ComesFrom follower from objects × NextLacks extractor (leased lease.lifetime (to_write (Some lease.id) (Some lease.lifetime) moment latest)) from objects)
     ⊎ OnLacks extractor follower latest objects))
 
--- How often a poll of a reader that keeps a checkpoint calls a store, where log files are to be read so often: it reads the latest
+-- ---- a second put
+-- a reader moves so at a round of a poll: by whether the latest manifest differs from its view
+abbrev pub MovesBy : (moved : Bool) → Follower → Objects → Type 0
+MovesBy moved old objects = (latest : VersionedManifest) → latest_manifest objects ≡ Some latest → moved ≡ differs old.view latest
+
+-- the manifest that a reader goes by has the checkpoint of its lease, so that this may be renewed after it
+abbrev pub HasTaken : Follower → Type 0
+HasTaken follower = IfSome follower.lease (λ lease. IsSome (found lease.id follower.view))
+
+-- What an error of a poll leaves of a reader: what it was, but for its lease, or what a round made of it that answered; the error
+-- is recorded.
+abbrev pub LeftBy : SlateError → (old new : Follower) → Type 0
+LeftBy error old new =
+    (new ≡ record old { lease = new.lease; result = poll_result error })
+    ⊎ ((middle : Follower) × (answer : PollAnswer) × IsOpenAt old.skips middle answer × (new ≡ record middle { result = poll_result error }))
+
+-- ---- calls
+-- How often a round of a poll of a reader that keeps a checkpoint calls a store, where log files are to be read so often: it reads the latest
 -- manifest and asks for the last log file, and puts a manifest where its view differs or its lease is due; where its checkpoint isn't
 -- there then, it asks for the last log file again, and may read those again that are left after a missing one.
 abbrev pub calls_to_keep : (view : VersionedManifest) → Lease → (moment : ℤ) → (latest : VersionedManifest) → (logs : ℕ) → ℕ
@@ -174,6 +203,12 @@ calls_to_keep view lease moment latest logs =
     else (if is_due moment lease then (if is_none (found lease.id latest) then 2 * logs + 4 else logs + 3) else logs + 2)
 
 -- at most so often, where it answers Ok
+abbrev pub CallsRound : Objects → Follower → Lease → (moment : ℤ) → (calls calls' : ℕ) → Type 0
+CallsRound objects old lease moment calls calls' =
+    (latest : VersionedManifest) → latest_manifest objects ≡ Some latest → calls' ≤ calls + calls_to_keep old.view lease moment latest (new_logs old latest objects)
+
+-- and a poll once more, where it renews a lease at once that it took
 abbrev pub CallsKeeping : Objects → Follower → Lease → (moment : ℤ) → (calls calls' : ℕ) → Type 0
 CallsKeeping objects old lease moment calls calls' =
-    (latest : VersionedManifest) → latest_manifest objects ≡ Some latest → calls' ≤ calls + calls_to_keep old.view lease moment latest (new_logs old latest objects)
+    (latest : VersionedManifest) → latest_manifest objects ≡ Some latest →
+    calls' ≤ calls + calls_to_keep old.view lease moment latest (new_logs old latest objects) + (if renews_taken old.view lease moment latest then 1 else 0)

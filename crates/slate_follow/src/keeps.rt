@@ -9,13 +9,13 @@ ghost use Rattle.slate_store.specs.Refusals.{checkpoint_changes, planned};
 ghost use Rattle.slate_replay.specs.declared.replays.Replayed.TheVariants.{Whole};
 ghost use Rattle.slate_model.specs.Follower.{Follower, HasSegments, number};
 ghost use Rattle.slate_model.specs.Known.{CountsFaults, known};
-ghost use Rattle.slate_model.specs.Lease.{differs, leased, to_keep};
-ghost use Rattle.slate_model.specs.Managed.{IsOpenAt, Keeps, KeepsLease, KeepsOrNot, PutsPlanned, poll_result, unrefused};
+ghost use Rattle.slate_model.specs.Lease.{differs, is_due, leased, to_keep};
+ghost use Rattle.slate_model.specs.Managed.{IsOpenAt, Keeps, KeepsOrNot, PollsLeased, PutsPlanned, PutsRenewal, poll_result, unrefused};
 ghost use Rattle.slate_model.specs.Segments.{Extractor, IsExtractor};
 ghost use Rattle.slate_model.specs.Open.{replayed_logs};
 ghost use Rattle.slate_model.specs.Stores.{Stands, by_objects};
 ghost use Rattle.slate_follow.specs.Growing.{IsPushed, added_to, settled};
-ghost use Rattle.slate_follow.specs.Keeping.{CallsKeeping, IsNews, IsOfPolling, KeepLacks, MayLack, NewsLacks, PutsBy, ReplaceLacks, TakesLatest, put_tried, tried};
+ghost use Rattle.slate_follow.specs.Keeping.{CallsKeeping, CallsRound, HasTaken, IsNews, IsOfPolling, KeepLacks, LeftBy, MayLack, MovesBy, NewsLacks, PutsBy, ReplaceLacks, TakesLatest, answered, kept_answer, put_tried};
 ghost use Rattle.slate_follow.specs.Answering.{IsOfPoll};
 ghost use Rattle.slate_follow.specs.Rebuilding.{Truncates, answer_of, new_logs};
 
@@ -30,6 +30,14 @@ use slate_replay::Replayed;
 use slate_store::{COMMIT_TRIES, Store, VersionedManifest, find_checkpoint};
 use slate_types::{PrefixExtractor, Seq};
 use std::alloc::Global;
+
+/// How a round of a poll kept the lease.
+#[derive(Clone, Copy)]
+pub(crate) struct Kept {
+    answer: PollAnswer,
+    /// Whether the reader goes by another manifest since its view differed from the latest one.
+    moved: bool,
+}
 
 /// How a reader took what log files have that it hadn't replayed yet. By the number of its last batch, its mark and, where these are
 /// others now, its segments before that it is as it was then.
@@ -54,21 +62,60 @@ impl FollowerState {
         requires open_ { self.old.result ≡ None }
         requires leased { self.old.lease ≡ Some lease.now }
         ensures faults { CountsFaults (S.faults store.old) (S.faults store.new) result }
-        ensures keeps { (x : Option Extractor) → IsExtractor E.may_name E.may_extract (option_copied extractor.entry) x → (made : ℕ) × KeepsLease (by_objects (S.objects store.old)) x made lease.now moment self.old
+        ensures keeps { (x : Option Extractor) → IsExtractor E.may_name E.may_extract (option_copied extractor.entry) x → (made : ℕ) × PollsLeased (by_objects (S.objects store.old)) x made lease.now moment self.old
             (known S.objects S.faults store.old) result self.new (known S.objects S.faults store.new) }
-        ensures left { IfErr result (λ error. self.new ≡ record self.old { lease = self.new.lease; result = poll_result error }) }
+        ensures left { IfErr result (λ error. LeftBy error self.old self.new) }
         ensures truncates { IfOk result (λ answer. IfSome (S.objects store.old) (λ o. Truncates o self.new answer)) }
         ensures kind { IfErr result (IsOfPoll ManagedCheckpoint) }
         ensures costs { IfOk result (λ _. IfSome (S.objects store.old) (λ o. CallsKeeping o self.old lease.now moment (S.calls store.old) (S.calls store.new))) }
         ensures calls { IfSome (S.objects store.old) (λ o. S.calls store.new ≤ S.calls store.old + 9 * (replayed_logs o + 3)) }
     {
-        match self.keep_lease(alloc, store, lease, extractor, moment) {
-            Ok(answer) => Ok(answer),
+        let kept = match self.keep_lease(alloc, store, lease, extractor, moment) {
+            Ok(kept) => kept,
+            Err(error) => {
+                self.close_by(&error);
+                return Err(error);
+            }
+        };
+        if !kept.moved {
+            return Ok(kept.answer);
+        }
+        match self.renew_taken(alloc, store, moment) {
+            Ok(()) => Ok(kept.answer),
             Err(error) => {
                 self.close_by(&error);
                 Err(error)
             }
         }
+    }
+
+    /// Renews a lease that was taken in place of another, where it is due at the same moment: it ends at the greatest one then,
+    /// and does so still. Where a manifest is stored already under the id of the one that is put, that is left to the next poll.
+    fn renew_taken<S: Store>(
+        &self,
+        alloc: Global,
+        store: &mut S,
+        moment: i64,
+    ) -> Result<(), SlateError>
+        requires there { HasTaken self.now }
+        ensures faults { CountsFaults (S.faults store.old) (S.faults store.new) result }
+        ensures puts { IfSome self.now.lease (λ lease. is_due moment lease ≡ true →
+            WhereModelled (λ o o'. (made : ℕ) × PutsRenewal Stands (to_refresh lease.id lease.lifetime moment self.now.view) o result made o') (S.objects store.old) (S.objects store.new)) }
+        ensures undue { IfSome self.now.lease (λ lease. is_due moment lease ≡ false → (result ≡ Ok tt) × (store.new ≡ store.old)) }
+        ensures none { self.now.lease ≡ None → (result ≡ Ok tt) × (store.new ≡ store.old) }
+        ensures kind { IfErr result (IsOfPoll ManagedCheckpoint) }
+        ensures calls { S.calls store.new ≤ S.calls store.old + 1 }
+    {
+        let Some(taken) = self.lease else {
+            return Ok(());
+        };
+        if !taken.is_due(moment) {
+            return Ok(());
+        }
+        let view = self.status.manifest();
+        let (next, _same) = with_renewed_lease(alloc, view, &taken, moment)?;
+        put_next(alloc, store, &next)?;
+        Ok(())
     }
 
     /// Records an error of a poll, but no want of memory.
@@ -89,25 +136,27 @@ impl FollowerState {
         lease: &Lease,
         extractor: Option<&E>,
         moment: i64,
-    ) -> Result<PollAnswer, SlateError>
+    ) -> Result<Kept, SlateError>
         requires open_ { self.old.result ≡ None }
         requires leased { self.old.lease ≡ Some lease.now }
         ensures faults { CountsFaults (S.faults store.old) (S.faults store.new) result }
-        ensures puts { WhereModelled (λ o o'. (made : ℕ) × PutsPlanned Stands MayLack (to_keep self.old.view lease.now moment) o result made o'
+        ensures puts { WhereModelled (λ o o'. (made : ℕ) × PutsPlanned Stands MayLack (to_keep self.old.view lease.now moment) o (kept_answer result) made o'
             × IfErr result (λ _. KeepsOrNot (to_keep self.old.view lease.now moment) made self.old o self.new)) (S.objects store.old) (S.objects store.new) }
-        ensures answers { IfOk result (λ answer. IsOpenAt self.old.skips self.new answer) }
-        ensures keeps { IfOk result (λ answer. WhereModelled (λ o o'. Keeps (by_objects (S.objects store.old)) lease.now moment self.old o self.new answer o') (S.objects store.old) (S.objects store.new)) }
+        ensures answers { IfOk result (λ kept. IsOpenAt self.old.skips self.new kept.answer) }
+        ensures keeps { IfOk result (λ kept. WhereModelled (λ o o'. Keeps (by_objects (S.objects store.old)) lease.now moment self.old o self.new kept.answer o') (S.objects store.old) (S.objects store.new)) }
         ensures failed { IfErr result (λ _. self.new ≡ record self.old { lease = self.new.lease }) }
-        ensures truncates { IfOk result (λ answer. IfSome (S.objects store.old) (λ o. Truncates o self.new answer)) }
+        ensures truncates { IfOk result (λ kept. IfSome (S.objects store.old) (λ o. Truncates o self.new kept.answer)) }
         ensures kind { IfErr result (IsOfPoll ManagedCheckpoint) }
-        ensures costs { IfOk result (λ _. IfSome (S.objects store.old) (λ o. CallsKeeping o self.old lease.now moment (S.calls store.old) (S.calls store.new))) }
-        ensures calls { IfSome (S.objects store.old) (λ o. S.calls store.new ≤ S.calls store.old + 9 * (replayed_logs o + 3)) }
+        ensures costs { IfOk result (λ _. IfSome (S.objects store.old) (λ o. CallsRound o self.old lease.now moment (S.calls store.old) (S.calls store.new))) }
+        ensures calls { IfSome (S.objects store.old) (λ o. S.calls store.new ≤ S.calls store.old + (9 * replayed_logs o + 26)) }
+        ensures moved { IfOk result (λ kept. IfSome (S.objects store.old) (MovesBy kept.moved self.old)) }
+        ensures there { IfOk result (λ kept. kept.moved ≡ true → HasTaken self.new) }
         ensures segments { (x : Option Extractor) → IsExtractor E.may_name E.may_extract (option_copied extractor.entry) x → HasSegments x self.old → HasSegments x self.new }
         ensures lacks { (x : Option Extractor) → IsExtractor E.may_name E.may_extract (option_copied extractor.entry) x → result ≡ Err SlateError.InvalidDBState → IfSome (S.objects store.old) (λ o. KeepLacks x lease.now moment self.old o) }
     {
         for earlier in 0..COMMIT_TRIES {
-            if let Some(answer) = self.try_to_keep(alloc, store, lease, extractor, moment)? {
-                return Ok(answer);
+            if let Some(kept) = self.try_to_keep(alloc, store, lease, extractor, moment)? {
+                return Ok(kept);
             }
         }
         Err(SlateError::TransactionalObjectTimeout {
@@ -123,32 +172,38 @@ impl FollowerState {
         lease: &Lease,
         extractor: Option<&E>,
         moment: i64,
-    ) -> Result<Option<PollAnswer>, SlateError>
+    ) -> Result<Option<Kept>, SlateError>
         requires open_ { self.old.result ≡ None }
         requires leased { self.old.lease ≡ Some lease.now }
         ensures faults { CountsFaults (S.faults store.old) (S.faults store.new) result }
-        ensures puts { WhereModelled (λ o o'. (made : ℕ) × PutsPlanned Stands MayLack (to_keep self.old.view lease.now moment) o (tried result) made o'
-            × IfErr (tried result) (λ _. KeepsOrNot (to_keep self.old.view lease.now moment) made self.old o self.new)) (S.objects store.old) (S.objects store.new) }
-        ensures answers { IfOk (tried result) (λ answer. IsOpenAt self.old.skips self.new answer) }
-        ensures keeps { IfOk (tried result) (λ answer. WhereModelled (λ o o'. Keeps (by_objects (S.objects store.old)) lease.now moment self.old o self.new answer o') (S.objects store.old) (S.objects store.new)) }
-        ensures failed { IfErr (tried result) (λ _. self.new ≡ record self.old { lease = self.new.lease }) }
+        ensures puts { WhereModelled (λ o o'. (made : ℕ) × PutsPlanned Stands MayLack (to_keep self.old.view lease.now moment) o (answered result) made o'
+            × IfErr (answered result) (λ _. KeepsOrNot (to_keep self.old.view lease.now moment) made self.old o self.new)) (S.objects store.old) (S.objects store.new) }
+        ensures answers { IfOk (answered result) (λ answer. IsOpenAt self.old.skips self.new answer) }
+        ensures keeps { IfOk (answered result) (λ answer. WhereModelled (λ o o'. Keeps (by_objects (S.objects store.old)) lease.now moment self.old o self.new answer o') (S.objects store.old) (S.objects store.new)) }
+        ensures failed { IfErr (answered result) (λ _. self.new ≡ record self.old { lease = self.new.lease }) }
         ensures again { result ≡ Ok None → (self.new ≡ self.old) × (S.objects store.new ≡ S.objects store.old) }
-        ensures truncates { IfOk (tried result) (λ answer. IfSome (S.objects store.old) (λ o. Truncates o self.new answer)) }
+        ensures truncates { IfOk (answered result) (λ answer. IfSome (S.objects store.old) (λ o. Truncates o self.new answer)) }
         ensures kind { IfErr result (IsOfPoll ManagedCheckpoint) }
-        ensures free { IfOk (tried result) (λ _. IfSome (S.objects store.old) (λ o. Stands (checkpoint_changes (to_keep self.old.view lease.now moment) o) o → ⊥)) }
-        ensures costs { IfOk (tried result) (λ _. IfSome (S.objects store.old) (λ o. CallsKeeping o self.old lease.now moment (S.calls store.old) (S.calls store.new))) }
+        ensures free { IfOk (answered result) (λ _. IfSome (S.objects store.old) (λ o. Stands (checkpoint_changes (to_keep self.old.view lease.now moment) o) o → ⊥)) }
+        ensures costs { IfOk (answered result) (λ _. IfSome (S.objects store.old) (λ o. CallsRound o self.old lease.now moment (S.calls store.old) (S.calls store.new))) }
         ensures calls { IfSome (S.objects store.old) (λ o. S.calls store.new ≤ S.calls store.old + 2 * (replayed_logs o + 2)) }
         ensures calls_again { result ≡ Ok None → IfSome (S.objects store.old) (λ o. S.calls store.new ≤ S.calls store.old + (replayed_logs o + 3)) }
+        ensures moved { IfOk result (λ found. IfSome found (λ kept. IfSome (S.objects store.old) (MovesBy kept.moved self.old))) }
+        ensures there { IfOk result (λ found. IfSome found (λ kept. kept.moved ≡ true → HasTaken self.new)) }
         ensures segments { (x : Option Extractor) → IsExtractor E.may_name E.may_extract (option_copied extractor.entry) x → HasSegments x self.old → HasSegments x self.new }
         ensures lacks { (x : Option Extractor) → IsExtractor E.may_name E.may_extract (option_copied extractor.entry) x → result ≡ Err SlateError.InvalidDBState → IfSome (S.objects store.old) (λ o. KeepLacks x lease.now moment self.old o) }
     {
         let latest = latest_of(alloc, store)?;
         if differs(self.status.manifest(), &latest) {
-            return self.replace_lease(alloc, store, lease, &latest, extractor, moment);
+            return self.replace_lease(alloc, store, lease, &latest, extractor, moment, true);
         }
         let news = self.news(alloc, store, &latest, extractor)?;
         if !lease.is_due(moment) {
-            return Ok(Some(self.take_news(alloc, &news)));
+            let answer = self.take_news(alloc, &news);
+            return Ok(Some(Kept {
+                answer,
+                moved: false,
+            }));
         }
         if find_checkpoint(&latest, lease.id).is_none() {
             return self.replace_missing(alloc, store, lease, &latest, news, extractor, moment);
@@ -164,7 +219,11 @@ impl FollowerState {
             self.drop_news(news);
             return Ok(None);
         }
-        Ok(Some(self.take_news(alloc, &news)))
+        let answer = self.take_news(alloc, &news);
+        Ok(Some(Kept {
+            answer,
+            moved: false,
+        }))
     }
 
     /// Puts a manifest after the latest one with a new checkpoint in place of its own, and goes by that manifest. It answers
@@ -177,20 +236,23 @@ impl FollowerState {
         latest: &VersionedManifest,
         extractor: Option<&E>,
         moment: i64,
-    ) -> Result<Option<PollAnswer>, SlateError>
+        moved: bool,
+    ) -> Result<Option<Kept>, SlateError>
         requires open_ { self.old.result ≡ None }
         requires leased { self.old.lease ≡ Some lease.now }
         ensures faults { CountsFaults (S.faults store.old) (S.faults store.new) result }
-        ensures puts { WhereModelled (λ o o'. PutsBy MayLack (leased lease.now.lifetime (to_write (Some lease.now.id) (Some lease.now.lifetime) moment latest.now)) self.old.lease o (tried result) self.new.lease o') (S.objects store.old) (S.objects store.new) }
-        ensures taken { IfOk (tried result) (λ answer. IfSome (S.objects store.new) (λ o'. TakesLatest (leased lease.now.lifetime (to_write (Some lease.now.id) (Some lease.now.lifetime) moment latest.now)) self.old o' self.new answer)) }
-        ensures answers { IfOk (tried result) (λ answer. IsOpenAt self.old.skips self.new answer) }
-        ensures failed { IfErr (tried result) (λ _. self.new ≡ record self.old { lease = self.new.lease }) }
+        ensures puts { WhereModelled (λ o o'. PutsBy MayLack (leased lease.now.lifetime (to_write (Some lease.now.id) (Some lease.now.lifetime) moment latest.now)) self.old.lease o (answered result) self.new.lease o') (S.objects store.old) (S.objects store.new) }
+        ensures taken { IfOk (answered result) (λ answer. IfSome (S.objects store.new) (λ o'. TakesLatest (leased lease.now.lifetime (to_write (Some lease.now.id) (Some lease.now.lifetime) moment latest.now)) self.old o' self.new answer)) }
+        ensures answers { IfOk (answered result) (λ answer. IsOpenAt self.old.skips self.new answer) }
+        ensures failed { IfErr (answered result) (λ _. self.new ≡ record self.old { lease = self.new.lease }) }
         ensures again { result ≡ Ok None → (self.new ≡ self.old) × (S.objects store.new ≡ S.objects store.old) }
-        ensures truncates { IfOk (tried result) (λ answer. IfSome (S.objects store.old) (λ o. Truncates o self.new answer)) }
+        ensures truncates { IfOk (answered result) (λ answer. IfSome (S.objects store.old) (λ o. Truncates o self.new answer)) }
         ensures kind { IfErr result (IsOfPoll ManagedCheckpoint) }
-        ensures free { IfOk (tried result) (λ _. IfSome (S.objects store.old) (λ o. Stands (planned (leased lease.now.lifetime (to_write (Some lease.now.id) (Some lease.now.lifetime) moment latest.now))) o → ⊥)) }
+        ensures free { IfOk (answered result) (λ _. IfSome (S.objects store.old) (λ o. Stands (planned (leased lease.now.lifetime (to_write (Some lease.now.id) (Some lease.now.lifetime) moment latest.now))) o → ⊥)) }
         ensures calls { IfSome (S.objects store.old) (λ o. S.calls store.new ≤ S.calls store.old + (new_logs self.old latest.now o + 2)) }
         ensures calls_again { result ≡ Ok None → S.calls store.new ≤ S.calls store.old + 1 }
+        ensures moved { IfOk result (λ found. IfSome found (λ kept. kept.moved ≡ moved)) }
+        ensures there { IfOk result (λ found. IfSome found (λ _. HasTaken self.new)) }
         ensures segments { (x : Option Extractor) → IsExtractor E.may_name E.may_extract (option_copied extractor.entry) x → HasSegments x self.old → HasSegments x self.new }
         ensures lacks { (x : Option Extractor) → IsExtractor E.may_name E.may_extract (option_copied extractor.entry) x → result ≡ Err SlateError.InvalidDBState →
             IfSome (S.objects store.old) (λ o. ReplaceLacks x (leased lease.now.lifetime (to_write (Some lease.now.id) (Some lease.now.lifetime) moment latest.now)) self.old o) }
@@ -203,7 +265,7 @@ impl FollowerState {
         }
         self.lease = Some(taken);
         match self.follow(alloc, store, next, extractor) {
-            Ok(answer) => Ok(Some(answer)),
+            Ok(answer) => Ok(Some(Kept { answer, moved })),
             Err(error) => Err(poll_error(error)),
         }
     }
@@ -218,28 +280,29 @@ impl FollowerState {
         news: News,
         extractor: Option<&E>,
         moment: i64,
-    ) -> Result<Option<PollAnswer>, SlateError>
+    ) -> Result<Option<Kept>, SlateError>
         requires open_ { self.old.result ≡ None }
         requires leased { self.old.lease ≡ Some lease.now }
         requires low { self.old.line.floor ≤ news.number }
         requires high { news.number ≤ number self.old }
         ensures faults { CountsFaults (S.faults store.old) (S.faults store.new) result }
-        ensures puts { WhereModelled (λ o o'. PutsBy MayLack (leased lease.now.lifetime (to_write (Some lease.now.id) (Some lease.now.lifetime) moment latest.now)) self.old.lease o (tried result) self.new.lease o') (S.objects store.old) (S.objects store.new) }
-        ensures taken { IfOk (tried result) (λ answer. IfSome (S.objects store.new) (λ o'. TakesLatest (leased lease.now.lifetime (to_write (Some lease.now.id) (Some lease.now.lifetime) moment latest.now)) self.old o' self.new answer)) }
-        ensures answers { IfOk (tried result) (λ answer. IsOpenAt self.old.skips self.new answer) }
-        ensures failed { (before : Follower) → IsPushed before news.number news.mark news.segments self.old → IfErr (tried result) (λ _. self.new ≡ record before { lease = self.new.lease }) }
+        ensures puts { WhereModelled (λ o o'. PutsBy MayLack (leased lease.now.lifetime (to_write (Some lease.now.id) (Some lease.now.lifetime) moment latest.now)) self.old.lease o (answered result) self.new.lease o') (S.objects store.old) (S.objects store.new) }
+        ensures taken { IfOk (answered result) (λ answer. IfSome (S.objects store.new) (λ o'. TakesLatest (leased lease.now.lifetime (to_write (Some lease.now.id) (Some lease.now.lifetime) moment latest.now)) self.old o' self.new answer)) }
+        ensures answers { IfOk (answered result) (λ answer. IsOpenAt self.old.skips self.new answer) }
+        ensures failed { (before : Follower) → IsPushed before news.number news.mark news.segments self.old → IfErr (answered result) (λ _. self.new ≡ record before { lease = self.new.lease }) }
         ensures again { result ≡ Ok None → (self.new.lease ≡ self.old.lease) × (S.objects store.new ≡ S.objects store.old) }
-        ensures truncates { IfOk (tried result) (λ answer. IfSome (S.objects store.old) (λ o. Truncates o self.new answer)) }
+        ensures truncates { IfOk (answered result) (λ answer. IfSome (S.objects store.old) (λ o. Truncates o self.new answer)) }
         ensures kind { IfErr result (IsOfPoll ManagedCheckpoint) }
-        ensures free { IfOk (tried result) (λ _. IfSome (S.objects store.old) (λ o. Stands (planned (leased lease.now.lifetime (to_write (Some lease.now.id) (Some lease.now.lifetime) moment latest.now))) o → ⊥)) }
+        ensures free { IfOk (answered result) (λ _. IfSome (S.objects store.old) (λ o. Stands (planned (leased lease.now.lifetime (to_write (Some lease.now.id) (Some lease.now.lifetime) moment latest.now))) o → ⊥)) }
         ensures calls { IfSome (S.objects store.old) (λ o. S.calls store.new ≤ S.calls store.old + (new_logs self.old latest.now o + 2)) }
         ensures calls_again { result ≡ Ok None → S.calls store.new ≤ S.calls store.old + 1 }
-        ensures segments { (x : Option Extractor) → IsExtractor E.may_name E.may_extract (option_copied extractor.entry) x → IfOk (tried result) (λ _. HasSegments x self.old → HasSegments x self.new) }
+        ensures moved { IfOk result (λ found. IfSome found (λ kept. kept.moved ≡ false)) }
+        ensures segments { (x : Option Extractor) → IsExtractor E.may_name E.may_extract (option_copied extractor.entry) x → IfOk (answered result) (λ _. HasSegments x self.old → HasSegments x self.new) }
         ensures lacks { (x : Option Extractor) → IsExtractor E.may_name E.may_extract (option_copied extractor.entry) x → result ≡ Err SlateError.InvalidDBState →
             IfSome (S.objects store.old) (λ o. ReplaceLacks x (leased lease.now.lifetime (to_write (Some lease.now.id) (Some lease.now.lifetime) moment latest.now)) self.old o) }
     {
-        match self.replace_lease(alloc, store, lease, latest, extractor, moment) {
-            Ok(Some(answer)) => Ok(Some(answer)),
+        match self.replace_lease(alloc, store, lease, latest, extractor, moment, false) {
+            Ok(Some(kept)) => Ok(Some(kept)),
             Ok(None) => {
                 self.drop_news(news);
                 Ok(None)

@@ -9,12 +9,12 @@ ghost use Rattle.slate_model.specs.Follower.{HasSegments, is_managed, is_pinned}
 ghost use Rattle.slate_model.specs.Known.{FaultsRise, IsContent, known};
 ghost use Rattle.slate_types.specs.Line.{Line};
 ghost use Rattle.slate_store.specs.Objects.{Objects};
-ghost use Rattle.slate_model.specs.Managed.{OpensManaged, PollsManaged, TakesLease, poll_result};
+ghost use Rattle.slate_model.specs.Managed.{OpensManaged, PollsManaged, TakesLease};
 ghost use Rattle.slate_model.specs.Segments.{Extractor, IsExtractor};
 ghost use Rattle.slate_model.specs.Open.{replayed_logs};
 ghost use Rattle.slate_model.specs.Stores.{by_objects, kept_seen};
 ghost use Rattle.slate_follow.specs.Answering.{IsOfLatest, IsOfOpening, IsOfPoll, IsOfTaking};
-ghost use Rattle.slate_follow.specs.Keeping.{CallsKeeping};
+ghost use Rattle.slate_follow.specs.Keeping.{CallsKeeping, LeftBy};
 ghost use Rattle.slate_follow.specs.Rebuilding.{CallsContinuing, CallsOpening, CallsRebuilding, Continues, ReplaysView, Truncates, poll_error, polled};
 
 use crate::leases::{latest_of, lease_refusal, take_lease};
@@ -181,6 +181,9 @@ impl FollowerState {
     /// `moment` is after the lease's end less half the lifetime, rounded down | the lease renewed, to end a lifetime after `moment`
     /// the same, and a sweep took its checkpoint out | a new one; it goes by that manifest
     ///
+    /// Where it puts a new checkpoint in the first case and half the lifetime after `moment` is past the greatest moment, at which
+    /// the new lease ends then, that is due at once: it is renewed in the same poll, by a second manifest.
+    ///
     /// So it keeps its checkpoint, and no sweep removes a table that it reads, while the moments of its polls and of sweeps are
     /// less than half the lifetime after its last poll that answered, or its opening.
     ///
@@ -199,7 +202,8 @@ impl FollowerState {
     ///
     /// Where it answers Ok it reads the latest manifest, asks for the last log file, and reads the log files above both the
     /// replay mark and its own mark, or all above the replay mark where its batches don't reach the manifest's tables. A managed
-    /// one besides puts a manifest in the cases above, and where its checkpoint was missing asks and reads once more what is left.
+    /// one besides puts a manifest in the cases above, and where its checkpoint was missing asks and reads once more what is left;
+    /// it puts two where it renews a lease at once.
     /// Whatever it answers, it calls the store at most nine times for each log file above the replay mark, and 27 times besides;
     /// a closed reader and one of a checkpoint not at all.
     ///
@@ -209,9 +213,10 @@ impl FollowerState {
     ///
     /// # What stands after
     ///
-    /// After `Truncated` the reader has the batches before what is missing. After an error it sees what it saw. Of one that
-    /// keeps a checkpoint each error but `NoMemory` is recorded, and closes it; its checkpoint is left to lapse. In the other
-    /// modes it closes nothing: the next one may go on.
+    /// After `Truncated` the reader has the batches before what is missing. After an error it sees what it saw; where only the
+    /// renewal of a lease failed that the poll had taken, it sees what it would see after `Whole`. Of one that keeps a checkpoint
+    /// each error but `NoMemory` is recorded, and closes it; its checkpoint is left to lapse. In the other modes it closes
+    /// nothing: the next one may go on.
     pub fn poll<S: Store, E: PrefixExtractor>(
         &mut self,
         alloc: Global,
@@ -233,7 +238,7 @@ impl FollowerState {
         ensures truncates { IfOk result (λ a. IfSome (S.objects store.old) (λ o. Truncates o self.new a)) }
         ensures closed { IfSome self.old.result (λ r. result ≡ Err (closed_error r)) }
         ensures left { is_managed self.old.mode ≡ false → IfErr result (λ _. self.new ≡ self.old) }
-        ensures left_managed { is_managed self.old.mode ≡ true → self.old.result ≡ None → IfErr result (λ error. self.new ≡ record self.old { lease = self.new.lease; result = poll_result error }) }
+        ensures left_managed { is_managed self.old.mode ≡ true → self.old.result ≡ None → IfErr result (λ error. LeftBy error self.old self.new) }
         ensures untouched { self.old.result ≢ None → (self.new ≡ self.old) × (store.new ≡ store.old) }
         ensures stays { is_pinned self.old.mode ≡ true → (self.new ≡ self.old) × (store.new ≡ store.old) }
         ensures handed { (x : Option Extractor) → IsExtractor E.may_name E.may_extract (option_copied extractor.entry) x → is_managed self.old.mode ≡ false → is_pinned self.old.mode ≡ false → (o : Objects) (line : Line) →

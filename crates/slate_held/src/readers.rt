@@ -11,7 +11,7 @@ ghost use Rattle.slate_model.specs.Follow.{Polls, Rebuilds, unseen};
 ghost use Rattle.slate_model.specs.Followed.{RefusesLatest, followed_logs};
 ghost use Rattle.slate_model.specs.Follower.{is_managed, is_pinned, number};
 ghost use Rattle.slate_model.specs.Known.{FaultsRise, IsContent, known};
-ghost use Rattle.slate_model.specs.Managed.{ClosesManaged, OpensManaged, PollsManaged, poll_result};
+ghost use Rattle.slate_model.specs.Managed.{ClosesManaged, OpensManaged, PollsManaged};
 ghost use Rattle.slate_model.specs.Object.{Follower};
 ghost use Rattle.slate_model.specs.Open.{replayed_logs};
 ghost use Rattle.slate_model.specs.Read.{Gives, Reads, ReadsByAny};
@@ -19,7 +19,7 @@ ghost use Rattle.slate_model.specs.Segments.{Extractor, IsExtractor};
 ghost use Rattle.slate_model.specs.Status.{follower_status};
 ghost use Rattle.slate_model.specs.Stores.{by_objects, kept_rows, kept_seen};
 ghost use Rattle.slate_follow.specs.Answering.{IsOfOpening, IsOfPoll};
-ghost use Rattle.slate_follow.specs.Keeping.{CallsKeeping};
+ghost use Rattle.slate_follow.specs.Keeping.{CallsKeeping, LeftBy};
 ghost use Rattle.slate_follow.specs.Rebuilding.{CallsContinuing, CallsOpening, CallsRebuilding, Truncates};
 ghost use Rattle.slate_follow.specs.Scanned.{BeginsFrontOf, BeginsScanOf};
 
@@ -203,7 +203,7 @@ impl<S: Store> HeldReader<S> {
         ensures faults { self.old.follower.result ≡ None → FaultsRise (S.faults self.old.store) (S.faults self.new.store) result }
         ensures truncates { IfOk result (λ a. IfSome (S.objects self.old.store) (λ o. Truncates o self.new.follower a)) }
         ensures left_managed { is_managed self.old.follower.mode ≡ true → self.old.follower.result ≡ None →
-            IfErr result (λ error. self.new.follower ≡ record self.old.follower { lease = self.new.follower.lease; result = poll_result error }) }
+            IfErr result (λ error. LeftBy error self.old.follower self.new.follower) }
         ensures handed { (x : Option Extractor) → IsExtractor E.may_name E.may_extract (option_copied extractor.entry) x → is_managed self.old.follower.mode ≡ false → is_pinned self.old.follower.mode ≡ false → (o : Objects) (line : Line) →
             S.objects self.old.store ≡ Some o → IsContent (S.objects self.old.store) line → kept_seen self.old.follower o line → kept_seen self.new.follower o line }
         ensures handed_managed { (x : Option Extractor) → IsExtractor E.may_name E.may_extract (option_copied extractor.entry) x → is_managed self.old.follower.mode ≡ true → (o o' : Objects) (line : Line) →

@@ -13,7 +13,6 @@ use Rattle.slate_store.specs.Checkpoints.{with_checkpoints}
 use Rattle.slate_store.specs.Content.{IsSound, content}
 use Rattle.slate_store.specs.Logs.{HaveGap, HaveNoGap}
 use Rattle.slate_store.specs.Objects.{Objects, PutManifest, changed, entry_at, is_present, last_log, latest_manifest, log_at}
-use Rattle.slate_store.specs.declared.objects.Manifest.{Manifest}
 use Rattle.slate_store.specs.declared.objects.VersionedManifest.{VersionedManifest}
 use Rattle.slate_store.specs.declared.reader_modes.DbReaderMode.TheVariants as modes
 use Rattle.slate_replay.specs.Replay.{ReplaysNext}

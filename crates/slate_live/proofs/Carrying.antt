@@ -1,19 +1,19 @@
 -- What each command carries on of the latest manifest, in what a world knows of the store.
-use Rattle.std.proofs.Common.{◌≡◌, ◌++◌, ◌∷◌, ◌∙◌, [], ℕ, ℤ, Bool, true, false, cond, List, map, Option, Some, None, Result, Ok, Err, refl, sym, subst, ap}
+use Rattle.std.proofs.Common.{◌≡◌, ◌++◌, ◌∷◌, ◌∙◌, [], inl, inr, suc, ℕ, ℤ, Bool, true, false, cond, List, map, Option, Some, None, Result, Ok, Err, refl, sym, subst, ap}
 use Rattle.std.specs.List.{slice_get}
 use Rattle.slate_types.specs.declared.options.FlushType.{FlushType}
 use Rattle.slate_types.specs.declared.batches.Batch.{Batch}
 use Rattle.slate_types.specs.declared.read_faults.ReadFault.{ReadFault}
 use Rattle.slate_store.proofs.Carried.{Carry}
 use Rattle.slate_store.specs.Changes.{after_part}
-use Rattle.slate_store.specs.Checkpoints.{Plan, new_checkpoint, puts_next, to_delete, to_write, with_checkpoints}
+use Rattle.slate_store.specs.Checkpoints.{Plan, new_checkpoint, puts_next, to_delete, to_refresh, to_write, with_checkpoints}
 use Rattle.slate_store.specs.declared.refusals.StoreRefusal.TheVariants as refusals
 use Rattle.slate_model.specs.Write.{last_number}
 use Rattle.std.specs.Prelude.{nat_lt}
 use Rattle.slate_store.specs.Compaction.{compact_changes_by, with_table}
 use Rattle.slate_store.specs.Content.{AreRising}
-use Rattle.slate_store.specs.Objects.{ChangeOf, latest_manifest}
-use Rattle.slate_store.specs.Refusals.{checkpoint_changes, planned_after}
+use Rattle.slate_store.specs.Objects.{ChangeOf, PutManifest, latest_manifest}
+use Rattle.slate_store.specs.Refusals.{checkpoint_changes, planned as planned_of, planned_after}
 use Rattle.slate_store.specs.Sweeps.{sweep_changes_by, without_expired}
 use Rattle.slate_store.specs.declared.objects.Checkpoint.{Checkpoint}
 use Rattle.slate_store.specs.declared.objects.Manifest.{Manifest}
@@ -33,15 +33,17 @@ use Rattle.slate_model.specs.Follower.{Follower, is_managed, is_pinned}
 use Rattle.slate_model.specs.Handle.{CloseResult, Handle, has_untabled}
 use Rattle.slate_model.specs.Knowledge.{Knowledge}
 use Rattle.slate_model.specs.Known.{Known, Untouched}
-use Rattle.slate_model.specs.Lease.{lease_of, lease_refusal, leased, to_keep, to_take}
-use Rattle.slate_model.specs.Managed.{OpensManaged}
+use Rattle.slate_model.specs.Lease.{lease_refusal, leased, to_keep, to_take}
+use Rattle.slate_model.specs.Managed.{OpensManaged, PollsTwice}
+use Rattle.slate_model.proofs.Rounds.{rounds, took}
 use Rattle.slate_model.specs.Object.{Object, Handle as AHandle, Snapshot as ASnapshot, Follower as AFollower}
 use Rattle.slate_model.specs.Open.{next_manifest}
 use Rattle.slate_model.specs.Read.{Reads}
 use Rattle.slate_model.specs.Segments.{extractor_name}
 use Rattle.slate_model.specs.Stores.{by_catalogue}
 use Rattle.slate_model.proofs.Carrying.{compact-carries, flush-carries, open-carries, plan-carries, sweep-carries}
-use Rattle.slate_model.proofs.Maintained.{Recheckpoints, delete-recheckpoints, write-recheckpoints}
+use Rattle.slate_model.proofs.Leased.{leased-is}
+use Rattle.slate_model.proofs.Maintained.{Recheckpoints, delete-recheckpoints, refresh-recheckpoints, write-recheckpoints}
 use Rattle.slate_model.proofs.Reduced.{some-same}
 use Rattle.slate_model.proofs.Planned.{keep-recheckpoints, take-recheckpoints}
 use Rattle.slate_script.specs.declared.commands.Command.{Command}
@@ -67,13 +69,7 @@ put-is {A} latest put x next answer gives = by (nat_lt latest.id last_number) gi
       some-same put next (ap (λ (p : Option VersionedManifest × A). p.0) both)
   by false gives = absurd (cc)
 
--- the checkpoint of a plan that gives a lease
-pub leased-is : (lifetime : ℕ) (p : Plan Checkpoint) (next : Option VersionedManifest) (given : Lease) → leased lifetime p ≡ Ok (next, given) → (checkpoint : Checkpoint) × (p ≡ Ok (next, checkpoint)) × (lease_of lifetime checkpoint ≡ given)
-leased-is lifetime (Ok (put, checkpoint)) next given gives =
-    let both : (put, lease_of lifetime checkpoint) ≡ (next, given) = cc in
-    (checkpoint, ap (λ n. Ok (n, checkpoint)) (ap (λ (p : Option VersionedManifest × Lease). p.0) both), ap (λ (p : Option VersionedManifest × Lease). p.1) both)
-leased-is lifetime (Err refusal) next given gives = absurd (cc)
-
+-- the plan of an opening takes a new checkpoint
 pub taken-is : (lifetime : ℕ) (moment : ℤ) (latest : VersionedManifest) (given : Option VersionedManifest × Lease) → to_take lifetime moment latest ≡ Ok given → leased lifetime (to_write None (Some lifetime) moment latest) ≡ Ok given
 taken-is lifetime moment latest given gives = by latest.manifest.initialized _ gives where
   by : (b : Bool) (plan : Plan Lease) → cond b plan (Err refusals.InvalidDBState) ≡ Ok given → plan ≡ Ok given
@@ -81,8 +77,8 @@ taken-is lifetime moment latest given gives = by latest.manifest.initialized _ g
   by false plan gives = absurd (cc)
 
 -- What a latest manifest has, the manifests have that a command may put after it: one that names a table more, or one table in
--- place of all, one of an opening, one without the checkpoints that have expired where it sweeps, one with a checkpoint more, and
--- the one of the plan of the reader that it polls or closes.
+-- place of all, one of an opening, one without the checkpoints that have expired where it sweeps, one with a checkpoint more, the
+-- one of the plan of the reader that it polls or closes, and one more that renews a lease that such a poll took.
 pub record Spares (P : Manifest → Type 0) (w : World) (latest : VersionedManifest) (command : Command) : Type 0 where
   pub kept : P latest.manifest
   pub flushed : (handle : Handle) (last : ℕ) → has_untabled handle latest.manifest ≡ true → P (next_flushed handle latest last).manifest
@@ -92,6 +88,8 @@ pub record Spares (P : Manifest → Type 0) (w : World) (latest : VersionedManif
   pub added : (checkpoint : Checkpoint) → P (with_checkpoints (latest.manifest.checkpoints ++ checkpoint ∷ []) latest).manifest
   pub polled : (n : ℕ) (f : Follower) (lease given : Lease) (next : VersionedManifest) → target_of command.action ≡ OfObject n → call_of command.action ≡ Poll → slice_get w.objects n ≡ Some (AFollower f) → f.lease ≡ Some lease →
       to_keep f.view lease command.moment latest ≡ Ok (Some next, given) → P next.manifest
+  pub renewed : (n : ℕ) (f : Follower) (lease given : Lease) (next again : VersionedManifest) (checkpoint : Checkpoint) → target_of command.action ≡ OfObject n → call_of command.action ≡ Poll → slice_get w.objects n ≡ Some (AFollower f) → f.lease ≡ Some lease →
+      leased lease.lifetime (to_write (Some lease.id) (Some lease.lifetime) command.moment latest) ≡ Ok (Some next, given) → P next.manifest → to_refresh given.id given.lifetime command.moment next ≡ Ok (Some again, checkpoint) → P again.manifest
   pub closed : (n : ℕ) (f : Follower) (lease : Lease) (next : VersionedManifest) (flush_type : Option FlushType) → target_of command.action ≡ OfObject n → call_of command.action ≡ Close flush_type → slice_get w.objects n ≡ Some (AFollower f) → f.result ≡ None → f.lease ≡ Some lease →
       to_delete lease.id latest ≡ Ok (Some next, tt) → P next.manifest
 
@@ -193,12 +191,36 @@ module _ (P : Manifest → Type 0) (settings : Settings) (w : World) (valid : Is
     leased-of : {G : Type 0} → is_managed f.mode ≡ true → f.result ≡ None → ((lease : Lease) → f.lease ≡ Some lease → G) → G
     leased-of managed live done = by-option f.lease (λ none. absurd (let there = (valid.followers n f at).2 managed live in cc)) done
 
+    -- a round and a renewal
+    twice-made : (lease : Lease) → f.lease ≡ Some lease → (r : Result PollAnswer SlateError) → call_of command.action ≡ Poll → PollsTwice k settings.extractor made lease command.moment f (state_of w).store r f' s'.store → Changes
+    twice-made lease has r asks p =
+        let took_it = took k settings.extractor made lease command.moment f w.catalogue w.faults r f' s'.store p in
+        let both = rounds k settings.extractor made lease command.moment f w.catalogue w.faults r f' s'.store p rising in
+        let view = (p.middle).view in
+        let same : took_it.latest ≡ latest = some-same took_it.latest latest (sym took_it.is ∙ is) in
+        let gives = subst (λ v. to_keep f.view lease command.moment v ≡ Ok (Some view, p.given)) same took_it.gives in
+        let written = subst (λ v. leased lease.lifetime (to_write (Some lease.id) (Some lease.lifetime) command.moment v) ≡ Ok (Some view, p.given)) same took_it.written in
+        let its : Recheckpoints {A = Lease} latest (Ok (Some view, p.given)) = subst (λ q. Recheckpoints latest q) gives (keep-recheckpoints f.view lease command.moment latest) in
+        let holds = spares.polled n f lease p.given view names asks at has gives in
+        let again = to_refresh (p.given).id (p.given).lifetime command.moment view in
+        let carried = plan-carries Span P view again (refresh-recheckpoints (p.given).id (p.given).lifetime command.moment view)
+        (λ next checkpoint gives. spares.renewed n f lease p.given view next checkpoint names asks at has written holds gives) in
+        record {
+          all = PutManifest view.id view.manifest ∷ planned_of again;
+          part = suc p.again;
+          after = both.there_last ∙ ap Some (both.renews.after ∙ ap (after_part p.again (planned_of again)) both.put);
+          carry = (ap (λ (v : VersionedManifest). v.id) its.1, holds, carried);
+        }
+
     polled-made : (r : Result PollAnswer SlateError) (managed : Bool) → is_managed f.mode ≡ managed → call_of command.action ≡ Poll → PollsAs k settings.extractor managed made command.moment f (state_of w).store r f' s'.store → Changes
     polled-made r true managed asks p =
         by-option f.result
-        (λ live. leased-of managed live (λ lease has.
-        let t = ((p.keeps lease live has).puts).some w.catalogue refl in
-        changes _ t.0 t.1 (t.2).after (planned (to_keep f.view lease command.moment) (keep-recheckpoints f.view lease command.moment latest) (λ next given gives. spares.polled n f lease given next names asks at has gives))))
+        (λ live. leased-of managed live (λ lease has. elim (p.keeps lease live has) [
+          | inl once ↦
+              let t = ((once.round).puts).some w.catalogue refl in
+              changes _ t.0 t.1 (t.2).after (planned (to_keep f.view lease command.moment) (keep-recheckpoints f.view lease command.moment latest) (λ next given gives. spares.polled n f lease given next names asks at has gives))
+          | inr twice ↦ twice-made lease has r asks twice
+        ]))
         (λ q shut. as-before (some-of (λ q. (r ≡ Err (closed_error q)) × (f' ≡ f) × Untouched made (state_of w).store s'.store) f.result q shut p.closed).2.1)
     polled-made r false unmanaged asks (p, none) =
         by-option f.result

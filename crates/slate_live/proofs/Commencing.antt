@@ -1,5 +1,5 @@
 -- Which polls are begun once one was.
-use Rattle.std.proofs.Common.{◌≡◌, ◌⊎◌, inl, inr, ℕ, List, option_map, set, Option, Some, None, Ok, Err, refl, sym, subst, ap, ◌∙◌}
+use Rattle.std.proofs.Common.{◌≡◌, ◌⊎◌, inl, inr, ℕ, option_map, set, Option, Some, None, refl, sym, subst, ap, ◌∙◌}
 use Rattle.std.specs.List.{slice_get}
 use Rattle.slate_model.specs.Begun.{Begun, begun_at, no_step}
 use Rattle.slate_model.specs.Follower.{Follower, kept_follower}

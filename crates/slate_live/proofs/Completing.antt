@@ -1,5 +1,5 @@
 -- A valid command that meets no fault is refused nothing.
-use Rattle.std.proofs.Common.{◌≡◌, ◌≢◌, ◌⊎◌, inl, inr, ℕ, ℤ, ◌<◌, ◌≤◌, Bool, true, false, if◌then◌else◌, List, [], ◌∷◌, length, Option, Some, None, Result, Ok, Err, IfErr, refl, sym, subst, ap, ◌∙◌, arith}
+use Rattle.std.proofs.Common.{◌≡◌, ◌≢◌, ◌⊎◌, inl, inr, ℕ, ℤ, ◌+◌, ◌<◌, ◌≤◌, Bool, true, false, if◌then◌else◌, List, [], ◌∷◌, length, Option, Some, None, Result, Ok, Err, IfErr, refl, sym, subst, ap, ◌∙◌, arith}
 use Rattle.std.specs.List.{slice_get}
 use Rattle.std.proofs.lemmas.Bool.{le-leb, lt-ltb}
 use Rattle.slate_types.specs.Counts.{HasRisen}
@@ -25,7 +25,9 @@ use Rattle.slate_errors.specs.declared.endings.Ended.{Ended}
 use Rattle.slate_errors.specs.declared.endings.TaskName.{TaskName}
 use Rattle.slate_model.specs.declared.leases.Lease.{Lease}
 use Rattle.slate_model.specs.Lease.{lease_refusal, to_keep, to_take}
-use Rattle.slate_model.specs.Managed.{KeepRefusal, KeepsLease, OpensManaged, PlanCause, TakeRefusal}
+use Rattle.slate_model.specs.Managed.{KeepRefusal, KeepsLease, OpensManaged, PlanCause, PollsLeased, PollsTwice, RenewalCause, TakeRefusal}
+use Rattle.slate_model.proofs.Leased.{written-is}
+use Rattle.slate_model.proofs.Rounds.{took}
 use Rattle.slate_store.specs.declared.refusals.StoreRefusal.TheVariants as refusals
 use Rattle.slate_errors.specs.declared.errors.SlateError.{SlateError}
 use Rattle.slate_errors.specs.declared.errors.SlateError.TheVariants as errors
@@ -36,7 +38,9 @@ use Rattle.slate_model.specs.Flush.{FlushCause, Flushes, ManifestCause, Stores, 
 use Rattle.slate_model.specs.Follow.{unseen, AreFollowed, FollowCause, IsOwed, LacksSegment, Polls, Rebuilds, ReplayRefuses, built}
 use Rattle.slate_model.specs.Followed.{IsView, RefusesLatest, follow_refusal, kept_by, view_under}
 use Rattle.slate_model.specs.Follower.{Follower, is_managed, is_pinned}
-use Rattle.slate_store.specs.Checkpoints.{Plan, found, to_delete}
+use Rattle.slate_store.specs.Checkpoints.{Plan, found, lease_end, to_delete, to_refresh}
+use Rattle.std.specs.Option.{unwrap_or}
+use Rattle.slate_live.proofs.Filling.{end-full}
 use Rattle.slate_store.specs.Refusals.{PlanIs}
 use Rattle.slate_store.specs.declared.reader_modes.DbReaderMode.{DbReaderMode}
 use Rattle.slate_store.specs.declared.reader_modes.DbReaderMode.TheVariants as modes
@@ -71,7 +75,7 @@ use Rattle.slate_live.specs.Replies.{AnswersStatus, IsRead, closed_reply, ended_
 use Rattle.slate_live.specs.Represents.{AreInSegments, IsLeased, IsValid}
 use Rattle.slate_live.specs.Scans.{IsTaken, Takes, scanned, sought}
 use Rattle.slate_live.specs.Settings.{Settings}
-use Rattle.slate_live.specs.Valid.{AtHandle, AtObject, CanAsk, CanAskFollower, CanAskSnapshot, CanCheckpoint, CanClose, CanCompact, CanEnd, CanFollow, CanOpen, CanPoll, CanPut, CanRead, CanRefresh, CanReplay, CanStore, CanSweep, CanTake, CanWrite, IsDurable, IsOkOrNoMemory, IsValidAt, IsValidKind}
+use Rattle.slate_live.specs.Valid.{AtHandle, AtObject, CanAsk, CanAskFollower, CanAskSnapshot, CanCheckpoint, CanClose, CanCompact, CanEnd, CanFollow, CanOpen, CanPoll, CanPut, CanRead, CanRefresh, CanRenew, CanReplay, CanStore, CanSweep, CanTake, CanWrite, IsDurable, IsOkOrNoMemory, IsValidAt, IsValidKind}
 use Rattle.slate_live.specs.World.{NextWhole, World, state_of}
 use Rattle.slate_live.proofs.Cases.{by-option, some-of}
 use Rattle.slate_live.proofs.Naming.{follower-did, handle-acted}
@@ -448,13 +452,43 @@ keep-reply ext w w' made lease moment f f' (Err e) d can lacks calm =
       planned (inl is) = is
       planned (inr lack) = absurd (lacks lack)
 
+-- a renewal of the lease that it took, where an id is left
+renewal-free : (plan : Plan Checkpoint) (id : List ℕ) (lifetime : ℕ) (moment : ℤ) (view : VersionedManifest) → plan ≡ to_refresh id lifetime moment view → view.id < last_number → (faults faults' : ℕ) (e : SlateError) → RenewalCause plan e → CountsFaults {A = PollAnswer} faults faults' (Err e) → (HasRisen faults faults' → ⊥) → e ≡ errors.NoMemory
+renewal-free plan id lifetime moment view is low faults faults' errors.InvalidDBState cause counts calm =
+    let full = end-full id (lease_end moment lifetime) view (found id view) (sym is ∙ cause) in
+    absurd (omega (arith, low, full))
+renewal-free plan id lifetime moment view is low faults faults' (errors.ObjectStoreError Unavailable) cause counts calm = absurd (calm (counts.unavailable refl))
+renewal-free plan id lifetime moment view is low faults faults' errors.NoMemory cause counts calm = refl
+renewal-free plan id lifetime moment view is low faults faults' e cause counts calm = absurd cause
+
+twice-reply : (ext : Option Extractor) (w w' : World) (made : ℕ) (lease : Lease) (moment : ℤ) (f f' : Follower) (r : Result PollAnswer SlateError) → PollsTwice (by_catalogue w.stored w.catalogue) ext made lease moment f (state_of w).store r f' (state_of w').store → CanRenew w moment f lease → (HasRisen w.faults w'.faults → ⊥) → IsOkOrNoMemory (reply_to polled_reply r)
+twice-reply ext w w' made lease moment f f' (Ok answer) p can calm =
+    let t = (p.round.keeps).some w.catalogue refl in
+    let all = ((t.2).sees).sees w.stored refl tt in
+    subst (λ a. IsOkOrNoMemory (polled_reply a)) (sym ((p.answers).0 ∙ all.3)) tt
+twice-reply ext w w' made lease moment f f' (Err e) p can calm =
+    let k = took (by_catalogue w.stored w.catalogue) ext made lease moment f w.catalogue w.faults (Err e) f' (state_of w').store p in
+    let t = (p.round.keeps).some w.catalogue refl in
+    let cause = ((p.puts).some t.0 t.1).2.cause in
+    let left = can k.latest k.is (p.renews k.latest k.is) in
+    let put = written-is (Some lease.id) lease.lifetime moment k.latest (Some (p.middle).view) p.given k.written in
+    let next_id : (p.middle).view.id ≡ k.latest.id + 1 = (let same = put.1 in ap (λ (v : Option VersionedManifest). (unwrap_or v (p.middle).view).id) same) in
+    let stayed : (p.between).faults ≡ w.faults = ((p.round).faults).stays in
+    subst (λ x. IsOkOrNoMemory (refusal x))
+    (sym (renewal-free (to_refresh (p.given).id (p.given).lifetime moment (p.middle).view) (p.given).id (p.given).lifetime moment (p.middle).view refl (omega (arith, next_id, left)) (p.between).faults w'.faults e cause p.faults
+    (λ risen. calm (subst (λ n. HasRisen n w'.faults) stayed risen)))) tt
+
+leased-reply : (ext : Option Extractor) (w w' : World) (made : ℕ) (lease : Lease) (moment : ℤ) (f f' : Follower) (r : Result PollAnswer SlateError) → PollsLeased (by_catalogue w.stored w.catalogue) ext made lease moment f (state_of w).store r f' (state_of w').store → CanPut (to_keep f.view lease moment) w × CanRenew w moment f lease → (LacksSegment (by_catalogue w.stored w.catalogue) ext modes.ManagedCheckpoint f.skips false w.catalogue w.stored → ⊥) → (HasRisen w.faults w'.faults → ⊥) → IsOkOrNoMemory (reply_to polled_reply r)
+leased-reply ext w w' made lease moment f f' r (inl once) can lacks calm = keep-reply ext w w' made lease moment f f' r once.round can.0 lacks calm
+leased-reply ext w w' made lease moment f f' r (inr twice) can lacks calm = twice-reply ext w w' made lease moment f f' r twice can.1 calm
+
 -- a lease that an open reader has which keeps a checkpoint
 lease-of : {G : Type 0} (f : Follower) → IsLeased f → is_managed f.mode ≡ true → f.result ≡ None → ((lease : Lease) → f.lease ≡ Some lease → G) → G
 lease-of f leased managed live g = by-option f.lease (λ none. absurd (let there = leased managed live in cc)) g
 
 polls-complete : (ext : Option Extractor) (w w' : World) (made : ℕ) (moment : ℤ) (f f' : Follower) (r : Result PollAnswer SlateError) (managed : Bool) → is_managed f.mode ≡ managed → PollsAs (by_catalogue w.stored w.catalogue) ext managed made moment f (state_of w).store r f' (state_of w').store → IsLeased f → f.result ≡ None → CanPoll w moment f → (is_pinned f.mode ≡ false → LacksSegment (by_catalogue w.stored w.catalogue) ext f.mode f.skips false w.catalogue w.stored → ⊥) → (HasRisen w.faults w'.faults → ⊥) → IsOkOrNoMemory (reply_to polled_reply r)
 polls-complete ext w w' made moment f f' r true managed p leased live can lacks calm =
-    lease-of f leased managed live (λ lease is. keep-reply ext w w' made lease moment f f' r (p.keeps lease live is) (some-of (λ lease. CanPut (to_keep f.view lease moment) w) f.lease lease is (can.1 managed))
+    lease-of f leased managed live (λ lease is. leased-reply ext w w' made lease moment f f' r (p.keeps lease live is) (some-of (λ lease. CanPut (to_keep f.view lease moment) w × CanRenew w moment f lease) f.lease lease is (can.1 managed))
     (subst (λ m. LacksSegment (by_catalogue w.stored w.catalogue) ext m f.skips false w.catalogue w.stored → ⊥) (managed-mode f.mode managed) (lacks (managed-free f.mode managed))) calm)
 polls-complete ext w w' made moment f f' r false unmanaged p leased live can lacks calm = polled-completes ext w w' f f' r p.0 live (can.0 unmanaged) lacks calm (is_pinned f.mode) refl
 

@@ -1,18 +1,16 @@
 -- The leases of the readers of a world are of checkpoints that manifests up to the latest one commit, each of another.
-use Rattle.std.proofs.Common.{◌≡◌, ◌⊎◌, ◌+◌, ◌∙◌, ◌<◌, ◌≤◌, inl, inr, ℕ, ℤ, Bool, true, false, cond, List, drop, Option, Some, None, Ok, Err, refl, sym, ap, arith}
-use Rattle.std.proofs.lemmas.Bool.{ltb-true}
+use Rattle.std.proofs.Common.{◌≡◌, ◌⊎◌, ◌+◌, ◌∙◌, ◌<◌, ◌≤◌, inl, inr, ℕ, ℤ, Bool, true, false, cond, List, drop, Option, Some, None, Ok, refl, sym, ap, arith}
 use Rattle.std.proofs.lemmas.Nat.{from_be_bytes-to_be_bytes_8}
 use Rattle.std.specs.Int.{from_be_bytes}
-use Rattle.std.specs.Prelude.{nat_lt}
 use mir.Syntax.{w64}
-use Rattle.slate_store.specs.Checkpoints.{Plan, checkpoint_id, found, lease_end, new_checkpoint, puts_next, to_end, to_refresh, to_write}
+use Rattle.slate_store.specs.Checkpoints.{checkpoint_id, found, lease_end, to_end, to_refresh, to_write}
 use Rattle.slate_store.specs.declared.objects.Checkpoint.{Checkpoint}
 use Rattle.slate_store.specs.declared.objects.VersionedManifest.{VersionedManifest}
-use Rattle.slate_store.specs.declared.refusals.StoreRefusal.TheVariants as refusals
 use Rattle.slate_model.specs.declared.leases.Lease.{Lease}
 use Rattle.slate_model.specs.Lease.{is_due, leased, replaces, to_keep, to_take}
 use Rattle.slate_model.specs.Write.{last_number}
-use Rattle.slate_live.proofs.Carrying.{leased-is, taken-is}
+use Rattle.slate_model.proofs.Leased.{leased-is, put-low, written-is}
+use Rattle.slate_live.proofs.Carrying.{taken-is}
 use Rattle.slate_live.proofs.Finding.{found-id}
 
 -- a checkpoint's id tells the id of the manifest that commits it
@@ -29,20 +27,10 @@ pub record IsNew (latest : VersionedManifest) (next : Option VersionedManifest) 
   pub put : VersionedManifest
   pub puts : next ≡ Some put
 
--- a manifest is put only where its id is left
-pub put-low : {A : Type 0} (latest put : VersionedManifest) (x : A) (next : Option VersionedManifest) (answer : A) → puts_next latest put x ≡ Ok (next, answer) → (latest.id < last_number) × (next ≡ Some put) × (answer ≡ x)
-put-low {A} latest put x next answer gives = by (nat_lt latest.id last_number) refl gives where
-  by : (b : Bool) → nat_lt latest.id last_number ≡ b → cond {A = Plan A} b (Ok (Some put, x)) (Err refusals.InvalidDBState) ≡ Ok (next, answer) → (latest.id < last_number) × (next ≡ Some put) × (answer ≡ x)
-  by true low gives =
-      let both : ◌≡◌ {A = Option VersionedManifest × A} (Some put, x) (next, answer) = cc in
-      (ltb-true latest.id last_number low, sym (ap (λ (p : Option VersionedManifest × A). p.0) both), sym (ap (λ (p : Option VersionedManifest × A). p.1) both))
-  by false low gives = absurd (cc)
-
 pub written-new : (replaced : Option (List ℕ)) (lifetime : ℕ) (moment : ℤ) (latest : VersionedManifest) (next : Option VersionedManifest) (given : Lease) → leased lifetime (to_write replaced (Some lifetime) moment latest) ≡ Ok (next, given) → IsNew latest next given
 written-new replaced lifetime moment latest next given gives =
-    let p = leased-is lifetime (to_write replaced (Some lifetime) moment latest) next given gives in
-    let q = put-low latest _ (new_checkpoint latest (Some lifetime) moment) next p.0 p.1 in
-    record { id = sym (ap (λ (l : Lease). l.id) p.2) ∙ ap (λ (c : Checkpoint). c.id) q.2; low = q.0; put = _; puts = q.1 }
+    let q = written-is replaced lifetime moment latest next given gives in
+    record { id = ap (λ (l : Lease). l.id) q.2; low = q.0; put = _; puts = q.1 }
 
 -- a lease that is renewed is of the same checkpoint
 pub renewed-same : (lease : Lease) (moment : ℤ) (latest : VersionedManifest) (next : Option VersionedManifest) (given : Lease) → leased lease.lifetime (to_refresh lease.id lease.lifetime moment latest) ≡ Ok (next, given) → given.id ≡ lease.id

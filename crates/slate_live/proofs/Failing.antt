@@ -13,7 +13,7 @@ use Rattle.slate_live.specs.Represents.{AllInSegments, Represents, StandsAt}
 use Rattle.slate_live.specs.Standing.{PollStands, ReadLast, StandsBeside}
 use Rattle.slate_live.specs.State.{Live}
 use Rattle.slate_live.specs.World.{World}
-use Rattle.slate_live.specs.Worlds.{Holds, IsValid}
+use Rattle.slate_live.specs.Worlds.{IsValid}
 
 module _ (w : World) (faults : ℕ) where
   abbrev after : World

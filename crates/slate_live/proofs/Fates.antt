@@ -1,5 +1,5 @@
 -- What a command leaves of the leases of a world's readers.
-use Rattle.std.proofs.Common.{◌≡◌, ◌⊎◌, ◌++◌, ◌+◌, ◌∙◌, ◌<◌, inl, inr, ℕ, Bool, true, false, length, set, map, Option, Some, None, Result, Ok, Err, IfErr, IfOk, refl, sym, subst, ap}
+use Rattle.std.proofs.Common.{◌≡◌, ◌⊎◌, ◌++◌, ◌+◌, ◌∙◌, ◌<◌, ◌≤◌, inl, inr, ℕ, Bool, true, false, length, set, map, Option, Some, None, Result, Ok, Err, IfErr, IfOk, refl, sym, subst, ap, arith}
 use Rattle.std.specs.List.{slice_get}
 use Rattle.std.proofs.lemmas.List.{append-nil}
 use Rattle.slate_store.specs.Changes.{after_part}
@@ -22,12 +22,14 @@ use Rattle.slate_model.specs.Handle.{Handle}
 use Rattle.slate_model.specs.Knowledge.{Knowledge}
 use Rattle.slate_model.specs.Known.{Untouched}
 use Rattle.slate_model.specs.Lease.{lease_refusal, to_keep, to_take}
-use Rattle.slate_model.specs.Managed.{KeepsLease, OpensManaged, TakesLease}
+use Rattle.slate_model.specs.Managed.{KeepsLease, OpensManaged, PollsTwice, TakesLease, poll_result}
+use Rattle.slate_model.proofs.Rounds.{rounds, took}
+use Rattle.std.specs.Option.{unwrap_or}
 use Rattle.slate_model.specs.Object.{Object, Handle as AHandle, Snapshot as ASnapshot, Follower as AFollower}
 use Rattle.slate_model.specs.Stores.{by_catalogue}
 use Rattle.slate_model.specs.Write.{last_number}
 use Rattle.slate_model.specs.declared.snapshots.HandleSnapshot.{HandleSnapshot}
-use Rattle.slate_model.proofs.Leased.{put-id, put-latest_is, puts-one}
+use Rattle.slate_model.proofs.Leased.{put-id, put-latest_is, puts-one, written-is}
 use Rattle.slate_model.proofs.Maintained.{Recheckpoints}
 use Rattle.slate_model.proofs.Planned.{keep-recheckpoints, take-recheckpoints}
 use Rattle.slate_model.proofs.Reduced.{some-same}
@@ -63,7 +65,7 @@ pub record NewLease (w : World) (command : Command) (s' : State Span) (n : ℕ) 
   pub catalogue : Catalogue
   pub after : s'.store.objects ≡ Some catalogue
   pub put_is : latest_manifest catalogue ≡ Some put
-  pub put_id : put.id ≡ latest.id + 1
+  pub up : latest.id + 1 ≤ put.id
   pub named : (target_of command.action ≡ OfObject n) ⊎ ((n ≡ length w.objects) × ((m : ℕ) → target_of command.action ≡ OfObject m → ⊥))
 
 err-of : {A : Type 0} (r : Result A SlateError) (e : SlateError) (P : SlateError → Type 0) → r ≡ Err e → IfErr r P → P e
@@ -121,7 +123,7 @@ module _ (settings : Settings) (w : World) (valid : IsValid w) (rising : AreRisi
         catalogue = after;
         after = there;
         put_is = ap latest_manifest after_is ∙ put-latest_is plan w.catalogue latest put given rising is gives_it puts made one;
-        put_id = put-id plan w.catalogue latest put given rising is gives_it puts;
+        up = (let id = put-id plan w.catalogue latest put given rising is gives_it puts in omega (arith, id));
         named = named;
       })
 
@@ -160,6 +162,34 @@ module _ (settings : Settings) (w : World) (valid : IsValid w) (rising : AreRisi
           | inr given ↦ given-by lease lease' (given.3).0 given.1 given.2 puts.0 leased (given.3).1 (given.3).2 given.4 has puts.1 (puts.2).after (λ new. given.0)
         ]
 
+    -- where a renewal follows the round, it has the one that the round took
+    twice-fate : (lease lease' : Lease) (r : Result PollAnswer SlateError) → PollsTwice k settings.extractor made lease command.moment f (state_of w).store r f' s'.store → f'.lease ≡ Some lease' → Fate n lease'
+    twice-fate lease lease' r p has =
+        let t = took k settings.extractor made lease command.moment f w.catalogue w.faults r f' s'.store p in
+        let both = rounds k settings.extractor made lease command.moment f w.catalogue w.faults r f' s'.store p rising in
+        let q = written-is (Some lease.id) lease.lifetime command.moment t.latest (Some (p.middle).view) p.given t.written in
+        let same : p.given ≡ lease' = some-same p.given lease' (sym p.leased ∙ (sym (kept r p.answers p.failed) ∙ has)) in
+        let next_id : (p.middle).view.id ≡ t.latest.id + 1 = ap (λ (v : Option VersionedManifest). (unwrap_or v (p.middle).view).id) q.1 in
+        let put : (put : VersionedManifest) × (latest_manifest both.last ≡ Some put) × (t.latest.id + 1 ≤ put.id) = elim both.parts [
+          | inl same ↦ ((p.middle).view, ap latest_manifest same ∙ both.next_is, omega (arith, next_id))
+          | inr again ↦ (again.0, again.5, (let id = again.4 in omega (arith, next_id, id)))
+        ] in
+        subst (Fate n) same (inr (record {
+          latest = t.latest;
+          is = t.is;
+          low = q.0;
+          id = ap (λ (l : Lease). l.id) q.2;
+          put = put.0;
+          catalogue = both.last;
+          after = both.there_last;
+          put_is = put.1;
+          up = put.2;
+          named = inl names;
+        })) where
+          kept : (r : Result PollAnswer SlateError) → IfOk r (λ a. (a ≡ p.answer) × (f' ≡ p.middle)) → IfErr r (λ error. f' ≡ record p.middle { result = poll_result error }) → f'.lease ≡ (p.middle).lease
+          kept (Ok a) answers failed = ap (λ (x : Follower). x.lease) answers.1
+          kept (Err e) answers failed = ap (λ (x : Follower). x.lease) failed
+
     -- a poll of one that keeps no checkpoint leaves it as it was, or without a lease
     unleased : (r : Result PollAnswer SlateError) (lease' : Lease) → Rebuilds k settings.extractor f.mode f.skips false (λ objects line. Unit {0}) (state_of w).store (built f' r) s'.store → IfErr r (λ error. f' ≡ f) → f'.lease ≡ Some lease' → Fate n lease'
     unleased (Ok answer) lease' b failed has = absurd (let none = b.answer.2 in cc)
@@ -179,7 +209,10 @@ module _ (settings : Settings) (w : World) (valid : IsValid w) (rising : AreRisi
         by-option f.result
         (λ live. by-option f.lease
         (λ none. absurd (let there = (valid.followers n f at).2 managed live in cc))
-        (λ lease leased. keeps-fate lease lease' r leased (p.keeps lease live leased) has))
+        (λ lease leased. elim (p.keeps lease live leased) [
+          | inl once ↦ keeps-fate lease lease' r leased once.round has
+          | inr twice ↦ twice-fate lease lease' r twice has
+        ]))
         (λ q shut. old lease' (ap (λ (x : Follower). x.lease) (some-of (λ q. (r ≡ Err (closed_error q)) × (f' ≡ f) × Untouched made (state_of w).store s'.store) f.result q shut p.closed).1) has)
     polls-fate r lease' false unmanaged p has = polls-plainly r lease' p.0 has
 

@@ -25,6 +25,7 @@ use Rattle.slate_model.specs.Handle.{CloseResult, Handle}
 use Rattle.slate_model.specs.Knowledge.{Knowledge}
 use Rattle.slate_model.specs.Known.{Known, Untouched}
 use Rattle.slate_model.specs.Lease.{lease_refusal}
+use Rattle.slate_follow.proofs.Taken.{counts-on}
 use Rattle.slate_model.specs.Managed.{OpensManaged}
 use Rattle.slate_model.specs.Object.{Object, Handle as AHandle, Snapshot as ASnapshot, Follower as AFollower}
 use Rattle.slate_model.specs.Read.{Reads}
@@ -183,7 +184,10 @@ module _ (settings : Settings) (w : World) (valid : IsValid w) (command : Comman
     polled : (r : Result PollAnswer SlateError) (managed : Bool) → is_managed f.mode ≡ managed → PollsAs k settings.extractor managed made command.moment f before r f' s'.store → Stays r
     polled r true managed p =
         by-option f.result
-        (λ live. leased-of managed live (λ lease has. ((p.keeps lease live has).faults).stays))
+        (λ live. leased-of managed live (λ lease has. elim (p.keeps lease live has) [
+          | inl once ↦ ((once.round).faults).stays
+          | inr twice ↦ (counts-on w.faults (twice.between).faults s'.store.faults r ((twice.round).faults).stays twice.faults).stays
+        ]))
         (λ q shut. uncalled r (some-of (λ q. (r ≡ Err (closed_error q)) × (f' ≡ f) × Untouched made before s'.store) f.result q shut p.closed).2.1)
     polled r false unmanaged (p, none) =
         by-option f.result

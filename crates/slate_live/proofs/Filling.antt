@@ -16,6 +16,7 @@ use Rattle.slate_model.specs.Begun.{Begun, Breaks, Ends, Ended, Fails, Goes, Put
 use Rattle.slate_model.specs.Follower.{Follower}
 use Rattle.slate_model.specs.Handle.{CloseResult}
 use Rattle.slate_model.specs.Lease.{differs, is_due, leased, replaces, to_keep}
+use Rattle.slate_model.proofs.Leased.{leased-refused}
 use Rattle.slate_model.specs.Managed.{poll_result}
 use Rattle.slate_model.specs.Refusal.{error_of_refusal}
 use Rattle.slate_model.specs.Write.{last_number}
@@ -31,10 +32,6 @@ put-full {A} latest next answer is = by (nat_lt latest.id last_number) refl is w
   by : (b : Bool) → nat_lt latest.id last_number ≡ b → cond {A = Plan A} b (Ok (Some next, answer)) (Err refusals.InvalidDBState) ≡ Err refusals.InvalidDBState → last_number ≤ latest.id
   by true which is = absurd (cc)
   by false which is = ltb-false latest.id last_number which
-
-pub leased-refused : (lifetime : ℕ) (p : Plan Checkpoint) → leased lifetime p ≡ Err refusals.InvalidDBState → p ≡ Err refusals.InvalidDBState
-leased-refused lifetime (Ok given) is = absurd (cc)
-leased-refused lifetime (Err refusal) is = ap Err (let same : refusal ≡ refusals.InvalidDBState = cc in same)
 
 pub end-full : (id : List ℕ) (end : ℤ) (latest : VersionedManifest) (was : Option Checkpoint) → to_end id end latest was ≡ Err refusals.InvalidDBState → last_number ≤ latest.id
 end-full id end latest None is = absurd (cc)

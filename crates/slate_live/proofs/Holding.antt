@@ -1,5 +1,5 @@
 -- A reader that is polled in time holds its checkpoint.
-use Rattle.std.proofs.Common.{◌≡◌, ◌++◌, ◌∷◌, ◌+◌, ◌-ℤ◌, ◌+ℤ◌, ◌/◌, ◌∙◌, ◌<◌, ◌≤◌, ◌≢◌, ◌⊎◌, [], inl, inr, ℕ, ℤ, pos, int_lt, Bool, true, false, cond, get_or, not, length, List, map, find, Option, Some, None, Ok, refl, sym, subst, ap, arith}
+use Rattle.std.proofs.Common.{◌≡◌, ◌++◌, ◌∷◌, ◌+◌, ◌-ℤ◌, ◌+ℤ◌, ◌/◌, ◌∙◌, ◌<◌, ◌≤◌, ◌≢◌, [], inl, inr, ℕ, ℤ, pos, int_lt, Bool, true, false, cond, get_or, not, length, List, map, find, Option, Some, None, Ok, refl, sym, subst, ap, arith}
 use Rattle.std.proofs.lemmas.Int.{ints}
 use Rattle.std.specs.List.{All}
 use Rattle.std.proofs.lemmas.Bool.{false_from_ne_true}
@@ -8,16 +8,18 @@ use Rattle.std.proofs.lemmas.Slice.Eq.{bytes_eq-Decides}
 use Rattle.std.specs.Bool.{MatchBool}
 use Rattle.slate_store.proofs.Latest.{its-objects}
 use Rattle.slate_store.specs.Changes.{after_part}
-use Rattle.slate_store.specs.Checkpoints.{Plan, checkpoint_id, has_id, is_expired, last_moment, lease_end, new_checkpoint, refreshed, to_end, to_refresh, to_write, with_checkpoints, without_id}
+use Rattle.slate_store.specs.Checkpoints.{checkpoint_id, found, has_id, is_expired, last_moment, lease_end, new_checkpoint, Plan, refreshed, to_end, to_refresh, to_write, with_checkpoints, without_id}
 use Rattle.slate_store.specs.Content.{AreRising, IsPinned}
-use Rattle.slate_store.specs.Objects.{entry_at, latest_manifest}
+use Rattle.slate_store.specs.Objects.{PutManifest, changed, entry_at, latest_manifest}
+use Rattle.slate_store.proofs.Entries.{apart as ids-apart, lookup-insert_other, lookup-insert_same}
+use Rattle.std.proofs.lemmas.Cmp.{nat_cmp_total}
 use Rattle.slate_store.specs.Refusals.{checkpoint_changes, planned, planned_after}
 use Rattle.slate_store.proofs.Parts.{part-none}
 use Rattle.slate_store.specs.declared.objects.VersionedManifest.{VersionedManifest}
 use Rattle.slate_model.specs.Catalogue.{Catalogue, Span}
 use Rattle.slate_model.specs.Lease.{is_due, lease_of, leased, replaces, to_keep}
 use Rattle.slate_model.specs.Write.{last_number}
-use Rattle.slate_model.proofs.Leased.{put-entry, put-id, put-latest_is, puts-one}
+use Rattle.slate_model.proofs.Leased.{leased-is, new_one, put-entry, put-id, put-latest_is, put-low, puts-one, with_new, written-is}
 use Rattle.slate_model.proofs.Maintained.{Recheckpoints}
 use Rattle.slate_model.proofs.Planned.{keep-recheckpoints}
 use Rattle.slate_model.proofs.Reduced.{some-same}
@@ -37,8 +39,8 @@ use Rattle.slate_live.specs.Represents.{IsFollowerAt, IsReached}
 use Rattle.slate_live.specs.Settings.{Settings}
 use Rattle.slate_live.specs.World.{NextWhole, World, state_of}
 use Rattle.slate_live.proofs.Leases.{ArePast, HasCheckpoint, IsAlone, Names, alone-after, alone-new, begun-has, entry-after, its-pin, nothing-spared, refreshed-id, rising, spared, step-has, still-has}
-use Rattle.slate_live.proofs.Carrying.{leased-is}
-use Rattle.slate_live.proofs.Distinct.{ids-differ, put-low}
+use Rattle.slate_live.proofs.Carrying.{put-is}
+use Rattle.slate_live.proofs.Distinct.{ids-differ}
 use Rattle.slate_live.proofs.Finding.{find-all, find-last, find-map, found-id}
 use Rattle.slate_live.proofs.Untouched.{is-quiet, stays}
 
@@ -126,7 +128,12 @@ module _ (settings : Settings) (w w' : World) (command : Command) (reply : Reply
   pub holds-still : polls n command.action ≡ false → closes n command.action ≡ false → (command.action ≡ actions.Sweep → ComesBefore lifetime last command.moment) → Holds n lifetime last w'
   holds-still unpolled unclosed before =
       let quiet = is-quiet n command.action unpolled unclosed in
-      let spares = spared w command h.has.latest h.lease.id h.checkpoint h.has.there (λ whole. holds-lasts n lifetime last command.moment w h (before (is-sweep command.action whole)))
+      let other : h.has.latest.id < last_number → checkpoint_id (h.has.latest.id + 1) ≢ h.lease.id = λ low same.
+      let none = find-all (λ x. has_id (checkpoint_id (h.has.latest.id + 1)) x ≡ false) (has_id h.lease.id) h.checkpoint h.has.latest.manifest.checkpoints (new-apart w reached h.has.latest h.has.is low) h.has.there in
+      let id_is = found-id h.lease.id h.checkpoint h.has.latest.manifest.checkpoints h.has.there in
+      let yes = (bytes_eq-Decides h.checkpoint.id (checkpoint_id (h.has.latest.id + 1))).1 (id_is ∙ sym same) in
+      cc (none, yes) in
+      let spares = spared w command h.has.latest h.lease.id h.checkpoint h.has.there other (λ whole. holds-lasts n lifetime last command.moment w h (before (is-sweep command.action whole)))
       (λ m f lease names disturbs at has same. quiet (names ∙ ap OfObject (h.alone m lease (inl (f, at, has)) same)) disturbs) in
       record {
         follower = h.follower;
@@ -325,6 +332,92 @@ module _ (settings : Settings) (w w' : World) (command : Command) (reply : Reply
       by true due is_due gives view = replaced gives view
       by false true is_due gives view = renewed gives view
       by false false is_due gives view = unput gives is_due view
+
+-- ---- a poll that renews the lease at once that it took
+module _ (settings : Settings) (w w' : World) (command : Command) (reply : Reply) (reached : IsReached w) (reached' : IsReached w') (next : NextWhole settings w command reply w') (past : ArePast w) (n lifetime : ℕ) (last : ℤ) (h : Holds n lifetime last w)
+    (names : target_of command.action ≡ OfObject n) (f' : Follower) (at' : IsFollowerAt w'.objects n f') (open_ : f'.result ≡ None) (mode : f'.mode ≡ modes.ManagedCheckpoint) (given : Lease) (leased' : f'.lease ≡ Some given)
+    (written : leased h.lease.lifetime (to_write (Some h.lease.id) (Some h.lease.lifetime) command.moment h.has.latest) ≡ Ok (Some f'.view, given))
+    (between : Catalogue) (put : between ≡ changed (PutManifest f'.view.id f'.view.manifest) w.catalogue) (again : VersionedManifest) (c : Checkpoint) (gives : to_refresh given.id given.lifetime command.moment f'.view ≡ Ok (Some again, c))
+    (after : w'.catalogue ≡ changed (PutManifest again.id again.manifest) between) (id : again.id ≡ f'.view.id + 1) (is' : latest_manifest w'.catalogue ≡ Some again) where
+  abbrev long : ℕ
+  long = h.lease.lifetime
+
+  abbrev first : Checkpoint
+  first = new_one (Some h.lease.id) long command.moment h.has.latest
+
+  is-written : (h.has.latest.id < last_number) × (Some f'.view ≡ Some (with_new (Some h.lease.id) long command.moment h.has.latest)) × (given ≡ lease_of long first)
+  is-written = written-is (Some h.lease.id) long command.moment h.has.latest (Some f'.view) given written
+
+  view-is : f'.view ≡ with_new (Some h.lease.id) long command.moment h.has.latest
+  view-is = some-same f'.view (with_new (Some h.lease.id) long command.moment h.has.latest) is-written.1
+
+  -- its checkpoint is the last one that the first manifest has
+  first-there : find (has_id first.id) f'.view.manifest.checkpoints ≡ Some first
+  first-there =
+      let none = All-filter (λ x. not (has_id h.lease.id x)) (λ x. has_id (checkpoint_id (h.has.latest.id + 1)) x ≡ false) h.has.latest.manifest.checkpoints (new-apart w reached h.has.latest h.has.is is-written.0) in
+      subst (λ (v : VersionedManifest). find (has_id first.id) v.manifest.checkpoints ≡ Some first) (sym view-is)
+      (find-last (has_id first.id) first (without_id h.lease.id h.has.latest.manifest.checkpoints) none ((bytes_eq-Decides first.id first.id).1 refl))
+
+  id-is : given.id ≡ first.id
+  id-is = ap (λ (l : Lease). l.id) is-written.2
+
+  abbrev end : ℤ
+  end = lease_end command.moment given.lifetime
+
+  -- the second one has it with the end of the same lease
+  again-is : again ≡ with_checkpoints (map (refreshed given.id end) f'.view.manifest.checkpoints) f'.view
+  again-is =
+      let found_it : found given.id f'.view ≡ Some first = subst (λ i. found i f'.view ≡ Some first) (sym id-is) first-there in
+      sym (put-is f'.view (with_checkpoints (map (refreshed given.id end) f'.view.manifest.checkpoints) f'.view) (record first { expire_ms = Some end }) again c
+      (subst (λ x. to_end given.id end f'.view x ≡ Ok (Some again, c)) found_it gives))
+
+  abbrev kept_one : Checkpoint
+  kept_one = record first { expire_ms = Some end }
+
+  again-there : find (has_id given.id) again.manifest.checkpoints ≡ Some kept_one
+  again-there =
+      let there : find (has_id given.id) f'.view.manifest.checkpoints ≡ Some first = subst (λ i. find (has_id i) f'.view.manifest.checkpoints ≡ Some first) (sym id-is) first-there in
+      let mine : has_id given.id first ≡ true = (bytes_eq-Decides first.id given.id).1 (sym id-is) in
+      subst (λ (v : VersionedManifest). find (has_id given.id) v.manifest.checkpoints ≡ Some kept_one) (sym again-is)
+      (find-map (has_id given.id) (refreshed given.id end) (refreshed-id given.id given.id end) first f'.view.manifest.checkpoints there ∙ ap (λ b. Some (cond b kept_one first)) mine)
+
+  entry-first : entry_at f'.view.id w'.catalogue.manifests ≡ Some f'.view.manifest
+  entry-first =
+      let other = lookup-insert_other nat_cmp_total f'.view.id again.id again.manifest between.manifests (ids-apart f'.view.id again.id (λ same. omega (arith, id, same))) in
+      ap (λ (x : Catalogue). entry_at f'.view.id x.manifests) after ∙ (other ∙ (ap (λ (x : Catalogue). entry_at f'.view.id x.manifests) put ∙ lookup-insert_same nat_cmp_total f'.view.id f'.view.manifest w.catalogue.manifests))
+
+  lifetime-is : given.lifetime ≡ long
+  lifetime-is = ap (λ (l : Lease). l.lifetime) is-written.2
+
+  pub renewed-holds : Holds n lifetime command.moment w'
+  renewed-holds =
+      let low = is-written.0 in
+      let half = h.half in
+      record {
+        follower = f';
+        at = at';
+        live = open_;
+        managed = mode;
+        lease = given;
+        leased = leased';
+        half = ap (λ k. k / 2) lifetime-is ∙ h.half;
+        ahead = subst (λ (l : Lease). int_lt l.end (lease_end command.moment lifetime) ≡ false) (sym is-written.2) (renewed-ahead command.moment long lifetime (omega (arith, half)));
+        checkpoint = kept_one;
+        kept = f'.view.manifest;
+        has = record {
+          latest = again;
+          is = is';
+          there = again-there;
+          entry = ap (λ k. entry_at k w'.catalogue.manifests) (sym (ap (λ (v : VersionedManifest). v.id) view-is)) ∙ entry-first;
+        };
+        expires = ap (λ k. Some (lease_end command.moment k)) lifetime-is ∙ ap (λ (l : Lease). Some l.end) (sym is-written.2);
+        tables = refl;
+        low = omega (arith, low);
+        alone = alone-new settings w w' command reply reached reached' next past n given.id h.has.latest h.has.is is-written.0 id-is named;
+      } where
+        named : (m : ℕ) → Names settings w w' command reply reached reached' next past m → m ≡ n
+        named m (inl other) = (let both : OfObject m ≡ OfObject n = sym other ∙ names in cc)
+        named m (inr added) = absurd (added.1 n names)
 
 -- ---- polls by single calls of other readers
 pub begun-holds : (settings : Settings) (i : ℕ) (w w' : World) (command : Command) (reply : Reply) → NextBegun settings i w command reply w' → (n lifetime : ℕ) (last : ℤ) → Holds n lifetime last w → Holds n lifetime last w'

@@ -1,11 +1,11 @@
 -- A step of a begun poll finds no key without a segment, and answers InvalidDBState only where no manifest can follow the latest one.
-use Rattle.std.proofs.Common.{◌≡◌, ◌⊎◌, ◌∙◌, ◌++◌, ◌+◌, ◌-◌, ◌≤◌, [], inl, inr, ℕ, ℤ, Bool, true, false, cond, if◌then◌else◌, drop, length, take, List, Option, Some, None, Ok, Err, refl, sym, subst, ap, arith}
+use Rattle.std.proofs.Common.{◌≡◌, ◌∙◌, ◌++◌, ◌-◌, ◌≤◌, [], inl, inr, ℕ, Bool, drop, length, take, List, Option, Some, sym, subst, ap, arith}
 use Rattle.std.proofs.lemmas.List.{take-append-drop}
 use Rattle.slate_types.specs.declared.batches.Batch.{Batch}
 use Rattle.slate_types.specs.Line.{IsLine, batches_above}
-use Rattle.slate_store.specs.Objects.{Objects, PutManifest, changed, is_present, latest_manifest}
+use Rattle.slate_store.specs.Objects.{Objects, latest_manifest}
 use Rattle.slate_store.specs.declared.objects.VersionedManifest.{VersionedManifest}
-use Rattle.slate_model.specs.Begun.{Begun, Breaks, Ends, Ended, Puts, Turn, base_of, begun_at, kept_batches, reached_number, taken, view_of}
+use Rattle.slate_model.specs.Begun.{Begun, Puts, Turn, base_of, kept_batches, reached_number, taken, view_of}
 use Rattle.slate_model.specs.Follower.{Follower, kept_follower}
 use Rattle.slate_model.specs.Handle.{up_to}
 use Rattle.slate_model.specs.Open.{replayed}

@@ -3,7 +3,7 @@ use Rattle.slate_status.specs.Records.{status_by}
 use Rattle.slate_live.specs.Settings.{Settings}
 use Rattle.slate_errors.specs.declared.endings.TaskName.{TaskName}
 use Rattle.slate_model.specs.Segments.{Extractor, segments_of}
-use Rattle.std.proofs.Common.{◌≡◌, ℕ, ℤ, List, [], Option, Some, None, Result, Ok, Err, inl, inr, refl, sym, subst, ap, ◌∙◌, ◌≤◌, ◌++◌, arith, ◌∷◌, ◌⊎◌, Bool, true, false, not, ◌||◌}
+use Rattle.std.proofs.Common.{◌≡◌, ℕ, ℤ, List, [], Option, Some, None, Result, Ok, Err, IfErr, IfOk, inl, inr, refl, sym, subst, ap, ◌∙◌, ◌≤◌, ◌++◌, arith, ◌∷◌, ◌⊎◌, Bool, true, false, not, ◌||◌}
 use Rattle.slate_types.specs.declared.batches.Batch.{Batch}
 use Rattle.slate_types.specs.declared.batches.KeyOp.{KeyOp}
 use Rattle.slate_types.specs.declared.batches.KeyValue.{KeyValue}
@@ -18,7 +18,7 @@ use Rattle.slate_reads.specs.Read.{read_at}
 use Rattle.slate_rows.specs.Iteration.{Iteration}
 use Rattle.slate_rows.specs.Scan.{BeginsScan}
 use Rattle.slate_store.specs.Content.{IsSound, content, table_batches}
-use Rattle.slate_store.specs.Objects.{Objects, latest_manifest, table_at, ObjectsOf}
+use Rattle.slate_store.specs.Objects.{Objects, ObjectsOf, PutManifest, changed, latest_manifest, table_at}
 use Rattle.slate_store.specs.declared.objects.TableId.{TableId}
 use Rattle.slate_store.specs.declared.objects.VersionedManifest.{VersionedManifest}
 use Rattle.slate_errors.specs.declared.errors.SlateError.TheVariants as errors
@@ -32,12 +32,14 @@ use Rattle.slate_model.specs.declared.leases.Lease.{Lease}
 use Rattle.slate_model.specs.Followed.{can_follow}
 use Rattle.slate_model.specs.Knowledge.{Knowledge}
 use Rattle.slate_model.specs.Lease.{to_keep}
-use Rattle.slate_model.specs.Managed.{EndsLease, KeepRefusal, KeepsLease, PollsManaged, PutsPlanned, poll_result, unrefused}
+use Rattle.slate_model.specs.Managed.{EndsLease, KeepRefusal, KeepsLease, PollsLeased, PollsManaged, PollsOnce, PollsTwice, PutsPlanned, PutsRenewal, RenewsTaken, poll_result, unrefused}
+use Rattle.slate_model.proofs.Rounds.{Rounds, rounds}
+use Rattle.slate_live.proofs.Renewed.{held-then, maintained-then, stored-then, valid-then}
 use Rattle.slate_model.proofs.Leased.{its-manifest, planned-latest, view-alike}
 use Rattle.slate_model.proofs.Maintained.{Maintained, delete-recheckpoints}
-use Rattle.slate_model.proofs.Planned.{end-maintains, keep-maintains, keep-recheckpoints, keep_refusal-known, puts-known, unrefused-known}
+use Rattle.slate_model.proofs.Planned.{end-maintains, keep-maintains, keep-recheckpoints, keep_refusal-known, puts-known, renewal-known, renewal-maintains, unrefused-known}
 use Rattle.slate_store.specs.Calls.{WhereModelled}
-use Rattle.slate_store.specs.Checkpoints.{to_delete}
+use Rattle.slate_store.specs.Checkpoints.{to_delete, to_refresh}
 use Rattle.std.specs.Option.{IfSome, is_some, unwrap_or}
 use Rattle.slate_model.specs.Flush.{flush_result, grown, CanFlush, Flushes, IsFlushed, Stores}
 use Rattle.slate_model.specs.Follow.{LacksSegment, Polls}
@@ -46,7 +48,7 @@ use Rattle.slate_model.specs.Handle.{CloseResult, Handle, accepted, kept_handle,
 use Rattle.slate_model.specs.Known.{Known, Untouched}
 use Rattle.slate_model.specs.Object.{Handle as AHandle, Follower as AFollower}
 use Rattle.slate_model.specs.Read.{Gives, Reads}
-use Rattle.slate_model.specs.Stores.{by_catalogue, by_objects, kept_rows, world_rows}
+use Rattle.slate_model.specs.Stores.{Stands, by_catalogue, by_objects, kept_rows, world_rows}
 use Rattle.slate_model.specs.Tables.{AreJoined, AreStored}
 use Rattle.slate_model.specs.Valid.{AreBefore, IsHeld, IsValidHandle, ReadsItsLine}
 use Rattle.slate_model.proofs.Compacting.{compact-moved, refresh-moved, compact-rises, refresh-rises}
@@ -399,7 +401,10 @@ module _ (o : Objects) (f : ℕ) (made : ℕ) (writes writes' : List Write) (rep
   managed-after : (moment : ℤ) (r : Result PollAnswer SlateError) (g g' : Follower) → is_managed g.mode ≡ true → IsLeased g → PollsManaged (by_objects (Some o)) settings.extractor made moment g (holding o f) r g' store' → AfterOf store'
   managed-after moment r g g' managed leased p =
       by-option g.result
-      (λ live. leased-by g leased managed live (λ lease is. let t = ((p.keeps lease live is).puts).some o refl in (t.0, t.1)))
+      (λ live. leased-by g leased managed live (λ lease is. elim (p.keeps lease live is) [
+        | inl once ↦ let t = ((once.round).puts).some o refl in (t.0, t.1)
+        | inr twice ↦ let t = ((twice.round).puts).some o refl in let u = (twice.puts).some t.0 t.1 in (u.0, u.1)
+      ]))
       (λ q is. as-before o f store' (some-of (λ q. (r ≡ Err (closed_error q)) × (g' ≡ g) × Untouched made (holding o f) store') g.result q is p.closed).2.1)
 
   polls-after : (moment : ℤ) (r : Result PollAnswer SlateError) (g g' : Follower) (managed : Bool) → is_managed g.mode ≡ managed → IsLeased g → PollsAs (by_objects (Some o)) settings.extractor managed made moment g (holding o f) r g' store' → AfterOf store'
@@ -444,6 +449,153 @@ kept-number g = line_above-end g.view.manifest.last_l0_seq g.line
 -- the segments of a whole follower are those of what is kept of it
 kept-segments : (x : Option Extractor) (g : Follower) → HasSegments x g → HasSegments x (kept_follower g)
 kept-segments x g had = had ∙ sym (ap (λ (l : Line). segments_of x l.batches) (line_above-twice g.view.manifest.last_l0_seq g.view.manifest.last_l0_seq g.line (omega arith)))
+
+-- ---- what a round of a poll puts that keeps a checkpoint, and what that leaves
+module _ (stored : Line) (o o' : Objects) (f f' : ℕ) (made : ℕ) (sound : IsSound o) (holds : content o ≡ stored) (settings : Settings) (moment : ℤ) (g k : Follower) (mine : IsValidFollower stored (catalogue_of o) g) (held : IsHeld o (AFollower g)) where
+  abbrev pub round_world : Knowledge Span
+  round_world = by_catalogue stored (catalogue_of o)
+
+  -- what a poll puts, and what that leaves
+  keep-puts : (lease : Lease) (r : Result PollAnswer SlateError) → KeepsLease (by_objects (Some o)) settings.extractor made lease moment (kept_follower g) (holding o f) r k (holding o' f') → WhereModelled (λ c c'. PutsPlanned round_world.stands (KeepRefusal settings.extractor) (to_keep g.view lease moment) c r made c') (Some (catalogue_of o)) (Some (catalogue_of o'))
+  keep-puts lease r p = as_modelled (catalogue_of o) (catalogue_of o') (puts-known (to_keep g.view lease moment) (keep-recheckpoints g.view lease moment) o sound stored (KeepRefusal settings.extractor) (KeepRefusal settings.extractor) (keep_refusal-known settings.extractor o) r made o' (modelled o o' p.puts))
+
+  keep-maintained : (lease : Lease) (r : Result PollAnswer SlateError) → KeepsLease (by_objects (Some o)) settings.extractor made lease moment (kept_follower g) (holding o f) r k (holding o' f') → Maintained o o'
+  keep-maintained lease r p = subst (Maintained o) (sym (modelled o o' p.puts).after) (keep-maintains g.view lease moment made o sound)
+
+  -- a key that it lacks a segment for is one of the world
+  keeps-segmented : (lease : Lease) (r : Result PollAnswer SlateError) → is_managed g.mode ≡ true → KeepsLease (by_objects (Some o)) settings.extractor made lease moment (kept_follower g) (holding o f) r k (holding o' f') → (c : ObjectsOf Span) (line : Line) → Some (catalogue_of o) ≡ Some c → line ≡ stored → r ≡ Err errors.InvalidDBState →
+      PlanIs (to_keep g.view lease moment) c (Err refusals.InvalidDBState) ⊎ LacksSegment round_world settings.extractor modes.ManagedCheckpoint g.skips false c line
+  keeps-segmented lease r managed p c line at stored_is is_error =
+      subst (λ x. PlanIs (to_keep g.view lease moment) x (Err refusals.InvalidDBState) ⊎ LacksSegment round_world settings.extractor modes.ManagedCheckpoint g.skips false x line) (some-same (catalogue_of o) c at)
+      (subst (λ l. PlanIs (to_keep g.view lease moment) (catalogue_of o) (Err refusals.InvalidDBState) ⊎ LacksSegment round_world settings.extractor modes.ManagedCheckpoint g.skips false (catalogue_of o) l) (sym stored_is)
+      (by (p.segmented o stored refl (o, refl, sound, sym holds) (g, refl, mine.0, held.1 (managed-free g.mode managed)) is_error))) where
+        by : PlanIs (to_keep g.view lease moment) o (Err refusals.InvalidDBState) ⊎ LacksSegment (by_objects (Some o)) settings.extractor modes.ManagedCheckpoint g.skips false o stored → PlanIs (to_keep g.view lease moment) (catalogue_of o) (Err refusals.InvalidDBState) ⊎ LacksSegment round_world settings.extractor modes.ManagedCheckpoint g.skips false (catalogue_of o) stored
+        by (inl plan) = inl plan
+        by (inr (key, lacks)) = inr (key, refuses-known settings.extractor stored (catalogue_of o) (Some o) modes.ManagedCheckpoint g.skips o sound holds false (Some (errors.EmptySegmentPrefix key)) lacks)
+
+  -- what a round leaves that answers: the whole follower, of which the code keeps a part, and what it is to the world
+  pub record Answered (lease : Lease) (answer : PollAnswer) : Type 0 where
+    pub new : Follower
+    pub kept : k ≡ kept_follower new
+    pub maintained : Maintained o o'
+    pub valid : IsValidFollower stored (catalogue_of o') new
+    pub tables : AreStored o' new.view.manifest.tables
+    pub holds_it : IsHeld o' (AFollower new)
+    pub known : KeepsLease round_world settings.extractor made lease moment g (catalogued o f) (Ok answer) new (catalogued o' f')
+
+  pub answered-round : (lease : Lease) (answer : PollAnswer) → is_managed g.mode ≡ true → KeepsLease (by_objects (Some o)) settings.extractor made lease moment (kept_follower g) (holding o f) (Ok answer) k (holding o' f') → Answered lease answer
+  answered-round lease answer managed p =
+      let q = modelled o o' p.keeps in
+      let puts = modelled o o' p.puts in
+      let m = keep-maintained lease (Ok answer) p in
+      let latest = unwrap_or q.next q.latest in
+      let puts_it = keep-recheckpoints g.view lease moment q.latest in
+      let its = its-manifest q.latest q.next q.given (to_keep g.view lease moment q.latest) q.plan puts_it in
+      let found : latest_manifest o' ≡ Some latest = subst (λ x. latest_manifest x ≡ Some latest) (sym puts.after) (planned-latest (to_keep g.view lease moment) made o q.latest q.next q.given sound.manifests q.is_latest q.plan puts_it puts.part) in
+      let here = m.content ∙ holds in
+      let can : can_follow false latest ≡ true = or-true latest.manifest.initialized in
+      let alike = view-alike g.view k.view lease moment q.latest q.next its q.view in
+      let all = (q.sees).sees stored (o, refl, sound, sym holds) (g, refl, mine.0, held.1 (managed-free g.mode managed)) in
+      let new = leased_whole o' stored g.skips latest k in
+      record {
+        new = new;
+        kept = leased-kept stored g.skips false o' latest m.sound here found can k (Some o) answer all alike;
+        maintained = m;
+        valid = leased-valid stored g.skips false o' latest m.sound here found can k (Some o) answer all alike (subst (λ l. is_some l ≡ true) (sym q.leased) refl);
+        tables = leased-stored stored g.skips false o' latest m.sound here found can k (Some o) answer all alike;
+        holds_it = leased-held stored g.skips false o' latest m.sound here found can k (Some o) answer all alike;
+        known = record {
+          faults = record { count = p.faults.count; unavailable = λ no. absurd (cc); stays = p.faults.stays; none_missing = λ no. absurd (cc) };
+          puts = keep-puts lease (Ok answer) p;
+          answers = (refl, refl, refl, leased-answers stored g.skips false o' latest m.sound here found can k (Some o) answer all alike);
+          keeps = as_modelled (catalogue_of o) (catalogue_of o') (record {
+            latest = q.latest;
+            is_latest = q.is_latest;
+            next = q.next;
+            given = q.given;
+            plan = q.plan;
+            leased = q.leased;
+            view = q.view;
+            sees = leased-sees stored g.skips false o' latest m.sound here found can k (Some o) answer all alike (catalogue_of o) _ (q.sees).logs;
+          });
+          failed = tt;
+          lapses = tt;
+          segments = λ had. leased-segments stored g.skips false o' latest m.sound here found can k (Some o) answer all alike settings.extractor (p.segments (kept-segments settings.extractor g had));
+          segmented = λ c line at stored_is _ is_error. keeps-segmented lease (Ok answer) managed p c line at stored_is is_error;
+        };
+      }
+
+-- ---- a round of a poll, and a renewal of the lease that it took
+module _ (stored : Line) (o o' : Objects) (f f' : ℕ) (made : ℕ) (sound : IsSound o) (holds : content o ≡ stored) (settings : Settings) (moment : ℤ) (g k : Follower) (mine : IsValidFollower stored (catalogue_of o) g) (held : IsHeld o (AFollower g)) (lease : Lease) (managed : is_managed g.mode ≡ true)
+    (r : Result PollAnswer SlateError) (p : PollsTwice (by_objects (Some o)) settings.extractor made lease moment (kept_follower g) (holding o f) r k (holding o' f')) where
+  abbrev pub first_world : Knowledge Span
+  first_world = by_catalogue stored (catalogue_of o)
+
+  pub both : Rounds (by_objects (Some o)) settings.extractor made lease moment (kept_follower g) o f r k (holding o' f') p
+  both = rounds (by_objects (Some o)) settings.extractor made lease moment (kept_follower g) o f r k (holding o' f') p sound.manifests
+
+  abbrev pub o1 : Objects
+  o1 = both.between
+
+  abbrev pub f1 : ℕ
+  f1 = (p.between).faults
+
+  pub first : Answered stored o o1 f f1 p.first sound holds settings moment g p.middle mine held lease p.answer
+  first =
+      answered-round stored o o1 f f1 p.first sound holds settings moment g p.middle mine held lease p.answer managed
+      (subst (λ x. KeepsLease (by_objects (Some o)) settings.extractor p.first lease moment (kept_follower g) (holding o f) (Ok p.answer) p.middle (record { objects = x; faults = f1 })) both.there p.round)
+
+  last_is : both.last ≡ o'
+  last_is = sym (some-same o' both.last both.there_last)
+
+  then-maintained : Maintained o1 o'
+  then-maintained =
+      subst (Maintained o1) (sym both.renews.after ∙ last_is) (renewal-maintains (p.given).id (p.given).lifetime moment o1 (first.maintained).sound (p.middle).view both.next_is p.again)
+
+  then-put : (o' ≡ o1) ⊎ ((put : VersionedManifest) × (o' ≡ changed (PutManifest put.id put.manifest) o1))
+  then-put = elim both.parts [
+    | inl same ↦ inl (sym last_is ∙ same)
+    | inr again ↦ inr (again.0, sym last_is ∙ again.3)
+  ]
+
+  pub all-maintained : Maintained o o'
+  all-maintained = maintained-then o o1 o' (p.middle).view both.next_is then-put then-maintained first.maintained
+
+  -- the whole reader, with what was recorded
+  abbrev pub after_both : CloseResult → Follower
+  after_both result = record first.new { result = result }
+
+  its-lease : first.new.lease ≡ Some p.given
+  its-lease = sym (ap (λ (x : Follower). x.lease) first.kept) ∙ p.leased
+
+  pub both-valid : (result : CloseResult) → IsValidFollower stored (catalogue_of o') (after_both result)
+  both-valid result = valid-then o o1 o' (p.middle).view both.next_is then-put then-maintained first.new result stored (subst (λ l. is_some l ≡ true) (sym its-lease) refl) first.valid
+
+  pub both-stored : AreStored o' first.new.view.manifest.tables
+  both-stored = stored-then o o1 o' (p.middle).view both.next_is then-put then-maintained first.new first.tables
+
+  pub both-held : (result : CloseResult) → IsHeld o' (AFollower (after_both result))
+  both-held result = held-then o o1 o' (p.middle).view both.next_is then-put then-maintained first.new result first.holds_it
+
+  -- the poll of the world
+  pub both-known : (new : Follower) → IfOk r (λ a. (a ≡ p.answer) × (new ≡ first.new)) → IfErr r (λ error. new ≡ record first.new { result = poll_result error }) → PollsTwice first_world settings.extractor made lease moment g (catalogued o f) r new (catalogued o' f')
+  both-known new answers failed = record {
+    first = p.first;
+    again = p.again;
+    made_is = p.made_is;
+    answer = p.answer;
+    middle = first.new;
+    between = catalogued o1 f1;
+    round = first.known;
+    renews = p.renews;
+    given = p.given;
+    leased = its-lease;
+    faults = p.faults;
+    puts = as_modelled (catalogue_of o1) (catalogue_of o') (subst (λ v. PutsRenewal first_world.stands (to_refresh (p.given).id (p.given).lifetime moment v) (catalogue_of o1) r p.again (catalogue_of o')) (ap (λ (x : Follower). x.view) first.kept)
+        (renewal-known (p.given).id (p.given).lifetime moment o1 (first.maintained).sound (p.middle).view both.next_is stored r p.again o' (subst (λ s. PutsRenewal Stands (to_refresh (p.given).id (p.given).lifetime moment (p.middle).view) o1 r p.again s) last_is both.renews)));
+    answers = answers;
+    failed = failed;
+  }
 
 module _ (stored : Line) (o o' : Objects) (f f' : ℕ) (made : ℕ) (writes writes' : List Write) (reply : Reply) (sound : IsSound o) (holds : content o ≡ stored) (numbered : IsLine stored)
     (settings : Settings) (moment : ℤ) (g k : Follower) (mine : IsValidFollower stored (catalogue_of o) g) (held : IsHeld o (AFollower g)) where
@@ -564,40 +716,27 @@ module _ (stored : Line) (o o' : Objects) (f f' : ℕ) (made : ℕ) (writes writ
   abbrev world : Knowledge Span
   world = by_catalogue stored (catalogue_of o)
 
-  -- what a poll puts, and what that leaves
-  keep-puts : (lease : Lease) (r : Result PollAnswer SlateError) → KeepsLease (by_objects (Some o)) settings.extractor made lease moment (kept_follower g) (holding o f) r k (holding o' f') → WhereModelled (λ c c'. PutsPlanned world.stands (KeepRefusal settings.extractor) (to_keep g.view lease moment) c r made c') (Some (catalogue_of o)) (Some (catalogue_of o'))
-  keep-puts lease r p = as_modelled (catalogue_of o) (catalogue_of o') (puts-known (to_keep g.view lease moment) (keep-recheckpoints g.view lease moment) o sound stored (KeepRefusal settings.extractor) (KeepRefusal settings.extractor) (keep_refusal-known settings.extractor o) r made o' (modelled o o' p.puts))
-
-  keep-maintained : (lease : Lease) (r : Result PollAnswer SlateError) → KeepsLease (by_objects (Some o)) settings.extractor made lease moment (kept_follower g) (holding o f) r k (holding o' f') → Maintained o o'
-  keep-maintained lease r p = subst (Maintained o) (sym (modelled o o' p.puts).after) (keep-maintains g.view lease moment made o sound)
-
-  -- a key that it lacks a segment for is one of the world
-  keeps-segmented : (lease : Lease) (r : Result PollAnswer SlateError) → is_managed g.mode ≡ true → KeepsLease (by_objects (Some o)) settings.extractor made lease moment (kept_follower g) (holding o f) r k (holding o' f') → (c : ObjectsOf Span) (line : Line) → Some (catalogue_of o) ≡ Some c → line ≡ stored → r ≡ Err errors.InvalidDBState →
-      PlanIs (to_keep g.view lease moment) c (Err refusals.InvalidDBState) ⊎ LacksSegment world settings.extractor modes.ManagedCheckpoint g.skips false c line
-  keeps-segmented lease r managed p c line at stored_is is_error =
-      subst (λ x. PlanIs (to_keep g.view lease moment) x (Err refusals.InvalidDBState) ⊎ LacksSegment world settings.extractor modes.ManagedCheckpoint g.skips false x line) (some-same (catalogue_of o) c at)
-      (subst (λ l. PlanIs (to_keep g.view lease moment) (catalogue_of o) (Err refusals.InvalidDBState) ⊎ LacksSegment world settings.extractor modes.ManagedCheckpoint g.skips false (catalogue_of o) l) (sym stored_is)
-      (by (p.segmented o stored refl (o, refl, sound, sym holds) (g, refl, front, held.1 (managed-free g.mode managed)) is_error))) where
-        by : PlanIs (to_keep g.view lease moment) o (Err refusals.InvalidDBState) ⊎ LacksSegment (by_objects (Some o)) settings.extractor modes.ManagedCheckpoint g.skips false o stored → PlanIs (to_keep g.view lease moment) (catalogue_of o) (Err refusals.InvalidDBState) ⊎ LacksSegment world settings.extractor modes.ManagedCheckpoint g.skips false (catalogue_of o) stored
-        by (inl plan) = inl plan
-        by (inr (key, lacks)) = inr (key, refuses-known settings.extractor stored (catalogue_of o) (Some o) modes.ManagedCheckpoint g.skips o sound holds false (Some (errors.EmptySegmentPrefix key)) lacks)
-
   -- the poll of the world, where it is open under this lease
-  keeps-known : (lease : Lease) (r : Result PollAnswer SlateError) (new : Follower) → g.result ≡ None → g.lease ≡ Some lease → KeepsLease world settings.extractor made lease moment g (catalogued o f) r new (catalogued o' f') → PollsManaged world settings.extractor made moment g (catalogued o f) r new (catalogued o' f')
-  keeps-known lease r new live is p = record {
+  leased-known : (lease : Lease) (r : Result PollAnswer SlateError) (new : Follower) → g.result ≡ None → g.lease ≡ Some lease → PollsLeased world settings.extractor made lease moment g (catalogued o f) r new (catalogued o' f') → PollsManaged world settings.extractor made moment g (catalogued o f) r new (catalogued o' f')
+  leased-known lease r new live is p = record {
     closed = is-none _ g.result live;
-    keeps = λ other live' is'. let same : lease ≡ other = cc in subst (λ l. KeepsLease world settings.extractor made l moment g (catalogued o f) r new (catalogued o' f')) same p;
+    keeps = λ other live' is'. let same : lease ≡ other = cc in subst (λ l. PollsLeased world settings.extractor made l moment g (catalogued o f) r new (catalogued o' f')) same p;
   }
 
+  -- whether it renews the lease that it takes is known by the catalogue
+  its-renewals : (lease : Lease) (does : Bool) → RenewsTaken (kept_follower g) lease moment does (holding o f) → RenewsTaken g lease moment does (catalogued o f)
+  its-renewals lease does renews = renews
+
   -- a poll that answers an error: the lease is the old one, or the one that it committed
-  failed-led : (lease : Lease) (e : SlateError) → is_managed g.mode ≡ true → reply ≡ reply_to polled_reply (Err e) → writes' ≡ writes → g.result ≡ None → g.lease ≡ Some lease → KeepsLease (by_objects (Some o)) settings.extractor made lease moment (kept_follower g) (holding o f) (Err e) k (holding o' f') → LedFollower Poll
-  failed-led lease e managed replied same_writes live is p =
+  failed-led : (lease : Lease) (e : SlateError) → is_managed g.mode ≡ true → reply ≡ reply_to polled_reply (Err e) → writes' ≡ writes → g.result ≡ None → g.lease ≡ Some lease → PollsOnce (by_objects (Some o)) settings.extractor made lease moment (kept_follower g) (holding o f) (Err e) k (holding o' f') → LedFollower Poll
+  failed-led lease e managed replied same_writes live is once =
+      let p = once.round in
       let new : Follower = record g { lease = k.lease; result = poll_result e } in
       let lapses = p.lapses in
       record {
         new = new;
         kept = p.failed;
-        maintained = keep-maintained lease (Err e) p;
+        maintained = keep-maintained stored o o' f f' made sound holds settings moment g k mine held lease (Err e) p;
         valid = λ v. (
           v.0,
           v.1,
@@ -610,64 +749,65 @@ module _ (stored : Line) (o o' : Objects) (f f' : ℕ) (made : ℕ) (writes writ
         );
         view = inl refl;
         holds_it = λ h. (h.0, λ free. let seen = h.1 free in record { mark = seen.mark; logs = seen.logs });
-        acts = acts-by (Err e) new true managed replied same_writes (keeps-known lease (Err e) new live is (record {
-          faults = p.faults;
-          puts = keep-puts lease (Err e) p;
-          answers = tt;
-          keeps = tt;
-          failed = refl;
-          lapses = lapses;
-          segments = λ had. had;
-          segmented = λ c line at stored_is _ is_error. keeps-segmented lease (Err e) managed p c line at stored_is is_error;
-        }));
+        acts = acts-by (Err e) new true managed replied same_writes (leased-known lease (Err e) new live is (inl (record {
+          ends = tt;
+          round = record {
+            faults = p.faults;
+            puts = keep-puts stored o o' f f' made sound holds settings moment g k mine held lease (Err e) p;
+            answers = tt;
+            keeps = tt;
+            failed = refl;
+            lapses = lapses;
+            segments = λ had. had;
+            segmented = λ c line at stored_is _ is_error. keeps-segmented stored o o' f f' made sound holds settings moment g k mine held lease (Err e) managed p c line at stored_is is_error;
+          };
+        })));
       }
 
   -- one that answers
-  answered-led : (lease : Lease) (answer : PollAnswer) → is_managed g.mode ≡ true → reply ≡ reply_to polled_reply (Ok answer) → writes' ≡ writes → g.result ≡ None → g.lease ≡ Some lease → KeepsLease (by_objects (Some o)) settings.extractor made lease moment (kept_follower g) (holding o f) (Ok answer) k (holding o' f') → LedFollower Poll
+  answered-led : (lease : Lease) (answer : PollAnswer) → is_managed g.mode ≡ true → reply ≡ reply_to polled_reply (Ok answer) → writes' ≡ writes → g.result ≡ None → g.lease ≡ Some lease → PollsOnce (by_objects (Some o)) settings.extractor made lease moment (kept_follower g) (holding o f) (Ok answer) k (holding o' f') → LedFollower Poll
   answered-led lease answer managed replied same_writes live is p =
-      let q = modelled o o' p.keeps in
-      let puts = modelled o o' p.puts in
-      let m = keep-maintained lease (Ok answer) p in
-      let latest = unwrap_or q.next q.latest in
-      let puts_it = keep-recheckpoints g.view lease moment q.latest in
-      let its = its-manifest q.latest q.next q.given (to_keep g.view lease moment q.latest) q.plan puts_it in
-      let found : latest_manifest o' ≡ Some latest = subst (λ x. latest_manifest x ≡ Some latest) (sym puts.after) (planned-latest (to_keep g.view lease moment) made o q.latest q.next q.given sound.manifests q.is_latest q.plan puts_it puts.part) in
-      let here = m.content ∙ holds in
-      let can : can_follow false latest ≡ true = or-true latest.manifest.initialized in
-      let alike = view-alike g.view k.view lease moment q.latest q.next its q.view in
-      let all = (q.sees).sees stored (o, refl, sound, sym holds) (g, refl, front, held.1 (managed-free g.mode managed)) in
-      let new = leased_whole o' stored g.skips latest k in
+      let a = answered-round stored o o' f f' made sound holds settings moment g k mine held lease answer managed p.round in
       record {
-        new = new;
-        kept = leased-kept stored g.skips false o' latest m.sound here found can k (Some o) answer all alike;
-        maintained = m;
-        valid = λ _. leased-valid stored g.skips false o' latest m.sound here found can k (Some o) answer all alike (subst (λ l. is_some l ≡ true) (sym q.leased) refl);
-        view = inr (leased-stored stored g.skips false o' latest m.sound here found can k (Some o) answer all alike);
-        holds_it = λ _. leased-held stored g.skips false o' latest m.sound here found can k (Some o) answer all alike;
-        acts = acts-by (Ok answer) new true managed replied same_writes (keeps-known lease (Ok answer) new live is (record {
-          faults = record { count = p.faults.count; unavailable = λ no. absurd (cc); stays = p.faults.stays; none_missing = λ no. absurd (cc) };
-          puts = keep-puts lease (Ok answer) p;
-          answers = (refl, refl, refl, leased-answers stored g.skips false o' latest m.sound here found can k (Some o) answer all alike);
-          keeps = as_modelled (catalogue_of o) (catalogue_of o') (record {
-            latest = q.latest;
-            is_latest = q.is_latest;
-            next = q.next;
-            given = q.given;
-            plan = q.plan;
-            leased = q.leased;
-            view = q.view;
-            sees = leased-sees stored g.skips false o' latest m.sound here found can k (Some o) answer all alike (catalogue_of o) _ (q.sees).logs;
-          });
-          failed = tt;
-          lapses = tt;
-          segments = λ had. leased-segments stored g.skips false o' latest m.sound here found can k (Some o) answer all alike settings.extractor (p.segments (kept-segments settings.extractor g had));
-          segmented = λ c line at stored_is _ is_error. keeps-segmented lease (Ok answer) managed p c line at stored_is is_error;
-        }));
+        new = a.new;
+        kept = a.kept;
+        maintained = a.maintained;
+        valid = λ _. a.valid;
+        view = inr a.tables;
+        holds_it = λ _. a.holds_it;
+        acts = acts-by (Ok answer) a.new true managed replied same_writes (leased-known lease (Ok answer) a.new live is (inl (record { round = a.known; ends = its-renewals lease false p.ends })));
       }
 
-  keeps-led : (lease : Lease) (r : Result PollAnswer SlateError) → is_managed g.mode ≡ true → reply ≡ reply_to polled_reply r → writes' ≡ writes → g.result ≡ None → g.lease ≡ Some lease → KeepsLease (by_objects (Some o)) settings.extractor made lease moment (kept_follower g) (holding o f) r k (holding o' f') → LedFollower Poll
-  keeps-led lease (Ok answer) managed replied same_writes live is p = answered-led lease answer managed replied same_writes live is p
-  keeps-led lease (Err e) managed replied same_writes live is p = failed-led lease e managed replied same_writes live is p
+  -- a round, and a renewal
+  twice-led : (lease : Lease) (r : Result PollAnswer SlateError) → is_managed g.mode ≡ true → reply ≡ reply_to polled_reply r → writes' ≡ writes → g.result ≡ None → g.lease ≡ Some lease → PollsTwice (by_objects (Some o)) settings.extractor made lease moment (kept_follower g) (holding o f) r k (holding o' f') → LedFollower Poll
+  twice-led lease (Ok answer) managed replied same_writes live is p =
+      let a = first stored o o' f f' made sound holds settings moment g k mine held lease managed (Ok answer) p in
+      record {
+        new = a.new;
+        kept = (p.answers).1 ∙ a.kept;
+        maintained = all-maintained stored o o' f f' made sound holds settings moment g k mine held lease managed (Ok answer) p;
+        valid = λ _. both-valid stored o o' f f' made sound holds settings moment g k mine held lease managed (Ok answer) p a.new.result;
+        view = inr (both-stored stored o o' f f' made sound holds settings moment g k mine held lease managed (Ok answer) p);
+        holds_it = λ _. both-held stored o o' f f' made sound holds settings moment g k mine held lease managed (Ok answer) p a.new.result;
+        acts = acts-by (Ok answer) a.new true managed replied same_writes (leased-known lease (Ok answer) a.new live is (inr (both-known stored o o' f f' made sound holds settings moment g k mine held lease managed (Ok answer) p a.new ((p.answers).0, refl) tt)));
+      }
+  twice-led lease (Err e) managed replied same_writes live is p =
+      let a = first stored o o' f f' made sound holds settings moment g k mine held lease managed (Err e) p in
+      let new = after_both stored o o' f f' made sound holds settings moment g k mine held lease managed (Err e) p (poll_result e) in
+      record {
+        new = new;
+        kept = p.failed ∙ ap (λ (x : Follower). record x { result = poll_result e }) a.kept;
+        maintained = all-maintained stored o o' f f' made sound holds settings moment g k mine held lease managed (Err e) p;
+        valid = λ _. both-valid stored o o' f f' made sound holds settings moment g k mine held lease managed (Err e) p (poll_result e);
+        view = inr (both-stored stored o o' f f' made sound holds settings moment g k mine held lease managed (Err e) p);
+        holds_it = λ _. both-held stored o o' f f' made sound holds settings moment g k mine held lease managed (Err e) p (poll_result e);
+        acts = acts-by (Err e) new true managed replied same_writes (leased-known lease (Err e) new live is (inr (both-known stored o o' f f' made sound holds settings moment g k mine held lease managed (Err e) p new tt refl)));
+      }
+
+  keeps-led : (lease : Lease) (r : Result PollAnswer SlateError) → is_managed g.mode ≡ true → reply ≡ reply_to polled_reply r → writes' ≡ writes → g.result ≡ None → g.lease ≡ Some lease → PollsLeased (by_objects (Some o)) settings.extractor made lease moment (kept_follower g) (holding o f) r k (holding o' f') → LedFollower Poll
+  keeps-led lease (Ok answer) managed replied same_writes live is (inl once) = answered-led lease answer managed replied same_writes live is once
+  keeps-led lease (Err e) managed replied same_writes live is (inl once) = failed-led lease e managed replied same_writes live is once
+  keeps-led lease r managed replied same_writes live is (inr twice) = twice-led lease r managed replied same_writes live is twice
 
   managed-led : (r : Result PollAnswer SlateError) → is_managed g.mode ≡ true → reply ≡ reply_to polled_reply r → writes' ≡ writes → PollsManaged (by_objects (Some o)) settings.extractor made moment (kept_follower g) (holding o f) r k (holding o' f') → LedFollower Poll
   managed-led r managed replied same_writes p =

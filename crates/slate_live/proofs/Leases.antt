@@ -36,7 +36,8 @@ use Rattle.slate_model.specs.Write.{last_number}
 use Rattle.slate_live.proofs.Distinct.{ids-differ}
 use Rattle.slate_live.proofs.Commencing.{begun-from}
 use Rattle.slate_live.proofs.Fates.{NewLease, fates}
-use Rattle.slate_live.proofs.Carrying.{Changes, Spares, does-carries, leased-is, put-is}
+use Rattle.slate_live.proofs.Carrying.{Changes, Spares, does-carries, put-is}
+use Rattle.slate_model.proofs.Leased.{leased-is, written-is}
 use Rattle.slate_store.specs.declared.objects.Checkpoint.{Checkpoint}
 
 pub refreshed-id : (id other : List ℕ) (end : ℤ) (x : Checkpoint) → has_id id (refreshed other end x) ≡ has_id id x
@@ -116,9 +117,9 @@ unexpired-found id c latest moment there lasts = by (has_expired moment latest) 
   by false = there
 
 -- A command leaves it that neither polls nor closes the reader that keeps it, and sweeps at a moment at which it isn't over.
-pub spared : (w : World) (command : Command) (latest : VersionedManifest) (id : List ℕ) (c : Checkpoint) → found id latest ≡ Some c → (target_of command.action ≡ WholeStore → is_expired command.moment c ≡ false) →
+pub spared : (w : World) (command : Command) (latest : VersionedManifest) (id : List ℕ) (c : Checkpoint) → found id latest ≡ Some c → (latest.id < last_number → checkpoint_id (latest.id + 1) ≢ id) → (target_of command.action ≡ WholeStore → is_expired command.moment c ≡ false) →
     ((n : ℕ) (f : Follower) (lease : Lease) → target_of command.action ≡ OfObject n → Disturbs (call_of command.action) → IsFollowerAt w.objects n f → f.lease ≡ Some lease → lease.id ≢ id) → Spares (Has (Finds id c)) w latest command
-spared w command latest id c there lasts apart = record {
+spared w command latest id c there other lasts apart = record {
   kept = there;
   flushed = λ handle last some. there;
   compacted = λ table. there;
@@ -126,6 +127,9 @@ spared w command latest id c there lasts apart = record {
   swept = λ sweeps. unexpired-found id c latest command.moment there (lasts sweeps);
   added = λ checkpoint. find-append (has_id id) c latest.manifest.checkpoints (checkpoint ∷ []) there;
   polled = λ n f lease given next names asks at has gives. kept-stays id lease c f.view latest command.moment there (apart n f lease names (subst Disturbs (sym asks) tt) at has) next given gives;
+  renewed = λ n f lease given next again checkpoint names asks at has written holds gives.
+      let q = written-is (Some lease.id) lease.lifetime command.moment latest (Some next) given written in
+      refreshed-stays id given.id c next holds (λ same. other q.0 (sym (ap (λ (l : Lease). l.id) q.2) ∙ same)) given.lifetime command.moment again checkpoint gives;
   closed = λ n f lease next flush_type names asks at live has gives. deleted-stays id lease.id c latest there (apart n f lease names (subst Disturbs (sym asks) tt) at has) next gives;
 }
 
@@ -203,7 +207,7 @@ abbrev pub IsAlone : World → ℕ → List ℕ → Type 0
 IsAlone w n id = (m : ℕ) (lease : Lease) → HasLease w m lease → lease.id ≡ id → m ≡ n
 
 pub nothing-spared : (w : World) (latest : VersionedManifest) (command : Command) → Spares (λ manifest. Unit {0}) w latest command
-nothing-spared w latest command = record { kept = tt; flushed = λ handle last some. tt; compacted = λ table. tt; opened = λ name last. tt; swept = λ sweeps. tt; added = λ checkpoint. tt; polled = λ n f lease given next names asks at has gives. tt; closed = λ n f lease next flush_type names asks at live has gives. tt }
+nothing-spared w latest command = record { kept = tt; flushed = λ handle last some. tt; compacted = λ table. tt; opened = λ name last. tt; swept = λ sweeps. tt; added = λ checkpoint. tt; polled = λ n f lease given next names asks at has gives. tt; renewed = λ n f lease given next again checkpoint names asks at has written holds gives. tt; closed = λ n f lease next flush_type names asks at live has gives. tt }
 
 module _ (settings : Settings) (w w' : World) (command : Command) (reply : Reply) (reached : IsReached w) (reached' : IsReached w') (next : NextWhole settings w command reply w') (past : ArePast w) where
   -- it was there, or is new and of the object that the command names or adds
@@ -229,8 +233,7 @@ module _ (settings : Settings) (w w' : World) (command : Command) (reply : Reply
     | inr new ↦
         let same : w'.catalogue ≡ new.catalogue = some-same w'.catalogue new.catalogue new.after in
         let low = new.low in
-        let id = new.put_id in
-        (new.latest.id + 1, new.id, omega (arith, low), new.put, ap latest_manifest same ∙ new.put_is, omega (arith, id))
+        (new.latest.id + 1, new.id, omega (arith, low), new.put, ap latest_manifest same ∙ new.put_is, new.up)
   ]
 
   -- a new lease isn't of a checkpoint that was there

@@ -43,6 +43,7 @@ pub mod Prefixes
 pub mod Publishing
 pub mod Reading
 pub mod Repeating
+pub mod Renewed
 pub mod Representing
 pub mod Rising
 pub mod Running

@@ -16,7 +16,7 @@ use Rattle.slate_model.specs.declared.leases.Lease.{Lease}
 use Rattle.slate_replay.specs.declared.replays.Replayed.TheVariants as replays
 use Rattle.slate_follow.specs.Stepping.{MeetsAt}
 use Rattle.slate_live.specs.Standing.{IsStaged, PlansFor}
-use Rattle.slate_live.proofs.Carrying.{leased-is}
+use Rattle.slate_model.proofs.Leased.{leased-is}
 
 -- a plan for a lease is one after the last manifest
 pub planned-for : (lease : Lease) (replaces : Bool) (last next : VersionedManifest) (given : Lease) → PlansFor lease replaces last next given → IsPlanned last next

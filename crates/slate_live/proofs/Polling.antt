@@ -1,5 +1,5 @@
 -- Over a run, a poll finds no key without a segment.
-use Rattle.std.proofs.Common.{◌≡◌, ◌⊎◌, ◌++◌, ◌∷◌, ◌∙◌, ◌≤◌, [], inl, inr, ℕ, ℤ, Bool, true, false, cond, zero, suc, List, map, Option, Some, None, Result, Ok, Err, refl, sym, subst, ap, arith}
+use Rattle.std.proofs.Common.{◌≡◌, ◌⊎◌, ◌∷◌, ◌∙◌, ◌≤◌, [], inl, inr, ℕ, ℤ, Bool, true, false, zero, suc, List, map, Option, Some, None, Result, Ok, Err, IfErr, refl, sym, subst, ap, arith}
 use Rattle.std.specs.List.{All, slice_get}
 use Rattle.std.specs.Option.{unwrap_or}
 use Rattle.std.proofs.lemmas.List.Elements.{All-head, All-tail}
@@ -11,7 +11,7 @@ use Rattle.slate_errors.specs.declared.closing.CloseFault.TheVariants as faults
 use Rattle.slate_errors.specs.declared.endings.Ended.{Ended}
 use Rattle.slate_errors.specs.declared.errors.SlateError.{SlateError}
 use Rattle.slate_errors.specs.declared.errors.SlateError.TheVariants as errors
-use Rattle.slate_model.specs.Catalogue.{Span}
+use Rattle.slate_model.specs.Catalogue.{Catalogue, Span}
 use Rattle.slate_model.specs.Close.{closed_follower}
 use Rattle.slate_model.specs.Follow.{AreFollowed, LacksSegment, Polls}
 use Rattle.slate_model.specs.Follower.{Follower, is_managed, is_pinned}
@@ -19,11 +19,17 @@ use Rattle.slate_model.specs.Handle.{CloseResult, Handle}
 use Rattle.slate_model.specs.Open.{replayed}
 use Rattle.slate_model.proofs.Reduced.{some-same}
 use Rattle.slate_types.specs.Line.{Line, batches_above}
+use Rattle.slate_store.specs.Checkpoints.{Plan, found, lease_end, to_refresh}
+use Rattle.slate_store.specs.Content.{AreRising}
+use Rattle.slate_store.specs.Objects.{latest_manifest}
+use Rattle.slate_store.specs.declared.objects.Checkpoint.{Checkpoint}
 use Rattle.slate_store.specs.declared.objects.Manifest.{Manifest}
+use Rattle.slate_store.specs.declared.refusals.StoreRefusal.TheVariants as refusals
 use Rattle.slate_store.specs.declared.objects.VersionedManifest.{VersionedManifest}
 use Rattle.slate_model.specs.Knowledge.{Knowledge}
 use Rattle.slate_model.specs.Known.{Known, Untouched}
-use Rattle.slate_model.specs.Managed.{KeepsLease, PollsManaged, poll_result}
+use Rattle.slate_model.specs.Managed.{KeepsLease, PollsLeased, PollsManaged, PollsTwice, RenewalCause, poll_result}
+use Rattle.slate_model.proofs.Rounds.{rounds}
 use Rattle.slate_model.specs.Object.{Object, Handle as AHandle, Snapshot as ASnapshot, Follower as AFollower}
 use Rattle.slate_model.specs.Stores.{by_catalogue}
 use Rattle.slate_model.specs.Write.{last_number}
@@ -50,7 +56,7 @@ use Rattle.slate_live.specs.Valid.{Link}
 use Rattle.slate_live.specs.World.{NextWhole, World, state_of}
 use Rattle.slate_live.proofs.Cases.{by-bool, by-option, some-of}
 use Rattle.slate_live.proofs.Everywhere.{everywhere}
-use Rattle.slate_live.proofs.Filling.{broken, keep-full, recorded-is, refused-is}
+use Rattle.slate_live.proofs.Filling.{broken, end-full, keep-full, recorded-is, refused-is}
 use Rattle.slate_live.proofs.Leases.{latest-after, nothing-spared}
 use Rattle.slate_live.proofs.Naming.{follower-did, handle-acted}
 use Rattle.slate_live.proofs.Rising.{managed-mode}
@@ -96,6 +102,26 @@ module _ (settings : Settings) (w : World) (reached : IsReached w) (segments : A
         absurd (none-lacks settings.extractor w (reached.0).line segments n f at (free-mode f.mode managed) (subst (λ m. LacksSegment k settings.extractor m f.skips false w.catalogue w.stored) (sym mode) lacks))
   ]
 
+  -- no manifest can follow the latest one, before it or after
+  abbrev pub Full : Type 0
+  Full = IsFull w ⊎ ((o : Catalogue) × (after.objects ≡ Some o) × (latest : VersionedManifest) × (latest_manifest o ≡ Some latest) × (last_number ≤ latest.id))
+
+  -- so where the renewal fails that follows a round
+  twice-full : (lease : Lease) (r : Result PollAnswer SlateError) → PollsTwice k settings.extractor made lease moment f (state_of w).store r f' after → r ≡ Err errors.InvalidDBState → Full
+  twice-full lease r p is =
+      let both = rounds k settings.extractor made lease moment f w.catalogue w.faults r f' after p (subst (λ (x : Catalogue). AreRising (map (λ e. e.0) x.manifests)) (reached.3).catalogue (reached.2).manifests) in
+      let view = (p.middle).view in
+      let refused = subst (λ (x : Result PollAnswer SlateError). IfErr x (RenewalCause (to_refresh (p.given).id (p.given).lifetime moment view))) is both.renews.cause in
+      let same : both.last ≡ both.between = elim both.parts [
+        | inl same ↦ same
+        | inr again ↦ absurd (let no : ◌≡◌ {A = Plan Checkpoint} (Ok (Some again.0, again.1)) (Err refusals.InvalidDBState) = sym again.2 ∙ refused in cc)
+      ] in
+      inr (both.last, both.there_last, view, ap latest_manifest same ∙ both.next_is, end-full (p.given).id (lease_end moment (p.given).lifetime) view (found (p.given).id view) refused)
+
+  rounds-full : (lease : Lease) (r : Result PollAnswer SlateError) → is_managed f.mode ≡ true → PollsLeased k settings.extractor made lease moment f (state_of w).store r f' after → r ≡ Err errors.InvalidDBState → Full
+  rounds-full lease r managed (inl once) is = inl (leased-full lease r managed once.round is)
+  rounds-full lease r managed (inr twice) is = twice-full lease r twice is
+
   -- a closed one
   shut-full : (r : Result PollAnswer SlateError) (q : Result (Unit {0}) CloseFault) → f.result ≡ Some q → r ≡ Err (closed_error q) → r ≡ Err errors.InvalidDBState → IsFull w
   shut-full r q shut error is =
@@ -103,15 +129,15 @@ module _ (settings : Settings) (w : World) (reached : IsReached w) (segments : A
       let same : closed_error q ≡ errors.InvalidDBState = cc in
       had (shut ∙ closed-is q same)
 
-  managed-full : (r : Result PollAnswer SlateError) → is_managed f.mode ≡ true → PollsManaged k settings.extractor made moment f (state_of w).store r f' after → r ≡ Err errors.InvalidDBState → IsFull w
+  managed-full : (r : Result PollAnswer SlateError) → is_managed f.mode ≡ true → PollsManaged k settings.extractor made moment f (state_of w).store r f' after → r ≡ Err errors.InvalidDBState → Full
   managed-full r managed p is =
       by-option f.result
       (λ live. by-option f.lease
       (λ none. absurd (let there = ((reached.0).followers n f at).2 managed live in cc))
-      (λ lease its. leased-full lease r managed (p.keeps lease live its) is))
-      (λ q shut. shut-full r q shut (some-of (λ q. (r ≡ Err (closed_error q)) × (f' ≡ f) × Untouched made (state_of w).store after) f.result q shut p.closed).0 is)
+      (λ lease its. rounds-full lease r managed (p.keeps lease live its) is))
+      (λ q shut. inl (shut-full r q shut (some-of (λ q. (r ≡ Err (closed_error q)) × (f' ≡ f) × Untouched made (state_of w).store after) f.result q shut p.closed).0 is))
 
-  free-full : (r : Result PollAnswer SlateError) → Polls k settings.extractor f (state_of w).store r f' after → r ≡ Err errors.InvalidDBState → IsFull w
+  free-full : (r : Result PollAnswer SlateError) → Polls k settings.extractor f (state_of w).store r f' after → r ≡ Err errors.InvalidDBState → Full
   free-full (Ok answer) p is = absurd (cc)
   free-full (Err e) p is =
       let same : e ≡ errors.InvalidDBState = cc in
@@ -120,17 +146,17 @@ module _ (settings : Settings) (w : World) (reached : IsReached w) (segments : A
       (λ stays. absurd (let no = (p.pinned live stays).0 in cc))
       (λ free. absurd (none-lacks settings.extractor w (reached.0).line segments n f at free
       (subst (λ e. AreFollowed {A = Follower × PollAnswer} k settings.extractor f.mode f.skips false w.catalogue w.stored (Err e)) same ((p.rebuilds live free).segmented w.catalogue w.stored refl refl tt)))))
-      (λ q shut. shut-full (Err e) q shut (some-of (λ q. (◌≡◌ {A = Result PollAnswer SlateError} (Err e) (Err (closed_error q))) × (after ≡ (state_of w).store)) f.result q shut p.closed).0 is)
+      (λ q shut. inl (shut-full (Err e) q shut (some-of (λ q. (◌≡◌ {A = Result PollAnswer SlateError} (Err e) (Err (closed_error q))) × (after ≡ (state_of w).store)) f.result q shut p.closed).0 is))
 
-  polled-full : (managed : Bool) (r : Result PollAnswer SlateError) → is_managed f.mode ≡ managed → PollsAs k settings.extractor managed made moment f (state_of w).store r f' after → r ≡ Err errors.InvalidDBState → IsFull w
+  polled-full : (managed : Bool) (r : Result PollAnswer SlateError) → is_managed f.mode ≡ managed → PollsAs k settings.extractor managed made moment f (state_of w).store r f' after → r ≡ Err errors.InvalidDBState → Full
   polled-full true r managed p is = managed-full r managed p is
   polled-full false r managed p is = free-full r p.0 is
 
   -- and what it leaves
-  kept-broken : f' ≡ f → f'.result ≡ broken → IsFull w
-  kept-broken same is = had (sym (ap (λ (g : Follower). g.result) same) ∙ is)
+  kept-broken : f' ≡ f → f'.result ≡ broken → Full
+  kept-broken same is = inl (had (sym (ap (λ (g : Follower). g.result) same) ∙ is))
 
-  free-broken : (r : Result PollAnswer SlateError) → Polls k settings.extractor f (state_of w).store r f' after → f'.result ≡ broken → IsFull w
+  free-broken : (r : Result PollAnswer SlateError) → Polls k settings.extractor f (state_of w).store r f' after → f'.result ≡ broken → Full
   free-broken (Err e) p is = kept-broken p.failed is
   free-broken (Ok answer) p is =
       by-option f.result
@@ -139,13 +165,17 @@ module _ (settings : Settings) (w : World) (reached : IsReached w) (segments : A
       (λ free. absurd (let open_ = ((p.rebuilds live free).answer).3 in cc)))
       (λ q shut. absurd (let no = (some-of (λ q. (◌≡◌ {A = Result PollAnswer SlateError} (Ok answer) (Err (closed_error q))) × (after ≡ (state_of w).store)) f.result q shut p.closed).0 in cc))
 
-  leased-broken : (lease : Lease) (r : Result PollAnswer SlateError) → is_managed f.mode ≡ true → KeepsLease k settings.extractor made lease moment f (state_of w).store r f' after → f'.result ≡ broken → IsFull w
-  leased-broken lease (Ok answer) managed p is = absurd (let open_ = (p.answers).2 in cc)
-  leased-broken lease (Err e) managed p is =
-      let recorded : poll_result e ≡ broken = sym (ap (λ (g : Follower). g.result) p.failed) ∙ is in
-      leased-full lease (Err e) managed p (ap Err (recorded-is e recorded))
+  leased-broken : (lease : Lease) (r : Result PollAnswer SlateError) → is_managed f.mode ≡ true → PollsLeased k settings.extractor made lease moment f (state_of w).store r f' after → f'.result ≡ broken → Full
+  leased-broken lease (Ok answer) managed (inl once) is = absurd (let open_ = ((once.round).answers).2 in cc)
+  leased-broken lease (Ok answer) managed (inr twice) is = absurd (let open_ = ap (λ (g : Follower). g.result) (twice.answers).1 ∙ ((twice.round).answers).2 in cc)
+  leased-broken lease (Err e) managed (inl once) is =
+      let recorded : poll_result e ≡ broken = sym (ap (λ (g : Follower). g.result) (once.round).failed) ∙ is in
+      inl (leased-full lease (Err e) managed once.round (ap Err (recorded-is e recorded)))
+  leased-broken lease (Err e) managed (inr twice) is =
+      let recorded : poll_result e ≡ broken = sym (ap (λ (g : Follower). g.result) twice.failed) ∙ is in
+      twice-full lease (Err e) twice (ap Err (recorded-is e recorded))
 
-  managed-broken : (r : Result PollAnswer SlateError) → is_managed f.mode ≡ true → PollsManaged k settings.extractor made moment f (state_of w).store r f' after → f'.result ≡ broken → IsFull w
+  managed-broken : (r : Result PollAnswer SlateError) → is_managed f.mode ≡ true → PollsManaged k settings.extractor made moment f (state_of w).store r f' after → f'.result ≡ broken → Full
   managed-broken r managed p is =
       by-option f.result
       (λ live. by-option f.lease
@@ -153,25 +183,25 @@ module _ (settings : Settings) (w : World) (reached : IsReached w) (segments : A
       (λ lease its. leased-broken lease r managed (p.keeps lease live its) is))
       (λ q shut. kept-broken (some-of (λ q. (r ≡ Err (closed_error q)) × (f' ≡ f) × Untouched made (state_of w).store after) f.result q shut p.closed).1 is)
 
-  polled-broken : (managed : Bool) (r : Result PollAnswer SlateError) → is_managed f.mode ≡ managed → PollsAs k settings.extractor managed made moment f (state_of w).store r f' after → f'.result ≡ broken → IsFull w
+  polled-broken : (managed : Bool) (r : Result PollAnswer SlateError) → is_managed f.mode ≡ managed → PollsAs k settings.extractor managed made moment f (state_of w).store r f' after → f'.result ≡ broken → Full
   polled-broken true r managed p is = managed-broken r managed p is
   polled-broken false r managed p is = free-broken r p.0 is
 
-  closed-broken : f' ≡ closed_follower f → f'.result ≡ broken → IsFull w
+  closed-broken : f' ≡ closed_follower f → f'.result ≡ broken → Full
   closed-broken same is = by f.result refl where
-    by : (result : CloseResult) → f.result ≡ result → IsFull w
+    by : (result : CloseResult) → f.result ≡ result → Full
     by None live =
         let no : ◌≡◌ {A = CloseResult} (Some (Ok tt)) broken = ap (λ r. Some (unwrap_or r (Ok tt))) (sym live) ∙ (sym (ap (λ (g : Follower). g.result) same) ∙ is) in
         absurd (cc)
     by (Some q) shut =
         let its : Some q ≡ broken = ap (λ r. Some (unwrap_or r (Ok tt))) (sym shut) ∙ (sym (ap (λ (g : Follower). g.result) same) ∙ is) in
-        had (shut ∙ its)
+        inl (had (shut ∙ its))
 
-  ended-broken : (managed : Bool) (answer : Ended) → ClosesAs k managed made f (state_of w).store answer f' after → f'.result ≡ broken → IsFull w
+  ended-broken : (managed : Bool) (answer : Ended) → ClosesAs k managed made f (state_of w).store answer f' after → f'.result ≡ broken → Full
   ended-broken true answer c is = closed-broken c.closed is
   ended-broken false answer c is = closed-broken c.1 is
 
-  follower-broken : (call : Call) (reply : Reply) (writes' : List Write) → FollowerActs k settings moment call made f (state_of w).store w.writes reply f' after writes' → f'.result ≡ broken → IsFull w
+  follower-broken : (call : Call) (reply : Reply) (writes' : List Write) → FollowerActs k settings moment call made f (state_of w).store w.writes reply f' after writes' → f'.result ≡ broken → Full
   follower-broken (Get key remote snapshot) reply writes' a is = kept-broken a.1 is
   follower-broken (Scan range order remote snapshot) reply writes' a is = kept-broken a.1 is
   follower-broken (Seek range take key order remote snapshot) reply writes' a is = kept-broken a.1 is
@@ -199,6 +229,10 @@ module _ (settings : Settings) (w w' : World) (command : Command) (reply : Reply
       let up = c.up in
       (c.latest, c.is, omega (arith, full, up))
 
+  full-then : (IsFull w ⊎ ((o : Catalogue) × ((state_of w').store.objects ≡ Some o) × (latest : VersionedManifest) × (latest_manifest o ≡ Some latest) × (last_number ≤ latest.id))) → IsFull w'
+  full-then (inl full) = full-after full
+  full-then (inr (o, at, latest, is, full)) = (latest, ap latest_manifest (some-same w'.catalogue o at) ∙ is, full)
+
   broken-after : (object : Object) → Broken w object → Broken w' object
   broken-after (AHandle h) had = tt
   broken-after (ASnapshot s) had = tt
@@ -210,7 +244,7 @@ module _ (settings : Settings) (w w' : World) (command : Command) (reply : Reply
         old = λ n object at. broken-after object (all n object at);
         handle = λ n call h h' at a. tt;
         snapshot = λ snapshot. tt;
-        follower = λ n f f' at names a is. full-after (follower-broken settings w reached segments n f f' at (all n (AFollower f) at) next.made command.moment (state_of w').store (call_of command.action) reply w'.writes a is);
+        follower = λ n f f' at names a is. full-then (follower-broken settings w reached segments n f f' at (all n (AFollower f) at) next.made command.moment (state_of w').store (call_of command.action) reply w'.writes a is);
         opened = λ keeps_log h d. tt;
         followed = λ mode skips b d is. absurd (let open_ = (d.answer).3 in cc);
         taken = λ lifetime skips b d is. absurd (let open_ = (d.answers).2 in cc);
@@ -230,19 +264,19 @@ module _ (settings : Settings) (w w' : World) (command : Command) (reply : Reply
     answers (Ok answer) is = absurd (polled-not answer (sym is ∙ replied))
     answers (Err e) is = ap Err (refused-is e (sym is ∙ replied))
 
-    on-poll : (found : Option Object) → slice_get w.objects n ≡ found → ActsOn known settings n command Poll next.made found (state_of w) reply (state_of w') → IsFull w
+    on-poll : (found : Option Object) → slice_get w.objects n ≡ found → ActsOn known settings n command Poll next.made found (state_of w) reply (state_of w') → IsFull w'
     on-poll None at a = absurd (unknown a.1)
     on-poll (Some (ASnapshot y)) at a = absurd (read-snapshot y (slice_get w.objects y.handle) a)
     on-poll (Some (AHandle h)) at a = let d = handle-acted known settings n command Poll next.made (state_of w) reply (state_of w') h a in absurd (unknown d.acts.0)
     on-poll (Some (AFollower f)) at a =
         let d = follower-did known settings n command Poll next.made (state_of w) reply (state_of w') (Some (AFollower f)) f refl a in
         let p = d.acts.0 in
-        polled-full settings w reached segments n f d.new at (all n (AFollower f) at) next.made command.moment (state_of w').store (is_managed f.mode) p.result refl p.does (answers p.result p.replied)
+        full-then (polled-full settings w reached segments n f d.new at (all n (AFollower f) at) next.made command.moment (state_of w').store (is_managed f.mode) p.result refl p.does (answers p.result p.replied))
 
     poll-full : IsFull w'
     poll-full =
         let does = subst (λ t. DoesBy known settings command t next.made (state_of w) reply (state_of w')) (ap target_of names) next.does in
-        full-after (on-poll (slice_get w.objects n) refl (subst (λ c. ActsOn known settings n command c next.made (slice_get w.objects n) (state_of w) reply (state_of w')) (ap call_of names) does))
+        on-poll (slice_get w.objects n) refl (subst (λ c. ActsOn known settings n command c next.made (slice_get w.objects n) (state_of w) reply (state_of w')) (ap call_of names) does)
 
 -- ---- polls by single calls
 module _ (settings : Settings) (n : ℕ) (w w' : World) (reply : Reply) (reached : IsReached w) (next : NextStep settings n w reply w') (leaves : StepLeaves settings.extractor n w reply w') (rises : Rise w.objects w'.objects) where

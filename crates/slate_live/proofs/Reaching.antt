@@ -1,14 +1,14 @@
 -- A begun poll reaches what its reader was owed at its first step, from call to call.
-use Rattle.std.proofs.Common.{◌≡◌, ◌≢◌, ◌∙◌, ◌⊎◌, inl, inr, ℕ, ℤ, zero, suc, ◌+◌, ◌-◌, ◌<◌, ◌≤◌, ◌&&◌, ◌==◌, max, not, Bool, true, false, cond, if◌then◌else◌, List, [], ◌∷◌, ◌++◌, length, map, Option, Some, None, Result, Ok, Err, refl, sym, ap, subst, arith}
-use Rattle.std.proofs.lemmas.Bool.{cases_eq, cases_lt, eq-eqb, eqb-true, leb-true, ltb-true, lt-ltb}
+use Rattle.std.proofs.Common.{◌≡◌, ◌≢◌, ◌∙◌, ◌⊎◌, inl, inr, ℕ, ℤ, zero, suc, ◌+◌, ◌-◌, ◌<◌, ◌≤◌, ◌&&◌, ◌==◌, max, not, Bool, true, false, if◌then◌else◌, List, [], ◌∷◌, ◌++◌, length, map, Option, Some, None, Ok, Err, refl, sym, ap, subst, arith}
+use Rattle.std.proofs.lemmas.Bool.{cases_eq, cases_lt, eqb-true, leb-true, ltb-true, lt-ltb}
 use Rattle.std.proofs.lemmas.List.Elements.{All-contains_itself, All-head, Contains-append_right}
 use Rattle.std.specs.List.{All, Contains}
-use Rattle.std.specs.Prelude.{IsSomeAnd, nat_le, nat_lt, unwrap_or}
-use Rattle.slate_types.specs.Line.{Line, IsPrefix, end}
+use Rattle.std.specs.Prelude.{nat_le, nat_lt, unwrap_or}
+use Rattle.slate_types.specs.Line.{end}
 use Rattle.slate_types.specs.declared.batches.Batch.{Batch}
 use Rattle.slate_store.proofs.LastLog.{at_least}
 use Rattle.slate_store.proofs.Logs.{between-next, between-none, no_gap-parts}
-use Rattle.slate_store.specs.Checkpoints.{Plan, found, lease_end, new_checkpoint, puts_next, refreshed, to_end, to_refresh, to_write, with_checkpoints, without_replaced}
+use Rattle.slate_store.specs.Checkpoints.{Plan, found, new_checkpoint, puts_next, to_refresh, to_write, with_checkpoints, without_replaced}
 use Rattle.slate_store.specs.Content.{IsSound, content, logged}
 use Rattle.slate_store.specs.Logs.{HaveNoGap, batches_between}
 use Rattle.slate_store.specs.Objects.{Objects, last_log, latest_manifest, log_at}
@@ -20,17 +20,15 @@ use Rattle.slate_model.specs.Begun.{AsksLast, Begun, Breaks, Ended, Ends, Fails,
 use Rattle.slate_model.specs.Follower.{Follower, number}
 use Rattle.slate_model.specs.Lease.{differs, is_due, lease_of, leased}
 use Rattle.slate_model.specs.Seen.{HasSeen}
-use Rattle.slate_model.specs.Stood.{IsPlanned}
 use Rattle.slate_model.specs.Write.{last_number}
 use Rattle.slate_model.specs.declared.leases.Lease.{Lease}
-use Rattle.slate_model.specs.declared.polls.PollHistory.{PollHistory}
 use Rattle.slate_model.proofs.Coming.{planned-other}
 use Rattle.slate_model.proofs.Fronts.{stored-below}
 use Rattle.slate_model.proofs.Logging.{LogsFollow, LogsGo}
 use Rattle.slate_model.proofs.Reduced.{some-same}
 use Rattle.slate_model.proofs.Reopened.{logs-by}
 use Rattle.slate_follow.proofs.Rebuilt.{kept-end}
-use Rattle.slate_follow.proofs.Following.{no-gap-rises, same-tables}
+use Rattle.slate_follow.proofs.Following.{same-tables}
 use Rattle.slate_follow.specs.Lasting.{come_to}
 use Rattle.slate_live.specs.Reaching.{IsCovered, IsCoveredBy, IsToRead, ReachesAt}
 

@@ -24,7 +24,7 @@ use Rattle.slate_model.specs.Handle.{CloseResult, Handle, accepted}
 use Rattle.slate_model.specs.Knowledge.{Knowledge}
 use Rattle.slate_model.specs.Known.{Known, Untouched}
 use Rattle.slate_model.specs.Lease.{to_keep}
-use Rattle.slate_model.specs.Managed.{KeepsLease, PollsManaged, poll_result}
+use Rattle.slate_model.specs.Managed.{KeepsLease, PollsManaged, PollsTwice, poll_result}
 use Rattle.slate_model.specs.declared.leases.Lease.{Lease}
 use Rattle.slate_model.proofs.Leased.{its-manifest}
 use Rattle.slate_model.proofs.Planned.{keep-recheckpoints}
@@ -218,12 +218,23 @@ module _ (ext : Option Extractor) (stored : Line) (catalogue : Catalogue) (made 
         result = is-none (λ q. f'.result ≡ Some q) f.result live;
       }
 
+module _ (ext : Option Extractor) (stored : Line) (catalogue : Catalogue) (made : ℕ) (moment : ℤ) (f f' : Follower) (before after : Known Span) (at : before.objects ≡ Some catalogue) (mine : IsValidFollower stored catalogue f) where
+  -- where a renewal follows the round
+  twice-rises : (lease : Lease) (r : Result PollAnswer SlateError) → is_managed f.mode ≡ true → f.result ≡ None → PollsTwice (by_catalogue stored catalogue) ext made lease moment f before r f' after → FollowerRises f f'
+  twice-rises lease (Ok answer) managed live p = subst (FollowerRises f) (sym (p.answers).1) (leased-rises ext stored catalogue p.first moment f p.middle before p.between at mine lease (Ok p.answer) managed live p.round)
+  twice-rises lease (Err e) managed live p =
+      let m = leased-rises ext stored catalogue p.first moment f p.middle before p.between at mine lease (Ok p.answer) managed live p.round in
+      subst (FollowerRises f) (sym p.failed) (record { mode = m.mode; skips = m.skips; number = m.number; result = is-none (λ q. poll_result e ≡ Some q) f.result live })
+
   managed-rises : (r : Result PollAnswer SlateError) → is_managed f.mode ≡ true → PollsManaged (by_catalogue stored catalogue) ext made moment f before r f' after → FollowerRises f f'
   managed-rises r managed p =
       by-option f.result
       (λ live. by-option f.lease
       (λ none. absurd (let there = mine.2 managed live in cc))
-      (λ lease is. leased-rises lease r managed live (p.keeps lease live is)))
+      (λ lease is. elim (p.keeps lease live is) [
+        | inl once ↦ leased-rises ext stored catalogue made moment f f' before after at mine lease r managed live once.round
+        | inr twice ↦ twice-rises lease r managed live twice
+      ]))
       (λ q is. follower-same f f' (some-of (λ q. (r ≡ Err (closed_error q)) × (f' ≡ f) × Untouched made before after) f.result q is p.closed).1)
 
   polls-rises : (r : Result PollAnswer SlateError) (managed : Bool) → is_managed f.mode ≡ managed → PollsAs (by_catalogue stored catalogue) ext managed made moment f before r f' after → FollowerRises f f'

@@ -1,18 +1,12 @@
 -- Commands that are done one after another on a live state lead as those of a run.
-use Rattle.std.proofs.Common.{◌≡◌, ◌≤◌, ℕ, length, take, map, List, [], ◌∷◌, ◌++◌, Some, refl, sym, subst, ap, ◌∙◌, arith}
-use Rattle.std.specs.List.{All}
+use Rattle.std.proofs.Common.{◌≡◌, ◌≤◌, length, take, [], ◌∷◌, ◌++◌, refl, sym, subst, ap, ◌∙◌, arith}
 use Rattle.std.proofs.lemmas.List.{map-append, take_all}
 use Rattle.std.proofs.lemmas.List.Elements.{All-nil, All-push}
-use Rattle.slate_types.specs.declared.batches.Batch.{Batch}
-use Rattle.slate_store.specs.Objects.{Objects}
-use Rattle.slate_model.specs.Known.{Known}
-use Rattle.slate_script.specs.declared.commands.Command.{Command}
 use Rattle.slate_live.specs.Represents.{AllInSegments, IsReached, Represents}
 use Rattle.slate_live.specs.Run.{none_live}
-use Rattle.slate_live.specs.Running.{EachIsDone, EachLeadsOn, HaveLed, NoneHasLed, TheyLead, step_to}
-use Rattle.slate_live.specs.Settings.{Settings}
+use Rattle.slate_live.specs.Running.{EachIsDone, EachLeadsOn, NoneHasLed, TheyLead, step_to}
 use Rattle.slate_live.specs.Steps.{Step, last_world}
-use Rattle.slate_live.specs.World.{World, start}
+use Rattle.slate_live.specs.World.{start}
 use Rattle.slate_live.proofs.Chains.{Done, all-start, chain-push, do-push, last-push, leads_all, leads_all-steps, reached, stands_start}
 
 pub none_has_led : NoneHasLed

@@ -1,7 +1,7 @@
 -- What is stored is seen by each opening and each poll.
 use Rattle.slate_errors.specs.declared.endings.TaskName.{TaskName}
 use Rattle.slate_model.specs.Segments.{Extractor}
-use Rattle.std.proofs.Common.{◌≡◌, ℕ, ℤ, ◌≤◌, Bool, true, false, not, ◌&&◌, set, ◌++◌, ◌∙◌, length, Option, Some, None, Result, Ok, Err, refl, sym, subst, arith, ap, List}
+use Rattle.std.proofs.Common.{◌≡◌, ℕ, ℤ, ◌≤◌, Bool, true, false, not, ◌&&◌, set, ◌++◌, ◌∙◌, inl, inr, length, Option, Some, None, Result, Ok, Err, refl, sym, subst, arith, ap, List}
 use Rattle.std.specs.List.{slice_get}
 use Rattle.std.proofs.lemmas.Option.{slice_get_within}
 use Rattle.slate_types.specs.declared.batches.Batch.{Batch}
@@ -16,9 +16,10 @@ use Rattle.slate_store.specs.declared.reader_modes.DbReaderMode.{DbReaderMode}
 use Rattle.slate_store.specs.declared.reader_modes.DbReaderMode.TheVariants as modes
 use Rattle.slate_model.specs.declared.leases.Lease.{Lease}
 use Rattle.slate_model.specs.Lease.{lease_refusal}
-use Rattle.slate_model.specs.Managed.{KeepsLease, OpensManaged, PollsManaged, TakesLease}
+use Rattle.slate_model.specs.Managed.{KeepsLease, OpensManaged, PollsManaged, PollsTwice, TakesLease}
 use Rattle.slate_model.proofs.Reduced.{modelled}
-use Rattle.slate_model.specs.Known.{Untouched}
+use Rattle.slate_model.specs.Catalogue.{Span}
+use Rattle.slate_model.specs.Known.{Known, Untouched}
 use Rattle.std.specs.Option.{unwrap_or}
 use Rattle.slate_model.specs.Handle.{Handle}
 use Rattle.slate_model.specs.declared.snapshots.HandleSnapshot.{HandleSnapshot}
@@ -163,9 +164,10 @@ module _ (ext : Option Extractor) (n : ℕ) (batch : Batch) (w w' : World) (f f'
         by live false free = polled-sees r free (p.rebuilds live free)
 
   -- and one that keeps a checkpoint
-  keep-sees : (made : ℕ) (lease : Lease) (moment : ℤ) (r : Result PollAnswer SlateError) → f.mode ≡ modes.ManagedCheckpoint → KeepsLease (by_catalogue w.stored w.catalogue) ext made lease moment f (state_of w).store r f' (state_of w').store → Sees batch (actions.Poll n) (reply_to polled_reply r) w'
-  keep-sees made lease moment (Ok answer) managed p =
-      let keeps = modelled w.catalogue w'.catalogue p.keeps in
+  keep-sees : (made : ℕ) (lease : Lease) (moment : ℤ) (r : Result PollAnswer SlateError) (after : Known Span) → f.mode ≡ modes.ManagedCheckpoint → KeepsLease (by_catalogue w.stored w.catalogue) ext made lease moment f (state_of w).store r f' after → Sees batch (actions.Poll n) (reply_to polled_reply r) w'
+  keep-sees made lease moment (Ok answer) after managed p =
+      let t = (p.keeps).some w.catalogue refl in
+      let keeps = t.2 in
       let all = (keeps.sees).sees w.stored refl tt in
       let low = stands-end batch w.stored stands in
       subst (λ a. Sees batch (actions.Poll n) (polled_reply a) w') (sym all.3)
@@ -174,16 +176,26 @@ module _ (ext : Option Extractor) (n : ℕ) (batch : Batch) (w w' : World) (f f'
       let mode : g.mode ≡ modes.ManagedCheckpoint = ap (λ (x : Follower). x.mode) (sym same) ∙ p.answers.0 in
       let skips : g.skips ≡ f.skips = ap (λ (x : Follower). x.skips) (sym same) ∙ p.answers.1 in
       let follows : follows_all modes.ManagedCheckpoint f.skips ≡ true = sym (ap (λ m. follows_all m g.skips) mode ∙ ap (follows_all modes.ManagedCheckpoint) skips) ∙ whole in
-      let line = owed-all w.catalogue w'.catalogue modes.ManagedCheckpoint f.skips (unwrap_or keeps.next keeps.latest) w.stored all.0 follows all.1 in
+      let line = owed-all w.catalogue t.0 modes.ManagedCheckpoint f.skips (unwrap_or keeps.next keeps.latest) w.stored all.0 follows all.1 in
       subst (λ l. batch.number ≤ end l) (sym line) low)
-  keep-sees made lease moment (Err e) managed p = sees-refusal batch (actions.Poll n) e w'
+  keep-sees made lease moment (Err e) after managed p = sees-refusal batch (actions.Poll n) e w'
+
+  -- where a renewal follows the round
+  twice-sees : (made : ℕ) (lease : Lease) (moment : ℤ) (r : Result PollAnswer SlateError) (after : Known Span) → f.mode ≡ modes.ManagedCheckpoint → PollsTwice (by_catalogue w.stored w.catalogue) ext made lease moment f (state_of w).store r f' after → Sees batch (actions.Poll n) (reply_to polled_reply r) w'
+  twice-sees made lease moment (Ok answer) after managed p =
+      let round = subst (λ (g : Follower). KeepsLease (by_catalogue w.stored w.catalogue) ext p.first lease moment f (state_of w).store (Ok p.answer) g p.between) (sym (p.answers).1) p.round in
+      subst (λ a. Sees batch (actions.Poll n) (polled_reply a) w') (sym (p.answers).0) (keep-sees p.first lease moment (Ok p.answer) p.between managed round)
+  twice-sees made lease moment (Err e) after managed p = sees-refusal batch (actions.Poll n) e w'
 
   managed-sees : (made : ℕ) (moment : ℤ) (r : Result PollAnswer SlateError) → is_managed f.mode ≡ true → IsLeased f → PollsManaged (by_catalogue w.stored w.catalogue) ext made moment f (state_of w).store r f' (state_of w').store → Sees batch (actions.Poll n) (reply_to polled_reply r) w'
   managed-sees made moment r managed leased p =
       by-option f.result
       (λ live. by-option f.lease
       (λ none. absurd (let there = leased managed live in cc))
-      (λ lease leased_is. keep-sees made lease moment r (managed-mode f.mode managed) (p.keeps lease live leased_is)))
+      (λ lease leased_is. elim (p.keeps lease live leased_is) [
+        | inl once ↦ keep-sees made lease moment r (state_of w').store (managed-mode f.mode managed) once.round
+        | inr twice ↦ twice-sees made lease moment r (state_of w').store (managed-mode f.mode managed) twice
+      ]))
       (λ q closed_is.
       let c = some-of (λ q. (r ≡ Err (closed_error q)) × (f' ≡ f) × Untouched made (state_of w).store (state_of w').store) f.result q closed_is p.closed in
       subst (λ x. Sees batch (actions.Poll n) (reply_to polled_reply x) w') (sym c.0) (sees-refusal batch (actions.Poll n) (closed_error q) w'))

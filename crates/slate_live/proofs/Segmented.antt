@@ -10,7 +10,7 @@ use Rattle.slate_types.specs.declared.batches.KeyOp.{KeyOp}
 use Rattle.slate_types.specs.Line.{AreNumberedFrom, IsLine, Line, batches_above, extended}
 use Rattle.slate_types.specs.Operator.{Merge}
 use Rattle.slate_types.proofs.Lines.{above-none}
-use Rattle.slate_store.specs.Checkpoints.{Plan, to_delete, with_checkpoints}
+use Rattle.slate_store.specs.Checkpoints.{Plan, to_delete, to_refresh, with_checkpoints}
 use Rattle.slate_store.specs.Objects.{latest_manifest}
 use Rattle.slate_store.specs.Sweeps.{has_expired}
 use Rattle.slate_store.specs.declared.objects.Manifest.{Manifest}
@@ -39,7 +39,7 @@ use Rattle.slate_model.specs.declared.answers.Written.{Written}
 use Rattle.slate_model.specs.declared.snapshots.HandleSnapshot.{HandleSnapshot}
 use Rattle.slate_model.proofs.Free.{numbered-front}
 use Rattle.slate_model.proofs.Keeping.{above-twice}
-use Rattle.slate_model.proofs.Maintained.{Recheckpoints, delete-recheckpoints}
+use Rattle.slate_model.proofs.Maintained.{Recheckpoints, delete-recheckpoints, refresh-recheckpoints}
 use Rattle.slate_model.proofs.Owing.{latest-view}
 use Rattle.slate_model.proofs.Planned.{keep-recheckpoints}
 use Rattle.slate_model.proofs.Reduced.{some-same}
@@ -208,6 +208,9 @@ from-spared w latest command = record {
   swept = λ sweeps. by (has_expired command.moment latest) _;
   added = λ checkpoint. omega arith;
   polled = λ n f lease given next names asks at has gives. planned-from latest next given (to_keep f.view lease command.moment latest) gives (keep-recheckpoints f.view lease command.moment latest);
+  renewed = λ n f lease given next again checkpoint names asks at has written holds gives.
+      let on = planned-from next again checkpoint (to_refresh given.id given.lifetime command.moment next) gives (refresh-recheckpoints given.id given.lifetime command.moment next) in
+      omega (arith, holds, on);
   closed = λ n f lease next flush_type names asks at live has gives. planned-from latest next tt (to_delete lease.id latest) gives (delete-recheckpoints lease.id latest);
 } where
   by : (b : Bool) (checkpoints : List _) → From latest.manifest.last_l0_seq (cond b (with_checkpoints checkpoints latest) latest).manifest

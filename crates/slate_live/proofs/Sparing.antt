@@ -19,7 +19,7 @@ use Rattle.slate_follow.specs.Stepping.{LeavesPut, Meets}
 use Rattle.slate_live.specs.Standing.{IsStaged, PlansFor, PollStands}
 use Rattle.slate_live.specs.World.{World}
 use Rattle.slate_live.proofs.Beside.{put-tops}
-use Rattle.slate_live.proofs.Carrying.{leased-is}
+use Rattle.slate_model.proofs.Leased.{leased-is}
 use Rattle.slate_live.proofs.Distinct.{renewed-same, written-new}
 use Rattle.slate_live.proofs.Finding.{find-all}
 use Rattle.slate_live.proofs.Leases.{refreshed-stays, written-stays}

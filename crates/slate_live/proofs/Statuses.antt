@@ -31,6 +31,8 @@ use Rattle.slate_model.specs.Follower.{Follower, HasSegments, is_managed}
 use Rattle.slate_model.specs.Handle.{Handle, accepted, has_untabled, next_table, untabled, untabled_segments}
 use Rattle.slate_model.specs.Knowledge.{Knowledge}
 use Rattle.slate_model.specs.Known.{Known, Untouched}
+use Rattle.slate_model.specs.Managed.{PollsTwice}
+use Rattle.slate_model.specs.declared.leases.Lease.{Lease}
 use Rattle.slate_model.specs.Object.{Object, Handle as AHandle, Snapshot as ASnapshot, Follower as AFollower}
 use Rattle.slate_model.specs.Open.{OpensHandle, opened_handle, opened_manifest}
 use Rattle.slate_model.specs.Refresh.{CompactAnswer, RefreshAnswer}
@@ -232,13 +234,20 @@ module _ (settings : Settings) (w : World) (moment : ℤ) (made : ℕ) (f f' : F
   kept-its : f' ≡ f → HasSegments settings.extractor f'
   kept-its same = subst (HasSegments settings.extractor) (sym same) has
 
+  twice-its : (lease : Lease) (r : Result PollAnswer SlateError) → PollsTwice (by_catalogue w.stored w.catalogue) settings.extractor made lease moment f (state_of w).store r f' after → HasSegments settings.extractor f'
+  twice-its lease (Ok answer) p = subst (HasSegments settings.extractor) (sym (p.answers).1) ((p.round).segments has)
+  twice-its lease (Err e) p = subst (HasSegments settings.extractor) (sym p.failed) ((p.round).segments has)
+
   polled-its : (managed : Bool) (r : Result PollAnswer SlateError) → is_managed f.mode ≡ managed → PollsAs (by_catalogue w.stored w.catalogue) settings.extractor managed made moment f (state_of w).store r f' after → HasSegments settings.extractor f'
   polled-its false r is p = (p.0).segments has
   polled-its true r is p =
       by-option f.result
       (λ live. by-option f.lease
       (λ none. absurd (let there = leased is live in cc))
-      (λ lease its. (p.keeps lease live its).segments has))
+      (λ lease its. elim (p.keeps lease live its) [
+        | inl once ↦ (once.round).segments has
+        | inr twice ↦ twice-its lease r twice
+      ]))
       (λ q shut. kept-its (some-of (λ q. (r ≡ Err (closed_error q)) × (f' ≡ f) × Untouched made (state_of w).store after) f.result q shut p.closed).1)
 
   closed-its : f' ≡ closed_follower f → HasSegments settings.extractor f'

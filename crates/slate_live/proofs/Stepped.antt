@@ -1,10 +1,9 @@
 -- What a command that makes the next call of a begun poll does over a store makes a link from each world that is represented.
-use Rattle.std.proofs.Common.{◌≡◌, ◌≢◌, ◌∙◌, ◌⊎◌, ◌==◌, ◌&&◌, not, inl, inr, ℕ, ◌+◌, ◌<◌, ◌≤◌, Bool, true, false, if◌then◌else◌, List, option_map, set, Option, Some, None, Result, Ok, Err, refl, sym, ap, subst, arith, ◌-◌, ◌||◌}
+use Rattle.std.proofs.Common.{◌≡◌, ◌≢◌, ◌∙◌, ◌⊎◌, ◌==◌, ◌&&◌, not, inl, inr, ℕ, ◌+◌, ◌<◌, ◌≤◌, Bool, true, false, if◌then◌else◌, List, option_map, set, Option, Some, None, Result, Ok, Err, refl, sym, ap, subst, arith, ◌||◌}
 use Rattle.std.proofs.lemmas.Bool.{eq-eqb, eqb-true}
 use Rattle.std.proofs.lemmas.List.{map-set}
 use Rattle.std.specs.List.{slice_get}
 use Rattle.std.specs.Option.{is_some, IfSome, MatchOption, is_none}
-use Rattle.std.specs.Prelude.{nat_lt}
 use Rattle.std.specs.Result.{IfErr}
 use Rattle.slate_types.specs.declared.batches.Batch.{Batch}
 use Rattle.slate_types.specs.declared.store_errors.StoreFault.TheVariants.{Unavailable}
@@ -18,10 +17,10 @@ use Rattle.slate_store.specs.declared.objects.VersionedManifest.{VersionedManife
 use Rattle.slate_errors.specs.declared.closing.CloseFault.TheVariants as faults
 use Rattle.slate_errors.specs.declared.errors.SlateError.{SlateError}
 use Rattle.slate_errors.specs.declared.errors.SlateError.TheVariants as errors
-use Rattle.slate_model.specs.Begun.{Begun, Breaks, Ends, Fails, Goes, Puts, Turn, kept_batches, reached_number, view_of, ReadsLatest, Stage, taken}
+use Rattle.slate_model.specs.Begun.{Begun, Breaks, Ends, Fails, Goes, Puts, Turn, ReadsLatest, Stage, taken}
 use Rattle.slate_model.specs.Catalogue.{Catalogue, catalogue_of}
 use Rattle.slate_model.specs.Follower.{Follower, HasSegments, is_managed, is_pinned, kept_follower, number, unsegmented}
-use Rattle.slate_model.specs.Handle.{Handle, up_to}
+use Rattle.slate_model.specs.Handle.{Handle}
 use Rattle.slate_model.specs.Known.{Known}
 use Rattle.slate_model.specs.Open.{replayed}
 use Rattle.slate_model.specs.Managed.{poll_result}
@@ -45,7 +44,6 @@ use Rattle.slate_follow.proofs.Lasting.{few-steps, lasts-breaks, maintained-acts
 use Rattle.slate_follow.specs.Following.{FollowsLine}
 use Rattle.slate_follow.specs.Lasting.{IsEighth, IsOfEighth, IsOvertaken, LastsSince, TablesGrew, TriesEight}
 use Rattle.slate_follow.specs.Answering.{IsOfPoll}
-use Rattle.slate_follow.specs.Rebuilding.{Lacks}
 use Rattle.slate_follow.specs.Stepping.{ArrivalLacks, Meets, MeetsAt, StepFails, StepLacks, Steps, failed_by}
 use Rattle.slate_script.specs.declared.commands.Action.TheVariants as actions
 use Rattle.slate_script.specs.declared.commands.Command.{Command}
@@ -53,7 +51,7 @@ use Rattle.slate_script.specs.declared.replies.Reply.{Reply}
 use Rattle.slate_script.specs.declared.replies.Reply.TheVariants as replies
 use Rattle.slate_live.specs.Calls.{Steps as StepsKind, kind_of}
 use Rattle.slate_live.specs.Confirmed.{Sees}
-use Rattle.slate_live.specs.Next.{HasLease, IsFull, NextBy, StepLeaves, shown, stored_in, owed_first, owed_now, tabled_number}
+use Rattle.slate_live.specs.Next.{HasLease, NextBy, StepLeaves, shown, stored_in, owed_first, owed_now, tabled_number}
 use Rattle.slate_live.specs.Replies.{polled_reply, refusal, reply_to}
 use Rattle.slate_live.specs.Represents.{AreBefore, AllInSegments, AreInSegments, AreOfPast, HaveSegments, Holds, IsFollowerAt, IsHandleAt, IsHeld, IsValid, IsValidFollower, PollHasSegments, Represents, RepresentsObjects, StandsAt, follows_all, replays_all, StandsOn}
 use Rattle.slate_live.specs.Causes.{HasCauses}

@@ -20,7 +20,7 @@ use Rattle.slate_model.specs.Follower.{Follower, follower_tasks, is_managed, is_
 use Rattle.slate_model.specs.Handle.{CloseResult, Handle}
 use Rattle.slate_model.specs.Knowledge.{Knowledge}
 use Rattle.slate_model.specs.Known.{Known, Untouched}
-use Rattle.slate_model.specs.Managed.{KeepsLease, PollsManaged}
+use Rattle.slate_model.specs.Managed.{KeepsLease, PollsManaged, PollsTwice}
 use Rattle.slate_model.specs.Object.{Object, Handle as AHandle, Snapshot as ASnapshot, Follower as AFollower}
 use Rattle.slate_model.specs.Segments.{Extractor}
 use Rattle.slate_model.specs.Stores.{by_catalogue}
@@ -149,17 +149,28 @@ module _ (ext : Option Extractor) (stored : Line) (catalogue : Catalogue) (made 
       let mode = managed-mode f.mode managed in
       rebuilt-tasks live ((p.answers).0 ∙ sym mode) (ap (λ (g : Follower). g.tasks) all.2 ∙ ap follower_tasks (sym mode))
 
+module _ (ext : Option Extractor) (stored : Line) (catalogue : Catalogue) (made : ℕ) (moment : ℤ) (f f' : Follower) (before after : Known Span) (at : before.objects ≡ Some catalogue) (tasked : IsTasked f) where
+  -- where a renewal follows the round
+  twice-tasks : (lease : Lease) (r : Result PollAnswer SlateError) → is_managed f.mode ≡ true → f.result ≡ None → PollsTwice (by_catalogue stored catalogue) ext made lease moment f before r f' after → HasTasks f.tasks f'
+  twice-tasks lease (Ok answer) managed live p = subst (HasTasks f.tasks) (sym (p.answers).1) (leased-tasks ext stored catalogue p.first moment f p.middle before p.between at tasked lease (Ok p.answer) managed live p.round)
+  twice-tasks lease (Err e) managed live p =
+      let h = leased-tasks ext stored catalogue p.first moment f p.middle before p.between at tasked lease (Ok p.answer) managed live p.round in
+      subst (HasTasks f.tasks) (sym p.failed) (h.0, λ open_. h.1 (p.round.answers).2)
+
   managed-tasks : (r : Result PollAnswer SlateError) → IsLeased f → is_managed f.mode ≡ true → PollsManaged (by_catalogue stored catalogue) ext made moment f before r f' after → HasTasks f.tasks f'
   managed-tasks r leased managed p =
       by-option f.result
       (λ live. by-option f.lease
       (λ none. absurd (let there = leased managed live in cc))
-      (λ lease is. leased-tasks lease r managed live (p.keeps lease live is)))
-      (λ q is. kept-tasks (some-of (λ q. (r ≡ Err (closed_error q)) × (f' ≡ f) × Untouched made before after) f.result q is p.closed).1)
+      (λ lease is. elim (p.keeps lease live is) [
+        | inl once ↦ leased-tasks ext stored catalogue made moment f f' before after at tasked lease r managed live once.round
+        | inr twice ↦ twice-tasks lease r managed live twice
+      ]))
+      (λ q is. kept-tasks ext stored catalogue made moment f f' before after at tasked (some-of (λ q. (r ≡ Err (closed_error q)) × (f' ≡ f) × Untouched made before after) f.result q is p.closed).1)
 
   polls-tasks : (r : Result PollAnswer SlateError) → IsLeased f → (managed : Bool) → is_managed f.mode ≡ managed → PollsAs (by_catalogue stored catalogue) ext managed made moment f before r f' after → HasTasks f.tasks f'
   polls-tasks r leased true is p = managed-tasks r leased is p
-  polls-tasks r leased false is p = poll-tasks r p.0
+  polls-tasks r leased false is p = poll-tasks ext stored catalogue made moment f f' before after at tasked r p.0
 
   ended-tasks : f' ≡ closed_follower f → HasTasks [] f'
   ended-tasks same = subst (HasTasks []) (sym same) (refl, λ open_. absurd (cc))

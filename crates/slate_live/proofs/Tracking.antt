@@ -18,7 +18,7 @@ use Rattle.slate_seqtrack.specs.Tracker.{Tracker, numbers_of, paired, times_of}
 use Rattle.slate_seqtrack.specs.declared.faults.TrackerFault.{TrackerFault}
 use Rattle.slate_seqtrack.specs.declared.pairs.TrackedSeq.{TrackedSeq}
 use Rattle.slate_store.proofs.Carried.{put-kept}
-use Rattle.slate_store.specs.Checkpoints.{Plan, to_delete, with_checkpoints}
+use Rattle.slate_store.specs.Checkpoints.{Plan, to_delete, to_refresh, with_checkpoints}
 use Rattle.slate_store.specs.Content.{AreRising}
 use Rattle.slate_store.specs.Objects.{ChangeOf, PutLog, PutTable, changed, changed_all, last_log, latest_manifest}
 use Rattle.slate_store.specs.Sweeps.{has_expired}
@@ -27,7 +27,7 @@ use Rattle.slate_store.specs.declared.objects.VersionedManifest.{VersionedManife
 use Rattle.slate_errors.specs.declared.errors.SlateError.{SlateError}
 use Rattle.slate_errors.specs.declared.errors.SlateError.TheVariants as errors
 use Rattle.slate_errors.specs.declared.endings.TaskName.{TaskName}
-use Rattle.slate_model.proofs.Maintained.{Recheckpoints, delete-recheckpoints}
+use Rattle.slate_model.proofs.Maintained.{Recheckpoints, delete-recheckpoints, refresh-recheckpoints}
 use Rattle.slate_model.proofs.Planned.{keep-recheckpoints}
 use Rattle.slate_model.proofs.Reduced.{some-same}
 use Rattle.slate_model.proofs.Tabled.{tables-within}
@@ -112,6 +112,8 @@ keeps-spared number t w latest command holds = record {
   swept = λ sweeps. by (has_expired command.moment latest) _;
   added = λ checkpoint. holds;
   polled = λ n f lease given next names asks at has gives. planned-keeps number t latest next given (to_keep f.view lease command.moment latest) holds gives (keep-recheckpoints f.view lease command.moment latest);
+  renewed = λ n f lease given next again checkpoint names asks at has written kept gives.
+      planned-keeps number t next again checkpoint (to_refresh given.id given.lifetime command.moment next) kept gives (refresh-recheckpoints given.id given.lifetime command.moment next);
   closed = λ n f lease next flush_type names asks at live has gives. planned-keeps number t latest next tt (to_delete lease.id latest) holds gives (delete-recheckpoints lease.id latest);
 } where
   later : (handle : Handle) → latest.manifest.last_l0_seq < accepted handle → number < accepted handle

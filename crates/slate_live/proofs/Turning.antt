@@ -1,12 +1,12 @@
 -- A reader holds its checkpoint after its opening, and after each poll that took all log files.
-use Rattle.std.proofs.Common.{◌≡◌, ◌++◌, ◌∷◌, ◌/◌, ◌∙◌, [], inl, inr, ℕ, ℤ, int_lt, Bool, true, false, find, length, Option, Some, None, Result, Ok, Err, refl, sym, subst, ap, arith}
+use Rattle.std.proofs.Common.{◌≡◌, ◌++◌, ◌+◌, ◌∷◌, ◌/◌, ◌∙◌, [], inl, inr, ℕ, ℤ, int_lt, Bool, true, false, find, length, Option, Some, None, Result, Ok, Err, refl, sym, subst, ap, arith}
 use Rattle.std.proofs.lemmas.Bool.{eqb-true}
 use Rattle.std.specs.Bool.{MatchBool}
 use Rattle.std.specs.List.{slice_get}
 use Rattle.slate_store.specs.Changes.{after_part}
 use Rattle.std.proofs.lemmas.Slice.Eq.{bytes_eq-Decides}
-use Rattle.slate_store.specs.Checkpoints.{has_id, lease_end, new_checkpoint, to_write, with_checkpoints}
-use Rattle.slate_store.specs.Objects.{entry_at, latest_manifest}
+use Rattle.slate_store.specs.Checkpoints.{has_id, lease_end, new_checkpoint, to_refresh, to_write, with_checkpoints}
+use Rattle.slate_store.specs.Objects.{PutManifest, changed, entry_at, latest_manifest}
 use Rattle.slate_store.specs.Refusals.{checkpoint_changes}
 use Rattle.slate_store.specs.declared.objects.VersionedManifest.{VersionedManifest}
 use Rattle.slate_store.specs.declared.reader_modes.DbReaderMode.TheVariants as modes
@@ -18,12 +18,13 @@ use Rattle.slate_model.specs.declared.leases.Lease.{Lease}
 use Rattle.slate_model.specs.Catalogue.{Catalogue, Span}
 use Rattle.slate_model.specs.Follower.{Follower, is_managed}
 use Rattle.slate_model.specs.Knowledge.{Knowledge}
-use Rattle.slate_model.specs.Known.{Untouched}
-use Rattle.slate_model.specs.Lease.{lease_of, lease_refusal, replaces, to_keep, to_take}
-use Rattle.slate_model.specs.Managed.{KeepsLease, OpensManaged, TakesLease}
+use Rattle.slate_model.specs.Known.{Known, Untouched}
+use Rattle.slate_model.specs.Lease.{lease_of, lease_refusal, leased, replaces, to_keep, to_take}
+use Rattle.slate_model.specs.Managed.{KeepsLease, OpensManaged, PollsLeased, PollsTwice, TakesLease}
+use Rattle.slate_model.proofs.Rounds.{rounds, took}
 use Rattle.slate_model.specs.Object.{Follower as AFollower}
 use Rattle.slate_model.specs.Stores.{by_catalogue}
-use Rattle.slate_model.proofs.Leased.{put-entry, put-id, put-latest_is, puts-one}
+use Rattle.slate_model.proofs.Leased.{leased-is, put-entry, put-id, put-latest_is, put-low, puts-one}
 use Rattle.slate_model.proofs.Planned.{take-recheckpoints}
 use Rattle.slate_model.proofs.Reduced.{some-same}
 use Rattle.slate_script.specs.declared.commands.Action.{Action}
@@ -39,11 +40,10 @@ use Rattle.slate_live.specs.Replies.{followed_reply, polled_reply, refusal, repl
 use Rattle.slate_live.specs.Represents.{IsFollowerAt, IsReached}
 use Rattle.slate_live.specs.Settings.{Settings}
 use Rattle.slate_live.specs.World.{NextWhole, World, state_of}
-use Rattle.slate_live.proofs.Carrying.{leased-is, taken-is}
+use Rattle.slate_live.proofs.Carrying.{taken-is}
 use Rattle.slate_live.proofs.Cases.{by-option, some-of}
-use Rattle.slate_live.proofs.Distinct.{put-low}
 use Rattle.slate_live.proofs.Finding.{find-last}
-use Rattle.slate_live.proofs.Holding.{Holds, new-apart, polled-holds, renewed-ahead}
+use Rattle.slate_live.proofs.Holding.{Holds, new-apart, polled-holds, renewed-ahead, renewed-holds}
 use Rattle.slate_live.proofs.Leases.{ArePast, HasCheckpoint, Names, alone-new, rising}
 use Rattle.slate_live.proofs.Naming.{follower-did}
 use Rattle.slate_live.proofs.Places.{get-seam, get-set_same}
@@ -61,16 +61,41 @@ module _ (settings : Settings) (w w' : World) (command : Command) (reply : Reply
   abbrev k : Knowledge Span
   k = by_catalogue w.stored w.catalogue
 
-  -- a poll that was answered
-  answered-holds : target_of command.action ≡ OfObject n → (f' : Follower) (answer : PollAnswer) → IsFollowerAt w'.objects n f' → KeepsLease k settings.extractor next.made h.lease command.moment h.follower (state_of w).store (Ok answer) f' (state_of w').store → Holds n lifetime command.moment w'
-  answered-holds names f' answer at' p =
+  -- a round that was answered, to these objects
+  round-holds : target_of command.action ≡ OfObject n → (f' : Follower) (made : ℕ) (answer : PollAnswer) (after : Known Span) → after.objects ≡ Some w'.catalogue → IsFollowerAt w'.objects n f' → KeepsLease k settings.extractor made h.lease command.moment h.follower (state_of w).store (Ok answer) f' after → Holds n lifetime command.moment w'
+  round-holds names f' made answer after is_after at' p =
       let puts = (p.puts).some w.catalogue refl in
       let q = ((p.keeps).some w.catalogue refl).2 in
-      let after_is : w'.catalogue ≡ puts.0 = some-same w'.catalogue puts.0 puts.1 in
+      let after_is : w'.catalogue ≡ puts.0 = some-same w'.catalogue puts.0 (sym is_after ∙ puts.1) in
       let same : q.latest ≡ h.has.latest = some-same q.latest h.has.latest (sym q.is_latest ∙ h.has.is) in
       let gives = subst (λ (v : VersionedManifest). to_keep h.follower.view h.lease command.moment v ≡ Ok (q.next, q.given)) same q.plan in
       let view = subst (λ (v : VersionedManifest). MatchBool (replaces h.follower.view h.lease command.moment v) (q.next ≡ Some f'.view) (f'.view ≡ h.follower.view)) same q.view in
-      polled-holds settings w w' command reply reached reached' next past n lifetime last h names f' at' p.answers.2 p.answers.0 next.made q.next q.given gives q.leased view (puts.2).part (after_is ∙ (puts.2).after)
+      polled-holds settings w w' command reply reached reached' next past n lifetime last h names f' at' p.answers.2 p.answers.0 made q.next q.given gives q.leased view (puts.2).part (after_is ∙ (puts.2).after)
+
+  answered-holds : target_of command.action ≡ OfObject n → (f' : Follower) (answer : PollAnswer) → IsFollowerAt w'.objects n f' → KeepsLease k settings.extractor next.made h.lease command.moment h.follower (state_of w).store (Ok answer) f' (state_of w').store → Holds n lifetime command.moment w'
+  answered-holds names f' answer at' p = round-holds names f' next.made answer (state_of w').store refl at' p
+
+  -- and one with a renewal after it
+  twice-holds : target_of command.action ≡ OfObject n → (f' : Follower) (answer : PollAnswer) → IsFollowerAt w'.objects n f' → PollsTwice k settings.extractor next.made h.lease command.moment h.follower (state_of w).store (Ok answer) f' (state_of w').store → Holds n lifetime command.moment w'
+  twice-holds names f' answer at' p =
+      let its_rising = rising settings w w' command reply reached reached' next in
+      let t = took k settings.extractor next.made h.lease command.moment h.follower w.catalogue w.faults (Ok answer) f' (state_of w').store p in
+      let both = rounds k settings.extractor next.made h.lease command.moment h.follower w.catalogue w.faults (Ok answer) f' (state_of w').store p its_rising in
+      let view : (p.middle).view ≡ f'.view = ap (λ (g : Follower). g.view) (sym (p.answers).1) in
+      let same : t.latest ≡ h.has.latest = some-same t.latest h.has.latest (sym t.is ∙ h.has.is) in
+      let last_is : w'.catalogue ≡ both.last = some-same w'.catalogue both.last both.there_last in
+      let round = subst (λ (g : Follower). KeepsLease k settings.extractor p.first h.lease command.moment h.follower (state_of w).store (Ok p.answer) g p.between) (sym (p.answers).1) p.round in
+      let leased' : f'.lease ≡ Some p.given = ap (λ (g : Follower). g.lease) (p.answers).1 ∙ p.leased in
+      let written = subst (λ v. leased h.lease.lifetime (to_write (Some h.lease.id) (Some h.lease.lifetime) command.moment h.has.latest) ≡ Ok (Some v, p.given)) view
+      (subst (λ v. leased h.lease.lifetime (to_write (Some h.lease.id) (Some h.lease.lifetime) command.moment v) ≡ Ok (Some (p.middle).view, p.given)) same t.written) in
+      let put = subst (λ (v : VersionedManifest). both.between ≡ changed (PutManifest v.id v.manifest) w.catalogue) view both.put in
+      elim both.parts [
+        | inl none ↦ round-holds names f' p.first p.answer p.between (both.there ∙ ap Some (sym (last_is ∙ none))) at' round
+        | inr again ↦
+            let gives = subst (λ v. to_refresh (p.given).id (p.given).lifetime command.moment v ≡ Ok (Some again.0, again.1)) view again.2 in
+            renewed-holds settings w w' command reply reached reached' next past n lifetime last h names f' at' round.answers.2 round.answers.0 p.given leased' written both.between put again.0 again.1 gives
+            (last_is ∙ again.3) (again.4 ∙ ap (λ (v : VersionedManifest). v.id + 1) view) (ap latest_manifest last_is ∙ again.5)
+      ]
 
   pub poll-holds : polls n command.action ≡ true → is_whole reply ≡ true → Holds n lifetime command.moment w'
   poll-holds asks whole =
@@ -82,8 +107,9 @@ module _ (settings : Settings) (w w' : World) (command : Command) (reply : Reply
       let at' : IsFollowerAt w'.objects n d.new = subst (λ os. slice_get os n ≡ Some (AFollower d.new)) (sym d.objects) (get-set_same w.objects n (AFollower d.new) (AFollower h.follower) h.at) in
       let managed = subst (λ m. PollsAs k settings.extractor (is_managed m) next.made command.moment h.follower (state_of w).store p.result d.new (state_of w').store) h.managed p.does in
       by d.new p.result p.replied at' (managed.keeps h.lease h.live h.leased) where
-        by : (f' : Follower) (r : Result PollAnswer SlateError) → reply ≡ reply_to polled_reply r → IsFollowerAt w'.objects n f' → KeepsLease k settings.extractor next.made h.lease command.moment h.follower (state_of w).store r f' (state_of w').store → Holds n lifetime command.moment w'
-        by f' (Ok answer) replied at' p = answered-holds (ap target_of (polls-is n command.action asks)) f' answer at' p
+        by : (f' : Follower) (r : Result PollAnswer SlateError) → reply ≡ reply_to polled_reply r → IsFollowerAt w'.objects n f' → PollsLeased k settings.extractor next.made h.lease command.moment h.follower (state_of w).store r f' (state_of w').store → Holds n lifetime command.moment w'
+        by f' (Ok answer) replied at' (inl once) = answered-holds (ap target_of (polls-is n command.action asks)) f' answer at' once.round
+        by f' (Ok answer) replied at' (inr twice) = twice-holds (ap target_of (polls-is n command.action asks)) f' answer at' twice
         by f' (Err e) replied at' p = absurd (refusal-not_whole e (sym (ap is_whole replied) ∙ whole))
 
 -- ---- an opening

@@ -7,7 +7,7 @@ use Rattle.slate_store.specs.declared.objects.Checkpoint.{Checkpoint}
 use Rattle.slate_store.specs.declared.objects.VersionedManifest.{VersionedManifest}
 use Rattle.slate_types.specs.declared.batches.Batch.{Batch}
 use Rattle.slate_errors.specs.declared.errors.SlateError.TheVariants as errors
-use Rattle.slate_model.specs.Begun.{Begun, Breaks, Ends, Ended, Fails, Goes, Puts, AsksLast, ReadsAgain, ReadsLatest, ReadsLog, Stage, Turn, asked_last, asked_lease, begun_at, committed, cut_short, decided, emptied, kept_lease, leads_on, noted, put_by, read_again, read_log, replayed, replaying, with_latest, with_log}
+use Rattle.slate_model.specs.Begun.{Begun, Breaks, Ends, Ended, Fails, Goes, Puts, AsksLast, ReadsAgain, ReadsLatest, ReadsLog, Stage, Turn, asked_last, asked_lease, begun_at, committed, decided, emptied, kept_lease, leads_on, noted, put_by, replayed, replaying, with_latest, with_log}
 use Rattle.slate_model.specs.declared.polls.PollHistory.{PollHistory}
 use Rattle.slate_model.specs.Follower.{Follower}
 use Rattle.slate_model.specs.Lease.{differs, is_due, leased}

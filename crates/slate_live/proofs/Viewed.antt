@@ -1,8 +1,7 @@
 -- The keys of what a reader may replay stay in segments, by the manifest that it goes by and by its begun poll.
-use Rattle.std.proofs.Common.{◌≡◌, ◌⊎◌, ◌∙◌, ◌≤◌, [], inl, inr, ℕ, ℤ, Bool, true, false, length, List, Option, Some, None, Result, Ok, Err, refl, sym, subst, ap, arith}
+use Rattle.std.proofs.Common.{◌≡◌, ◌⊎◌, ◌∙◌, inl, inr, ℕ, ℤ, Bool, true, false, List, Option, Some, None, Result, Ok, Err, IfErr, IfOk, refl, sym, subst, ap, arith}
 use Rattle.std.specs.Bool.{MatchBool}
 use Rattle.std.specs.List.{slice_get}
-use Rattle.slate_types.specs.declared.batches.Batch.{Batch}
 use Rattle.slate_types.specs.Line.{batches_above}
 use Rattle.slate_store.specs.Objects.{latest_manifest}
 use Rattle.slate_store.specs.declared.objects.VersionedManifest.{VersionedManifest}
@@ -13,15 +12,12 @@ use Rattle.slate_errors.specs.declared.endings.Ended.{Ended}
 use Rattle.slate_errors.specs.declared.errors.SlateError.{SlateError}
 use Rattle.slate_model.specs.Begun.{Begun, base_of, view_of}
 use Rattle.slate_model.specs.Catalogue.{Span}
-use Rattle.slate_model.specs.Close.{closed_follower}
 use Rattle.slate_model.specs.Follow.{Polls, ReplayRefuses}
-use Rattle.slate_model.specs.Followed.{IsView}
 use Rattle.slate_model.specs.Follower.{Follower, is_managed, is_pinned}
-use Rattle.slate_model.specs.Handle.{Handle}
 use Rattle.slate_model.specs.Knowledge.{Knowledge}
 use Rattle.slate_model.specs.Known.{Known, Untouched}
-use Rattle.slate_model.specs.Lease.{replaces, to_keep, to_take}
-use Rattle.slate_model.specs.Managed.{KeepsLease, PollsManaged}
+use Rattle.slate_model.specs.Lease.{replaces, to_keep}
+use Rattle.slate_model.specs.Managed.{KeepsLease, PollsManaged, PollsTwice, poll_result}
 use Rattle.slate_model.specs.Object.{Object, Handle as AHandle, Snapshot as ASnapshot, Follower as AFollower}
 use Rattle.slate_model.specs.Open.{replayed}
 use Rattle.slate_model.specs.Segments.{Extractor}
@@ -41,7 +37,7 @@ use Rattle.slate_live.specs.Represents.{AllInSegments, HaveSegments, IsFollowerA
 use Rattle.slate_live.specs.Settings.{Settings}
 use Rattle.slate_live.specs.State.{IsBegunAt}
 use Rattle.slate_live.specs.World.{NextWhole, World, state_of}
-use Rattle.slate_live.proofs.Cases.{by-bool, by-option, some-of}
+use Rattle.slate_live.proofs.Cases.{by-option, some-of}
 use Rattle.slate_live.proofs.Everywhere.{everywhere}
 use Rattle.slate_live.proofs.Following.{owed-all}
 use Rattle.slate_live.proofs.Rising.{follower-rises}
@@ -72,44 +68,66 @@ module _ (w : World) (reached : IsReached w) (settings : Settings) (n : ℕ) (f 
   lease-moves lease (Ok answer) p = let q = ((p.keeps).some w.catalogue refl).2 in kept-moves lease q.latest q.next q.given q.is_latest q.plan q.view
   lease-moves lease (Err e) p = inl (ap (λ (g : Follower). g.view) p.failed)
 
-  managed-moves : (r : Result PollAnswer SlateError) → is_managed f.mode ≡ true → PollsManaged k settings.extractor made moment f (state_of w).store r f' after → Moves
+module _ (w : World) (reached : IsReached w) (settings : Settings) (n : ℕ) (f f' : Follower) (at : IsFollowerAt w.objects n f) (free : is_pinned f.mode ≡ false) (made : ℕ) (moment : ℤ) (after : Known Span) where
+  abbrev Here : Type 0
+  Here = Moves w reached settings n f f' at free made moment after
+
+  unmoved : f' ≡ f → Here
+  unmoved same = stays w reached settings n f f' at free made moment after same
+
+  -- where a renewal follows the round
+  twice-moves : (lease : Lease) (r : Result PollAnswer SlateError) → PollsTwice (by_catalogue w.stored w.catalogue) settings.extractor made lease moment f (state_of w).store r f' after → Here
+  twice-moves lease r p =
+      let same : f'.view ≡ (p.middle).view = by r p.answers p.failed in
+      elim (lease-moves w reached settings n f p.middle at free p.first moment p.between lease (Ok p.answer) p.round) [
+        | inl stayed ↦ inl (same ∙ stayed)
+        | inr moved ↦ inr (moved.0, moved.1, ap (λ (v : VersionedManifest). v.manifest.last_l0_seq) same ∙ moved.2)
+      ] where
+        by : (r : Result PollAnswer SlateError) → IfOk r (λ a. (a ≡ p.answer) × (f' ≡ p.middle)) → IfErr r (λ error. f' ≡ record p.middle { result = poll_result error }) → f'.view ≡ (p.middle).view
+        by (Ok a) answers failed = ap (λ (g : Follower). g.view) answers.1
+        by (Err e) answers failed = ap (λ (g : Follower). g.view) failed
+
+  managed-moves : (r : Result PollAnswer SlateError) → is_managed f.mode ≡ true → PollsManaged (by_catalogue w.stored w.catalogue) settings.extractor made moment f (state_of w).store r f' after → Here
   managed-moves r managed p =
       by-option f.result
       (λ live. by-option f.lease
       (λ none. absurd (let there = ((reached.0).followers n f at).2 managed live in cc))
-      (λ lease its. lease-moves lease r (p.keeps lease live its)))
-      (λ q shut. stays (some-of (λ q. (r ≡ Err (closed_error q)) × (f' ≡ f) × Untouched made (state_of w).store after) f.result q shut p.closed).1)
+      (λ lease its. elim (p.keeps lease live its) [
+        | inl once ↦ lease-moves w reached settings n f f' at free made moment after lease r once.round
+        | inr twice ↦ twice-moves lease r twice
+      ]))
+      (λ q shut. unmoved (some-of (λ q. (r ≡ Err (closed_error q)) × (f' ≡ f) × Untouched made (state_of w).store after) f.result q shut p.closed).1)
 
-  free-moves : (r : Result PollAnswer SlateError) → Polls k settings.extractor f (state_of w).store r f' after → Moves
-  free-moves (Err e) p = stays p.failed
+  free-moves : (r : Result PollAnswer SlateError) → Polls (by_catalogue w.stored w.catalogue) settings.extractor f (state_of w).store r f' after → Here
+  free-moves (Err e) p = unmoved p.failed
   free-moves (Ok answer) p =
       by-option f.result
       (λ live. let view = (p.rebuilds live free).can w.catalogue refl in inr (f'.view, latest-view f.mode false w.catalogue f'.view free view, refl))
       (λ q shut. absurd (let no = (some-of (λ q. (◌≡◌ {A = Result PollAnswer SlateError} (Ok answer) (Err (closed_error q))) × (after ≡ (state_of w).store)) f.result q shut p.closed).0 in cc))
 
-  polled-moves : (managed : Bool) (r : Result PollAnswer SlateError) → is_managed f.mode ≡ managed → PollsAs k settings.extractor managed made moment f (state_of w).store r f' after → Moves
+  polled-moves : (managed : Bool) (r : Result PollAnswer SlateError) → is_managed f.mode ≡ managed → PollsAs (by_catalogue w.stored w.catalogue) settings.extractor managed made moment f (state_of w).store r f' after → Here
   polled-moves true r managed p = managed-moves r managed p
   polled-moves false r managed p = free-moves r p.0
 
-  ended-moves : (managed : Bool) (answer : Ended) → ClosesAs k managed made f (state_of w).store answer f' after → Moves
+  ended-moves : (managed : Bool) (answer : Ended) → ClosesAs (by_catalogue w.stored w.catalogue) managed made f (state_of w).store answer f' after → Here
   ended-moves true answer c = inl (ap (λ (g : Follower). g.view) c.closed)
   ended-moves false answer c = inl (ap (λ (g : Follower). g.view) c.1)
 
-  pub moves : (call : Call) (reply : Reply) (writes' : List Write) → FollowerActs k settings moment call made f (state_of w).store w.writes reply f' after writes' → Moves
-  moves (Get key remote snapshot) reply writes' a = stays a.1
-  moves (Scan range order remote snapshot) reply writes' a = stays a.1
-  moves (Seek range take key order remote snapshot) reply writes' a = stays a.1
+  pub moves : (call : Call) (reply : Reply) (writes' : List Write) → FollowerActs (by_catalogue w.stored w.catalogue) settings moment call made f (state_of w).store w.writes reply f' after writes' → Here
+  moves (Get key remote snapshot) reply writes' a = unmoved a.1
+  moves (Scan range order remote snapshot) reply writes' a = unmoved a.1
+  moves (Seek range take key order remote snapshot) reply writes' a = unmoved a.1
   moves (Close t) reply writes' a = ended-moves (is_managed f.mode) (a.0).answer (a.0).does
   moves Poll reply writes' a = polled-moves (is_managed f.mode) (a.0).result refl (a.0).does
-  moves Status reply writes' a = stays a.1
-  moves (WriteCall ops) reply writes' a = stays a.1
-  moves (MergeCall op) reply writes' a = stays a.1
-  moves (Flush t) reply writes' a = stays a.1
-  moves Refresh reply writes' a = stays a.1
-  moves Compact reply writes' a = stays a.1
-  moves (FindTime number find) reply writes' a = stays a.1
-  moves (FindNumber seconds find) reply writes' a = stays a.1
-  moves Nothing reply writes' a = stays a.1
+  moves Status reply writes' a = unmoved a.1
+  moves (WriteCall ops) reply writes' a = unmoved a.1
+  moves (MergeCall op) reply writes' a = unmoved a.1
+  moves (Flush t) reply writes' a = unmoved a.1
+  moves Refresh reply writes' a = unmoved a.1
+  moves Compact reply writes' a = unmoved a.1
+  moves (FindTime number find) reply writes' a = unmoved a.1
+  moves (FindNumber seconds find) reply writes' a = unmoved a.1
+  moves Nothing reply writes' a = unmoved a.1
 
 -- ---- a command that makes a call whole
 module _ (settings : Settings) (w w' : World) (command : Command) (reply : Reply) (reached : IsReached w) (reached' : IsReached w') (next : NextWhole settings w command reply w') (all : AllInSegments settings.extractor w) where

@@ -21,7 +21,8 @@ use Rattle.slate_model.specs.Follow.{ReplayRefuses}
 use Rattle.slate_model.specs.Stores.{by_catalogue}
 use Rattle.slate_model.specs.Begun.{Begun}
 use Rattle.slate_model.specs.Follower.{Follower, is_managed, is_pinned}
-use Rattle.slate_model.specs.Lease.{lease_refusal, to_keep, to_take}
+use Rattle.slate_model.specs.declared.leases.Lease.{Lease}
+use Rattle.slate_model.specs.Lease.{lease_refusal, renews_taken, to_keep, to_take}
 use Rattle.slate_store.specs.Checkpoints.{Plan, to_delete}
 use Rattle.slate_store.specs.declared.reader_modes.DbReaderMode.TheVariants.{ManagedCheckpoint}
 use Rattle.slate_live.specs.Commands.{interval_of, lifetime_of}
@@ -139,10 +140,15 @@ CanOpenFollower extractor ManagedCheckpoint managed skips w moment =
     (lease_refusal (lifetime_of managed) (interval_of managed) ≡ None) × CanPut (to_take (lifetime_of managed) moment) w × CanReplay extractor ManagedCheckpoint skips w
 CanOpenFollower extractor mode managed skips w moment = CanFollow mode true w × CanReplay extractor mode skips w
 
+-- a poll that renews the lease at once that it takes: the id of a manifest after the next one is left
+abbrev pub CanRenew : World → ℤ → Follower → Lease → Type 0
+CanRenew w moment follower lease =
+    (latest : VersionedManifest) → latest_manifest w.catalogue ≡ Some latest → renews_taken follower.view lease moment latest ≡ true → latest.id + 1 < last_number
+
 -- a poll of an open follower: one that keeps a checkpoint can keep its lease
 abbrev pub CanPoll : World → ℤ → Follower → Type 0
 CanPoll w moment follower = (is_managed follower.mode ≡ false → is_pinned follower.mode ≡ false → CanFollow follower.mode false w)
-    × (is_managed follower.mode ≡ true → IfSome follower.lease (λ lease. CanPut (to_keep follower.view lease moment) w))
+    × (is_managed follower.mode ≡ true → IfSome follower.lease (λ lease. CanPut (to_keep follower.view lease moment) w × CanRenew w moment follower lease))
 
 -- a close of a follower: of one that is closed without an error, or of an open one, which can take its checkpoint out, where it
 -- keeps one

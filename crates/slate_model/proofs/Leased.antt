@@ -1,16 +1,17 @@
 -- A reader that keeps a checkpoint: what its plan leaves as the latest manifest, and the whole follower of which the code keeps
 -- a part.
-use Rattle.std.proofs.Common.{◌≡◌, ℕ, ℤ, Bool, true, false, List, [], ◌∷◌, ◌+◌, length, map, Option, Some, None, Ok, refl, sym, subst, ap, ◌∙◌}
-use Rattle.std.proofs.lemmas.Bool.{and_parts, eqb-true, not-false, or_parts}
+use Rattle.std.proofs.Common.{◌≡◌, ◌<◌, ℕ, ℤ, Bool, true, false, cond, List, [], ◌∷◌, ◌++◌, ◌+◌, find, length, map, Option, Some, None, IsSome, Ok, Err, refl, sym, subst, ap, ◌∙◌}
+use Rattle.std.proofs.lemmas.Bool.{and_parts, eqb-true, ltb-true, not-false, or_parts}
 use Rattle.std.proofs.lemmas.Cmp.{nat_cmp_total, tied_itself}
-use Rattle.std.proofs.lemmas.Slice.Eq.{slice_eq-Decides}
+use Rattle.std.proofs.lemmas.Slice.Eq.{bytes_eq-Decides, slice_eq-Decides}
 use Rattle.std.specs.Bool.{Decides, MatchBool}
 use Rattle.std.specs.Cmp.Lexicographic.{pointwise}
 use Rattle.std.specs.Option.{unwrap_or}
 use Rattle.std.specs.Ordering.{eq_by_cmp, is_eq}
+use Rattle.std.specs.Prelude.{nat_lt}
 use Rattle.slate_store.proofs.Carried.{put-kept}
 use Rattle.slate_store.proofs.Entries.{lookup-insert_same, same_table, table_total, tied}
-use Rattle.slate_store.specs.Checkpoints.{Plan, with_checkpoints}
+use Rattle.slate_store.specs.Checkpoints.{Plan, found, has_id, new_checkpoint, puts_next, to_write, with_checkpoints, without_replaced}
 use Rattle.slate_store.specs.Content.{AreRising}
 use Rattle.slate_store.proofs.Parts.{part-none}
 use Rattle.slate_store.specs.Objects.{ObjectsOf, PutManifest, changed, entry_at, latest_manifest, table_cmp}
@@ -19,10 +20,68 @@ use Rattle.slate_store.specs.declared.objects.Checkpoint.{Checkpoint}
 use Rattle.slate_store.specs.declared.objects.Manifest.{Manifest}
 use Rattle.slate_store.specs.declared.objects.TableId.{TableId}
 use Rattle.slate_store.specs.declared.objects.VersionedManifest.{VersionedManifest}
+use Rattle.slate_store.specs.declared.refusals.StoreRefusal.TheVariants as refusals
 use Rattle.slate_model.specs.declared.leases.Lease.{Lease}
 use Rattle.slate_model.specs.Changes.{after_part}
-use Rattle.slate_model.specs.Lease.{differs, replaces}
+use Rattle.slate_model.specs.Lease.{differs, is_due, is_due_at_once, lease_of, leased, replaces}
+use Rattle.slate_model.specs.Write.{last_number}
 use Rattle.slate_model.proofs.Maintained.{Recheckpoints}
+
+-- ---- a plan that puts a manifest
+-- the checkpoint of a plan that gives a lease
+pub leased-is : (lifetime : ℕ) (p : Plan Checkpoint) (next : Option VersionedManifest) (given : Lease) → leased lifetime p ≡ Ok (next, given) → (checkpoint : Checkpoint) × (p ≡ Ok (next, checkpoint)) × (lease_of lifetime checkpoint ≡ given)
+leased-is lifetime (Ok (put, checkpoint)) next given gives =
+    let both : (put, lease_of lifetime checkpoint) ≡ (next, given) = cc in
+    (checkpoint, ap (λ n. Ok (n, checkpoint)) (ap (λ (p : Option VersionedManifest × Lease). p.0) both), ap (λ (p : Option VersionedManifest × Lease). p.1) both)
+leased-is lifetime (Err refusal) next given gives = absurd (cc)
+
+-- and why it gives none
+pub leased-refused : (lifetime : ℕ) (p : Plan Checkpoint) → leased lifetime p ≡ Err refusals.InvalidDBState → p ≡ Err refusals.InvalidDBState
+leased-refused lifetime (Ok given) is = absurd (cc)
+leased-refused lifetime (Err refusal) is = ap Err (let same : refusal ≡ refusals.InvalidDBState = cc in same)
+
+-- a manifest is put only where its id is left
+pub put-low : {A : Type 0} (latest put : VersionedManifest) (x : A) (next : Option VersionedManifest) (answer : A) → puts_next latest put x ≡ Ok (next, answer) → (latest.id < last_number) × (next ≡ Some put) × (answer ≡ x)
+put-low {A} latest put x next answer gives = by (nat_lt latest.id last_number) refl gives where
+  by : (b : Bool) → nat_lt latest.id last_number ≡ b → cond {A = Plan A} b (Ok (Some put, x)) (Err refusals.InvalidDBState) ≡ Ok (next, answer) → (latest.id < last_number) × (next ≡ Some put) × (answer ≡ x)
+  by true low gives =
+      let both : ◌≡◌ {A = Option VersionedManifest × A} (Some put, x) (next, answer) = cc in
+      (ltb-true latest.id last_number low, sym (ap (λ (p : Option VersionedManifest × A). p.0) both), sym (ap (λ (p : Option VersionedManifest × A). p.1) both))
+  by false low gives = absurd (cc)
+
+-- what takes a new checkpoint
+module _ (replaced : Option (List ℕ)) (lifetime : ℕ) (moment : ℤ) (latest : VersionedManifest) where
+  abbrev pub new_one : Checkpoint
+  new_one = new_checkpoint latest (Some lifetime) moment
+
+  abbrev pub with_new : VersionedManifest
+  with_new = with_checkpoints (without_replaced replaced latest.manifest.checkpoints ++ new_one ∷ []) latest
+
+  module _ (next : Option VersionedManifest) (given : Lease) (gives : leased lifetime (to_write replaced (Some lifetime) moment latest) ≡ Ok (next, given)) where
+    pub written-is : (latest.id < last_number) × (next ≡ Some with_new) × (given ≡ lease_of lifetime new_one)
+    written-is =
+        let p = leased-is lifetime (to_write replaced (Some lifetime) moment latest) next given gives in
+        let q = put-low latest with_new new_one next p.0 p.1 in
+        (q.0, q.1, sym p.2 ∙ ap (lease_of lifetime) q.2)
+
+    -- its lease is due at once, or not, by its lifetime
+    pub written-due : is_due moment given ≡ is_due_at_once lifetime moment
+    written-due = ap (is_due moment) written-is.2
+
+  last-found : (test : Checkpoint → Bool) (c : Checkpoint) (cs : List Checkpoint) → test c ≡ true → IsSome (find test (cs ++ c ∷ []))
+  last-found test c [] passes = rw passes refl
+  last-found test c (x ∷ cs) passes = by (test x) (last-found test c cs passes) where
+    by : (b : Bool) → IsSome (find test (cs ++ c ∷ [])) → IsSome (cond b (Some x) (find test (cs ++ c ∷ [])))
+    by true rest = refl
+    by false rest = rest
+
+  -- and its checkpoint is there
+  pub written-found : (next : VersionedManifest) (given : Lease) → leased lifetime (to_write replaced (Some lifetime) moment latest) ≡ Ok (Some next, given) → IsSome (found given.id next)
+  written-found next given gives =
+      let w = written-is (Some next) given gives in
+      let next_is : next ≡ with_new = (let same = w.1 in cc) in
+      let there = last-found (has_id new_one.id) new_one (without_replaced replaced latest.manifest.checkpoints) ((bytes_eq-Decides new_one.id new_one.id).1 refl) in
+      subst (λ v. IsSome (found given.id v)) (sym next_is) (subst (λ (l : Lease). IsSome (found l.id with_new)) (sym w.2) there)
 
 -- ---- the manifest that a plan leaves
 module _ {A : Type 0} (latest : VersionedManifest) (next : Option VersionedManifest) (given : A) where
@@ -38,10 +97,10 @@ module _ {A : Type 0} (latest : VersionedManifest) (next : Option VersionedManif
 
 -- one that a plan puts is the latest one then, and stored under its id
 module _ {L A : Type 0} (plan : VersionedManifest → Plan A) (o : ObjectsOf L) (latest put : VersionedManifest) (answer : A) (rising : AreRising (map (λ e. e.0) o.manifests)) (is : latest_manifest o ≡ Some latest) (gives : plan latest ≡ Ok (Some put, answer)) (puts : Recheckpoints latest (plan latest)) where
-  changes-are : checkpoint_changes {L = L} plan o ≡ PutManifest put.id put.manifest ∷ []
+  pub changes-are : checkpoint_changes {L = L} plan o ≡ PutManifest put.id put.manifest ∷ []
   changes-are = ap (planned_after plan) is ∙ ap planned gives
 
-  put-is_next : (checkpoints : List Checkpoint) × (put ≡ with_checkpoints checkpoints latest)
+  pub put-is_next : (checkpoints : List Checkpoint) × (put ≡ with_checkpoints checkpoints latest)
   put-is_next = subst (λ p. Recheckpoints latest p) gives puts
 
   after-put : (P : ObjectsOf L → Type 0) (made : ℕ) → made ≡ 1 → P (changed (PutManifest put.id put.manifest) o) → P (after_part made (checkpoint_changes plan o) o)

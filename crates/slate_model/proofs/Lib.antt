@@ -21,6 +21,7 @@ pub mod Putting
 pub mod Removing
 pub mod Reopened
 pub mod Reduced
+pub mod Rounds
 pub mod Serial
 pub mod Stale
 pub mod Tabled

@@ -1,7 +1,7 @@
 -- What openings, polls and closes of readers that keep a checkpoint of their own put: what it leaves of sound objects, and what
 -- a world knows of it.
-use Rattle.std.proofs.Common.{◌≡◌, ℕ, ℤ, ◌⊎◌, inl, inr, cond, Bool, true, false, List, [], Option, Some, None, Result, Ok, Err, refl, sym, subst}
-use Rattle.std.specs.Prelude.{IfErr}
+use Rattle.std.proofs.Common.{◌≡◌, ◌≤◌, ◌∙◌, ℕ, zero, suc, ℤ, ◌⊎◌, inl, inr, cond, Bool, true, false, List, [], length, map, Option, Some, None, Result, Ok, Err, refl, sym, subst, ap, arith}
+use Rattle.std.specs.Prelude.{IfErr, IfOk}
 use Rattle.slate_types.specs.Line.{Line}
 use Rattle.slate_types.specs.declared.batches.Batch.{Batch}
 use Rattle.slate_types.specs.declared.store_errors.StoreFault.TheVariants.{Unavailable}
@@ -10,7 +10,7 @@ use Rattle.slate_store.proofs.Kept.{pins-kept}
 use Rattle.slate_store.proofs.Parts.{part-none}
 use Rattle.slate_store.specs.Checkpoints.{Plan, to_delete, to_refresh, to_write}
 use Rattle.slate_store.specs.Content.{IsSound}
-use Rattle.slate_store.specs.Objects.{Objects, latest_manifest}
+use Rattle.slate_store.specs.Objects.{Objects, ObjectsOf, PutManifest, changed, latest_manifest}
 use Rattle.slate_store.specs.Refusals.{KeepsContent, checkpoint_changes, planned, planned_after}
 use Rattle.slate_store.specs.declared.objects.Checkpoint.{Checkpoint}
 use Rattle.slate_store.specs.declared.objects.VersionedManifest.{VersionedManifest}
@@ -18,12 +18,13 @@ use Rattle.slate_store.specs.declared.refusals.StoreRefusal.TheVariants as refus
 use Rattle.slate_errors.specs.declared.errors.SlateError.{SlateError}
 use Rattle.slate_errors.specs.declared.errors.SlateError.TheVariants as errors
 use Rattle.slate_model.specs.declared.leases.Lease.{Lease}
-use Rattle.slate_model.specs.Catalogue.{Catalogue, catalogue_of}
+use Rattle.slate_model.specs.Catalogue.{Catalogue, Span, catalogue_of}
 use Rattle.slate_model.specs.Changes.{after_part}
 use Rattle.slate_model.specs.Lease.{is_due, leased, replaces, to_keep, to_take}
-use Rattle.slate_model.specs.Managed.{KeepRefusal, PlanCause, PutsPlanned, TakeRefusal, unrefused}
+use Rattle.slate_model.specs.Managed.{KeepRefusal, PlanCause, PutsPlanned, PutsRenewal, TakeRefusal, unrefused}
 use Rattle.slate_model.specs.Segments.{Extractor}
 use Rattle.slate_model.specs.Stores.{Stands, by_catalogue, by_objects}
+use Rattle.slate_model.proofs.Catalogued.{reduced}
 use Rattle.slate_model.proofs.Maintained.{Maintained, Recheckpoints, after-known, checkpoint_changes-known, delete-recheckpoints, none-stands, part-known, planned-maintains, refresh-recheckpoints, write-recheckpoints}
 
 -- a plan that gives a lease puts what the plan for its checkpoint does
@@ -134,6 +135,53 @@ module _ {A : Type 0} (plan : VersionedManifest → Plan A) (puts : (latest : Ve
         part = part-known r (checkpoint_changes plan o) (checkpoint_changes plan (catalogue_of o)) made same p.part;
         after = after-known (checkpoint_changes plan o) (checkpoint_changes plan (catalogue_of o)) made o o' same p.after;
       }
+
+-- ---- a renewal after the manifest that was put last
+-- so many changes of a plan are none, or the put of its manifest
+pub planned-parts : {L A : Type 0} (p : Plan A) (made : ℕ) (o o' : ObjectsOf L) → made ≤ length (planned {L = L} p) → o' ≡ after_part made (planned p) o →
+    (o' ≡ o) ⊎ ((next : VersionedManifest) × (answer : A) × (p ≡ Ok (Some next, answer)) × (o' ≡ changed (PutManifest next.id next.manifest) o))
+planned-parts (Ok (Some next, answer)) zero o o' part after = inl after
+planned-parts (Ok (Some next, answer)) (suc zero) o o' part after = inr (next, answer, refl, after)
+planned-parts (Ok (Some next, answer)) (suc (suc n)) o o' part after = absurd (omega (arith, part))
+planned-parts (Ok (None, answer)) made o o' part after = inl (after ∙ part-none made o)
+planned-parts (Err refusal) made o o' part after = inl (after ∙ part-none made o)
+
+module _ (id : List ℕ) (lifetime : ℕ) (moment : ℤ) (o : Objects) (sound : IsSound o) (view : VersionedManifest) (is : latest_manifest o ≡ Some view) where
+  abbrev renewal : VersionedManifest → Plan Checkpoint
+  renewal latest = to_refresh id lifetime moment latest
+
+  its-changes : checkpoint_changes {L = List Batch} renewal o ≡ planned (renewal view)
+  its-changes = ap (planned_after renewal) is
+
+  pub renewal-maintains : (made : ℕ) → Maintained o (after_part made (planned (renewal view)) o)
+  renewal-maintains made =
+      subst (λ cs. Maintained o (after_part made cs o)) its-changes
+      (planned-maintains renewal made o (refresh-recheckpoints id lifetime moment) (refresh-keeps id lifetime moment made o) sound)
+
+  same-changes : map reduced (planned (renewal view)) ≡ planned (renewal view)
+  same-changes = sym (ap (map reduced) its-changes) ∙ (checkpoint_changes-known renewal o ∙ ap (planned_after renewal) is)
+
+  same-length : (p : Plan Checkpoint) → length (planned {L = List Batch} p) ≡ length (planned {L = Span} p)
+  same-length (Ok (Some next, answer)) = refl
+  same-length (Ok (None, answer)) = refl
+  same-length (Err refusal) = refl
+
+  unstanding : Stands (planned (renewal view)) o → ⊥
+  unstanding stands = none-stands o sound renewal (refresh-recheckpoints id lifetime moment) (subst (λ cs. Stands cs o) (sym its-changes) stands)
+
+  -- what it puts over sound objects
+  pub renewal-known : {A : Type 0} (stored : Line) (r : Result A SlateError) (made : ℕ) (o' : Objects) → PutsRenewal (by_objects (Some o)).stands (renewal view) o r made o' →
+      PutsRenewal (by_catalogue stored (catalogue_of o)).stands (renewal view) (catalogue_of o) r made (catalogue_of o')
+  renewal-known {A} stored r made o' p = record {
+    cause = p.cause;
+    done = by r p.done;
+    part = (let part = p.part in let same = same-length (renewal view) in omega (arith, part, same));
+    after = after-known (planned (renewal view)) (planned (renewal view)) made o o' same-changes p.after;
+  } where
+    by : (r : Result A SlateError) → IfOk r (λ _. (made ≡ length (planned {L = List Batch} (renewal view))) ⊎ ((made ≡ 0) × Stands (planned (renewal view)) o)) → IfOk r (λ _. (made ≡ length (planned {L = Span} (renewal view))) ⊎ ((made ≡ 0) × ⊥))
+    by (Err e) d = tt
+    by (Ok x) (inl all) = inl (all ∙ same-length (renewal view))
+    by (Ok x) (inr none) = absurd (unstanding none.1)
 
 -- ---- what refuses an opening and a poll, but for their plans, is known by the catalogue
 pub take_refusal-known : (x : Option Extractor) (o : Objects) (e : SlateError) → TakeRefusal x o e → TakeRefusal x (catalogue_of o) e

@@ -6,7 +6,7 @@ use Rattle.std.specs.Str.{bytes_eq}
 use Rattle.slate_store.specs.declared.objects.Checkpoint.{Checkpoint}
 use Rattle.slate_store.specs.declared.objects.VersionedManifest.{VersionedManifest}
 use Rattle.slate_store.specs.declared.refusals.StoreRefusal.TheVariants as refusals
-use Rattle.slate_store.specs.Checkpoints.{Plan, found, last_moment, to_refresh, to_write}
+use Rattle.slate_store.specs.Checkpoints.{Plan, found, last_moment, lease_end, to_refresh, to_write}
 use Rattle.slate_store.specs.Objects.{table_cmp}
 use Rattle.slate_errors.specs.declared.errors.SlateError.{SlateError}
 use Rattle.slate_errors.specs.declared.errors.SlateError.TheVariants as errors
@@ -27,6 +27,11 @@ lease_of lifetime checkpoint = record { id = checkpoint.id; lifetime = lifetime;
 -- a lease is due at the moments after its end less half its lifetime, rounded down
 abbrev pub is_due : (moment : ℤ) → Lease → Bool
 is_due moment lease = int_lt (lease.end -ℤ pos (lease.lifetime / 2)) moment
+
+-- So is one at the moment at which it is taken with this lifetime, where its end is cut off at the greatest moment and half the
+-- lifetime before that has passed.
+abbrev pub is_due_at_once : (lifetime : ℕ) → (moment : ℤ) → Bool
+is_due_at_once lifetime moment = int_lt (lease_end moment lifetime -ℤ pos (lifetime / 2)) moment
 
 -- whether a manifest has other tables than a view, another last number in them, or other segments
 abbrev pub differs : (view latest : VersionedManifest) → Bool
@@ -60,3 +65,7 @@ to_keep view lease moment latest =
     if replaces view lease moment latest
     then leased lease.lifetime (to_write (Some lease.id) (Some lease.lifetime) moment latest)
     else to_renew lease moment latest
+
+-- One that replaced its checkpoint, since its view differed, renews the new lease in the same poll where that is due at once.
+abbrev pub renews_taken : (view : VersionedManifest) → Lease → (moment : ℤ) → (latest : VersionedManifest) → Bool
+renews_taken view lease moment latest = differs view latest && is_due_at_once lease.lifetime moment

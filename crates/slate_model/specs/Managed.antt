@@ -1,14 +1,15 @@
 -- What opening, polling and closing a reader puts and answers that keeps a checkpoint of its own, and what it leaves.
-use Rattle.std.specs.Prelude.{◌≡◌, ℕ, ℤ, ◌⊎◌, Bool, false, true, MatchBool, List, length, Option, Some, None, IsSome, unwrap_or, Result, Ok, Err, IfOk, IfErr, IfSome}
+use Rattle.std.specs.Prelude.{◌≡◌, ℕ, ℤ, ◌+◌, ◌≤◌, ◌⊎◌, Bool, false, true, MatchBool, List, length, Option, Some, None, IsSome, unwrap_or, Result, Ok, Err, IfOk, IfErr, IfSome}
 use Rattle.slate_types.specs.Line.{Line}
 use Rattle.slate_types.specs.declared.store_errors.StoreFault.TheVariants.{Unavailable}
+use Rattle.slate_store.specs.declared.objects.Checkpoint.{Checkpoint}
 use Rattle.slate_store.specs.declared.objects.VersionedManifest.{VersionedManifest}
 use Rattle.slate_store.specs.declared.reader_modes.DbReaderMode.TheVariants.{ManagedCheckpoint}
 use Rattle.slate_store.specs.declared.refusals.StoreRefusal.TheVariants as refusals
 use Rattle.slate_store.specs.Calls.{WhereModelled}
-use Rattle.slate_store.specs.Checkpoints.{Plan, to_delete}
+use Rattle.slate_store.specs.Checkpoints.{Plan, to_delete, to_refresh}
 use Rattle.slate_store.specs.Objects.{ChangeOf, ObjectsOf, latest_manifest}
-use Rattle.slate_store.specs.Refusals.{PlanIs, checkpoint_changes}
+use Rattle.slate_store.specs.Refusals.{PlanIs, checkpoint_changes, planned}
 use Rattle.slate_errors.specs.declared.closing.CloseFault.TheVariants as faults
 use Rattle.slate_errors.specs.declared.endings.Ended.{Ended}
 use Rattle.slate_errors.specs.declared.errors.SlateError.{SlateError}
@@ -26,7 +27,7 @@ use Rattle.slate_model.specs.Handle.{CloseResult}
 use Rattle.slate_model.specs.Knowledge.{Knowledge}
 use Rattle.slate_model.specs.Known.{CountsFaults, Known, Untouched}
 use Rattle.slate_model.specs.Segments.{Extractor}
-use Rattle.slate_model.specs.Lease.{lease_refusal, replaces, to_keep, to_take}
+use Rattle.slate_model.specs.Lease.{lease_refusal, renews_taken, replaces, to_keep, to_take}
 
 -- Why a call with this plan for a checkpoint answers an error, over a store that is modelled. `stands` says that a manifest is
 -- there already under the id of the one that it puts.
@@ -114,7 +115,7 @@ poll_result errors.InvalidDBState = Some (Err faults.InvalidDBState)
 poll_result (errors.TransactionalObjectTimeout tries) = Some (Err (faults.TransactionalObjectTimeout tries))
 poll_result error = recorded error
 
--- A poll that answers keeps the lease by its plan. The reader goes by the manifest that was put where the checkpoint was
+-- A round of a poll that answers keeps the lease by its plan. The reader goes by the manifest that was put where the checkpoint was
 -- replaced, and else as before.
 pub record Keeps {L : Type 0} (k : Knowledge L) (lease : Lease) (moment : ℤ) (old : Follower) (objects : ObjectsOf L) (new : Follower) (answer : PollAnswer) (objects' : ObjectsOf L) : Type 0 where
   pub latest : VersionedManifest
@@ -132,8 +133,8 @@ KeepsOrNot plan made old objects new =
     (new.lease ≡ old.lease)
     ⊎ ((made ≡ 1) × (next : Option VersionedManifest) × (given : Lease) × PlanIs plan objects (Ok (next, given)) × (new.lease ≡ Some given))
 
--- A poll at a moment of an open reader that keeps a checkpoint under this lease: so many of its changes were made. At an error
--- it sees what it saw.
+-- A round of a poll at a moment of an open reader that keeps a checkpoint under this lease: so many of its changes were made. At an
+-- error it sees what it saw.
 pub record KeepsLease {L : Type 0} (k : Knowledge L) (extractor : Option Extractor) (made : ℕ) (lease : Lease) (moment : ℤ) (old : Follower)
     (before : Known L) (result : Result PollAnswer SlateError) (new : Follower) (after : Known L) : Type 0 where
   pub faults : CountsFaults before.faults after.faults result
@@ -146,11 +147,62 @@ pub record KeepsLease {L : Type 0} (k : Knowledge L) (extractor : Option Extract
   pub segmented : (o : ObjectsOf L) (line : Line) → before.objects ≡ Some o → k.is_stored line → k.has_seen old o line → result ≡ Err errors.InvalidDBState →
       PlanIs (to_keep old.view lease moment) o (Err refusals.InvalidDBState) ⊎ LacksSegment k extractor ManagedCheckpoint old.skips false o line
 
+-- whether a poll of a reader renews at once the lease that it takes
+abbrev pub RenewsTaken : {L : Type 0} → Follower → Lease → (moment : ℤ) → Bool → Known L → Type 0
+RenewsTaken old lease moment does before =
+    IfSome before.objects (λ o. (latest : VersionedManifest) → latest_manifest o ≡ Some latest → renews_taken old.view lease moment latest ≡ does)
+
+-- A poll of an open reader that keeps a checkpoint is one round, where no lease is due then that it took because its view differed.
+pub record PollsOnce {L : Type 0} (k : Knowledge L) (extractor : Option Extractor) (made : ℕ) (lease : Lease) (moment : ℤ) (old : Follower)
+    (before : Known L) (result : Result PollAnswer SlateError) (new : Follower) (after : Known L) : Type 0 where
+  pub round : KeepsLease k extractor made lease moment old before result new after
+  pub ends : IfOk result (λ _. RenewsTaken old lease moment false before)
+
+-- why a renewal with this plan answers an error
+abbrev pub RenewalCause : Plan Checkpoint → SlateError → Type 0
+RenewalCause plan errors.InvalidDBState = plan ≡ Err refusals.InvalidDBState
+RenewalCause plan (errors.ObjectStoreError Unavailable) = Unit {0}
+RenewalCause plan errors.NoMemory = Unit {0}
+RenewalCause plan error = ⊥
+
+-- A renewal puts what its plan says, and at an error so much of that. Where a manifest is stored already under the id of the one
+-- that it puts, it puts nothing, and is left to the next poll.
+pub record PutsRenewal {L A : Type 0} (stands : List (ChangeOf L) → ObjectsOf L → Type 0) (plan : Plan Checkpoint)
+    (objects : ObjectsOf L) (result : Result A SlateError) (made : ℕ) (objects' : ObjectsOf L) : Type 0 where
+  pub cause : IfErr result (RenewalCause plan)
+  pub done : IfOk result (λ _. (made ≡ length (planned {L = L} plan)) ⊎ ((made ≡ 0) × stands (planned plan) objects))
+  pub part : made ≤ length (planned {L = L} plan)
+  pub after : objects' ≡ after_part made (planned plan) objects
+
+-- Else the round is followed by a renewal of the lease that it took, after the manifest that it put: the lease ends at the greatest
+-- moment again, so that the reader stays as the round left it. An error of the renewal is recorded as one of the poll; the reader
+-- sees what it would see if that answered.
+pub record PollsTwice {L : Type 0} (k : Knowledge L) (extractor : Option Extractor) (made : ℕ) (lease : Lease) (moment : ℤ) (old : Follower)
+    (before : Known L) (result : Result PollAnswer SlateError) (new : Follower) (after : Known L) : Type 0 where
+  pub first : ℕ
+  pub again : ℕ
+  pub made_is : made ≡ first + again
+  pub answer : PollAnswer
+  pub middle : Follower
+  pub between : Known L
+  pub round : KeepsLease k extractor first lease moment old before (Ok answer) middle between
+  pub renews : RenewsTaken old lease moment true before
+  pub given : Lease
+  pub leased : middle.lease ≡ Some given
+  pub faults : CountsFaults between.faults after.faults result
+  pub puts : WhereModelled (λ o o'. PutsRenewal k.stands (to_refresh given.id given.lifetime moment middle.view) o result again o') between.objects after.objects
+  pub answers : IfOk result (λ a. (a ≡ answer) × (new ≡ middle))
+  pub failed : IfErr result (λ error. new ≡ record middle { result = poll_result error })
+
+abbrev pub PollsLeased : {L : Type 0} → Knowledge L → Option Extractor → (made : ℕ) → Lease → (moment : ℤ) → Follower → Known L → Result PollAnswer SlateError → Follower → Known L → Type 0
+PollsLeased k extractor made lease moment old before result new after =
+    PollsOnce k extractor made lease moment old before result new after ⊎ PollsTwice k extractor made lease moment old before result new after
+
 -- A poll of a reader that keeps a checkpoint. A closed one answers what closed it, and nothing changes.
 pub record PollsManaged {L : Type 0} (k : Knowledge L) (extractor : Option Extractor) (made : ℕ) (moment : ℤ) (old : Follower)
     (before : Known L) (result : Result PollAnswer SlateError) (new : Follower) (after : Known L) : Type 0 where
   pub closed : IfSome old.result (λ r. (result ≡ Err (closed_error r)) × (new ≡ old) × Untouched made before after)
-  pub keeps : (lease : Lease) → old.result ≡ None → old.lease ≡ Some lease → KeepsLease k extractor made lease moment old before result new after
+  pub keeps : (lease : Lease) → old.result ≡ None → old.lease ≡ Some lease → PollsLeased k extractor made lease moment old before result new after
 
 -- A close of a reader that keeps a checkpoint under this lease takes the checkpoint out.
 pub record EndsLease {L : Type 0} (k : Knowledge L) (made : ℕ) (lease : Lease) (before : Known L) (answer : Ended) (after : Known L) : Type 0 where

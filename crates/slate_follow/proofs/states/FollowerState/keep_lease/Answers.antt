@@ -9,7 +9,7 @@ use Rattle.slate_model.specs.Follower.{Follower}
 use Rattle.slate_model.specs.Lease.{to_keep}
 use Rattle.slate_model.specs.Managed.{Keeps, PlanCause}
 use Rattle.slate_model.specs.Stores.{Stands, by_objects}
-use Rattle.slate_follow.specs.Keeping.{CallsKeeping, tried}
+use Rattle.slate_follow.specs.Keeping.{CallsRound, answered}
 use Rattle.slate_follow.proofs.Counted.{all-tries, first-costs, last-try, tries-on}
 use Rattle.slate_follow.proofs.Keeping.{PutsAndKeeps}
 use Rattle.slate_follow.proofs.Rebuilt.{if_some}
@@ -17,15 +17,15 @@ use Rattle.slate_follow.proofs.Trying.{never-put, timed-out}
 use Rattle.slate_follow.specs.Rebuilding.{Truncates}
 use Rattle.slate_follow.proofs.states.FollowerState.keep_lease.Goals as goal
 
-pub returns-in_err-answer-clause-puts : goal.returns-in_err-answer-clause-puts
-returns-in_err-answer-clause-puts g c =
-    let e = c.in_err-answer.field-0.0 in
+pub returns-in_err-kept-clause-puts : goal.returns-in_err-kept-clause-puts
+returns-in_err-kept-clause-puts g c =
+    let e = c.in_err-kept.field-0.0 in
     let l = c.args.lease.now in
     let i = c.loop-earlier.invariant in
     let before = c.loop-earlier.self in
     let new = c.try_to_keep.new.self in
     let after = g.S.Store.objects c.try_to_keep.new.store in
-    let puts = subst (λ m. WhereModelled (PutsAndKeeps l m before (Err e) new) (g.S.Store.objects c.loop-earlier.store) after) (to_z-of_z {w = w64} {z = c.args.moment} (search rules)) c.in_err-answer.ensures.puts in
+    let puts = subst (λ m. WhereModelled (PutsAndKeeps l m before (Err e) new) (g.S.Store.objects c.loop-earlier.store) after) (to_z-of_z {w = w64} {z = c.args.moment} (search rules)) c.in_err-kept.ensures.puts in
     let of_self = subst (λ (f : Follower). WhereModelled (PutsAndKeeps l c.args.moment f (Err e) new) (g.S.Store.objects c.loop-earlier.store) after) i.same puts in
     let all = subst (λ s. WhereModelled (PutsAndKeeps l c.args.moment c.args.self.now (Err e) new) s after) i.kept of_self in
     let is : c.from_residual.result ≡ Err e = search rules in
@@ -35,23 +35,23 @@ pub returns-in-Some-clause-keeps : goal.returns-in-Some-clause-keeps
 returns-in-Some-clause-keeps g c =
     let l = c.args.lease.now in
     let i = c.loop-earlier.invariant in
-    let a = c.in-Some.answer in
+    let a = c.in-Some.kept in
     let before = c.loop-earlier.self in
     let new = c.try_to_keep.new.self in
     let was = g.S.Store.objects c.loop-earlier.store in
     let after = g.S.Store.objects c.try_to_keep.new.store in
-    let found : c.in_ok-answer.field-0 ≡ Some a = search rules in
-    let keeps = subst (λ x. IfOk (tried (Ok x)) (λ answer. WhereModelled (λ o o'. Keeps (by_objects was) l (to_z w64 (of_z w64 c.args.moment)) before o new answer o') was after)) found c.in_ok-answer.ensures.keeps in
-    let at_moment = subst (λ m. WhereModelled (λ o o'. Keeps (by_objects was) l m before o new a o') was after) (to_z-of_z {w = w64} {z = c.args.moment} (search rules)) keeps in
-    let of_self = subst (λ (f : Follower). WhereModelled (λ o o'. Keeps (by_objects was) l c.args.moment f o new a o') was after) i.same at_moment in
-    subst (λ s. WhereModelled (λ o o'. Keeps (by_objects s) l c.args.moment c.args.self.now o new a o') s after) i.kept of_self
+    let found : c.in_ok-kept.field-0 ≡ Some a = search rules in
+    let keeps = subst (λ x. IfOk (answered (Ok x)) (λ answer. WhereModelled (λ o o'. Keeps (by_objects was) l (to_z w64 (of_z w64 c.args.moment)) before o new answer o') was after)) found c.in_ok-kept.ensures.keeps in
+    let at_moment = subst (λ m. WhereModelled (λ o o'. Keeps (by_objects was) l m before o new a.answer o') was after) (to_z-of_z {w = w64} {z = c.args.moment} (search rules)) keeps in
+    let of_self = subst (λ (f : Follower). WhereModelled (λ o o'. Keeps (by_objects was) l c.args.moment f o new a.answer o') was after) i.same at_moment in
+    subst (λ s. WhereModelled (λ o o'. Keeps (by_objects s) l c.args.moment c.args.self.now o new a.answer o') s after) i.kept of_self
 
 pub loop-earlier-preserved : goal.loop-earlier-preserved
 loop-earlier-preserved g c =
     let l = c.args.lease.now in
     let m = to_z w64 (of_z w64 c.args.moment) in
     let i = c.loop-earlier.invariant in
-    let a = c.in_ok-answer in
+    let a = c.in_ok-kept in
     let t = g.S.Store.objects c.args.store.now in
     let before = c.loop-earlier.self in
     let new = c.try_to_keep.new.self in
@@ -59,7 +59,7 @@ loop-earlier-preserved g c =
     let plan = to_keep c.args.self.now.view l m in
     let none : a.field-0 ≡ None = search rules in
     let again = a.ensures.again (ap Ok none) in
-    let puts = subst (λ x. WhereModelled (PutsAndKeeps l m before (tried (Ok x)) new) (g.S.Store.objects c.loop-earlier.store) after) none a.ensures.puts in
+    let puts = subst (λ x. WhereModelled (PutsAndKeeps l m before (answered (Ok x)) new) (g.S.Store.objects c.loop-earlier.store) after) none a.ensures.puts in
     let of_self = subst (λ (f : Follower). WhereModelled (PutsAndKeeps l m f (Err (TransactionalObjectTimeout 8)) new) (g.S.Store.objects c.loop-earlier.store) after) i.same puts in
     let all = subst (λ s. WhereModelled (PutsAndKeeps l m c.args.self.now (Err (TransactionalObjectTimeout 8)) new) s after) i.kept of_self in
     record {
@@ -81,34 +81,34 @@ returns-clause-puts g c =
     let met = subst (λ m. IfSome t (λ o. PlanCause (Stands (checkpoint_changes (to_keep view l m) o) o) (to_keep view l m) o (TransactionalObjectTimeout 8))) (to_z-of_z {w = w64} {z = c.args.moment} (search rules)) (i.met ran) in
     never-put t (g.S.Store.objects c.loop-earlier.store) l c.args.moment c.args.self.now c.loop-earlier.self i.kept i.same met
 
-pub returns-in_err-answer-clause-calls : goal.returns-in_err-answer-clause-calls
-returns-in_err-answer-clause-calls g c =
+pub returns-in_err-kept-clause-calls : goal.returns-in_err-kept-clause-calls
+returns-in_err-kept-clause-calls g c =
     let i = c.loop-earlier.invariant in
     let fewer : c.loop-earlier.earlier < 8 = search rules in
-    last-try (g.S.Store.objects c.args.store.now) (g.S.Store.objects c.loop-earlier.store) i.kept c.loop-earlier.earlier (g.S.Store.calls c.args.store.now) (g.S.Store.calls c.loop-earlier.store) (g.S.Store.calls c.try_to_keep.new.store) i.calls fewer c.in_err-answer.ensures.calls
+    last-try (g.S.Store.objects c.args.store.now) (g.S.Store.objects c.loop-earlier.store) i.kept c.loop-earlier.earlier (g.S.Store.calls c.args.store.now) (g.S.Store.calls c.loop-earlier.store) (g.S.Store.calls c.try_to_keep.new.store) i.calls fewer c.in_err-kept.ensures.calls
 
 pub returns-in-Some-clause-calls : goal.returns-in-Some-clause-calls
 returns-in-Some-clause-calls g c =
     let i = c.loop-earlier.invariant in
     let fewer : c.loop-earlier.earlier < 8 = search rules in
-    last-try (g.S.Store.objects c.args.store.now) (g.S.Store.objects c.loop-earlier.store) i.kept c.loop-earlier.earlier (g.S.Store.calls c.args.store.now) (g.S.Store.calls c.loop-earlier.store) (g.S.Store.calls c.try_to_keep.new.store) i.calls fewer c.in_ok-answer.ensures.calls
+    last-try (g.S.Store.objects c.args.store.now) (g.S.Store.objects c.loop-earlier.store) i.kept c.loop-earlier.earlier (g.S.Store.calls c.args.store.now) (g.S.Store.calls c.loop-earlier.store) (g.S.Store.calls c.try_to_keep.new.store) i.calls fewer c.in_ok-kept.ensures.calls
 
 pub returns-clause-calls : goal.returns-clause-calls
 returns-clause-calls g c =
     let i = c.loop-earlier.invariant in
     all-tries (g.S.Store.objects c.args.store.now) c.loop-earlier.earlier (g.S.Store.calls c.args.store.now) (g.S.Store.calls c.loop-earlier.store) i.calls i.within
 
-pub returns-in_err-answer-clause-kind : goal.returns-in_err-answer-clause-kind
-returns-in_err-answer-clause-kind g c =
-    let is : c.from_residual.result ≡ Err c.in_err-answer.field-0.0 = search rules in
-    rw is c.in_err-answer.ensures.kind
+pub returns-in_err-kept-clause-kind : goal.returns-in_err-kept-clause-kind
+returns-in_err-kept-clause-kind g c =
+    let is : c.from_residual.result ≡ Err c.in_err-kept.field-0.0 = search rules in
+    rw is c.in_err-kept.ensures.kind
 
 pub returns-in-Some-clause-costs : goal.returns-in-Some-clause-costs
 returns-in-Some-clause-costs g c =
     let l = c.args.lease.now in
     let m = c.args.moment in
     let i = c.loop-earlier.invariant in
-    let a = c.in-Some.answer in
+    let a = c.in-Some.kept in
     let before = c.loop-earlier.self in
     let old = c.args.self.now in
     let t = g.S.Store.objects c.args.store.now in
@@ -117,19 +117,19 @@ returns-in-Some-clause-costs g c =
     let k1 = g.S.Store.calls c.loop-earlier.store in
     let k2 = g.S.Store.calls c.try_to_keep.new.store in
     let undone = to_z-of_z {w = w64} {z = m} (search rules) in
-    let found : c.in_ok-answer.field-0 ≡ Some a = search rules in
-    let free0 = subst (λ x. IfOk (tried (Ok x)) (λ _. IfSome was (λ o. Stands (checkpoint_changes (to_keep before.view l (to_z w64 (of_z w64 m))) o) o → ⊥))) found c.in_ok-answer.ensures.free in
+    let found : c.in_ok-kept.field-0 ≡ Some a = search rules in
+    let free0 = subst (λ x. IfOk (answered (Ok x)) (λ _. IfSome was (λ o. Stands (checkpoint_changes (to_keep before.view l (to_z w64 (of_z w64 m))) o) o → ⊥))) found c.in_ok-kept.ensures.free in
     let free = subst (λ (f : Follower). IfSome was (λ o. Stands (checkpoint_changes (to_keep f.view l m) o) o → ⊥)) i.same (subst (λ m. IfSome was (λ o. Stands (checkpoint_changes (to_keep before.view l m) o) o → ⊥)) undone free0) in
-    let costs0 = subst (λ x. IfOk (tried (Ok x)) (λ _. IfSome was (λ o. CallsKeeping o before l (to_z w64 (of_z w64 m)) k1 k2))) found c.in_ok-answer.ensures.costs in
-    let costs = subst (λ (f : Follower). IfSome was (λ o. CallsKeeping o f l m k1 k2)) i.same (subst (λ m. IfSome was (λ o. CallsKeeping o before l m k1 k2)) undone costs0) in
+    let costs0 = subst (λ x. IfOk (answered (Ok x)) (λ _. IfSome was (λ o. CallsRound o before l (to_z w64 (of_z w64 m)) k1 k2))) found c.in_ok-kept.ensures.costs in
+    let costs = subst (λ (f : Follower). IfSome was (λ o. CallsRound o f l m k1 k2)) i.same (subst (λ m. IfSome was (λ o. CallsRound o before l m k1 k2)) undone costs0) in
     first-costs (to_keep old.view l m) t was i.kept c.loop-earlier.earlier k k1 k2 old l m i.calls
     (λ ran. subst (λ m. IfSome t (λ o. PlanCause (Stands (checkpoint_changes (to_keep old.view l m) o) o) (to_keep old.view l m) o (TransactionalObjectTimeout 8))) undone (i.met ran)) free costs
 
 pub returns-in-Some-clause-truncates : goal.returns-in-Some-clause-truncates
 returns-in-Some-clause-truncates g c =
-    let a = c.in-Some.answer in
+    let a = c.in-Some.kept in
     let new = c.try_to_keep.new.self in
     let was = g.S.Store.objects c.loop-earlier.store in
-    let found : c.in_ok-answer.field-0 ≡ Some a = search rules in
-    let truncates = subst (λ x. IfOk (tried (Ok x)) (λ answer. IfSome was (λ o. Truncates o new answer))) found c.in_ok-answer.ensures.truncates in
-    subst (λ s. IfSome s (λ o. Truncates o new a)) c.loop-earlier.invariant.kept truncates
+    let found : c.in_ok-kept.field-0 ≡ Some a = search rules in
+    let truncates = subst (λ x. IfOk (answered (Ok x)) (λ answer. IfSome was (λ o. Truncates o new answer))) found c.in_ok-kept.ensures.truncates in
+    subst (λ s. IfSome s (λ o. Truncates o new a.answer)) c.loop-earlier.invariant.kept truncates

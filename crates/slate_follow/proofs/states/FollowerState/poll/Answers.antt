@@ -7,7 +7,7 @@ use Rattle.slate_errors.specs.declared.errors.SlateError.{SlateError}
 use Rattle.slate_model.proofs.Reduced.{some-same}
 use Rattle.slate_model.specs.Follower.{Follower, is_managed, is_pinned}
 use Rattle.slate_model.specs.Known.{Untouched, known}
-use Rattle.slate_model.specs.Managed.{KeepsLease}
+use Rattle.slate_model.specs.Managed.{PollsLeased}
 use Rattle.slate_model.specs.Stores.{by_objects, kept_seen}
 use Rattle.slate_model.specs.declared.answers.PollAnswer.{PollAnswer}
 use Rattle.slate_follow.specs.Answering.{IsOfPoll}
@@ -16,7 +16,7 @@ use Rattle.slate_follow.specs.Rebuilding.{poll_error}
 use Rattle.slate_errors.specs.declared.errors.SlateError.TheVariants.{InvalidDBState}
 use Rattle.slate_follow.proofs.Answering.{taking-key, taking-poll}
 use Rattle.slate_follow.proofs.Handed.{handed}
-use Rattle.slate_follow.proofs.Handing.{lease-handed}
+use Rattle.slate_follow.proofs.Handing.{polls-handed}
 use Rattle.slate_follow.proofs.Leased.{managed-is, mode-leased}
 use Rattle.slate_follow.proofs.Refusing.{err-same}
 use Rattle.slate_follow.proofs.states.FollowerState.poll.Goals as goal
@@ -42,13 +42,13 @@ returns-in-Some-lease-clause-managed g c x lawful = λ managed.
     let t = g.S.Store.objects c.args.store.now in
     let before = known g.S.Store.objects g.S.Store.faults c.args.store.now in
     let after = known g.S.Store.objects g.S.Store.faults p.new.store in
-    let kept = subst (λ m. (made : ℕ) × KeepsLease (by_objects t) x made l m old before p.result p.new.self after) (to_z-of_z {w = w64} {z = c.args.moment} (search rules)) (p.ensures.keeps x lawful) in
+    let kept = subst (λ m. (made : ℕ) × PollsLeased (by_objects t) x made l m old before p.result p.new.self after) (to_z-of_z {w = w64} {z = c.args.moment} (search rules)) (p.ensures.keeps x lawful) in
     let held : old.lease ≡ Some l = search rules in
     let none : old.result ≡ None = search rules in (
       kept.0,
       record {
         closed = subst (λ y. IfSome y (λ r. (p.result ≡ Err (closed_error r)) × (p.new.self ≡ old) × Untouched kept.0 before after)) (sym none) tt;
-        keeps = λ lease open_ is. subst (λ y. KeepsLease (by_objects t) x kept.0 y c.args.moment old before p.result p.new.self after) (some-same l lease (sym held ∙ is)) kept.1;
+        keeps = λ lease open_ is. subst (λ y. PollsLeased (by_objects t) x kept.0 y c.args.moment old before p.result p.new.self after) (some-same l lease (sym held ∙ is)) kept.1;
       },
     )
 
@@ -137,5 +137,5 @@ returns-in-Some-lease-clause-handed_managed g c x lawful = λ managed o o' line 
     let t = g.S.Store.objects c.args.store.now in
     let before = known g.S.Store.objects g.S.Store.faults c.args.store.now in
     let after = known g.S.Store.objects g.S.Store.faults p.new.store in
-    let kept = subst (λ m. (made : ℕ) × KeepsLease (by_objects t) x made l m old before p.result p.new.self after) (to_z-of_z {w = w64} {z = c.args.moment} (search rules)) (p.ensures.keeps x lawful) in
-    lease-handed x kept.0 t (g.S.Store.objects p.new.store) (g.S.Store.faults c.args.store.now) (g.S.Store.faults p.new.store) l c.args.moment old p.result p.new.self kept.1 (managed-is old.mode managed) o o' line at at' stored seen
+    let kept = subst (λ m. (made : ℕ) × PollsLeased (by_objects t) x made l m old before p.result p.new.self after) (to_z-of_z {w = w64} {z = c.args.moment} (search rules)) (p.ensures.keeps x lawful) in
+    polls-handed x kept.0 t (g.S.Store.objects p.new.store) (g.S.Store.faults c.args.store.now) (g.S.Store.faults p.new.store) l c.args.moment old p.result p.new.self kept.1 (managed-is old.mode managed) o o' line at at' stored seen

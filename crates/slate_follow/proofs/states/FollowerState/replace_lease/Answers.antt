@@ -1,18 +1,23 @@
-use Rattle.std.proofs.Common.{◌≡◌, ◌+◌, ◌≤◌, false, true, Option, Some, Ok, Err, rules, subst, sym, ap, ◌∙◌}
+use Rattle.std.proofs.Common.{◌≡◌, ◌+◌, ◌≤◌, false, true, Option, Some, IsSome, Ok, Err, rules, subst, sym, ap, ◌∙◌}
 use Rattle.std.specs.Option.{IfSome}
 use Rattle.slate_types.specs.Modelled.{WhereModelled}
-use Rattle.slate_store.specs.Checkpoints.{to_write}
+use Rattle.slate_store.specs.Checkpoints.{found, to_write}
+use Rattle.slate_store.specs.declared.objects.VersionedManifest.{VersionedManifest}
 use Rattle.slate_errors.specs.declared.errors.SlateError.TheVariants.{InvalidDBState}
+use Rattle.slate_model.proofs.Leased.{written-found}
+use Rattle.slate_model.specs.declared.leases.Lease.{Lease}
 use Rattle.slate_model.specs.Follower.{Follower}
 use Rattle.slate_model.specs.Lease.{leased}
 use Rattle.slate_model.specs.declared.answers.PollAnswer.{PollAnswer}
 use Rattle.slate_follow.specs.Keeping.{MayLack, PutsManifest}
+use Rattle.slate_follow.specs.declared.keeps.Kept.{Kept}
 use Rattle.slate_follow.proofs.Leased.{mode-leased}
 use Rattle.slate_follow.proofs.Answering.{rebuilding-polling, turn-polling}
 use Rattle.slate_follow.proofs.Counted.{replaced-calls}
 use Rattle.slate_follow.proofs.Lacking.{put-lacks}
 use Rattle.slate_follow.proofs.Planned.{broken-by, failed-by, polling-cause, put-by, unput-by, unstanding}
 use Rattle.slate_follow.proofs.Refusing.{err-same, poll-counts, poll-key, poll-polling}
+use Rattle.slate_follow.proofs.Renewing.{at-lease}
 use Rattle.slate_follow.proofs.Trying.{put-takes, put-truncates}
 use Rattle.slate_follow.specs.Rebuilding.{TakesUnder, TakingLacks, new_logs, poll_error, unleased}
 use Rattle.slate_follow.proofs.states.FollowerState.replace_lease.Goals as goal
@@ -93,7 +98,7 @@ returns-in-Err-clause-puts g c =
 pub returns-in-Err-clause-faults : goal.returns-in-Err-clause-faults
 returns-in-Err-clause-faults g c =
     rw c.poll_error.ensures
-    (poll-counts PollAnswer (Option PollAnswer) c.in-Err.error (g.S.Store.faults c.args.store.now) (g.S.Store.faults c.put_next.new.store) (g.S.Store.faults c.follow.new.store) c.in_ok-is_put.ensures.faults.stays c.in-Err.ensures.faults)
+    (poll-counts PollAnswer (Option Kept) c.in-Err.error (g.S.Store.faults c.args.store.now) (g.S.Store.faults c.put_next.new.store) (g.S.Store.faults c.follow.new.store) c.in_ok-is_put.ensures.faults.stays c.in-Err.ensures.faults)
 
 pub returns-in-Err-clause-kind : goal.returns-in-Err-clause-kind
 returns-in-Err-clause-kind g c = rw c.poll_error.ensures (rebuilding-polling c.in-Err.error c.in-Err.ensures.refusals)
@@ -108,7 +113,7 @@ returns-in-Err-clause-lacks g c x lawful is =
     let gives : plan ≡ Ok (Some n.next, n.taken) = search rules in
     let is_put : c.in_ok-is_put.is_put ≡ true = search rules in
     let puts = subst (λ b. WhereModelled (PutsManifest n.next (Ok b)) t t1) is_put c.in_ok-is_put.ensures.puts in
-    let key = poll-key c.in-Err.error c.in-Err.ensures.refusals (sym c.poll_error.ensures ∙ err-same (Option PollAnswer) c.poll_error.result InvalidDBState is) in
+    let key = poll-key c.in-Err.error c.in-Err.ensures.refusals (sym c.poll_error.ensures ∙ err-same (Option Kept) c.poll_error.result InvalidDBState is) in
     let lacks = subst (λ (f : Follower). IfSome t1 (λ o. TakingLacks x o n.next f)) c.self.view_is (c.in-Err.ensures.lacks x key.0 lawful (ap Err key.1)) in
     put-lacks x plan c.args.self.now n.next n.taken gives t t1 puts lacks
 
@@ -159,3 +164,13 @@ returns-in-Ok-clause-truncates g c =
     let puts = subst (λ b. WhereModelled (PutsManifest n.next (Ok b)) t t1) is_put c.in_ok-is_put.ensures.puts in
     let took = subst (λ (f : Follower). IfSome t1 (λ o. TakesUnder o n.next (record f { lease = Some n.taken }) (unleased new) answer)) c.self.view_is c.in-Ok.ensures.taken in
     put-truncates n.next (record c.args.self.now { lease = Some n.taken }) new answer t t1 puts took
+
+-- the manifest that it goes by has the checkpoint of its lease
+pub returns-in-Ok-clause-there : goal.returns-in-Ok-clause-there
+returns-in-Ok-clause-there g c =
+    let n = c.in_ok-next in
+    let l = c.args.lease.now in
+    let new = c.follow.new.self in
+    let gives : leased l.lifetime (to_write (Some l.id) (Some l.lifetime) c.args.moment c.args.latest.now) ≡ Ok (Some n.next, n.taken) = search rules in
+    let there = written-found (Some l.id) l.lifetime c.args.moment c.args.latest.now n.next n.taken gives in
+    at-lease new.lease n.taken (λ (x : Lease). IsSome (found x.id new.view)) c.in-Ok.ensures.asked.2 (subst (λ (v : VersionedManifest). IsSome (found n.taken.id v)) (sym c.in-Ok.ensures.asked.4) there)

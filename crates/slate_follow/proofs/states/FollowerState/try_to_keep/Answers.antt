@@ -13,9 +13,9 @@ use Rattle.slate_model.specs.Lease.{differs, is_due, replaces, to_keep}
 use Rattle.slate_model.specs.Managed.{IsOpenAt, unrefused}
 use Rattle.slate_model.specs.Stores.{Stands}
 use Rattle.slate_store.specs.Refusals.{planned}
-use Rattle.slate_model.specs.declared.answers.PollAnswer.{PollAnswer}
+use Rattle.slate_follow.specs.declared.keeps.Kept.{Kept}
 use Rattle.slate_follow.specs.Growing.{added_to}
-use Rattle.slate_follow.specs.Keeping.{IsNews, MayLack, PutsBy, ReplaceLacks, TakesLatest, informed, put_tried, tried}
+use Rattle.slate_follow.specs.Keeping.{IsNews, MayLack, PutsBy, ReplaceLacks, TakesLatest, informed, put_tried, answered}
 use Rattle.slate_follow.proofs.Answering.{polling-poll, turn-polling}
 use Rattle.slate_follow.proofs.Counted.{mid-fewer-at, missing-costs, news-once, news-then, news-twice, renew-costs, replaced-costs, replaced-first, rest-costs}
 use Rattle.slate_follow.specs.Rebuilding.{Truncates}
@@ -36,10 +36,10 @@ returns-then-differs-clause-puts g c =
     let old = c.args.self.now in
     let r = c.replace_lease in
     let other : differs old.view v.latest ≡ true = search rules in
-    let puts = subst (λ m. WhereModelled (λ o o'. PutsBy MayLack (replacement old.view v.latest l m) old.lease o (tried r.result) r.new.self.lease o') (g.S.Store.objects c.latest_of.new.store) (g.S.Store.objects r.new.store))
+    let puts = subst (λ m. WhereModelled (λ o o'. PutsBy MayLack (replacement old.view v.latest l m) old.lease o (answered r.result) r.new.self.lease o') (g.S.Store.objects c.latest_of.new.store) (g.S.Store.objects r.new.store))
     (to_z-of_z {w = w64} {z = c.args.moment} (search rules)) r.ensures.puts in
     let replaced : replaces old.view l c.args.moment v.latest ≡ true = replaces-by old.view v.latest l c.args.moment true _ _ other refl refl in
-    let all = modelled-put v.ensures.found v.ensures.kept puts (λ o o' is h. puts-by o v.latest is l c.args.moment old (replacement old.view v.latest l c.args.moment) (to-replace old.view v.latest l c.args.moment replaced) (tried r.result) r.new.self o' h) in
+    let all = modelled-put v.ensures.found v.ensures.kept puts (λ o o' is h. puts-by o v.latest is l c.args.moment old (replacement old.view v.latest l c.args.moment) (to-replace old.view v.latest l c.args.moment replaced) (answered r.result) r.new.self o' h) in
     search (rules, all)
 
 pub returns-in_err-news-clause-puts : goal.returns-in_err-news-clause-puts
@@ -63,13 +63,13 @@ returns-then-differs-clause-keeps g c =
     let r = c.replace_lease in
     let other : differs old.view v.latest ≡ true = search rules in
     let undone = to_z-of_z {w = w64} {z = m} (search rules) in
-    let puts = subst (λ m. WhereModelled (λ o o'. PutsBy MayLack (replacement old.view v.latest l m) old.lease o (tried r.result) r.new.self.lease o') (g.S.Store.objects c.latest_of.new.store) (g.S.Store.objects r.new.store)) undone r.ensures.puts in
-    let took = subst (λ m. IfOk (tried r.result) (λ answer. IfSome (g.S.Store.objects r.new.store) (λ o'. TakesLatest (replacement old.view v.latest l m) old o' r.new.self answer))) undone r.ensures.taken in
+    let puts = subst (λ m. WhereModelled (λ o o'. PutsBy MayLack (replacement old.view v.latest l m) old.lease o (answered r.result) r.new.self.lease o') (g.S.Store.objects c.latest_of.new.store) (g.S.Store.objects r.new.store)) undone r.ensures.puts in
+    let took = subst (λ m. IfOk (answered r.result) (λ answer. IfSome (g.S.Store.objects r.new.store) (λ o'. TakesLatest (replacement old.view v.latest l m) old o' r.new.self answer))) undone r.ensures.taken in
     let replaced : replaces old.view l m v.latest ≡ true = replaces-by old.view v.latest l m true _ _ other refl refl in
     let held : c.self.inside.lease ≡ Some l = ap (λ (f : Follower). f.lease) c.self.view_is ∙ c.requires.leased in
     let managed : old.mode ≡ ManagedCheckpoint = sym (ap (λ (f : Follower). f.mode) c.self.view_is) ∙ mode-leased c.self.inside.following.mode c.self.inside.lease l c.self.invariant.leased held in
     let comes = if_some (g.S.Store.objects c.args.store.now) (λ o at. comes-itself o old managed) in
-    replaced-kept (g.S.Store.objects c.args.store.now) v.latest v.ensures.found l m old r.new.self old comes replaced v.ensures.kept (tried r.result) puts took
+    replaced-kept (g.S.Store.objects c.args.store.now) v.latest v.ensures.found l m old r.new.self old comes replaced v.ensures.kept (answered r.result) puts took
 
 pub returns-then-not-is_due-clause-puts : goal.returns-then-not-is_due-clause-puts
 returns-then-not-is_due-clause-puts g c =
@@ -78,30 +78,30 @@ returns-then-not-is_due-clause-puts g c =
     let m = c.args.moment in
     let old = c.args.self.now in
     let mid = c.news.new.self in
-    let new = c.take_news.new.self in
+    let new = c.take_news-answer.new.self in
     let same : differs old.view v.latest ≡ false = search rules in
     let early : is_due m l ≡ false = search rules in
     let unreplaced : replaces old.view l m v.latest ≡ false = replaces-by old.view v.latest l m false false _ same early refl in
-    let holds : new.lease ≡ Some l = settled-lease mid new (mid.skips) c.take_news.ensures.ok ∙ (c.in_ok-news.ensures.leased ∙ c.requires.leased) in
-    let all = stays-puts (g.S.Store.objects c.args.store.now) v.latest v.ensures.found l m old new unreplaced early c.requires.leased holds c.take_news.result (c.in_ok-news.ensures.kept ∙ v.ensures.kept) in
+    let holds : new.lease ≡ Some l = settled-lease mid new (mid.skips) c.take_news-answer.ensures.ok ∙ (c.in_ok-news.ensures.leased ∙ c.requires.leased) in
+    let all = stays-puts (g.S.Store.objects c.args.store.now) v.latest v.ensures.found l m old new unreplaced early c.requires.leased holds c.take_news-answer.result (c.in_ok-news.ensures.kept ∙ v.ensures.kept) in
     search (rules, all)
 
 pub returns-then-not-is_due-clause-answers : goal.returns-then-not-is_due-clause-answers
 returns-then-not-is_due-clause-answers g c =
     let old = c.args.self.now in
     let mid = c.news.new.self in
-    let new = c.take_news.new.self in
+    let new = c.take_news-answer.new.self in
     let n = c.in_ok-news.news in
     let pushed = c.in_ok-news.ensures.pushed in
     let open_ : old.result ≡ None = c.requires.open_ in
     let tasks : old.tasks ≡ follower_tasks old.mode = subst (λ (f : Follower). f.result ≡ None → f.tasks ≡ follower_tasks f.mode) c.self.view_is c.self.invariant.running open_ in
     let line = subst (λ (f : Follower). AreNumberedFrom f.line.floor f.line.batches) c.self.view_is c.self.invariant.numbered in
     let floor : old.line.floor ≡ old.view.manifest.last_l0_seq = subst (λ (f : Follower). f.line.floor ≡ f.view.manifest.last_l0_seq) c.self.view_is refl in
-    let ok = settled-informed old mid new n.number n.mark n.segments open_ tasks floor line pushed c.in_ok-news.ensures.numbered c.take_news.ensures.ok in
+    let ok = settled-informed old mid new n.number n.mark n.segments open_ tasks floor line pushed c.in_ok-news.ensures.numbered c.take_news-answer.ensures.ok in
     let held : c.self.inside.lease ≡ Some c.args.lease.now = ap (λ (f : Follower). f.lease) c.self.view_is ∙ c.requires.leased in
     let managed : old.mode ≡ ManagedCheckpoint = sym (ap (λ (f : Follower). f.mode) c.self.view_is) ∙ mode-leased c.self.inside.following.mode c.self.inside.lease c.args.lease.now c.self.invariant.leased held in
     let added = added_to old.line.batches mid.line.batches in
-    informed-open old new added n.replayed mid.mark mid.lease c.take_news.result managed (informed-becomes old new added mid.mark new.segments mid.lease ok) c.take_news.ensures.answer
+    informed-open old new added n.replayed mid.mark mid.lease c.take_news-answer.result managed (informed-becomes old new added mid.mark new.segments mid.lease ok) c.take_news-answer.ensures.answer
 
 pub returns-then-not-is_due-clause-keeps : goal.returns-then-not-is_due-clause-keeps
 returns-then-not-is_due-clause-keeps g c =
@@ -110,14 +110,14 @@ returns-then-not-is_due-clause-keeps g c =
     let m = c.args.moment in
     let old = c.args.self.now in
     let mid = c.news.new.self in
-    let new = c.take_news.new.self in
+    let new = c.take_news-answer.new.self in
     let n = c.in_ok-news.news in
     let pushed = c.in_ok-news.ensures.pushed in
     let open_ : old.result ≡ None = c.requires.open_ in
     let tasks : old.tasks ≡ follower_tasks old.mode = subst (λ (f : Follower). f.result ≡ None → f.tasks ≡ follower_tasks f.mode) c.self.view_is c.self.invariant.running open_ in
     let line = subst (λ (f : Follower). AreNumberedFrom f.line.floor f.line.batches) c.self.view_is c.self.invariant.numbered in
     let floor : old.line.floor ≡ old.view.manifest.last_l0_seq = subst (λ (f : Follower). f.line.floor ≡ f.view.manifest.last_l0_seq) c.self.view_is refl in
-    let ok = settled-informed old mid new n.number n.mark n.segments open_ tasks floor line pushed c.in_ok-news.ensures.numbered c.take_news.ensures.ok in
+    let ok = settled-informed old mid new n.number n.mark n.segments open_ tasks floor line pushed c.in_ok-news.ensures.numbered c.take_news-answer.ensures.ok in
     let added = added_to old.line.batches mid.line.batches in
     let held : c.self.inside.lease ≡ Some l = ap (λ (f : Follower). f.lease) c.self.view_is ∙ c.requires.leased in
     let managed : old.mode ≡ ManagedCheckpoint = sym (ap (λ (f : Follower). f.mode) c.self.view_is) ∙ mode-leased c.self.inside.following.mode c.self.inside.lease l c.self.invariant.leased held in
@@ -126,7 +126,7 @@ returns-then-not-is_due-clause-keeps g c =
     let unreplaced : replaces old.view l m v.latest ≡ false = replaces-by old.view v.latest l m false false _ same early refl in
     let becomes = informed-becomes old new added mid.mark new.segments mid.lease ok in
     let lease_is : new.lease ≡ mid.lease = ap (λ (f : Follower). f.lease) becomes in
-    let all = stays-kept (g.S.Store.objects c.args.store.now) v.latest v.ensures.found l m old new unreplaced managed same floor added n.replayed mid.mark c.take_news.result c.take_news.ensures.answer
+    let all = stays-kept (g.S.Store.objects c.args.store.now) v.latest v.ensures.found l m old new unreplaced managed same floor added n.replayed mid.mark c.take_news-answer.result c.take_news-answer.ensures.answer
     (g.S.Store.objects c.news.new.store) (c.in_ok-news.ensures.kept ∙ v.ensures.kept) (subst (λ s. IfSome s (λ o. IsNews o old v.latest old.skips added n.replayed mid.mark)) (sym c.in_ok-news.ensures.kept) c.in_ok-news.ensures.news)
     (becomes ∙ ap (λ x. record (informed old old.skips added mid.mark) { lease = x }) (sym lease_is)) early (lease_is ∙ (c.in_ok-news.ensures.leased ∙ c.requires.leased)) in
     search (rules, all)
@@ -198,7 +198,7 @@ returns-then-not-renewed-clause-again g c =
 pub returns-clause-faults : goal.returns-clause-faults
 returns-clause-faults g c =
     let same : g.S.Store.faults c.renew_lease.new.store ≡ g.S.Store.faults c.args.store.now = (let a = c.in_ok-latest.ensures.faults.stays in let b = c.in_ok-news.ensures.faults.stays in let d = c.in-Ok.ensures.faults.stays in omega (arith, a, b, d)) in
-    let all = all-well (g.S.Store.faults c.args.store.now) (g.S.Store.faults c.renew_lease.new.store) (Some c.take_news-2.result) same in
+    let all = all-well (g.S.Store.faults c.args.store.now) (g.S.Store.faults c.renew_lease.new.store) (Some c.take_news-answer-2.result) same in
     search (rules, all)
 
 pub returns-clause-puts : goal.returns-clause-puts
@@ -217,10 +217,10 @@ returns-clause-puts g c =
     let made = subst (λ b. WhereModelled (λ o o'. PutsBy unrefused (renewal old.view v.latest l (to_z w64 (of_z w64 m))) mid0.lease o (put_tried (Ok b)) mid.lease o') (g.S.Store.objects c.news.new.store) (g.S.Store.objects c.renew_lease.new.store)) is c.in-Ok.ensures.puts in
     let puts0 = subst (λ m. WhereModelled (λ o o'. PutsBy {A = Unit {0}} unrefused (renewal old.view v.latest l m) mid0.lease o (Ok tt) mid.lease o') (g.S.Store.objects c.news.new.store) (g.S.Store.objects c.renew_lease.new.store)) (to_z-of_z {w = w64} {z = m} (search rules)) made in
     let puts = subst (λ x. WhereModelled (λ o o'. PutsBy {A = Unit {0}} unrefused (renewal old.view v.latest l m) x o (Ok tt) mid.lease o') (g.S.Store.objects c.news.new.store) (g.S.Store.objects c.renew_lease.new.store)) c.in_ok-news.ensures.leased puts0 in
-    let new = c.take_news-2.new.self in
-    let lease_is : new.lease ≡ mid.lease = settled-lease mid new (mid.skips) c.take_news-2.ensures.ok in
+    let new = c.take_news-answer-2.new.self in
+    let lease_is : new.lease ≡ mid.lease = settled-lease mid new (mid.skips) c.take_news-answer-2.ensures.ok in
     let moved = subst (λ x. WhereModelled (λ o o'. PutsBy {A = Unit {0}} unrefused (renewal old.view v.latest l m) old.lease o (Ok tt) x o') (g.S.Store.objects c.news.new.store) (g.S.Store.objects c.renew_lease.new.store)) (sym lease_is) puts in
-    let all = renewed-puts (g.S.Store.objects c.args.store.now) v.latest v.ensures.found l m old new unreplaced due (Ok tt) (Ok c.take_news-2.result) (c.in_ok-news.ensures.kept ∙ v.ensures.kept) moved (λ o o' h. renewal-done old.view v.latest l m MayLack old.lease new.lease o o' c.take_news-2.result h) in
+    let all = renewed-puts (g.S.Store.objects c.args.store.now) v.latest v.ensures.found l m old new unreplaced due (Ok tt) (Ok c.take_news-answer-2.result) (c.in_ok-news.ensures.kept ∙ v.ensures.kept) moved (λ o o' h. renewal-done old.view v.latest l m MayLack old.lease new.lease o o' c.take_news-answer-2.result h) in
     search (rules, all)
 
 pub returns-clause-answers : goal.returns-clause-answers
@@ -228,18 +228,18 @@ returns-clause-answers g c =
     let old = c.args.self.now in
     let mid0 = c.news.new.self in
     let mid = c.renew_lease.new.self in
-    let new = c.take_news-2.new.self in
+    let new = c.take_news-answer-2.new.self in
     let n = c.in_ok-news.news in
     let pushed = (pushed-renewed old mid0 mid c.in_ok-news.news.number c.in_ok-news.news.mark c.in_ok-news.news.segments c.in_ok-news.ensures.pushed c.in-Ok.ensures.same) in
     let open_ : old.result ≡ None = c.requires.open_ in
     let tasks : old.tasks ≡ follower_tasks old.mode = subst (λ (f : Follower). f.result ≡ None → f.tasks ≡ follower_tasks f.mode) c.self.view_is c.self.invariant.running open_ in
     let line = subst (λ (f : Follower). AreNumberedFrom f.line.floor f.line.batches) c.self.view_is c.self.invariant.numbered in
     let floor : old.line.floor ≡ old.view.manifest.last_l0_seq = subst (λ (f : Follower). f.line.floor ≡ f.view.manifest.last_l0_seq) c.self.view_is refl in
-    let ok = settled-informed old mid new n.number n.mark n.segments open_ tasks floor line pushed (subst (λ bs. AreNumberedFrom (number old) (added_to old.line.batches bs)) (sym (ap (λ (f : Follower). f.line.batches) c.in-Ok.ensures.same)) c.in_ok-news.ensures.numbered) c.take_news-2.ensures.ok in
+    let ok = settled-informed old mid new n.number n.mark n.segments open_ tasks floor line pushed (subst (λ bs. AreNumberedFrom (number old) (added_to old.line.batches bs)) (sym (ap (λ (f : Follower). f.line.batches) c.in-Ok.ensures.same)) c.in_ok-news.ensures.numbered) c.take_news-answer-2.ensures.ok in
     let held : c.self.inside.lease ≡ Some c.args.lease.now = ap (λ (f : Follower). f.lease) c.self.view_is ∙ c.requires.leased in
     let managed : old.mode ≡ ManagedCheckpoint = sym (ap (λ (f : Follower). f.mode) c.self.view_is) ∙ mode-leased c.self.inside.following.mode c.self.inside.lease c.args.lease.now c.self.invariant.leased held in
     let added = added_to old.line.batches mid.line.batches in
-    informed-open old new added n.replayed mid.mark mid.lease c.take_news-2.result managed (informed-becomes old new added mid.mark new.segments mid.lease ok) c.take_news-2.ensures.answer
+    informed-open old new added n.replayed mid.mark mid.lease c.take_news-answer-2.result managed (informed-becomes old new added mid.mark new.segments mid.lease ok) c.take_news-answer-2.ensures.answer
 
 pub returns-clause-keeps : goal.returns-clause-keeps
 returns-clause-keeps g c =
@@ -257,14 +257,14 @@ returns-clause-keeps g c =
     let made = subst (λ b. WhereModelled (λ o o'. PutsBy unrefused (renewal old.view v.latest l (to_z w64 (of_z w64 m))) mid0.lease o (put_tried (Ok b)) mid.lease o') (g.S.Store.objects c.news.new.store) (g.S.Store.objects c.renew_lease.new.store)) is c.in-Ok.ensures.puts in
     let puts0 = subst (λ m. WhereModelled (λ o o'. PutsBy {A = Unit {0}} unrefused (renewal old.view v.latest l m) mid0.lease o (Ok tt) mid.lease o') (g.S.Store.objects c.news.new.store) (g.S.Store.objects c.renew_lease.new.store)) (to_z-of_z {w = w64} {z = m} (search rules)) made in
     let puts = subst (λ x. WhereModelled (λ o o'. PutsBy {A = Unit {0}} unrefused (renewal old.view v.latest l m) x o (Ok tt) mid.lease o') (g.S.Store.objects c.news.new.store) (g.S.Store.objects c.renew_lease.new.store)) c.in_ok-news.ensures.leased puts0 in
-    let new = c.take_news-2.new.self in
+    let new = c.take_news-answer-2.new.self in
     let n = c.in_ok-news.news in
     let pushed = (pushed-renewed old mid0 mid c.in_ok-news.news.number c.in_ok-news.news.mark c.in_ok-news.news.segments c.in_ok-news.ensures.pushed c.in-Ok.ensures.same) in
     let open_ : old.result ≡ None = c.requires.open_ in
     let tasks : old.tasks ≡ follower_tasks old.mode = subst (λ (f : Follower). f.result ≡ None → f.tasks ≡ follower_tasks f.mode) c.self.view_is c.self.invariant.running open_ in
     let line = subst (λ (f : Follower). AreNumberedFrom f.line.floor f.line.batches) c.self.view_is c.self.invariant.numbered in
     let floor : old.line.floor ≡ old.view.manifest.last_l0_seq = subst (λ (f : Follower). f.line.floor ≡ f.view.manifest.last_l0_seq) c.self.view_is refl in
-    let ok = settled-informed old mid new n.number n.mark n.segments open_ tasks floor line pushed (subst (λ bs. AreNumberedFrom (number old) (added_to old.line.batches bs)) (sym (ap (λ (f : Follower). f.line.batches) c.in-Ok.ensures.same)) c.in_ok-news.ensures.numbered) c.take_news-2.ensures.ok in
+    let ok = settled-informed old mid new n.number n.mark n.segments open_ tasks floor line pushed (subst (λ bs. AreNumberedFrom (number old) (added_to old.line.batches bs)) (sym (ap (λ (f : Follower). f.line.batches) c.in-Ok.ensures.same)) c.in_ok-news.ensures.numbered) c.take_news-answer-2.ensures.ok in
     let added = added_to old.line.batches mid.line.batches in
     let batches : mid.line.batches ≡ mid0.line.batches = ap (λ (f : Follower). f.line.batches) c.in-Ok.ensures.same in
     let mark : mid.mark ≡ mid0.mark = ap (λ (f : Follower). f.mark) c.in-Ok.ensures.same in
@@ -272,24 +272,24 @@ returns-clause-keeps g c =
     (subst (λ s. IfSome s (λ o. IsNews o old v.latest old.skips (added_to old.line.batches mid0.line.batches) n.replayed mid0.mark)) (sym c.in_ok-news.ensures.kept) c.in_ok-news.ensures.news)) in
     let held : c.self.inside.lease ≡ Some l = ap (λ (f : Follower). f.lease) c.self.view_is ∙ c.requires.leased in
     let managed : old.mode ≡ ManagedCheckpoint = sym (ap (λ (f : Follower). f.mode) c.self.view_is) ∙ mode-leased c.self.inside.following.mode c.self.inside.lease l c.self.invariant.leased held in
-    let lease_is : new.lease ≡ mid.lease = settled-lease mid new (mid.skips) c.take_news-2.ensures.ok in
+    let lease_is : new.lease ≡ mid.lease = settled-lease mid new (mid.skips) c.take_news-answer-2.ensures.ok in
     let moved = subst (λ x. WhereModelled (λ o o'. PutsBy {A = Unit {0}} unrefused (renewal old.view v.latest l m) old.lease o (Ok tt) x o') (g.S.Store.objects c.news.new.store) (g.S.Store.objects c.renew_lease.new.store)) (sym lease_is) puts in
     let becomes = informed-becomes old new added mid.mark new.segments mid.lease ok in
-    let all = renewed-kept (g.S.Store.objects c.args.store.now) v.latest v.ensures.found l m old new unreplaced managed same floor added n.replayed mid.mark c.take_news-2.result c.take_news-2.ensures.answer
+    let all = renewed-kept (g.S.Store.objects c.args.store.now) v.latest v.ensures.found l m old new unreplaced managed same floor added n.replayed mid.mark c.take_news-answer-2.result c.take_news-answer-2.ensures.answer
     (g.S.Store.objects c.news.new.store) (c.in_ok-news.ensures.kept ∙ v.ensures.kept) came
     (becomes ∙ ap (λ x. record (informed old old.skips added mid.mark) { lease = x }) (sym lease_is)) due moved in
     search (rules, all)
 
 pub returns-then-not-is_due-clause-segments : goal.returns-then-not-is_due-clause-segments
 returns-then-not-is_due-clause-segments g c x lawful has =
-    settled-segments x c.news.new.self c.take_news.new.self c.take_news.ensures.ok (c.in_ok-news.ensures.segments x lawful has)
+    settled-segments x c.news.new.self c.take_news-answer.new.self c.take_news-answer.ensures.ok (c.in_ok-news.ensures.segments x lawful has)
 
 pub returns-clause-segments : goal.returns-clause-segments
 returns-clause-segments g c x lawful has =
     let mid = c.news.new.self in
     let then = c.renew_lease.new.self in
     let held = subst (HasSegments x) (sym c.in-Ok.ensures.same) (c.in_ok-news.ensures.segments x lawful has) in
-    settled-segments x then c.take_news-2.new.self c.take_news-2.ensures.ok held
+    settled-segments x then c.take_news-answer-2.new.self c.take_news-answer-2.ensures.ok held
 
 pub returns-then-differs-clause-lacks : goal.returns-then-differs-clause-lacks
 returns-then-differs-clause-lacks g c x lawful is =
@@ -311,7 +311,7 @@ returns-in_err-news-clause-lacks g c x lawful is =
     let old = c.args.self.now in
     let e = c.in_err-news.field-0.0 in
     let p = err_from_is_err_and c.from_residual-in_err-news.result c.from_residual-in_err-news.ensures.1 in
-    let invalid : e ≡ InvalidDBState = err-same (Option PollAnswer) e InvalidDBState (sym (p.1 ∙ ap Err p.2) ∙ is) in
+    let invalid : e ≡ InvalidDBState = err-same (Option Kept) e InvalidDBState (sym (p.1 ∙ ap Err p.2) ∙ is) in
     let same : differs old.view v.latest ≡ false = search rules in
     let held : c.self.inside.lease ≡ Some c.args.lease.now = ap (λ (f : Follower). f.lease) c.self.view_is ∙ c.requires.leased in
     let managed : old.mode ≡ ManagedCheckpoint = sym (ap (λ (f : Follower). f.mode) c.self.view_is) ∙ mode-leased c.self.inside.following.mode c.self.inside.lease c.args.lease.now c.self.invariant.leased held in
@@ -325,7 +325,7 @@ returns-in-Err-clause-lacks g c x lawful is =
     let m = c.args.moment in
     let old = c.args.self.now in
     let e = c.in-Err.error in
-    let invalid : e ≡ InvalidDBState = err-same (Option PollAnswer) e InvalidDBState is in
+    let invalid : e ≡ InvalidDBState = err-same (Option Kept) e InvalidDBState is in
     let same : differs old.view v.latest ≡ false = search rules in
     let due : is_due m l ≡ true = search rules in
     let there : is_none (found l.id v.latest) ≡ false = search rules in
@@ -371,7 +371,7 @@ returns-then-differs-clause-costs g c =
     let k = g.S.Store.calls c.args.store.now in
     let k1 = g.S.Store.calls c.latest_of.new.store in
     let other : differs old.view v.latest ≡ true = search rules in
-    if-ok-all (tried c.replace_lease.result) (replaced-costs v.latest t t1 v.ensures.kept v.ensures.found old managed l m k k1 v.ensures.calls (g.S.Store.calls c.replace_lease.new.store) c.replace_lease.ensures.calls other)
+    if-ok-all (answered c.replace_lease.result) (replaced-costs v.latest t t1 v.ensures.kept v.ensures.found old managed l m k k1 v.ensures.calls (g.S.Store.calls c.replace_lease.new.store) c.replace_lease.ensures.calls other)
 
 pub returns-then-differs-clause-free : goal.returns-then-differs-clause-free
 returns-then-differs-clause-free g c =
@@ -386,8 +386,8 @@ returns-then-differs-clause-free g c =
     let r = c.replace_lease in
     let other : differs old.view v.latest ≡ true = search rules in
     let replaced : replaces old.view l m v.latest ≡ true = replaces-by old.view v.latest l m true _ _ other refl refl in
-    let free = subst (λ m. IfOk (tried r.result) (λ _. IfSome t1 (λ o. Stands (planned (replacement old.view v.latest l m)) o → ⊥))) (to_z-of_z {w = w64} {z = m} (search rules)) r.ensures.free in
-    if-ok-as (tried r.result) (λ f. unstanding-by t v.latest v.ensures.found l m old (replacement old.view v.latest l m) (to-replace old.view v.latest l m replaced) v.ensures.kept f) free
+    let free = subst (λ m. IfOk (answered r.result) (λ _. IfSome t1 (λ o. Stands (planned (replacement old.view v.latest l m)) o → ⊥))) (to_z-of_z {w = w64} {z = m} (search rules)) r.ensures.free in
+    if-ok-as (answered r.result) (λ f. unstanding-by t v.latest v.ensures.found l m old (replacement old.view v.latest l m) (to-replace old.view v.latest l m replaced) v.ensures.kept f) free
 
 pub returns-in_err-news-clause-calls : goal.returns-in_err-news-clause-calls
 returns-in_err-news-clause-calls g c =
@@ -585,9 +585,9 @@ returns-then-is_none-clause-puts g c =
     let gone : is_none (found l.id v.latest) ≡ true = search rules in
     let replaced : replaces old.view l m v.latest ≡ true = replaces-by old.view v.latest l m false true true same due gone in
     let undone = to_z-of_z {w = w64} {z = m} (search rules) in
-    let puts = subst (λ x. WhereModelled (λ o o'. PutsBy MayLack (replacement old.view v.latest l m) x o (tried r.result) r.new.self.lease o') t2 (g.S.Store.objects r.new.store)) e.leased
-    (subst (λ m. WhereModelled (λ o o'. PutsBy MayLack (replacement old.view v.latest l m) mid.lease o (tried r.result) r.new.self.lease o') t2 (g.S.Store.objects r.new.store)) undone r.ensures.puts) in
-    let all = modelled-put v.ensures.found kept puts (λ o o' is h. puts-by o v.latest is l m old (replacement old.view v.latest l m) (to-replace old.view v.latest l m replaced) (tried r.result) r.new.self o' h) in
+    let puts = subst (λ x. WhereModelled (λ o o'. PutsBy MayLack (replacement old.view v.latest l m) x o (answered r.result) r.new.self.lease o') t2 (g.S.Store.objects r.new.store)) e.leased
+    (subst (λ m. WhereModelled (λ o o'. PutsBy MayLack (replacement old.view v.latest l m) mid.lease o (answered r.result) r.new.self.lease o') t2 (g.S.Store.objects r.new.store)) undone r.ensures.puts) in
+    let all = modelled-put v.ensures.found kept puts (λ o o' is h. puts-by o v.latest is l m old (replacement old.view v.latest l m) (to-replace old.view v.latest l m replaced) (answered r.result) r.new.self o' h) in
     search (rules, all)
 
 pub returns-then-is_none-clause-answers : goal.returns-then-is_none-clause-answers
@@ -607,7 +607,7 @@ returns-then-is_none-clause-answers g c =
     let t2 = g.S.Store.objects c.news.new.store in
     let kept : t2 ≡ t = e.kept ∙ v.ensures.kept in
     let same : differs old.view v.latest ≡ false = search rules in
-    subst (λ s. IfOk (tried r.result) (λ answer. IsOpenAt s r.new.self answer)) (ap (λ (f : Follower). f.skips) e.pushed.same) r.ensures.answers
+    subst (λ s. IfOk (answered r.result) (λ answer. IsOpenAt s r.new.self answer)) (ap (λ (f : Follower). f.skips) e.pushed.same) r.ensures.answers
 
 pub returns-then-is_none-clause-keeps : goal.returns-then-is_none-clause-keeps
 returns-then-is_none-clause-keeps g c =
@@ -635,10 +635,10 @@ returns-then-is_none-clause-keeps g c =
     let line = subst (λ (f : Follower). AreNumberedFrom f.line.floor f.line.batches) c.self.view_is c.self.invariant.numbered in
     let floor : old.line.floor ≡ old.view.manifest.last_l0_seq = subst (λ (f : Follower). f.line.floor ≡ f.view.manifest.last_l0_seq) c.self.view_is refl in
     let comes = comes-on t v.latest v.ensures.found old mid n.number n.mark n.segments managed open_ tasks floor line e.pushed e.numbered same n.replayed v.ensures.kept e.news in
-    let puts = subst (λ x. WhereModelled (λ o o'. PutsBy MayLack (replacement old.view v.latest l m) x o (tried r.result) r.new.self.lease o') t2 (g.S.Store.objects r.new.store)) e.leased
-    (subst (λ m. WhereModelled (λ o o'. PutsBy MayLack (replacement old.view v.latest l m) mid.lease o (tried r.result) r.new.self.lease o') t2 (g.S.Store.objects r.new.store)) undone r.ensures.puts) in
-    let took = subst (λ m. IfOk (tried r.result) (λ answer. IfSome (g.S.Store.objects r.new.store) (λ o'. TakesLatest (replacement old.view v.latest l m) mid o' r.new.self answer))) undone r.ensures.taken in
-    let all = replaced-kept t v.latest v.ensures.found l m old r.new.self mid comes replaced kept (tried r.result) puts took in
+    let puts = subst (λ x. WhereModelled (λ o o'. PutsBy MayLack (replacement old.view v.latest l m) x o (answered r.result) r.new.self.lease o') t2 (g.S.Store.objects r.new.store)) e.leased
+    (subst (λ m. WhereModelled (λ o o'. PutsBy MayLack (replacement old.view v.latest l m) mid.lease o (answered r.result) r.new.self.lease o') t2 (g.S.Store.objects r.new.store)) undone r.ensures.puts) in
+    let took = subst (λ m. IfOk (answered r.result) (λ answer. IfSome (g.S.Store.objects r.new.store) (λ o'. TakesLatest (replacement old.view v.latest l m) mid o' r.new.self answer))) undone r.ensures.taken in
+    let all = replaced-kept t v.latest v.ensures.found l m old r.new.self mid comes replaced kept (answered r.result) puts took in
     search (rules, all)
 
 pub returns-then-is_none-clause-failed : goal.returns-then-is_none-clause-failed
@@ -679,7 +679,7 @@ returns-then-is_none-clause-again g c =
     let same : differs old.view v.latest ≡ false = search rules in
     λ is.
     let again = r.ensures.again is in
-    let failed = subst (λ x. IfErr (tried x) (λ _. r.new.self ≡ record old { lease = r.new.self.lease })) is (r.ensures.failed old e.pushed) in
+    let failed = subst (λ x. IfErr (answered x) (λ _. r.new.self ≡ record old { lease = r.new.self.lease })) is (r.ensures.failed old e.pushed) in
     (failed ∙ ap (λ x. record old { lease = x }) (again.0 ∙ e.leased), again.1 ∙ kept)
 
 pub returns-then-is_none-clause-kind : goal.returns-then-is_none-clause-kind
@@ -707,8 +707,8 @@ returns-then-is_none-clause-free g c =
     let gone : is_none (found l.id v.latest) ≡ true = search rules in
     let replaced : replaces old.view l m v.latest ≡ true = replaces-by old.view v.latest l m false true true same due gone in
     let undone = to_z-of_z {w = w64} {z = m} (search rules) in
-    let free = subst (λ m. IfOk (tried r.result) (λ _. IfSome t2 (λ o. Stands (planned (replacement old.view v.latest l m)) o → ⊥))) undone r.ensures.free in
-    if-ok-as (tried r.result) (λ f. unstanding-by t v.latest v.ensures.found l m old (replacement old.view v.latest l m) (to-replace old.view v.latest l m replaced) kept f) free
+    let free = subst (λ m. IfOk (answered r.result) (λ _. IfSome t2 (λ o. Stands (planned (replacement old.view v.latest l m)) o → ⊥))) undone r.ensures.free in
+    if-ok-as (answered r.result) (λ f. unstanding-by t v.latest v.ensures.found l m old (replacement old.view v.latest l m) (to-replace old.view v.latest l m replaced) kept f) free
 
 pub returns-then-is_none-clause-calls : goal.returns-then-is_none-clause-calls
 returns-then-is_none-clause-calls g c =
@@ -760,7 +760,7 @@ returns-then-is_none-clause-costs g c =
     let fewer = mid-fewer-at t v.latest old mid n.number n.mark n.segments managed same floor e.pushed n.replayed v.ensures.kept e.news in
     let k2 = g.S.Store.calls c.news.new.store in
     let k3 = g.S.Store.calls r.new.store in
-    if-ok-all (tried r.result) (missing-costs v.latest t t1 v.ensures.kept v.ensures.found old managed l m k k1 v.ensures.calls same k2 e.calls k3 mid t2 kept fewer r.ensures.calls due gone)
+    if-ok-all (answered r.result) (missing-costs v.latest t t1 v.ensures.kept v.ensures.found old managed l m k k1 v.ensures.calls same k2 e.calls k3 mid t2 kept fewer r.ensures.calls due gone)
 
 pub returns-then-is_none-clause-calls_again : goal.returns-then-is_none-clause-calls_again
 returns-then-is_none-clause-calls_again g c =
@@ -802,7 +802,7 @@ returns-then-is_none-clause-segments g c x lawful has =
     let t2 = g.S.Store.objects c.news.new.store in
     let kept : t2 ≡ t = e.kept ∙ v.ensures.kept in
     let same : differs old.view v.latest ≡ false = search rules in
-    either-segments x old mid r.new.self (tried r.result) (r.ensures.segments x lawful) (r.ensures.failed old e.pushed) (e.segments x lawful has) has
+    either-segments x old mid r.new.self (answered r.result) (r.ensures.segments x lawful) (r.ensures.failed old e.pushed) (e.segments x lawful has) has
 
 pub returns-then-is_none-clause-lacks : goal.returns-then-is_none-clause-lacks
 returns-then-is_none-clause-lacks g c x lawful is =
@@ -834,11 +834,11 @@ returns-then-is_none-clause-lacks g c x lawful is =
     replace-keeps x v.latest kept v.ensures.found l m old mid comes replaced lacks
 
 pub returns-then-differs-clause-truncates : goal.returns-then-differs-clause-truncates
-returns-then-differs-clause-truncates g c = kept-truncates (λ o a. Truncates o c.replace_lease.new.self a) (tried c.replace_lease.result) c.in_ok-latest.ensures.kept c.replace_lease.ensures.truncates
+returns-then-differs-clause-truncates g c = kept-truncates (λ o a. Truncates o c.replace_lease.new.self a) (answered c.replace_lease.result) c.in_ok-latest.ensures.kept c.replace_lease.ensures.truncates
 
 pub returns-then-is_none-clause-truncates : goal.returns-then-is_none-clause-truncates
 returns-then-is_none-clause-truncates g c =
-    kept-truncates (λ o a. Truncates o c.replace_missing.new.self a) (tried c.replace_missing.result) (c.in_ok-news.ensures.kept ∙ c.in_ok-latest.ensures.kept) c.replace_missing.ensures.truncates
+    kept-truncates (λ o a. Truncates o c.replace_missing.new.self a) (answered c.replace_missing.result) (c.in_ok-news.ensures.kept ∙ c.in_ok-latest.ensures.kept) c.replace_missing.ensures.truncates
 
 pub returns-then-not-is_due-clause-truncates : goal.returns-then-not-is_due-clause-truncates
 returns-then-not-is_due-clause-truncates g c =
@@ -846,13 +846,13 @@ returns-then-not-is_due-clause-truncates g c =
     let n = c.in_ok-news.news in
     let old = c.args.self.now in
     let mid = c.news.new.self in
-    let new = c.take_news.new.self in
+    let new = c.take_news-answer.new.self in
     let t = g.S.Store.objects c.args.store.now in
     let added = added_to old.line.batches mid.line.batches in
-    let mark = settled-mark mid new mid.skips c.take_news.ensures.ok in
+    let mark = settled-mark mid new mid.skips c.take_news-answer.ensures.ok in
     if_some t (λ o at.
     let news = some_at (λ o. IsNews o old v.latest old.skips added n.replayed mid.mark) (g.S.Store.objects c.latest_of.new.store) o (v.ensures.kept ∙ at) c.in_ok-news.ensures.news in
-    news-truncates o v.latest old old.skips added n.replayed mid.mark new c.take_news.result news mark c.take_news.ensures.answer)
+    news-truncates o v.latest old old.skips added n.replayed mid.mark new c.take_news-answer.result news mark c.take_news-answer.ensures.answer)
 
 pub returns-clause-truncates : goal.returns-clause-truncates
 returns-clause-truncates g c =
@@ -861,10 +861,10 @@ returns-clause-truncates g c =
     let old = c.args.self.now in
     let mid = c.news.new.self in
     let then = c.renew_lease.new.self in
-    let new = c.take_news-2.new.self in
+    let new = c.take_news-answer-2.new.self in
     let t = g.S.Store.objects c.args.store.now in
     let added = added_to old.line.batches mid.line.batches in
-    let mark = settled-mark then new then.skips c.take_news-2.ensures.ok ∙ ap (λ (f : Follower). f.mark) c.in-Ok.ensures.same in
+    let mark = settled-mark then new then.skips c.take_news-answer-2.ensures.ok ∙ ap (λ (f : Follower). f.mark) c.in-Ok.ensures.same in
     if_some t (λ o at.
     let news = some_at (λ o. IsNews o old v.latest old.skips added n.replayed mid.mark) (g.S.Store.objects c.latest_of.new.store) o (v.ensures.kept ∙ at) c.in_ok-news.ensures.news in
-    news-truncates o v.latest old old.skips added n.replayed mid.mark new c.take_news-2.result news mark c.take_news-2.ensures.answer)
+    news-truncates o v.latest old old.skips added n.replayed mid.mark new c.take_news-answer-2.result news mark c.take_news-answer-2.ensures.answer)

@@ -1,13 +1,12 @@
 -- An opening of a reader for a router is a step of the world to which its readers belong.
-use Rattle.std.proofs.Common.{◌≡◌, ◌≢◌, ◌∙◌, ◌+◌, ◌<◌, ◌≤◌, ◌⊎◌, ◌++◌, ◌∷◌, inl, inr, ℕ, ℤ, Bool, true, false, List, [], get_or, length, map, Option, Some, None, Result, Ok, Err, refl, sym, subst, ap, arith}
-use Rattle.std.specs.Prelude.{IfErr, IfOk, IfSome, is_none, slice_get}
+use Rattle.std.proofs.Common.{◌≡◌, ◌∙◌, ◌<◌, ◌++◌, ◌∷◌, inl, inr, ℕ, ℤ, true, false, List, [], get_or, length, Option, Some, None, Result, Ok, Err, refl, sym, subst, ap, arith}
+use Rattle.std.specs.Prelude.{is_none, slice_get}
 use Rattle.std.proofs.lemmas.List.{length-append, length-map}
 use Rattle.std.proofs.lemmas.Option.{slice_get_within, slice_get-get_or}
 use Rattle.slate_types.specs.declared.batches.Batch.{Batch}
 use Rattle.slate_types.specs.Line.{end}
 use Rattle.slate_types.specs.Operator.{Merge}
 use Rattle.slate_store.specs.Content.{content}
-use Rattle.slate_store.specs.Objects.{Objects}
 use Rattle.slate_store.specs.declared.reader_modes.DbReaderMode.TheVariants.{ManagedCheckpoint}
 use Rattle.slate_errors.specs.declared.errors.SlateError.{SlateError}
 use Rattle.slate_errors.specs.declared.errors.SlateError.TheVariants as errors
@@ -24,11 +23,9 @@ use Rattle.slate_model.specs.Stores.{by_objects}
 use Rattle.slate_script.specs.declared.commands.Command.{Command}
 use Rattle.slate_script.specs.declared.replies.Reply.{Reply}
 use Rattle.slate_script.specs.declared.replies.Reply.TheVariants as replies
-use Rattle.slate_live.specs.Calls.{drops}
 use Rattle.slate_live.specs.Replies.{followed_reply, refusal}
-use Rattle.slate_live.specs.Represents.{AllInSegments, Represents, StandsAt}
 use Rattle.slate_live.specs.Settings.{Settings}
-use Rattle.slate_live.specs.State.{IsBegunAt, Live, running}
+use Rattle.slate_live.specs.State.{IsBegunAt, Live}
 use Rattle.slate_live.specs.Valid.{Link}
 use Rattle.slate_live.specs.World.{World}
 use Rattle.slate_live.proofs.Begun.{are-kept, same-polls}

@@ -1,11 +1,10 @@
 -- A poll of one reader of a router, and a read and an opening of one, are steps of the world to which they belong.
-use Rattle.std.proofs.Common.{◌≡◌, ◌≢◌, ◌∙◌, ◌+◌, ◌<◌, ◌≤◌, ◌⊎◌, inl, inr, ℕ, ℤ, Bool, true, false, List, [], ◌∷◌, ◌++◌, length, map, set, Option, Some, None, Result, Ok, Err, refl, sym, subst, ap, arith}
+use Rattle.std.proofs.Common.{◌≡◌, ◌≢◌, ◌∙◌, inl, inr, ℕ, ℤ, true, false, List, map, set, Option, Some, None, Result, Ok, Err, refl, sym, subst, ap}
 use Rattle.std.specs.List.{slice_get}
 use Rattle.std.specs.Option.{is_some, option_map, unwrap_or}
 use Rattle.std.specs.Prelude.{IfOk}
 use Rattle.std.proofs.lemmas.Bool.{cases_eq}
 use Rattle.std.proofs.lemmas.List.{length-set}
-use Rattle.std.proofs.lemmas.Option.{slice_get_within}
 use Rattle.slate_types.specs.declared.batches.Batch.{Batch}
 use Rattle.slate_types.specs.Counts.{HasRisen}
 use Rattle.slate_types.specs.Line.{IsPrefix, end}
@@ -24,11 +23,9 @@ use Rattle.slate_model.specs.Known.{IsContent, Known}
 use Rattle.slate_model.specs.Managed.{PollsManaged}
 use Rattle.slate_model.specs.Object.{Object, Follower as AFollower, Handle as AHandle, Snapshot as ASnapshot, kept}
 use Rattle.slate_model.specs.Stores.{by_objects, kept_seen}
-use Rattle.slate_model.proofs.Keeping.{line_above-end}
 use Rattle.slate_script.specs.declared.commands.Action.TheVariants as actions
 use Rattle.slate_script.specs.declared.commands.Command.{Command}
 use Rattle.slate_script.specs.declared.replies.Reply.{Reply}
-use Rattle.slate_script.specs.declared.replies.Reply.TheVariants as replies
 use Rattle.slate_live.specs.Calls.{Poll}
 use Rattle.slate_live.specs.Followers.{PollsAs}
 use Rattle.slate_live.specs.Replies.{polled_reply, refusal, reply_to}

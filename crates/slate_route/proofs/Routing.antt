@@ -1,5 +1,5 @@
 -- A read of a router: its polls, and then the read of the reader that covers.
-use Rattle.std.proofs.Common.{◌≡◌, ◌≢◌, ◌∙◌, ◌+◌, ◌<◌, ◌≤◌, ◌⊎◌, inl, inr, ℕ, ℤ, true, false, List, get_or, length, Option, Some, None, Result, Ok, Err, refl, sym, subst, ap, arith}
+use Rattle.std.proofs.Common.{◌≡◌, ◌≢◌, ◌∙◌, ◌≤◌, inl, inr, ℕ, ℤ, false, List, get_or, Option, Some, None, Result, Ok, Err, refl, sym, subst, ap, arith}
 use Rattle.std.specs.Prelude.{slice_get}
 use Rattle.std.proofs.lemmas.List.Quantifiers.{position-Some}
 use Rattle.std.proofs.lemmas.Option.{get_or_from_slice_get, slice_get-get_or, slice_get_within}
@@ -9,7 +9,7 @@ use Rattle.slate_types.specs.declared.read_faults.ReadFault.{ReadFault}
 use Rattle.slate_types.specs.declared.read_faults.ReadFault.TheVariants as reads
 use Rattle.slate_types.specs.declared.store_errors.StoreFault.TheVariants.{NotFound, Unavailable}
 use Rattle.slate_types.specs.Counts.{HasRisen}
-use Rattle.slate_types.specs.Line.{Line, end}
+use Rattle.slate_types.specs.Line.{Line}
 use Rattle.slate_types.specs.Operator.{Merge}
 use Rattle.slate_reads.specs.Read.{read_at}
 use Rattle.slate_errors.specs.declared.errors.SlateError.{SlateError}

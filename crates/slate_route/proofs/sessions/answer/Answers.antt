@@ -3,7 +3,7 @@ use Rattle.slate_model.specs.Known.{known}
 use Rattle.slate_script.specs.declared.commands.Command.{Command}
 use Rattle.slate_live.specs.Calls.{kind_of, target_of}
 use Rattle.slate_route.specs.declared.commands.RouteAction.{RouteAction}
-use Rattle.slate_route.specs.declared.commands.RouteAnswer.TheVariants.{Added, Refused, Replied, Routed}
+use Rattle.slate_route.specs.declared.commands.RouteAnswer.TheVariants.{Added, Refused, Routed}
 use Rattle.slate_route.specs.Session.{RouteLinks, flush_command, put_command}
 use Rattle.slate_route.proofs.Adding.{leads-with}
 use Rattle.slate_route.proofs.Running.{add-to, flush-link, over-readers, put-link, read-to, reads-with, run-leads}

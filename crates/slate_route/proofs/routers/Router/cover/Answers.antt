@@ -1,6 +1,5 @@
-use Rattle.std.proofs.Common.{rules, ◌≡◌, ◌∙◌, List, refl, sym, subst, ap}
+use Rattle.std.proofs.Common.{rules, ◌∙◌, refl, sym, ap}
 use Rattle.std.specs.List.{list_any}
-use Rattle.slate_model.specs.Follower.{Follower}
 use Rattle.slate_route.specs.Reading.{is_open}
 use Rattle.slate_route.proofs.Turning.{closed-leads, covers-with, quiet-leads}
 use Rattle.slate_route.proofs.routers.Router.cover.Goals as goal

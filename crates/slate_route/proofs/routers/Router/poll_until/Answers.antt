@@ -1,4 +1,4 @@
-use Rattle.std.proofs.Common.{rules, ◌≡◌, ◌∙◌, ◌+◌, ◌<◌, ◌≤◌, ℕ, ℤ, true, false, List, length, Option, Some, None, Result, Ok, Err, refl, sym, subst, ap, arith, w64, to_z, of_z}
+use Rattle.std.proofs.Common.{rules, ◌≡◌, ◌∙◌, ◌+◌, ◌<◌, ◌≤◌, ℤ, List, length, Option, Result, Err, refl, sym, subst, ap, arith, w64, to_z, of_z}
 use Rattle.std.specs.Prelude.{slice_get}
 use Rattle.slate_errors.specs.declared.errors.SlateError.{SlateError}
 use Rattle.slate_model.specs.Follower.{Follower}

@@ -1,5 +1,4 @@
-use Rattle.std.proofs.Common.{rules, ◌≡◌, ◌∙◌, List, get_or, Some, Result, Ok, Err, refl, sym, subst, ap}
-use Rattle.std.specs.Prelude.{slice_get}
+use Rattle.std.proofs.Common.{rules, ◌≡◌, ◌∙◌, List, get_or, Result, Err, sym, subst, ap}
 use Rattle.slate_model.specs.Follower.{Follower}
 use Rattle.slate_model.specs.Known.{known}
 use Rattle.slate_route.specs.declared.answers.RouteRefusal.{RouteRefusal}

@@ -1,7 +1,7 @@
 use Rattle.std.proofs.Common.{List, ℕ, All, Contains, subst}
 use Rattle.std.proofs.lemmas.List.{take_all}
 use Rattle.slate_status.proofs.Unions.{All-take_more}
-use Rattle.slate_status.proofs.records.are_among.Goals as goal
+use Rattle.slate_status.proofs.segments.are_among.Goals as goal
 
 pub loop-prefix-preserved : goal.loop-prefix-preserved
 loop-prefix-preserved c =

@@ -20,7 +20,7 @@ use Rattle.slate_model.specs.declared.leases.Lease.{Lease}
 use Rattle.slate_model.specs.Follow.{AnswersAt, IsOwed}
 use Rattle.slate_model.specs.Follower.{Follower, is_managed, kept_follower, number}
 use Rattle.slate_model.specs.Known.{IsContent, Known}
-use Rattle.slate_model.specs.Managed.{PollsManaged}
+use Rattle.slate_model.specs.Managed.{KeepsLease, PollsLeased, PollsManaged}
 use Rattle.slate_model.specs.Object.{Object, Follower as AFollower, Handle as AHandle, Snapshot as ASnapshot, kept}
 use Rattle.slate_model.specs.Stores.{by_objects, kept_seen}
 use Rattle.slate_script.specs.declared.commands.Action.TheVariants as actions
@@ -97,31 +97,38 @@ module _ (live : Live) (store store' : Known (List Batch)) (w : World) (r : Repr
   whole-managed : is_managed (whole.whole).mode ≡ true
   whole-managed = ap (λ (f : Follower). is_managed f.mode) whole.kept ∙ managed
 
-  -- a managed poll is looked at here alone: once it answers, the reader is open and sees all that is stored
-  pub polled-end : PollsManaged (by_objects store.objects) None made moment reader store (Ok answer) left store' → (left.result ≡ None) × (number left ≡ end w.stored)
-  polled-end polls = by reader.lease refl
+  prefix-of : IsPrefix (whole.whole).line (content o)
+  prefix-of = subst (IsPrefix (whole.whole).line) (sym ((r.held).3).stored) (r.valid.followers n whole.whole whole.at).0
+
+  -- a round of one that answers leaves the reader open, and it sees all that is stored
+  round-end : (first : ℕ) (lease : Lease) (said : PollAnswer) (middle : Follower) (between : Known (List Batch)) → KeepsLease (by_objects store.objects) None first lease moment reader store (Ok said) middle between →
+      (middle.result ≡ None) × (number middle ≡ end w.stored)
+  round-end first lease said middle between k =
+      let t = (k.keeps).some o (r.held).1 in
+      let line = content o in
+      let seen : kept_seen reader o line = (whole.whole, sym whole.kept, prefix-of, (((r.held).4 n (AFollower whole.whole) whole.at).1 (managed-free (whole.whole).mode whole-managed))) in
+      let stored : IsContent store.objects line = (o, (r.held).1, (r.held).2, refl) in
+      let all = ((t.2).sees).sees line stored seen in
+      let owed : all.0 ≡ line = subst (λ s. IsOwed (by_objects store.objects) ManagedCheckpoint s t.0 (unwrap_or (t.2).next (t.2).latest) line all.0) reads all.1 in
+      ((k.answers).2, answered (k.answers).3 all.3 ∙ (ap end owed ∙ ap end ((r.held).3).stored))
     where
-      is-leased : (lease : Option Lease) → reader.lease ≡ lease → is_some lease ≡ true
-      is-leased lease is = sym (ap (λ (l : Option Lease). is_some l) is) ∙ (sym (ap (λ (f : Follower). is_some f.lease) whole.kept) ∙ ((r.valid.followers n whole.whole whole.at).2 whole-managed (ap (λ (f : Follower). f.result) whole.kept ∙ opened)))
+      answered : {m : ℕ} → AnswersAt (number middle) said → said ≡ answers.Whole m → number middle ≡ m
+      answered (inl is) all = cc
+      answered (inr is) all = absurd (cc)
 
-      by : (lease : Option Lease) → reader.lease ≡ lease → (left.result ≡ None) × (number left ≡ end w.stored)
-      by None is = absurd (let no = is-leased None is in cc)
-      by (Some lease) is =
-          let k = polls.keeps lease opened is in
-          let t = (k.keeps).some o (r.held).1 in
-          let line = content o in
-          let seen : kept_seen reader o line = (whole.whole, sym whole.kept, prefix-of, (((r.held).4 n (AFollower whole.whole) whole.at).1 (managed-free (whole.whole).mode whole-managed))) in
-          let stored : IsContent store.objects line = (o, (r.held).1, (r.held).2, refl) in
-          let all = ((t.2).sees).sees line stored seen in
-          let owed : all.0 ≡ line = subst (λ s. IsOwed (by_objects store.objects) ManagedCheckpoint s t.0 (unwrap_or (t.2).next (t.2).latest) line all.0) reads all.1 in
-          ((k.answers).2, answered (k.answers).3 all.3 ∙ (ap end owed ∙ ap end ((r.held).3).stored))
-        where
-          prefix-of : IsPrefix (whole.whole).line (content o)
-          prefix-of = subst (IsPrefix (whole.whole).line) (sym ((r.held).3).stored) (r.valid.followers n whole.whole whole.at).0
+  -- A managed poll is looked at here alone: once it answers, the reader is open and sees all that is stored.
+  pub polled-end : PollsManaged (by_objects store.objects) None made moment reader store (Ok answer) left store' → (left.result ≡ None) × (number left ≡ end w.stored)
+  polled-end polls = by reader.lease refl where
+    is-leased : (lease : Option Lease) → reader.lease ≡ lease → is_some lease ≡ true
+    is-leased lease is = sym (ap (λ (l : Option Lease). is_some l) is) ∙ (sym (ap (λ (f : Follower). is_some f.lease) whole.kept) ∙ ((r.valid.followers n whole.whole whole.at).2 whole-managed (ap (λ (f : Follower). f.result) whole.kept ∙ opened)))
 
-          answered : {m : ℕ} → AnswersAt (number left) answer → answer ≡ answers.Whole m → number left ≡ m
-          answered (inl is) all = cc
-          answered (inr is) all = absurd (cc)
+    by-rounds : (lease : Lease) → PollsLeased (by_objects store.objects) None made lease moment reader store (Ok answer) left store' → (left.result ≡ None) × (number left ≡ end w.stored)
+    by-rounds lease (inl once) = round-end made lease answer left store' once.round
+    by-rounds lease (inr twice) = subst (λ (f : Follower). (f.result ≡ None) × (number f ≡ end w.stored)) (sym (twice.answers).1) (round-end twice.first lease twice.answer twice.middle twice.between twice.round)
+
+    by : (lease : Option Lease) → reader.lease ≡ lease → (left.result ≡ None) × (number left ≡ end w.stored)
+    by None is = absurd (let no = is-leased None is in cc)
+    by (Some lease) is = by-rounds lease (polls.keeps lease opened is)
 
 -- ---- the poll as a command's step
 refused-memory : (error : SlateError) → IsOkOrNoMemory (refusal error) → error ≡ errors.NoMemory

@@ -55,15 +55,14 @@ none-open f none = ap is_none none
 sees-less : (at_least : ℕ) (f : Follower) → is_open f ≡ true → covers at_least f ≡ false → number f < at_least
 sees-less at_least f opened uncovers = leb-false at_least (number f) (ap (λ b. b && nat_le at_least (number f)) (sym opened) ∙ uncovers)
 
--- and does so with the same number
-same-covers : (at_least : ℕ) (f g : Follower) → is_open f ≡ true → covers at_least f ≡ false → number g ≡ number f → covers at_least g ≡ false
-same-covers at_least f g opened uncovers same = by (is_open g) where
-  less : nat_le at_least (number g) ≡ false
-  less = lt-leb at_least (number g) (let low = sees-less at_least f opened uncovers in omega (arith, low, same))
+not-memory : (error : SlateError) → error ≢ errors.NoMemory → is_memory error ≡ false
+not-memory errors.NoMemory other = absurd (other refl)
+not-memory error other = refl
 
-  by : (b : Bool) → (b && nat_le at_least (number g)) ≡ false
-  by true = less
-  by false = refl
+-- one that doesn't cover doesn't after an error of its poll
+still-uncovers : (at_least : ℕ) (f g : Follower) (error : SlateError) → error ≢ errors.NoMemory → covers at_least f ≡ false → (g ≡ f) ⊎ (is_open g ≡ is_memory error) → covers at_least g ≡ false
+still-uncovers at_least f g error other uncovers (inl same) = ap (covers at_least) same ∙ uncovers
+still-uncovers at_least f g error other uncovers (inr closed) = ap (λ b. b && nat_le at_least (number g)) (closed ∙ not-memory error other)
 
 -- one that covers is open
 pub covers-open : (at_least : ℕ) (f : Follower) → covers at_least f ≡ true → is_open f ≡ true
@@ -389,8 +388,8 @@ module _ (at_least : ℕ) (moment : ℤ) (old : List Follower) (before : Known (
       }
 
       -- ---- its poll was answered an error
-      error-kind : (error : SlateError) → result ≡ Err error → (number q.left ≡ number q.reader) × IsOfPoll ManagedCheckpoint error
-      error-kind error is = subst (λ (r : Result PollAnswer SlateError). IfErr r (λ e. (number q.left ≡ number q.reader) × IsOfPoll ManagedCheckpoint e)) is q.failed
+      error-kind : (error : SlateError) → result ≡ Err error → ((q.left ≡ q.reader) ⊎ (is_open q.left ≡ is_memory error)) × IsOfPoll ManagedCheckpoint error
+      error-kind error is = subst (λ (r : Result PollAnswer SlateError). IfErr r (λ e. ((q.left ≡ q.reader) ⊎ (is_open q.left ≡ is_memory e)) × IsOfPoll ManagedCheckpoint e)) is q.failed
 
       error-failed : (error : SlateError) → result ≡ Err error → HasFailed error before.faults after'.faults
       error-failed error is = failed-of error before.faults after.faults after'.faults {A = PollAnswer} p.faults (subst (FaultsRise after.faults after'.faults) is q.faults)
@@ -399,7 +398,7 @@ module _ (at_least : ℕ) (moment : ℤ) (old : List Follower) (before : Known (
       progress-failed nothing error is other = record {
         count = count';
         behind = λ i above. behind' i (omega (arith, above));
-        uncovered = uncovered' (same-covers at_least q.reader q.left opened (fails-at (covers at_least) old nothing place q.reader was) (error-kind error is).0);
+        uncovered = uncovered' (still-uncovers at_least q.reader q.left error other (fails-at (covers at_least) old nothing place q.reader was) (error-kind error is).0);
         shut = shut';
         counted = polls';
         faults = faults';

@@ -1,5 +1,5 @@
 -- What the parts of a router's calls do: a poll of one reader, those of a read, and an opening.
-use Rattle.std.specs.Prelude.{◌≡◌, ◌<◌, ℕ, ℤ, true, false, List, slice_get, slice_set, Some, None, Result, Ok, Err, IfErr}
+use Rattle.std.specs.Prelude.{◌≡◌, ◌<◌, ◌⊎◌, ℕ, ℤ, true, false, List, slice_get, slice_set, Some, None, Result, Ok, Err, IfErr}
 use Rattle.slate_types.specs.declared.batches.Batch.{Batch}
 use Rattle.slate_types.specs.Line.{Line, end}
 use Rattle.slate_errors.specs.declared.errors.SlateError.{SlateError}
@@ -17,17 +17,17 @@ use Rattle.slate_live.specs.World.{World}
 use Rattle.slate_route.specs.declared.answers.RouteRefusal.{RouteRefusal}
 use Rattle.slate_route.specs.declared.answers.RouteRefusal.TheVariants as refusals
 use Rattle.slate_route.specs.declared.routers.Covering.{Covering}
-use Rattle.slate_route.specs.Reading.{FindsNone, GoesBy, opening_refusal}
+use Rattle.slate_route.specs.Reading.{FindsNone, GoesBy, is_memory, is_open, opening_refusal}
 use Rattle.slate_route.specs.Standing.{CanCover, IsAnswered, PollsLead, first_error}
 
--- The reader at a place is polled, and no other changes. After an error it sees no more than before.
+-- The reader at a place is polled, and no other changes. After an error it is as it was; or closed, but not for want of memory.
 pub record PollsAt (place : ℕ) (moment : ℤ) (old : List Follower) (before : Known (List Batch)) (result : Result PollAnswer SlateError) (new : List Follower) (after : Known (List Batch)) : Type 0 where
   pub reader : Follower
   pub there : slice_get old place ≡ Some reader
   pub left : Follower
   pub new_is : new ≡ slice_set old place left
   pub faults : FaultsRise before.faults after.faults result
-  pub failed : IfErr result (λ error. (number left ≡ number reader) × IsOfPoll ManagedCheckpoint error)
+  pub failed : IfErr result (λ error. ((left ≡ reader) ⊎ (is_open left ≡ is_memory error)) × IsOfPoll ManagedCheckpoint error)
   pub polls : is_managed reader.mode ≡ true → (made : ℕ) × PollsManaged (by_objects before.objects) None made moment reader before result left after
 
 -- what comes of looking for the reader that a read goes by

@@ -52,6 +52,7 @@ use std::cell::Cell;
 use std::process::ExitCode;
 use std::rt::Clock;
 use std::sync::Wait;
+use std::thread::Threads;
 use std::{env, io};
 
 fn main(rt: HostRuntime) -> ExitCode {
@@ -65,9 +66,12 @@ fn main(rt: HostRuntime) -> ExitCode {
     }
 }
 
-/// Runs the files of the folder that the command line names, and waits for locks by `waiting`. It answers whether all came out as
+/// Runs the files of the folder that the command line names, with threads and locks by `waiting`. It answers whether all came out as
 /// they were to.
-fn run_folder<R: Wait + Clock + Copy>(rt: &HostRuntime, waiting: R) -> io::Result<bool> {
+fn run_folder<R: Threads + Wait + Clock + Sync + Copy>(
+    rt: &HostRuntime,
+    waiting: R,
+) -> io::Result<bool> {
     let folder = read_folder(rt)?;
     let names = folders::case_names(rt, folder.as_str())?;
     let mut failed = 0u64;
@@ -91,7 +95,7 @@ fn read_folder(rt: &HostRuntime) -> io::Result<String> {
 }
 
 /// Runs the case or the calls of one file.
-fn run_file<R: Wait + Clock + Copy>(
+fn run_file<R: Threads + Wait + Clock + Sync + Copy>(
     rt: &HostRuntime,
     waiting: R,
     folder: &str,
@@ -107,5 +111,5 @@ fn run_file<R: Wait + Clock + Copy>(
         return calls::run_calls(waiting, rt.alloc(), files, &left, text.as_slice());
     }
     let case = Case::parse(rt.alloc(), text.as_slice())?;
-    trials::run_case(rt.alloc(), case)
+    trials::run_case(&waiting, rt.alloc(), case)
 }

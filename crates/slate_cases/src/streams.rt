@@ -10,6 +10,8 @@ use slate_live::{InputFault, ReadAnswer, SliceSource, Source, VecSink, read_whol
 use slate_store::MemoryStore;
 use slate_types::Seq;
 use std::alloc::Global;
+use std::sync::Wait;
+use std::thread::Threads;
 
 #[derive(Clone, Copy)]
 enum Call {
@@ -35,15 +37,17 @@ const CALLS: &[(&[u8], Call)] = &[
 ];
 
 /// A source, a sink, and the store of the sessions that read the one and write to the other.
-pub struct Streams {
+pub struct Streams<R> {
+    rt: R,
     source: SliceSource,
     sink: VecSink,
     store: MemoryStore,
 }
 
-impl Drop for Streams {
+impl<R: Drop> Drop for Streams<R> {
     fn drop(self) {
         let Streams {
+            rt: _,
             source: _,
             sink: _,
             store: _,
@@ -51,11 +55,12 @@ impl Drop for Streams {
     }
 }
 
-impl Streams {
+impl<R: Threads + Wait + Sync + Copy> Streams<R> {
     /// An empty source, and a sink to which nothing is written.
-    pub fn new(alloc: Global) -> Streams {
+    pub fn new(alloc: Global, rt: R) -> Streams<R> {
         let none = Seq::of(Vec::new(alloc));
         Streams {
+            rt,
             source: SliceSource::new(Vec::new(alloc), 1, none),
             sink: VecSink::new(alloc, 1, Seq::of(Vec::new(alloc))),
             store: MemoryStore::new(alloc),
@@ -89,6 +94,7 @@ impl Streams {
         let words = line.strings();
         let (source, sink) = (&mut self.source, &mut self.sink);
         let finished = run_session(
+            &self.rt,
             line.alloc(),
             words.as_slice(),
             source,
@@ -99,9 +105,9 @@ impl Streams {
     }
 }
 
-impl Subject for Streams {
-    fn anew(&self, alloc: Global) -> Streams {
-        Streams::new(alloc)
+impl<R: Threads + Wait + Sync + Copy> Subject for Streams<R> {
+    fn anew(&self, alloc: Global) -> Streams<R> {
+        Streams::new(alloc, self.rt)
     }
 
     fn call(&mut self, line: &mut CallLine<'_>) {

@@ -6,12 +6,18 @@ use slate_live::{SliceSource, VecSink};
 use slate_store::{FailingCall, FaultyStore, MemoryStore};
 use slate_types::Seq;
 use std::alloc::{AllocError, Global};
+use std::sync::Wait;
+use std::thread::Threads;
 
 /// How many bytes are read and written at a time.
 const PIECE: usize = 64;
 
 /// Runs a case over a fresh store, and compares what came of it with what is wanted.
-pub fn run_case(alloc: Global, case: Case) -> Result<(), Failure> {
+pub fn run_case<R: Threads + Wait + Sync>(
+    rt: &R,
+    alloc: Global,
+    case: Case,
+) -> Result<(), Failure> {
     let Case {
         words,
         failing,
@@ -20,12 +26,14 @@ pub fn run_case(alloc: Global, case: Case) -> Result<(), Failure> {
         replies,
     } = case;
     let mut sink = VecSink::new(alloc, PIECE, Seq::of(Vec::new(alloc)));
-    let found = run_script(alloc, words.as_slice(), Seq::of(failing), script, &mut sink);
+    let failing = Seq::of(failing);
+    let found = run_script(rt, alloc, words.as_slice(), failing, script, &mut sink);
     compare(alloc, (found, sink.written()), (status, replies.as_slice()))
 }
 
 /// Runs a script over a fresh store, some of whose calls fail. It answers the exit status.
-fn run_script(
+fn run_script<R: Threads + Wait + Sync>(
+    rt: &R,
     alloc: Global,
     words: &[String],
     failing: Seq<FailingCall>,
@@ -34,7 +42,7 @@ fn run_script(
 ) -> u8 {
     let mut source = SliceSource::new(script, PIECE, Seq::of(Vec::new(alloc)));
     let mut store = FaultyStore::new(MemoryStore::new(alloc), failing);
-    run_session(alloc, words, &mut source, sink, &mut store).status
+    run_session(rt, alloc, words, &mut source, sink, &mut store).status
 }
 
 /// Compares the replies and the status that were found with those that are wanted.

@@ -43,11 +43,12 @@ pub fn newest_above<S: Store>(
     ensures calls { S.calls store.new ≤ S.calls store.old + (last - mark) }
     ensures found { IfOk result (λ newest. IfSome (S.objects store.old) (λ o. FindsNewest number mark last o newest)) }
 {
-    for before in (mark..last).rev() {
-        match newest_of(alloc, store, before + 1)? {
-            None => return Ok(Newest::Missing(before + 1)),
+    let mut id = last;
+    while id > mark {
+        match newest_of(alloc, store, id)? {
+            None => return Ok(Newest::Missing(id)),
             Some(newest) if newest > number => return Ok(Newest::Number(newest)),
-            Some(_) => {}
+            Some(_) => id -= 1,
         }
     }
     Ok(Newest::Nothing)
@@ -55,11 +56,7 @@ pub fn newest_above<S: Store>(
 
 /// The greatest number of the batches of a log file, 0 where it has none; or None where it isn't stored. It calls the store once,
 /// answers `Failed`, where that failed, and `NoMemory`, and takes time linear in the batches.
-pub fn newest_of<S: Store>(
-    alloc: Global,
-    store: &mut S,
-    id: u64,
-) -> Result<Option<u64>, StoreError>
+pub fn newest_of<S: Store>(alloc: Global, store: &mut S, id: u64) -> Result<Option<u64>, StoreError>
     ensures kept { S.objects store.new ≡ S.objects store.old }
     ensures count { S.faults store.old ≤ S.faults store.new }
     ensures failed { result ≡ Err StoreError.Failed → HasRisen (S.faults store.old) (S.faults store.new) }
@@ -77,6 +74,7 @@ pub fn newest_of<S: Store>(
 }
 
 /// The greatest number of batches, or 0.
+#[tactic(auto, using(crate::proofs::Looking::newest_more))]
 fn greatest_number(batches: &[Batch]) -> u64
     ensures { result ≡ greatest_number batches.now }
 {

@@ -490,7 +490,7 @@ module _ (stored : Line) (a : Follower) (o : Objects) (b : Follower) (answer : P
         answers = subst (λ l. AnswersAt (end l) answer) line known.answers;
         sees = inl (
           subst (λ l. SeesOwed (by_catalogue stored (catalogue_of o)) a.mode a.skips a.lag (catalogue_of o) stored (with_line a.mode a.skips a.lag b l) answer) line known.sees,
-          subst (λ n. (a.lag ≡ 0) ⊎ ((a.skips ≡ true) ⊎ (n + a.lag < end stored))) comes-same catches,
+          subst (λ n. (a.lag ≡ 0) ⊎ ((a.skips ≡ true) ⊎ ((n + a.lag < end stored) ⊎ (b.view.manifest.last_l0_seq < a.view.manifest.last_l0_seq)))) comes-same catches,
         );
       }
   polled-by (inr stays) =
@@ -504,7 +504,7 @@ module _ (stored : Line) (a : Follower) (o : Objects) (b : Follower) (answer : P
           near = subst (λ m. end stored ≤ m + a.lag) comes-same stays.near;
           reached = sym ends ∙ (stays.reached ∙ comes-same);
           sees = ap (λ n. rebuilt a.mode a.skips a.lag b.view (up_to n stored) b.mark) ends;
-          mark = stays.mark;
+          mark = subst (λ n. (b.mark ≡ max a.mark b.view.manifest.replay_after_wal_id) ⊎ ((n < b.view.manifest.last_l0_seq) × (b.mark ≡ b.view.manifest.replay_after_wal_id))) same-number stays.mark;
           answered = stays.answered ∙ ap Whole ends;
         });
       }

@@ -63,9 +63,11 @@ SeesOwed k mode skips lag objects stored follower answer =
 abbrev pub come_by : Follower → VersionedManifest → ℕ
 come_by follower view = max (number follower) view.manifest.last_l0_seq
 
--- A poll replays log files where its reader may not lag, or reads none, or would be further behind the line that is stored than it may.
+-- A poll replays log files where its reader may not lag, or reads none, or would be further behind the line that is stored than it may;
+-- also where the tables of the manifest end before those of the reader's view, as those of the latest one never do.
 abbrev pub CatchesUp : Follower → VersionedManifest → (stored : Line) → Type 0
-CatchesUp follower view stored = (follower.lag ≡ 0) ⊎ ((follower.skips ≡ true) ⊎ (come_by follower view + follower.lag < end stored))
+CatchesUp follower view stored =
+    (follower.lag ≡ 0) ⊎ ((follower.skips ≡ true) ⊎ ((come_by follower view + follower.lag < end stored) ⊎ (view.manifest.last_l0_seq < follower.view.manifest.last_l0_seq)))
 
 -- Else it leaves them for a later poll: the reader has the tables of its manifest and what it had, and no log file counts as read.
 pub record StaysBehind {L : Type 0} (k : Knowledge L) (old : Follower) (stored : Line) (follower : Follower) (answer : PollAnswer) : Type 0 where
@@ -74,7 +76,8 @@ pub record StaysBehind {L : Type 0} (k : Knowledge L) (old : Follower) (stored :
   pub near : end stored ≤ come_by old follower.view + old.lag
   pub reached : number follower ≡ come_by old follower.view
   pub sees : unsegmented follower ≡ k.keep_follower (rebuilt old.mode old.skips old.lag follower.view (up_to (number follower) stored) follower.mark)
-  pub mark : follower.mark ≤ max old.mark follower.view.manifest.replay_after_wal_id
+  pub mark : (follower.mark ≡ max old.mark follower.view.manifest.replay_after_wal_id)
+      ⊎ ((number old < follower.view.manifest.last_l0_seq) × (follower.mark ≡ follower.view.manifest.replay_after_wal_id))
   pub answered : answer ≡ Whole (number follower)
 
 -- so what a reader sees after a poll

@@ -1,5 +1,5 @@
 -- What goes on by what is new in a sound store, where a follower had seen the rest, sees all that it has.
-use Rattle.std.proofs.Common.{◌≡◌, ℕ, ◌+◌, ◌-◌, ◌<◌, ◌≤◌, max, length, List, [], ◌++◌, ◌∷◌, drop, inl, inr, map, Bool, false, Option, Some, None, Ok, refl, sym, subst, ap, ◌∙◌, arith, length-append}
+use Rattle.std.proofs.Common.{◌≡◌, ℕ, ◌+◌, ◌-◌, ◌<◌, ◌≤◌, max, length, List, [], ◌++◌, ◌∷◌, drop, inl, inr, map, Bool, false, Option, Some, None, Ok, refl, sym, subst, ap, ◌∙◌, arith, length-append, length-drop}
 use Rattle.std.specs.List.{All, flat_map}
 use Rattle.std.specs.Option.{IfSome}
 use Rattle.std.specs.Prelude.{◌⊎◌, IsSome}
@@ -37,62 +37,10 @@ use Rattle.slate_model.specs.declared.answers.PollAnswer.TheVariants.{Truncated,
 use Rattle.slate_model.specs.declared.leases.Lease.{Lease}
 use Rattle.slate_follow.specs.Growing.{ExtendingLacks, added_to}
 use Rattle.slate_follow.specs.Rebuilding.{Builds, Continues, GoesOn, GoingLacks, Reaches, ReplaysView, TakesUnder, TakingLacks, Truncates, answer_of, followed, last_above, reached, unleased}
+use Rattle.slate_follow.proofs.Later.{later-logged, later-replayed}
 use Rattle.slate_follow.proofs.Above.{above-append, above-fewer, above-twice, none-between}
 use Rattle.slate_follow.proofs.Rebuilt.{builds-refuses, builds-sees, has-above, has-all, if_some, kept-end, kept-line, latest-can, replays-view, sees-kept, sees_stored, some_at, unpinned-last, unpinned-owed}
 use Rattle.slate_follow.proofs.Refusing.{lacks-some}
-
--- Log files of sound objects, where those up to one of them have no batch above a number, which isn't below the last one
--- in tables.
-module _ (o : Objects) (view : VersionedManifest) (sound : IsSound o) (is : latest_manifest o ≡ Some view) (from n : ℕ)
-    (above : view.manifest.replay_after_wal_id ≤ from) (within : from ≤ last_log view.manifest.replay_after_wal_id o) (tabled : view.manifest.last_l0_seq ≤ n) (ended : n ≤ end (content o))
-    (low : (id : ℕ) (bs : List Batch) → view.manifest.replay_after_wal_id < id → id ≤ from → log_at id o ≡ Some bs → All (λ b. b.number ≤ n) bs) where
-  abbrev mark : ℕ
-  mark = view.manifest.replay_after_wal_id
-
-  abbrev last : ℕ
-  last = last_log mark o
-
-  abbrev floor : ℕ
-  floor = view.manifest.last_l0_seq
-
-  abbrev later : List Batch
-  later = batches_above n (batches_between from last o)
-
-  read : batches_between mark last o ≡ flat_map (λ log. log.1) (logs_above mark o)
-  read =
-      let gapless = (its-objects o view sound is).gapless in
-      let count = gapless-greatest mark mark o.logs (omega arith) gapless in
-      between-gapless mark o gapless last (omega (arith, count))
-
-  -- what the log files have above the number is in the later ones
-  pub later-logged : batches_above n (logged o view.manifest) ≡ later
-  later-logged =
-      above-twice floor n (flat_map (λ log. log.1) (logs_above mark o)) tabled
-      ∙ (ap (batches_above n) (sym read ∙ between-parts mark from last o above within)
-      ∙ (above-append n (batches_between mark from o) (batches_between from last o)
-      ∙ ap (λ xs. xs ++ later) (none-between n mark from o low)))
-
-  later-numbered : AreNumberedFrom n later
-  later-numbered =
-      let its = logs-by o view sound is in
-      let bs = logged o view.manifest in
-      let k = n - floor in
-      let at : floor + k ≡ n = omega arith in
-      let all = kept-end o view sound is in
-      subst (AreNumberedFrom n) (sym (above-drop floor n k bs its.numbered at) ∙ later-logged)
-      (subst (λ x. AreNumberedFrom x (drop k bs)) at (numbered-drop floor k bs its.numbered (omega (arith, all))))
-
-  pub later-whole : AreWhole from last n (n + length later) o
-  later-whole =
-      let its = logs-by o view sound is in
-      record {
-        stored = λ id over high none. its.whole.stored id (omega arith) high none;
-        no_gap = no_gap-numbered n n (batches_between from last o) (omega arith) later-numbered;
-      }
-
-  -- a replay of the later ones gives it all
-  pub later-replayed : (found : Replayed) (added : List Batch) → Replays from last n [] added o (Ok found) → (added ≡ later) × (found ≡ replays.Whole)
-  later-replayed found added logs = recovered-all from last n later added o later-whole (numbered-stand n later later-numbered) found logs
 
 -- a follower of which the code keeps this line ends where the line does
 kept-number : (n : ℕ) (line : Line) → end (line_above n line) ≡ end line

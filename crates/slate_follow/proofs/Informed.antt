@@ -39,13 +39,6 @@ tabled-same view latest same =
     let all = not-false _ same in
     eqb-true view.manifest.last_l0_seq latest.manifest.last_l0_seq ((and_parts _ _ ((and_parts _ _ all).0)).1)
 
--- nothing is replayed above a mark up to it
-nothing-replayed : (n floor : ℕ) (o : Objects) → Replays n n floor [] [] o (Ok Whole)
-nothing-replayed n floor o = record {
-  begins = λ line front belong. front;
-  ends = record { stored = λ id over within none. absurd (omega (arith, over, within)); no_gap = subst (λ bs. HaveNoGap (floor + 0) (floor + 0) bs) (sym (between-none n n o (omega arith))) refl };
-}
-
 module _ (o : Objects) (latest : VersionedManifest) (is : latest_manifest o ≡ Some latest) (old : Follower) (managed : old.mode ≡ ManagedCheckpoint) (same : differs old.view latest ≡ false)
     (floor : old.line.floor ≡ old.view.manifest.last_l0_seq) (added : List Batch) (found : Replayed) (mark : ℕ) (lease : Option Lease) (new : Follower) (answer : PollAnswer) (answers : answer ≡ answer_of found (number new)) where
   tabled : old.view.manifest.last_l0_seq ≡ latest.manifest.last_l0_seq

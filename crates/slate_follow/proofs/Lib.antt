@@ -11,6 +11,8 @@ pub mod Informed
 pub mod Joining
 pub mod Keeping
 pub mod Lacking
+pub mod Lagging
+pub mod Later
 pub mod Leased
 pub mod Planned
 pub mod Rebuilt

@@ -3,7 +3,7 @@ use Rattle.std.specs.Prelude.{◌≡◌, ℕ, ◌+◌, ◌*◌, ◌<◌, ◌≤�
 use Rattle.slate_store.specs.declared.objects.VersionedManifest.{VersionedManifest}
 use Rattle.slate_store.specs.Objects.{Objects, last_log, log_at}
 use Rattle.slate_replay.specs.Newest.{HasNewest, HaveNothingNew}
-use Rattle.slate_model.specs.Follower.{Follower}
+use Rattle.slate_model.specs.Follower.{Follower, number}
 
 -- the log files above a mark bring a reader from a number further than it may be behind, or one of them is missing
 abbrev pub MustRead : (lag number from : ℕ) → Objects → Type 0
@@ -24,12 +24,12 @@ IsLastTaken lag number from objects last =
     ((last ≡ last_log from objects) × ((lag ≡ 0) ⊎ MustRead lag number from objects))
     ⊎ ((last ≡ from) × (0 < lag) × MayWait lag number from objects)
 
--- and where it begins by the tables of a manifest: one that skips log files replays none, and one whose view has later tables all
+-- and where it begins by the tables of a manifest: one that skips log files replays none, and one that these take back all
 abbrev pub IsLastRead : Follower → VersionedManifest → Objects → (last : ℕ) → Type 0
 IsLastRead follower view objects last = let m = view.manifest in
     ((follower.skips ≡ true) × (last ≡ m.replay_after_wal_id))
-    ⊎ ((follower.skips ≡ false) × (((follower.view.manifest.last_l0_seq ≤ m.last_l0_seq) × IsLastTaken follower.lag m.last_l0_seq m.replay_after_wal_id objects last)
-    ⊎ ((m.last_l0_seq < follower.view.manifest.last_l0_seq) × (last ≡ last_log m.replay_after_wal_id objects))))
+    ⊎ ((follower.skips ≡ false) × (((number follower < m.last_l0_seq) × IsLastTaken follower.lag m.last_l0_seq m.replay_after_wal_id objects last)
+    ⊎ ((m.last_l0_seq ≤ number follower) × (last ≡ last_log m.replay_after_wal_id objects))))
 
 -- how often log files are read at most, where there are so many: once more each to look at them, where the reader may lag
 abbrev pub readings : (lag logs : ℕ) → ℕ

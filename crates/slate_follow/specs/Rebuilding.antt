@@ -126,7 +126,7 @@ abbrev pub TakesUnder : Objects → VersionedManifest → (old follower : Follow
 TakesUnder objects view old follower answer =
     ((old.skips ≡ false) × Reaches old view × (last : ℕ) × IsLastTaken old.lag (number old) (max old.mark view.manifest.replay_after_wal_id) objects last
     × GoesOn objects view last old follower answer)
-    ⊎ ((last : ℕ) × IsLastRead old view objects last × Builds objects old.mode old.skips old.lag view last follower answer)
+    ⊎ ((goes_on old view ≡ false) × (last : ℕ) × IsLastRead old view objects last × Builds objects old.mode old.skips old.lag view last follower answer)
 
 -- the manifest that a follower goes by, and the last log file that it reads, where it finds these
 abbrev pub FindsView : DbReaderMode → Bool → (opening : Bool) → Objects → Result (VersionedManifest × ℕ) SlateError → Type 0
@@ -181,7 +181,7 @@ abbrev pub TakingLacks : Option Extractor → Objects → (view : VersionedManif
 TakingLacks extractor objects view old =
     ((old.skips ≡ false) × Reaches old view × (last : ℕ) × IsLastTaken old.lag (number old) (max old.mark view.manifest.replay_after_wal_id) objects last
     × ((key : List ℕ) × GoingLacks extractor objects view last old key))
-    ⊎ ((last : ℕ) × IsLastRead old view objects last × ((key : List ℕ) × BuildLacks extractor objects view last key))
+    ⊎ ((goes_on old view ≡ false) × (last : ℕ) × IsLastRead old view objects last × ((key : List ℕ) × BuildLacks extractor objects view last key))
 
 -- log files are truncated at one of them, and a mark is before that
 pub record BreakOff (objects : Objects) (mark : ℕ) : Type 0 where

@@ -93,7 +93,7 @@ impl FollowerState {
             return Ok(from);
         }
         let tabled = view.manifest.last_l0_seq;
-        if tabled < self.status.manifest().manifest.last_l0_seq {
+        if tabled <= self.number() {
             return last_above(alloc, store, from);
         }
         last_taken(alloc, store, self.following.lag, tabled, from)

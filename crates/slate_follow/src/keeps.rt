@@ -17,6 +17,7 @@ ghost use Rattle.slate_model.specs.Stores.{Stands, by_objects};
 ghost use Rattle.slate_follow.specs.Growing.{IsPushed, added_to, settled};
 ghost use Rattle.slate_follow.specs.Keeping.{CallsKeeping, CallsRound, HasTaken, IsNews, IsOfPolling, KeepLacks, LeftBy, MayLack, MovesBy, NewsLacks, PutsBy, ReplaceLacks, TakesLatest, answered, kept_answer, put_tried};
 ghost use Rattle.slate_follow.specs.Answering.{IsOfPoll};
+ghost use Rattle.slate_follow.specs.Lagging.{readings};
 ghost use Rattle.slate_follow.specs.Rebuilding.{Truncates, answer_of, new_logs};
 
 use crate::leases::{latest_of, put_next, with_new_lease, with_renewed_lease};

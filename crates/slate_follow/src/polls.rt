@@ -14,6 +14,7 @@ ghost use Rattle.slate_model.specs.Segments.{Extractor, IsExtractor};
 ghost use Rattle.slate_model.specs.Open.{replayed_logs};
 ghost use Rattle.slate_model.specs.Stores.{by_objects, kept_seen};
 ghost use Rattle.slate_follow.specs.Answering.{IsOfLatest, IsOfOpening, IsOfPoll, IsOfTaking};
+ghost use Rattle.slate_follow.specs.Lagging.{readings};
 ghost use Rattle.slate_follow.specs.Keeping.{CallsKeeping, LeftBy};
 ghost use Rattle.slate_follow.specs.Rebuilding.{CallsContinuing, CallsOpening, CallsRebuilding, Continues, ReplaysView, Truncates, poll_error, polled};
 

@@ -1,5 +1,6 @@
 -- What log files of sound objects bring a reader to that may lag.
 use Rattle.std.proofs.Common.{◌≡◌, ℕ, ◌+◌, ◌-◌, ◌<◌, ◌≤◌, max, length, List, [], ◌∷◌, ◌++◌, inl, inr, map, Bool, true, false, cond, Option, Some, None, refl, sym, subst, ap, ◌∙◌, arith, length-append}
+use Rattle.std.proofs.lemmas.Bool.{cases_lt, le-ltb, lt-ltb}
 use Rattle.std.proofs.lemmas.List.Elements.{All-cons, All-filter, All-head, All-nil, All-tail}
 use Rattle.std.proofs.lemmas.List.{append-nil}
 use Rattle.std.specs.List.{All}
@@ -40,15 +41,22 @@ numbered-last : (n m : ℕ) (y : Batch) (ys : List Batch) → AreNumberedFrom n 
 numbered-last n m y [] numbered all = let here = All-head (λ (x : Batch). x.number ≤ m) y [] all in let first = numbered.0 in omega (arith, here, first)
 numbered-last n m y (z ∷ zs) numbered all = let rest = numbered-last (n + 1) m z zs numbered.1 (All-tail (λ (x : Batch). x.number ≤ m) y (z ∷ zs) all) in omega (arith, rest)
 
+-- no batch of a list with a first one
+some-none : {b : Batch} {bs : List Batch} → b ∷ bs ≡ [] → ⊥
+some-none is = cc
+
 none-over : (n : ℕ) (bs : List Batch) → batches_above n bs ≡ [] → All (λ b. b.number ≤ n) bs
 none-over n [] is = All-nil (λ (b : Batch). b.number ≤ n)
-none-over n (b ∷ bs) is = by (nat_lt n b.number) refl is where
-  by : (t : Bool) → nat_lt n b.number ≡ t → cond t (b ∷ batches_above n bs) (batches_above n bs) ≡ [] → All (λ x. x.number ≤ n) (b ∷ bs)
-  by true over none = absurd (cc)
-  by false low none = All-cons (λ (x : Batch). x.number ≤ n) b bs (ltb-false low) (none-over n bs none)
+none-over n (b ∷ bs) is =
+    elim (cases_lt n b.number) [
+      | inl over ↦ let yes = lt-ltb n b.number over in absurd (some-none (subst (λ t. cond t (b ∷ batches_above n bs) (batches_above n bs) ≡ []) yes is))
+      | inr low ↦
+        let not = le-ltb n b.number low in
+        All-cons (λ (x : Batch). x.number ≤ n) b bs low (none-over n bs (subst (λ t. cond t (b ∷ batches_above n bs) (batches_above n bs) ≡ []) not is))
+    ]
 
-all-above : (n m : ℕ) (bs : List Batch) → All (λ b. b.number ≤ m) bs → All (λ b. b.number ≤ m) (batches_above n bs)
-all-above n m bs all = All-filter (λ (x : Batch). x.number ≤ m) (λ (x : Batch). nat_lt n x.number) bs all
+all-over : (n m : ℕ) (bs : List Batch) → All (λ b. b.number ≤ m) bs → All (λ b. b.number ≤ m) (batches_above n bs)
+all-over n m bs all = All-filter (λ (x : Batch). nat_lt n x.number) (λ (x : Batch). x.number ≤ m) bs all
 
 none-new : (number from last : ℕ) (o : Objects) → HaveNothingNew number from last o → (id : ℕ) (bs : List Batch) → from < id → id ≤ last → log_at id o ≡ Some bs → All (λ b. b.number ≤ number) bs
 none-new number from last o nothing id bs over within stored =
@@ -97,7 +105,7 @@ module _ (o : Objects) (view : VersionedManifest) (sound : IsSound o) (is : late
           ∙ (ap (batches_above n) upto ∙ above-append n before has.batches)))) in
       let greatest_is = has.greatest_is in
       let most : All (λ b. b.number ≤ newest) (batches_above n has.batches) =
-          all-above n newest has.batches (λ k d less. let low = all-within has.batches k d less in omega (arith, low, greatest_is)) in
+          all-over n newest has.batches (λ k d less. let low = all-within has.batches k d less in omega (arith, low, greatest_is)) in
       by (batches_above n has.batches) refl parts most
     where
       by : (new : List Batch) → batches_above n has.batches ≡ new → later ≡ batches_above n (batches_between from (has.id - 1) o) ++ batches_above n has.batches → All (λ b. b.number ≤ newest) (batches_above n has.batches) → end (content o) ≤ newest

@@ -1,45 +1,24 @@
--- What log files of sound objects have above a number.
-use Rattle.std.proofs.Common.{◌≡◌, ℕ, ◌+◌, ◌-◌, ◌<◌, ◌≤◌, max, length, List, [], ◌++◌, ◌∷◌, drop, inl, inr, map, Bool, false, Option, Some, None, Ok, refl, sym, subst, ap, ◌∙◌, arith, length-append, length-drop}
+-- The log files of a sound store above the one up to which a reader has read: what they have above a number.
+use Rattle.std.proofs.Common.{◌≡◌, ℕ, ◌+◌, ◌-◌, ◌<◌, ◌≤◌, length, List, [], ◌∷◌, ◌++◌, drop, Option, Some, Ok, refl, sym, subst, ap, ◌∙◌, arith, length-drop}
+use Rattle.std.proofs.lemmas.List.{nil_from_length}
 use Rattle.std.specs.List.{All, flat_map}
-use Rattle.std.specs.Option.{IfSome}
-use Rattle.std.specs.Prelude.{◌⊎◌, IsSome}
-use Rattle.slate_types.proofs.Lines.{above-all, above-drop, above-none, numbered-drop}
+use Rattle.slate_types.proofs.Lines.{above-drop, numbered-drop}
 use Rattle.slate_types.specs.declared.batches.Batch.{Batch}
-use Rattle.slate_types.specs.Line.{AreNumberedFrom, Line, IsPrefix, batches_above, end}
+use Rattle.slate_types.specs.Line.{AreNumberedFrom, batches_above, end}
 use Rattle.slate_store.proofs.Gapless.{between-gapless, gapless-greatest}
-use Rattle.slate_store.proofs.LastLog.{at_least}
 use Rattle.slate_store.proofs.Latest.{its-objects}
-use Rattle.slate_store.proofs.Logs.{between-parts, no_gap-numbered, numbered-stand}
+use Rattle.slate_store.proofs.Logs.{between-none, between-parts, no_gap-numbered, numbered-stand}
 use Rattle.slate_store.specs.declared.objects.VersionedManifest.{VersionedManifest}
-use Rattle.slate_store.specs.declared.reader_modes.DbReaderMode.{DbReaderMode}
 use Rattle.slate_store.specs.Content.{IsSound, content, logged, logs_above}
-use Rattle.slate_store.specs.Logs.{AreWhole, batches_between}
-use Rattle.slate_store.specs.Objects.{Objects, greatest, last_log, latest_manifest, log_at}
+use Rattle.slate_store.specs.Logs.{AreWhole, HaveNoGap, batches_between}
+use Rattle.slate_store.specs.Objects.{Objects, last_log, latest_manifest, log_at}
 use Rattle.slate_replay.proofs.Recovered.{recovered-all}
 use Rattle.slate_replay.specs.declared.replays.Replayed.{Replayed}
 use Rattle.slate_replay.specs.declared.replays.Replayed.TheVariants as replays
-use Rattle.slate_replay.specs.Replay.{Replays, line_of}
-use Rattle.slate_model.proofs.Free.{numbered-front}
-use Rattle.slate_model.proofs.Reduced.{some-same}
-use Rattle.slate_model.proofs.Reopened.{line_from, logs-by, numbered_rest}
-use Rattle.slate_errors.specs.declared.errors.SlateError.TheVariants as errors
-use Rattle.slate_model.specs.Follow.{HasAllLogs, LacksSegment, ReplayRefuses, SeesOwed}
-use Rattle.slate_model.specs.Followed.{IsView, last_read}
-use Rattle.slate_model.specs.Follower.{Follower, follower_tasks, is_pinned, kept_follower, number, rebuilt, unsegmented}
-use Rattle.slate_model.specs.Handle.{line_above}
-use Rattle.slate_model.specs.Known.{IsContent}
-use Rattle.slate_model.specs.Open.{replayed}
-use Rattle.slate_model.specs.Seen.{HasSeen}
-use Rattle.slate_model.specs.Segments.{Extractor, ops_of, unsegmented_refusal}
-use Rattle.slate_model.specs.Stores.{by_objects, kept_seen}
-use Rattle.slate_model.specs.declared.answers.PollAnswer.{PollAnswer}
-use Rattle.slate_model.specs.declared.answers.PollAnswer.TheVariants.{Truncated, Whole}
-use Rattle.slate_model.specs.declared.leases.Lease.{Lease}
-use Rattle.slate_follow.specs.Growing.{ExtendingLacks, added_to}
-use Rattle.slate_follow.specs.Rebuilding.{Builds, Continues, GoesOn, GoingLacks, Reaches, ReplaysView, TakesUnder, TakingLacks, Truncates, answer_of, followed, last_above, reached, unleased}
-use Rattle.slate_follow.proofs.Above.{above-append, above-fewer, above-twice, none-between}
-use Rattle.slate_follow.proofs.Rebuilt.{builds-refuses, builds-sees, has-above, has-all, if_some, kept-end, kept-line, latest-can, replays-view, sees-kept, sees_stored, some_at, unpinned-last, unpinned-owed}
-use Rattle.slate_follow.proofs.Refusing.{lacks-some}
+use Rattle.slate_replay.specs.Replay.{Replays}
+use Rattle.slate_model.proofs.Reopened.{logs-by}
+use Rattle.slate_follow.proofs.Above.{above-append, above-twice, none-between}
+use Rattle.slate_follow.proofs.Rebuilt.{kept-end}
 
 -- Log files of sound objects, where those up to one of them have no batch above a number, which isn't below the last one
 -- in tables.
@@ -112,12 +91,8 @@ nothing-replayed n floor o = record {
 }
 
 -- and all that is
-empty : (xs : List Batch) → length xs ≡ 0 → xs ≡ []
-empty [] none = refl
-empty (x ∷ xs) none = absurd (omega (arith, none))
-
 pub none-replayed : (mark n : ℕ) (o : Objects) (added : List Batch) (found : Replayed) → Replays mark mark n [] added o (Ok found) → (added ≡ []) × (found ≡ replays.Whole)
 none-replayed mark n o added replays.Whole logs =
     let gap = subst (λ bs. HaveNoGap (n + 0) (n + length added) bs) (between-none mark mark o (omega arith)) logs.ends.no_gap in
-    (empty added (omega (arith, gap)), refl)
+    (nil_from_length added (omega (arith, gap)), refl)
 none-replayed mark n o added (replays.Truncated id) logs = let over = logs.ends.above in let high = logs.ends.within in absurd (omega (arith, over, high))

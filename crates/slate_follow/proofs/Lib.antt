@@ -1,4 +1,5 @@
 pub mod Above
+pub mod Anew
 pub mod Answering
 pub mod Closing
 pub mod Continued

@@ -150,7 +150,7 @@ module _ (mode : DbReaderMode) (skips opening : Bool) (lag : ℕ) (o : Objects) 
       }))
 
   -- of sound objects the log files have what it is owed above the last number in tables
-  replays-owed : (sound : IsSound o) → (batches : List Batch) (found : Replayed) → Replays view.manifest.replay_after_wal_id last view.manifest.last_l0_seq [] batches o (Ok found) →
+  pub replays-owed : (sound : IsSound o) → (batches : List Batch) (found : Replayed) → Replays view.manifest.replay_after_wal_id last view.manifest.last_l0_seq [] batches o (Ok found) →
       (line_from view.manifest.last_l0_seq batches ≡ line_above view.manifest.last_l0_seq (owing o mode skips opening view sound can.0).owed) × (found ≡ replays.Whole)
   replays-owed sound batches found logs =
       let m = view.manifest in
@@ -165,7 +165,7 @@ module _ (mode : DbReaderMode) (skips opening : Bool) (lag : ℕ) (o : Objects) 
       let its : Owed o (content o) mode skips view = owing o mode skips opening view sound can.0 in
       let all = replays-owed sound built.batches built.found built.logs in
       let becomes = subst (λ n. unsegmented follower ≡ rebuilt mode skips lag view (line_from view.manifest.last_l0_seq built.batches) (reached built.found n)) can.1 built.becomes in
-      sees-kept t o mode skips view (content o) its.owed built.found built.batches follower answer (owed-any t o mode skips view (content o) its.owed its.is_owed) all.0 all.1 becomes built.answers
+      sees-kept t o mode skips lag view (content o) its.owed built.found built.batches follower answer (owed-any t o mode skips view (content o) its.owed its.is_owed) all.0 all.1 becomes built.answers
 
   -- of whose keys the first without a segment is that of what is replayed
   pub builds-refuses : (t : Option Objects) (x : Option Extractor) (refusal : Option SlateError) → IsSound o → (batches : List Batch) (found : Replayed) → Replays view.manifest.replay_after_wal_id last view.manifest.last_l0_seq [] batches o (Ok found) →
@@ -183,24 +183,15 @@ if_some (Some x) f = f x refl
 pub some_at : {X : Type 0} (P : X → Type 0) (t : Option X) (x : X) → t ≡ Some x → IfSome t P → P x
 some_at P t x at h = subst (λ y. IfSome y P) at h
 
--- what sees what it is owed of sound objects' content sees what it is owed of the line that is stored
-pub sees_stored : {t : Option Objects} (mode : DbReaderMode) (skips : Bool) (lag : ℕ) (follower : Follower) (answer : PollAnswer) (o : Objects) (stored : Line) → t ≡ Some o → IsContent t stored →
-    (IsSound o → stored ≡ content o → SeesOwed (by_objects t) mode skips lag o (content o) follower answer) → SeesOwed (by_objects t) mode skips lag o stored follower answer
-sees_stored {t = t} mode skips lag follower answer o stored at content_is sees =
+-- what holds of sound objects' content holds of the line that is stored
+pub at_stored : {t : Option Objects} (P : Line → Type 0) (o : Objects) (stored : Line) → t ≡ Some o → IsContent t stored → (IsSound o → stored ≡ content o → P (content o)) → P stored
+at_stored P o stored at content_is holds =
     let same : content_is.0 ≡ o = some-same content_is.0 o (sym content_is.1 ∙ at) in
     let line : stored ≡ content o = content_is.3 ∙ ap content same in
-    subst (λ l. SeesOwed (by_objects t) mode skips lag o l follower answer) (sym line) (sees (subst IsSound same content_is.2) line)
-
--- and so of what it replays
-pub refuses_stored : {t : Option Objects} (x : Option Extractor) (mode : DbReaderMode) (skips opening : Bool) (refusal : Option SlateError) (o : Objects) (stored : Line) → t ≡ Some o → IsContent t stored →
-    (IsSound o → stored ≡ content o → ReplayRefuses (by_objects t) x mode skips opening o (content o) refusal) → ReplayRefuses (by_objects t) x mode skips opening o stored refusal
-refuses_stored {t = t} x mode skips opening refusal o stored at content_is refuses =
-    let same : content_is.0 ≡ o = some-same content_is.0 o (sym content_is.1 ∙ at) in
-    let line : stored ≡ content o = content_is.3 ∙ ap content same in
-    subst (λ l. ReplayRefuses (by_objects t) x mode skips opening o l refusal) (sym line) (refuses (subst IsSound same content_is.2) line)
+    subst P (sym line) (holds (subst IsSound same content_is.2) line)
 
 -- what was found and built
-module _ (mode : DbReaderMode) (skips opening : Bool) (view : VersionedManifest) (last : ℕ) (follower : Follower) (answer : PollAnswer) {t t1 : Option Objects} (kept : t1 ≡ t)
+module _ (mode : DbReaderMode) (skips opening : Bool) (lag : ℕ) (view : VersionedManifest) (last : ℕ) (follower : Follower) (answer : PollAnswer) {t t1 : Option Objects} (kept : t1 ≡ t)
     (found : IfSome t (λ o. FindsView mode skips opening o (Ok (view, last)))) (built : IfSome t1 (λ o. Builds o mode skips lag view last follower answer)) where
   found_at : (o : Objects) → t ≡ Some o → FindsView mode skips opening o (Ok (view, last))
   found_at o at = some_at (λ o. FindsView mode skips opening o (Ok (view, last))) t o at found
@@ -209,7 +200,7 @@ module _ (mode : DbReaderMode) (skips opening : Bool) (view : VersionedManifest)
   built_at o at = some_at (λ o. Builds o mode skips lag view last follower answer) t1 o (kept ∙ at) built
 
   pub built-view : (o : Objects) → t ≡ Some o → ReplaysView opening o follower answer
-  built-view o at = replays-view mode skips opening o view last (found_at o at) follower answer (built_at o at)
+  built-view o at = replays-view mode skips opening lag o view last (found_at o at) follower answer (built_at o at)
 
   pub built-can : (o : Objects) → t ≡ Some o → IsView mode opening o follower.view
   built-can o at =
@@ -225,15 +216,15 @@ module _ (mode : DbReaderMode) (skips opening : Bool) (view : VersionedManifest)
 
   pub built-sees : (o : Objects) (stored : Line) → t ≡ Some o → IsContent t stored → SeesOwed (by_objects t) mode skips lag o stored follower answer
   built-sees o stored at content_is =
-      sees_stored mode skips follower answer o stored at content_is (λ sound _. builds-sees mode skips opening o view last (found_at o at) follower answer t sound (built_at o at))
+      at_stored (λ l. SeesOwed (by_objects t) mode skips lag o l follower answer) o stored at content_is (λ sound _. builds-sees mode skips opening lag o view last (found_at o at) follower answer t sound (built_at o at))
 
   -- each key of which has a segment
   pub built-segmented : (x : Option Extractor) → unsegmented_refusal x (ops_of follower.line.batches) ≡ None → (o : Objects) (stored : Line) → t ≡ Some o → IsContent t stored → ReplayRefuses (by_objects t) x mode skips opening o stored None
   built-segmented x fits o stored at content_is =
       let built_it = built_at o at in
       let same : follower.line.batches ≡ built_it.batches = ap (λ (f : Follower). f.line.batches) built_it.becomes in
-      refuses_stored x mode skips opening None o stored at content_is
-      (λ sound _. builds-refuses mode skips opening o view last (found_at o at) follower answer t x None sound built_it.batches built_it.found built_it.logs (ap (λ bs. unsegmented_refusal x (ops_of bs)) (sym same) ∙ fits))
+      at_stored (λ l. ReplayRefuses (by_objects t) x mode skips opening o l None) o stored at content_is
+      (λ sound _. builds-refuses mode skips opening lag o view last (found_at o at) follower answer t x None sound built_it.batches built_it.found built_it.logs (ap (λ bs. unsegmented_refusal x (ops_of bs)) (sym same) ∙ fits))
 
 -- what was found, and has a key without a segment
 pub lacking-refuses : {t t1 : Option Objects} (x : Option Extractor) (mode : DbReaderMode) (skips opening : Bool) (view : VersionedManifest) (last : ℕ) (key : List ℕ) → t1 ≡ t → IfSome t (λ o. FindsView mode skips opening o (Ok (view, last))) → IfSome t1 (λ o. BuildLacks x o view last key) →
@@ -242,5 +233,5 @@ lacking-refuses {t} {t1} x mode skips opening view last key kept found lacks o s
     let can = some_at (λ o. FindsView mode skips opening o (Ok (view, last))) t o at found in
     let l = some_at (λ o. BuildLacks x o view last key) t1 o (kept ∙ at) lacks in
     let refusal = Some (errors.EmptySegmentPrefix key) in
-    let plain = rebuilt mode skips lag view (line_from view.manifest.last_l0_seq l.0) last in
-    refuses_stored x mode skips opening refusal o stored at content_is (λ sound _. builds-refuses mode skips opening o view last can plain (Whole 0) t x refusal sound l.0 l.1 l.2 l.3)
+    let plain = rebuilt mode skips 0 view (line_from view.manifest.last_l0_seq l.0) last in
+    at_stored (λ s. ReplayRefuses (by_objects t) x mode skips opening o s refusal) o stored at content_is (λ sound _. builds-refuses mode skips opening 0 o view last can plain (Whole 0) t x refusal sound l.0 l.1 l.2 l.3)

@@ -124,7 +124,8 @@ impl FollowerState {
     {
         let from = self.mark.max(view.manifest.replay_after_wal_id);
         let tabled = view.manifest.last_l0_seq;
-        let last = last_taken(alloc, store, self.following.lag, self.number, from)?;
+        let number = self.number();
+        let last = last_taken(alloc, store, self.following.lag, number, from)?;
         let (replayed, _had) = self.extend(alloc, store, from, last, tabled, extractor)?;
         self.go_by(view, reached(replayed, last));
         Ok(answer_of(replayed, self.number()))

@@ -18,7 +18,7 @@ use Rattle.slate_replay.specs.declared.replays.Replayed.TheVariants as replays
 use Rattle.slate_replay.specs.Replay.{Replays, line_of}
 use Rattle.slate_model.proofs.Free.{numbered-front}
 use Rattle.slate_model.proofs.Fronts.{whole-front}
-use Rattle.slate_model.proofs.Owing.{owing}
+use Rattle.slate_model.proofs.Keeping.{line_above-end}
 use Rattle.slate_model.proofs.Reduced.{some-same}
 use Rattle.slate_model.proofs.Reopened.{line_from, numbered_rest}
 use Rattle.slate_errors.specs.declared.errors.SlateError.TheVariants as errors
@@ -38,16 +38,12 @@ use Rattle.slate_follow.specs.Growing.{ExtendingLacks, added_to}
 use Rattle.slate_follow.specs.Lagging.{IsLastRead, IsLastTaken, MayWait, MustRead}
 use Rattle.slate_follow.specs.Rebuilding.{BuildLacks, Builds, Continues, GoesOn, GoingLacks, Reaches, ReplaysView, TakesUnder, TakingLacks, Truncates, answer_of, followed, goes_on, reached, unleased}
 use Rattle.slate_follow.proofs.Anew.{Waits, WhyRead, builds-lack, builds-polled, read-or-waits}
-use Rattle.slate_follow.proofs.Above.{above-append, above-fewer, above-twice}
+use Rattle.slate_follow.proofs.Above.{above-append, above-twice}
 use Rattle.slate_follow.proofs.Lagging.{reads-far, waits-near}
 use Rattle.slate_follow.proofs.Later.{later-logged, later-replayed, none-replayed}
 use Rattle.slate_follow.proofs.Rebuilt.{at_stored, builds-refuses, builds-sees, has-above, has-all, if_some, kept-end, kept-line, latest-can, replays-owed, replays-view, sees-kept, some_at, unpinned-last, unpinned-owed}
 use Rattle.slate_follow.proofs.Refusing.{lacks-some}
 use Rattle.slate_follow.proofs.Segmented.{first-refused, none-lacks}
-
--- a follower of which the code keeps this line ends where the line does
-kept-number : (n : ℕ) (line : Line) → end (line_above n line) ≡ end line
-kept-number n line = let fewer = above-fewer n line.batches in omega (arith, fewer)
 
 -- the greatest of the greater of two numbers and others
 pub greatest-greater : (m n : ℕ) (xs : List ℕ) → greatest (max m n) xs ≡ max m (greatest n xs)
@@ -131,7 +127,7 @@ module _ (o : Objects) (view : VersionedManifest) (w : Follower) (sound : IsSoun
   from = max w.mark mark
 
   number-is : number (kept_follower w) ≡ end w.line
-  number-is = kept-number w.view.manifest.last_l0_seq w.line
+  number-is = line_above-end w.view.manifest.last_l0_seq w.line
 
   led : floor ≤ end w.line
   led = let arrived = reaches.1 in let at = number-is in omega (arith, arrived, at)
@@ -189,7 +185,7 @@ module _ (o : Objects) (view : VersionedManifest) (w : Follower) (sound : IsSoun
       let view_is : new.view ≡ view = ap (λ (f : Follower). f.view) becomes in
       let mark_is : new.mark ≡ from = ap (λ (f : Follower). f.mark) becomes in
       let floor_is : new.view.manifest.last_l0_seq ≡ floor = ap (λ (v : VersionedManifest). v.manifest.last_l0_seq) view_is in
-      let ends : number new ≡ end w.line = ap number becomes ∙ kept-number floor w.line in
+      let ends : number new ≡ end w.line = ap number becomes ∙ line_above-end floor w.line in
       let at = number-is in
       let close = near w.lag waits in
       let tables = led in
@@ -337,7 +333,7 @@ continues o view last old new answer is free reaches taken goes =
 
 -- ---- what a reader takes of the latest manifest, as it goes on or is built anew
 -- one that may not lag has all log files
-all-taken : (o : Objects) (lag number from last : ℕ) → lag ≡ 0 → IsLastTaken lag number from o last → last ≡ last_log from o
+pub all-taken : (o : Objects) (lag number from last : ℕ) → lag ≡ 0 → IsLastTaken lag number from o last → last ≡ last_log from o
 all-taken o lag number from last none (inl (most, why)) = most
 all-taken o lag number from last none (inr (stands, may, waits)) = absurd (omega (arith, none, may))
 

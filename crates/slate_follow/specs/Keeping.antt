@@ -16,6 +16,7 @@ use Rattle.slate_replay.specs.declared.replays.Replayed.TheVariants.{Whole}
 use Rattle.slate_errors.specs.declared.errors.SlateError.{SlateError}
 use Rattle.slate_errors.specs.declared.errors.SlateError.TheVariants as errors
 use Rattle.slate_model.specs.Changes.{PartMade, after_part}
+use Rattle.slate_model.specs.Follow.{come_by}
 use Rattle.slate_model.specs.Follower.{Follower, number, rebuilt}
 use Rattle.slate_model.specs.Followed.{last_read}
 use Rattle.slate_model.specs.Lease.{differs, is_due, leased, renews_taken, to_keep}
@@ -148,17 +149,19 @@ NewsLacks extractor follower latest objects =
     × Replays (max follower.mark latest.manifest.replay_after_wal_id) last (number follower) [] added objects (Ok found)
     × Lacks extractor (batches_above follower.view.manifest.last_l0_seq (follower.line.batches ++ added)) key
 
--- a reader is at the number where it was, with no mark past the latest replay mark but its own, or at the end of what is stored
+-- A reader is at the number where it was, with no mark past the latest replay mark but its own, or at the end of what is stored, which
+-- it would have lagged behind further than it may.
 abbrev pub HasCome : (old from : Follower) → Objects → Type 0
 HasCome old from objects =
     (latest : VersionedManifest) × (latest_manifest objects ≡ Some latest)
     × (((number from ≡ number old) × ((from.mark ≡ old.mark) ⊎ (from.mark ≡ max old.mark latest.manifest.replay_after_wal_id)))
-    ⊎ ((number from ≡ end (content objects)) × (from.mark ≡ last_log latest.manifest.replay_after_wal_id objects) × ((old.lag ≡ 0) ⊎ (number old + old.lag < end (content objects)))))
+    ⊎ ((number from ≡ end (content objects)) × (from.mark ≡ last_log latest.manifest.replay_after_wal_id objects) × ((old.lag ≡ 0) ⊎ (come_by old latest + old.lag < end (content objects)))))
 
 -- A reader has come on from what it was: in the mode that keeps a checkpoint, and where it reads log files it has seen them up to its
--- mark, as it had before. It is where it was then, or has all that is stored, which it would have lagged behind further than it may.
+-- mark, as it had before.
 pub record ComesFrom (old from : Follower) (objects : Objects) : Type 0 where
-  pub mode : from.mode ≡ ManagedCheckpoint
+  pub managed : old.mode ≡ ManagedCheckpoint
+  pub mode : from.mode ≡ old.mode
   pub skips : from.skips ≡ old.skips
   pub lag : from.lag ≡ old.lag
   pub view : from.view ≡ old.view

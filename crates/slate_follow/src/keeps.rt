@@ -187,8 +187,8 @@ impl FollowerState {
         ensures kind { IfErr result (IsOfPoll ManagedCheckpoint) }
         ensures free { IfOk (answered result) (λ _. IfSome (S.objects store.old) (λ o. Stands (checkpoint_changes (to_keep self.old.view lease.now moment) o) o → ⊥)) }
         ensures costs { IfOk (answered result) (λ _. IfSome (S.objects store.old) (λ o. CallsRound o self.old lease.now moment (S.calls store.old) (S.calls store.new))) }
-        ensures calls { IfSome (S.objects store.old) (λ o. S.calls store.new ≤ S.calls store.old + 2 * (replayed_logs o + 2)) }
-        ensures calls_again { result ≡ Ok None → IfSome (S.objects store.old) (λ o. S.calls store.new ≤ S.calls store.old + (replayed_logs o + 3)) }
+        ensures calls { IfSome (S.objects store.old) (λ o. S.calls store.new ≤ S.calls store.old + 2 * (readings self.old.lag (replayed_logs o) + 2)) }
+        ensures calls_again { result ≡ Ok None → IfSome (S.objects store.old) (λ o. S.calls store.new ≤ S.calls store.old + (readings self.old.lag (replayed_logs o) + 3)) }
         ensures moved { IfOk result (λ found. IfSome found (λ kept. IfSome (S.objects store.old) (MovesBy kept.moved self.old))) }
         ensures there { IfOk result (λ found. IfSome found (λ kept. kept.moved ≡ true → HasTaken self.new)) }
         ensures segments { (x : Option Extractor) → IsExtractor E.may_name E.may_extract (option_copied extractor.entry) x → HasSegments x self.old → HasSegments x self.new }

@@ -112,6 +112,7 @@ meets-leaves ReadsLatest reader begun o o' turn m = m.3
 meets-leaves (Puts next given replaces) reader begun o o' turn (inl m) = inr (m.0, m.2)
 meets-leaves (Puts next given replaces) reader begun o o' turn (inr m) = inl m.2
 meets-leaves AsksLast reader begun o o' turn m = m.1
+meets-leaves (LooksAt id last) reader begun o o' turn m = m.3
 meets-leaves (ReadsLog last) reader begun o o' turn m = m.6
 meets-leaves ReadsAgain reader begun o o' turn m = m.3
 meets-leaves Ended reader begun o o' turn m = absurd m

@@ -3,7 +3,7 @@ use Rattle.std.proofs.Common.{◌≡◌, ℕ, zero, suc, inl, inr, ◌+◌, ◌-
 use Rattle.std.proofs.lemmas.Bool.{le-leb}
 use Rattle.std.proofs.Math.Nat.{add-mul, mul-le-mul_right}
 use Rattle.std.specs.Option.{IfSome}
-use Rattle.std.specs.Prelude.{ℤ, List, nat_le, ◌&&◌, ◌==◌}
+use Rattle.std.specs.Prelude.{ℤ, List, nat_le, ◌&&◌}
 use Rattle.slate_types.specs.Modelled.{WhereModelled}
 use Rattle.slate_types.specs.declared.batches.Batch.{Batch}
 use Rattle.slate_store.proofs.LastLog.{at_least}
@@ -29,18 +29,12 @@ use Rattle.slate_follow.specs.Keeping.{CallsRound, FindsLatest, IsNews, PutsMani
 use Rattle.slate_follow.specs.Lagging.{IsLastTaken, readings}
 use Rattle.slate_follow.specs.Rebuilding.{CallsContinuing, CallsRebuilding, goes_on, last_above, new_logs}
 use Rattle.slate_follow.proofs.Continued.{greatest-greater}
+use Rattle.slate_follow.proofs.Lagging.{readings-more}
 use Rattle.slate_follow.specs.Growing.{IsPushed, added_to}
 use Rattle.slate_follow.proofs.Informed.{tabled-same}
 use Rattle.slate_follow.proofs.Leased.{HasCheckpoints, reads, written-form}
 use Rattle.slate_follow.proofs.Rebuilt.{if_some, some_at}
 use Rattle.slate_follow.proofs.Taken.{taken-after, taken-from}
-
--- more log files are read more often
-pub readings-more : (lag m n : ℕ) → m ≤ n → readings lag m ≤ readings lag n
-readings-more lag m n low = by (lag == 0) where
-  by : (b : Bool) → cond b m (2 * m) ≤ cond b n (2 * n)
-  by true = low
-  by false = omega (arith, low)
 
 pub at-most-one : (b : Bool) → cond b 0 1 ≤ 1
 at-most-one true = omega arith

@@ -1,10 +1,10 @@
 -- What log files of sound objects bring a reader to that may lag.
-use Rattle.std.proofs.Common.{◌≡◌, ℕ, ◌+◌, ◌-◌, ◌<◌, ◌≤◌, max, length, List, [], ◌∷◌, ◌++◌, inl, inr, map, Bool, true, false, cond, Option, Some, None, refl, sym, subst, ap, ◌∙◌, arith, length-append}
-use Rattle.std.proofs.lemmas.Bool.{cases_lt, le-ltb, lt-ltb}
+use Rattle.std.proofs.Common.{◌≡◌, ℕ, ◌+◌, ◌-◌, ◌*◌, ◌<◌, ◌≤◌, max, length, List, [], ◌∷◌, ◌++◌, inl, inr, map, Bool, true, false, cond, Option, Some, None, refl, sym, subst, ap, ◌∙◌, arith, length-append}
+use Rattle.std.proofs.lemmas.Bool.{cases_lt, eqb-true, le-ltb, lt-ltb}
 use Rattle.std.proofs.lemmas.List.Elements.{All-cons, All-filter, All-head, All-nil, All-tail}
 use Rattle.std.proofs.lemmas.List.{append-nil}
 use Rattle.std.specs.List.{All}
-use Rattle.std.specs.Prelude.{◌⊎◌, nat_lt}
+use Rattle.std.specs.Prelude.{◌⊎◌, ◌==◌, nat_lt}
 use Rattle.slate_types.proofs.Lines.{above-drop}
 use Rattle.slate_types.specs.Line.{AreNumberedFrom, batches_above, end}
 use Rattle.slate_types.specs.declared.batches.Batch.{Batch}
@@ -19,9 +19,30 @@ use Rattle.slate_model.proofs.Logging.{all-seen}
 use Rattle.slate_model.proofs.Reduced.{some-same}
 use Rattle.slate_model.proofs.Reopened.{numbered_rest}
 use Rattle.slate_model.specs.Begun.{greatest_number}
-use Rattle.slate_follow.specs.Lagging.{MayWait, MustRead}
+use Rattle.slate_follow.specs.Lagging.{MayWait, MustRead, readings}
 use Rattle.slate_follow.proofs.Above.{above-append, none-between}
 use Rattle.slate_follow.proofs.Later.{later-ends, later-numbered, later-whole}
+
+-- ---- how often log files are read
+-- more of them are read more often
+pub readings-more : (lag m n : ℕ) → m ≤ n → readings lag m ≤ readings lag n
+readings-more lag m n low = by (lag == 0) where
+  by : (b : Bool) → cond b m (2 * m) ≤ cond b n (2 * n)
+  by true = low
+  by false = omega (arith, low)
+
+-- each once at least, and twice where the reader may lag
+pub readings-once : (lag n : ℕ) → n ≤ readings lag n
+readings-once lag n = by (lag == 0) where
+  by : (b : Bool) → n ≤ cond b n (2 * n)
+  by true = omega arith
+  by false = omega arith
+
+pub readings-twice : (lag n : ℕ) → 0 < lag → readings lag n ≡ 2 * n
+readings-twice lag n may = by (lag == 0) refl where
+  by : (b : Bool) → (lag == 0) ≡ b → cond b n (2 * n) ≡ 2 * n
+  by true none = (let zero = eqb-true lag 0 none in absurd (omega (arith, zero, may)))
+  by false some = refl
 
 -- ---- the greatest number of batches
 pub all-within : (bs : List Batch) → All (λ b. b.number ≤ greatest_number bs) bs

@@ -6,7 +6,7 @@ use Rattle.std.specs.Prelude.{ℤ, ◌⊎◌, nat_lt, unwrap_or}
 use Rattle.std.specs.Result.{IfErr, IfOk}
 use Rattle.slate_types.specs.Modelled.{WhereModelled}
 use Rattle.slate_types.specs.Line.{AreNumberedFrom, batches_above}
-use Rattle.slate_replay.specs.Replay.{line_of}
+use Rattle.slate_replay.specs.Replay.{Replays, line_of}
 use Rattle.slate_follow.specs.Growing.{IsPushed, added_to, settled}
 use Rattle.slate_types.specs.declared.batches.Batch.{Batch}
 use Rattle.slate_store.specs.Checkpoints.{Plan, found, lease_end, to_end}
@@ -30,7 +30,8 @@ use Rattle.slate_model.specs.Stores.{Stands, by_objects}
 use Rattle.slate_model.specs.declared.answers.PollAnswer.{PollAnswer}
 use Rattle.slate_model.specs.declared.leases.Lease.{Lease}
 use Rattle.slate_follow.specs.Keeping.{ComesFrom, FindsLatest, IsNews, MayLack, PutsBy, PutsManifest, TakesLatest, informed}
-use Rattle.slate_follow.specs.Rebuilding.{TakesUnder, Truncates, answer_of, unleased}
+use Rattle.slate_follow.specs.Rebuilding.{TakesUnder, Truncates, answer_of, reached, unleased}
+use Rattle.slate_follow.specs.Lagging.{IsLastTaken}
 use Rattle.slate_follow.proofs.Continued.{replayed-truncates, took-truncates}
 use Rattle.slate_model.specs.declared.answers.PollAnswer.TheVariants as answers
 use Rattle.slate_follow.proofs.Keeping.{PutsAndKeeps, puts-by, renewal, renewed-keeps, replaced-keeps, replacement, stays-keeps, to-renewal, to-stay}
@@ -130,6 +131,14 @@ news-comes o latest is old mid n m had managed open_ tasks floor numbered pushed
         let becomes = settled-informed old mid mid n m had open_ tasks floor numbered pushed more (subst (λ s. mid ≡ settled s mid) (sym reads) refl) in
         let bare = ap unsegmented becomes ∙ informed-plain old old.skips (added_to old.line.batches mid.line.batches) mid.mark mid.segments mid.lease in
         subst (λ s. unsegmented mid ≡ record (informed old s (added_to old.line.batches mid.line.batches) mid.mark) { lease = mid.lease }) reading bare
+
+-- what is new, by the steps that took it
+pub news-is : (t t1 : Option Objects) → t1 ≡ t → (latest : VersionedManifest) (last from : ℕ) (old : Follower) → from ≡ max old.mark latest.manifest.replay_after_wal_id → IfSome t (λ o. IsLastTaken old.lag (number old) from o last) → old.skips ≡ false →
+    (added : List Batch) (found : Replayed) → IfSome t1 (λ o. Replays from last (number old) [] added o (Ok found)) → (mark : ℕ) → mark ≡ reached found last → IfSome t (λ o. IsNews o old latest old.skips added found mark)
+news-is t t1 kept latest last from old from_is reach reads added found logs mark mark_is = if_some t (λ o at.
+    let taken = subst (λ k. IsLastTaken old.lag (number old) k o last) from_is (some_at (λ o. IsLastTaken old.lag (number old) from o last) t o at reach) in
+    let here = subst (λ k. Replays k last (number old) [] added o (Ok found)) from_is (some_at (λ o. Replays from last (number old) [] added o (Ok found)) t1 o (kept ∙ at) logs) in
+    subst (λ s. IsNews o old latest s added found mark) (sym reads) (last, taken, here, mark_is))
 
 -- a reader has come on from itself
 pub comes-itself : (o : Objects) (latest : VersionedManifest) → latest_manifest o ≡ Some latest → (old : Follower) → old.mode ≡ ManagedCheckpoint → ComesFrom old old o

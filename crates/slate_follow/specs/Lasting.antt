@@ -81,21 +81,21 @@ WasRead first objects reader manifest = WasLatest objects manifest × IsSince fi
 
 -- By the call that comes next: what is put is planned after the manifest that was read or put last; no log file is to be read that was
 -- in tables at the first step; and the last one to be read is there, unless a table was put since.
-abbrev pub LastsAt : Stage → FirstRead → Objects → Begun → Type 0
-LastsAt (Puts next given replaces) first objects begun = (last : VersionedManifest) × (begun.latest ≡ Some last) × IsPlanned last next
-LastsAt AsksLast first objects begun = first.replay_after_wal_id ≤ begun.mark
-LastsAt (LooksAt id last) first objects begun =
-    (first.replay_after_wal_id ≤ begun.mark) × (begun.mark < id) × (id ≤ last) × (last ≤ begun.history.last_log) × (TablesStay first objects → log_at last objects ≢ None)
-LastsAt (ReadsLog last) first objects begun =
+abbrev pub LastsAt : (lag : ℕ) → Stage → FirstRead → Objects → Begun → Type 0
+LastsAt lag (Puts next given replaces) first objects begun = (last : VersionedManifest) × (begun.latest ≡ Some last) × IsPlanned last next
+LastsAt lag AsksLast first objects begun = first.replay_after_wal_id ≤ begun.mark
+LastsAt lag (LooksAt id last) first objects begun =
+    (0 < lag) × (first.replay_after_wal_id ≤ begun.mark) × (begun.mark < id) × (id ≤ last) × (last ≤ begun.history.last_log) × (TablesStay first objects → log_at last objects ≢ None)
+LastsAt lag (ReadsLog last) first objects begun =
     (first.replay_after_wal_id ≤ begun.mark) × (begun.mark < last) × (last ≤ begun.history.last_log) × (TablesStay first objects → log_at last objects ≢ None)
-LastsAt ReadsAgain first objects begun = first.replay_after_wal_id ≤ begun.mark
-LastsAt stage first objects begun = Unit {0}
+LastsAt lag ReadsAgain first objects begun = first.replay_after_wal_id ≤ begun.mark
+LastsAt lag stage first objects begun = Unit {0}
 
 -- after its first step
 pub record LastsSince (first : FirstRead) (objects : Objects) (reader : Follower) (begun : Begun) : Type 0 where
   pub since : (latest : VersionedManifest) → latest_manifest objects ≡ Some latest → IsSince first latest
   pub read : (manifest : VersionedManifest) → begun.latest ≡ Some manifest → WasRead first objects reader manifest
-  pub next : LastsAt begun.stage first objects begun
+  pub next : LastsAt reader.lag begun.stage first objects begun
   pub paced : IsPaced reader.lag first begun
 
 -- What is kept of a begun poll between its calls: there is a manifest, the log files up to its mark are seen, and after its first step the latest manifest

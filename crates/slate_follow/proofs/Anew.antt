@@ -1,48 +1,31 @@
 -- What a poll builds anew of a sound store: it sees all that it is owed, or has the tables alone and lags.
-use Rattle.std.proofs.Common.{◌≡◌, ℕ, ◌+◌, ◌-◌, ◌<◌, ◌≤◌, max, length, List, [], ◌++◌, ◌∷◌, inl, inr, map, Bool, true, false, Option, Some, None, Ok, refl, sym, subst, ap, ◌∙◌, arith, length-append}
+use Rattle.std.proofs.Common.{◌≡◌, ℕ, ◌+◌, ◌<◌, ◌≤◌, length, List, [], inl, inr, map, true, false, Option, Some, Ok, refl, sym, subst, ap, ◌∙◌, arith}
 use Rattle.std.proofs.lemmas.Bool.{cases_lt, le-leb}
-use Rattle.std.proofs.lemmas.List.{append-nil}
 use Rattle.std.specs.List.{All}
-use Rattle.std.specs.Option.{IfSome}
-use Rattle.std.specs.Prelude.{◌⊎◌, ◌&&◌, IsSome, nat_le, not}
-use Rattle.slate_types.proofs.Lines.{above-all, above-none}
+use Rattle.std.specs.Prelude.{◌⊎◌, ◌&&◌, nat_le, not}
 use Rattle.slate_types.specs.declared.batches.Batch.{Batch}
-use Rattle.slate_types.specs.Line.{AreNumberedFrom, Line, IsPrefix, batches_above, end}
+use Rattle.slate_types.specs.Line.{end}
 use Rattle.slate_store.proofs.LastLog.{at_least}
 use Rattle.slate_store.specs.declared.objects.VersionedManifest.{VersionedManifest}
-use Rattle.slate_store.specs.Content.{IsSound, content, logged}
-use Rattle.slate_store.specs.declared.reader_modes.DbReaderMode.{DbReaderMode}
-use Rattle.slate_store.specs.Objects.{Objects, greatest, last_log, latest_manifest, log_at}
-use Rattle.slate_replay.specs.declared.replays.Replayed.{Replayed}
-use Rattle.slate_replay.specs.declared.replays.Replayed.TheVariants as replays
-use Rattle.slate_replay.specs.Replay.{Replays, line_of}
-use Rattle.slate_model.proofs.Free.{numbered-front}
-use Rattle.slate_model.proofs.Fronts.{whole-front}
+use Rattle.slate_store.specs.Content.{IsSound, content}
+use Rattle.slate_store.specs.Objects.{Objects, last_log, latest_manifest, log_at}
+use Rattle.slate_replay.specs.Replay.{Replays}
 use Rattle.slate_model.proofs.Owing.{owing}
-use Rattle.slate_model.proofs.Reduced.{some-same}
-use Rattle.slate_model.proofs.Reopened.{line_from, numbered_rest}
+use Rattle.slate_model.proofs.Reopened.{line_from}
 use Rattle.slate_errors.specs.declared.errors.SlateError.TheVariants as errors
-use Rattle.slate_model.specs.Follow.{CatchesUp, HasAllLogs, LacksSegment, ReplayRefuses, SeesOwed, SeesPolled, StaysBehind}
-use Rattle.slate_model.specs.Followed.{IsView, last_read}
-use Rattle.slate_model.specs.Follower.{Follower, follower_tasks, is_pinned, kept_follower, number, rebuilt, unsegmented}
+use Rattle.slate_model.specs.Follow.{CatchesUp, ReplayRefuses, SeesPolled, StaysBehind}
+use Rattle.slate_model.specs.Followed.{last_read}
+use Rattle.slate_model.specs.Follower.{Follower, is_pinned, number, rebuilt, unsegmented}
 use Rattle.slate_model.specs.Handle.{line_above, up_to}
-use Rattle.slate_model.specs.Known.{IsContent}
-use Rattle.slate_model.specs.Open.{replayed}
-use Rattle.slate_model.specs.Seen.{HasSeen}
 use Rattle.slate_model.specs.Segments.{Extractor, ops_of, unsegmented_refusal}
-use Rattle.slate_model.specs.Stores.{by_objects, kept_seen}
+use Rattle.slate_model.specs.Stores.{by_objects}
 use Rattle.slate_model.specs.declared.answers.PollAnswer.{PollAnswer}
-use Rattle.slate_model.specs.declared.answers.PollAnswer.TheVariants.{Truncated, Whole}
-use Rattle.slate_model.specs.declared.leases.Lease.{Lease}
-use Rattle.slate_follow.specs.Growing.{ExtendingLacks, added_to}
-use Rattle.slate_follow.specs.Lagging.{IsLastRead, IsLastTaken, MayWait, MustRead}
-use Rattle.slate_follow.specs.Rebuilding.{BuildLacks, Builds, Continues, GoesOn, GoingLacks, Reaches, ReplaysView, TakesUnder, TakingLacks, Truncates, answer_of, followed, goes_on, reached, unleased}
-use Rattle.slate_follow.proofs.Above.{above-append, above-fewer, above-twice}
+use Rattle.slate_follow.specs.Lagging.{IsLastRead, MayWait, MustRead}
+use Rattle.slate_follow.specs.Rebuilding.{BuildLacks, Builds, answer_of, goes_on, reached}
 use Rattle.slate_follow.proofs.Lagging.{reads-far, waits-near}
-use Rattle.slate_follow.proofs.Later.{later-logged, later-replayed, none-replayed}
-use Rattle.slate_follow.proofs.Rebuilt.{at_stored, builds-refuses, builds-sees, has-above, has-all, if_some, kept-end, kept-line, latest-can, replays-owed, replays-view, sees-kept, some_at, unpinned-last, unpinned-owed}
-use Rattle.slate_follow.proofs.Refusing.{lacks-some}
-use Rattle.slate_follow.proofs.Segmented.{first-refused, none-lacks}
+use Rattle.slate_follow.proofs.Later.{none-replayed}
+use Rattle.slate_follow.proofs.Rebuilt.{builds-refuses, builds-sees, kept-end, latest-can, replays-owed, unpinned-last}
+use Rattle.slate_follow.proofs.Segmented.{none-lacks}
 
 -- where it may come to a number by the tables of a manifest alone: a replay of the log files up to the last one that it reads, or none
 -- of them

@@ -13,7 +13,7 @@ use Rattle.slate_replay.specs.Replay.{line_of}
 use Rattle.slate_errors.specs.declared.errors.SlateError.{SlateError}
 use Rattle.slate_errors.specs.declared.errors.SlateError.TheVariants as errors
 use Rattle.slate_store.specs.Objects.{Objects}
-use Rattle.slate_model.specs.Begun.{AsksLast, Begun, Breaks, Ended, Ends, Puts, ReadsAgain, ReadsLatest, ReadsLog, Stage, Turn, taken}
+use Rattle.slate_model.specs.Begun.{AsksLast, Begun, Breaks, Ended, Ends, LooksAt, Puts, ReadsAgain, ReadsLatest, ReadsLog, Stage, Turn, taken}
 use Rattle.slate_segments.specs.Refusals.{IsOfSegment}
 use Rattle.slate_follow.specs.Rebuilding.{poll_error}
 use Rattle.slate_follow.specs.Arriving.{taken_batches}

@@ -15,7 +15,7 @@ use Rattle.slate_errors.specs.declared.errors.SlateError.TheVariants as errors
 use Rattle.slate_types.specs.declared.batches.Batch.{Batch}
 use Rattle.slate_store.specs.declared.objects.VersionedManifest.{VersionedManifest}
 use Rattle.slate_model.proofs.Reduced.{some-same}
-use Rattle.slate_model.specs.Begun.{AsksLast, Begun, Ended, Goes, LooksAt, Puts, ReadsAgain, ReadsLatest, ReadsLog, Stage, Turn, greatest_number, reached_number, read_log, replayed}
+use Rattle.slate_model.specs.Begun.{Begun, Ended, Goes, LooksAt, Puts, ReadsAgain, ReadsLatest, ReadsLog, Stage, Turn, greatest_number, reached_number, read_log, replayed}
 use Rattle.slate_model.specs.Follower.{Follower}
 use Rattle.slate_model.specs.Known.{CountsFaults}
 use Rattle.slate_model.specs.declared.leases.Lease.{Lease}

@@ -1,10 +1,9 @@
 -- What goes on by what is new in a sound store, where a follower had seen the rest, sees all that it has, or lags behind it.
-use Rattle.std.proofs.Common.{◌≡◌, ℕ, ◌+◌, ◌-◌, ◌<◌, ◌≤◌, max, length, List, [], ◌++◌, ◌∷◌, inl, inr, map, Bool, true, false, Option, Some, None, Ok, refl, sym, subst, ap, ◌∙◌, arith, length-append}
-use Rattle.std.proofs.lemmas.Bool.{cases_lt, le-leb}
+use Rattle.std.proofs.Common.{◌≡◌, ℕ, ◌+◌, ◌-◌, ◌<◌, ◌≤◌, max, length, List, [], ◌++◌, ◌∷◌, inl, inr, map, Bool, false, Option, Some, None, Ok, refl, sym, subst, ap, ◌∙◌, arith, length-append}
 use Rattle.std.proofs.lemmas.List.{append-nil}
 use Rattle.std.specs.List.{All}
 use Rattle.std.specs.Option.{IfSome}
-use Rattle.std.specs.Prelude.{◌⊎◌, ◌&&◌, IsSome, nat_le, not}
+use Rattle.std.specs.Prelude.{◌⊎◌, IsSome}
 use Rattle.slate_types.proofs.Lines.{above-all, above-none}
 use Rattle.slate_types.specs.declared.batches.Batch.{Batch}
 use Rattle.slate_types.specs.Line.{AreNumberedFrom, Line, IsPrefix, batches_above, end}
@@ -35,15 +34,15 @@ use Rattle.slate_model.specs.declared.answers.PollAnswer.{PollAnswer}
 use Rattle.slate_model.specs.declared.answers.PollAnswer.TheVariants.{Truncated, Whole}
 use Rattle.slate_model.specs.declared.leases.Lease.{Lease}
 use Rattle.slate_follow.specs.Growing.{ExtendingLacks, added_to}
-use Rattle.slate_follow.specs.Lagging.{IsLastRead, IsLastTaken, MayWait, MustRead}
-use Rattle.slate_follow.specs.Rebuilding.{BuildLacks, Builds, Continues, GoesOn, GoingLacks, Reaches, ReplaysView, TakesUnder, TakingLacks, Truncates, answer_of, followed, goes_on, reached, unleased}
+use Rattle.slate_follow.specs.Lagging.{IsLastTaken, MayWait, MustRead}
+use Rattle.slate_follow.specs.Rebuilding.{Builds, Continues, GoesOn, GoingLacks, Reaches, ReplaysView, TakesUnder, TakingLacks, Truncates, answer_of, followed, reached, unleased}
 use Rattle.slate_follow.proofs.Anew.{Waits, WhyRead, builds-lack, builds-polled, read-or-waits}
 use Rattle.slate_follow.proofs.Above.{above-append, above-twice}
 use Rattle.slate_follow.proofs.Lagging.{reads-far, waits-near}
 use Rattle.slate_follow.proofs.Later.{later-logged, later-replayed, none-replayed}
-use Rattle.slate_follow.proofs.Rebuilt.{at_stored, builds-refuses, builds-sees, has-above, has-all, if_some, kept-end, kept-line, latest-can, replays-owed, replays-view, sees-kept, some_at, unpinned-last, unpinned-owed}
+use Rattle.slate_follow.proofs.Rebuilt.{at_stored, has-above, has-all, if_some, kept-end, kept-line, latest-can, replays-view, sees-kept, some_at, unpinned-last, unpinned-owed}
 use Rattle.slate_follow.proofs.Refusing.{lacks-some}
-use Rattle.slate_follow.proofs.Segmented.{first-refused, none-lacks}
+use Rattle.slate_follow.proofs.Segmented.{first-refused}
 
 -- the greatest of the greater of two numbers and others
 pub greatest-greater : (m n : ℕ) (xs : List ℕ) → greatest (max m n) xs ≡ max m (greatest n xs)

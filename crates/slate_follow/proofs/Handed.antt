@@ -1,5 +1,5 @@
 -- What a reader sees that an opening or a poll gave is what its next poll needs.
-use Rattle.std.proofs.Common.{◌≡◌, List, ℕ, ◌<◌, ◌≤◌, max, map, inl, inr, Option, Some, Bool, false, refl, sym, ap, subst, ◌∙◌, arith}
+use Rattle.std.proofs.Common.{◌≡◌, List, ℕ, ◌<◌, ◌≤◌, map, inl, inr, Option, Some, Bool, false, refl, sym, ap, subst, ◌∙◌, arith}
 use Rattle.std.specs.List.{All}
 use Rattle.slate_types.specs.Line.{Line}
 use Rattle.slate_types.specs.declared.batches.Batch.{Batch}

@@ -7,7 +7,7 @@ use Rattle.slate_types.specs.Line.{Line, batches_above}
 use Rattle.slate_types.specs.Modelled.{WhereModelled}
 use Rattle.slate_store.specs.Checkpoints.{Plan}
 use Rattle.slate_store.specs.Content.{IsSound, content}
-use Rattle.slate_store.specs.Objects.{Objects, PutManifest, changed, last_log, latest_manifest}
+use Rattle.slate_store.specs.Objects.{Objects, PutManifest, changed, latest_manifest}
 use Rattle.slate_store.specs.Refusals.{PlanIs}
 use Rattle.slate_store.specs.declared.objects.VersionedManifest.{VersionedManifest}
 use Rattle.slate_store.specs.declared.reader_modes.DbReaderMode.TheVariants.{ManagedCheckpoint}

@@ -1,17 +1,16 @@
 -- What log files of sound objects bring a reader to that may lag.
-use Rattle.std.proofs.Common.{◌≡◌, ℕ, ◌+◌, ◌-◌, ◌*◌, ◌<◌, ◌≤◌, max, length, List, [], ◌∷◌, ◌++◌, inl, inr, map, Bool, true, false, cond, Option, Some, None, refl, sym, subst, ap, ◌∙◌, arith, length-append}
+use Rattle.std.proofs.Common.{◌≡◌, ℕ, ◌+◌, ◌-◌, ◌*◌, ◌<◌, ◌≤◌, length, List, [], ◌∷◌, ◌++◌, inl, inr, Bool, true, false, cond, Some, refl, sym, subst, ap, ◌∙◌, arith, length-append}
 use Rattle.std.proofs.lemmas.Bool.{cases_lt, eqb-true, le-ltb, lt-ltb}
 use Rattle.std.proofs.lemmas.List.Elements.{All-cons, All-filter, All-head, All-nil, All-tail}
 use Rattle.std.proofs.lemmas.List.{append-nil}
 use Rattle.std.specs.List.{All}
-use Rattle.std.specs.Prelude.{◌⊎◌, ◌==◌, nat_lt}
-use Rattle.slate_types.proofs.Lines.{above-drop}
+use Rattle.std.specs.Prelude.{◌==◌, nat_lt}
 use Rattle.slate_types.specs.Line.{AreNumberedFrom, batches_above, end}
 use Rattle.slate_types.specs.declared.batches.Batch.{Batch}
 use Rattle.slate_store.proofs.Logs.{between-next, between-parts}
-use Rattle.slate_store.specs.Content.{IsSound, content, logged}
+use Rattle.slate_store.specs.Content.{IsSound, content}
 use Rattle.slate_store.specs.Logs.{batches_between}
-use Rattle.slate_store.specs.Objects.{Objects, greatest, last_log, latest_manifest, log_at}
+use Rattle.slate_store.specs.Objects.{Objects, last_log, latest_manifest, log_at}
 use Rattle.slate_store.specs.declared.objects.VersionedManifest.{VersionedManifest}
 use Rattle.slate_store.specs.declared.reader_modes.DbReaderMode.TheVariants.{FollowLatest}
 use Rattle.slate_replay.specs.Newest.{HasNewest, HaveNothingNew}

@@ -1,5 +1,5 @@
 -- A begun poll lasts from call to call, in few steps, and why it ends.
-use Rattle.std.proofs.Common.{◌≡◌, ◌≢◌, ◌∙◌, ℕ, ℤ, suc, ◌+◌, ◌-◌, ◌*◌, ◌<◌, ◌≤◌, ◌⊎◌, ◌&&◌, ◌||◌, ◌==◌, max, not, inl, inr, Bool, true, false, if◌then◌else◌, List, [], ◌∷◌, ◌++◌, length, Option, Some, None, Result, Ok, Err, refl, sym, ap, subst, arith}
+use Rattle.std.proofs.Common.{◌≡◌, ◌≢◌, ◌∙◌, ℕ, ℤ, ◌+◌, ◌-◌, ◌*◌, ◌<◌, ◌≤◌, ◌&&◌, ◌||◌, ◌==◌, max, not, inl, inr, Bool, true, false, if◌then◌else◌, List, [], ◌∷◌, ◌++◌, length, Option, Some, None, Result, Ok, Err, refl, sym, ap, subst, arith}
 use Rattle.std.proofs.Math.Nat.{mul-le-mul_left, suc-mul}
 use Rattle.std.proofs.Math.Numerals.{add-one}
 use Rattle.std.proofs.lemmas.Bool.{cases_lt, eq-eqb, eqb-true, leb-true, ltb-true}
@@ -11,10 +11,9 @@ use Rattle.slate_types.specs.declared.batches.Batch.{Batch}
 use Rattle.slate_types.specs.Line.{Line, end}
 use Rattle.slate_store.specs.Checkpoints.{Plan, found, lease_end, new_checkpoint, puts_next, to_end, to_refresh, to_write, with_checkpoints, without_replaced}
 use Rattle.slate_store.specs.Content.{IsSound, content}
-use Rattle.slate_store.specs.Logs.{AreTruncatedAt, AreWhole, HaveGap, HaveNoGap}
+use Rattle.slate_store.specs.Logs.{AreWhole, HaveGap, HaveNoGap}
 use Rattle.slate_store.specs.Objects.{Objects, PutManifest, changed, is_present, last_log, latest_manifest, log_at}
 use Rattle.slate_store.proofs.Entries.{absent}
-use Rattle.slate_store.proofs.LastLog.{at_least}
 use Rattle.slate_store.proofs.Logs.{untruncated, whole-start}
 use Rattle.slate_store.specs.declared.objects.Checkpoint.{Checkpoint}
 use Rattle.slate_store.specs.declared.objects.VersionedManifest.{VersionedManifest}
@@ -25,7 +24,7 @@ use Rattle.slate_replay.specs.Replay.{ReplaysNext}
 use Rattle.slate_replay.specs.declared.replays.Replayed.{Replayed}
 use Rattle.slate_replay.specs.declared.replays.Replayed.TheVariants as replays
 use Rattle.slate_model.specs.Begun.{AsksLast, Begun, Breaks, Ended, Ends, Fails, Goes, LooksAt, Puts, ReadsAgain, ReadsLatest, ReadsLog, Stage, Turn, asked_last, asked_lease, begun_at, committed, decided, emptied, first_log, first_of, greatest_number, kept_lease, leads_on, looked_at, no_step, noted, overtaken_by, put_by, reached_number, read_again, read_log, replayed, replaying, taken, view_of, with_log, with_step}
-use Rattle.slate_model.specs.Follower.{Follower, number, rebuilt}
+use Rattle.slate_model.specs.Follower.{Follower, rebuilt}
 use Rattle.slate_model.specs.Known.{IsContent}
 use Rattle.slate_model.specs.declared.answers.PollAnswer.{PollAnswer}
 use Rattle.slate_model.specs.declared.answers.PollAnswer.TheVariants as answers
@@ -40,7 +39,7 @@ use Rattle.slate_model.specs.declared.polls.FirstRead.{FirstRead}
 use Rattle.slate_model.specs.declared.polls.PollHistory.{PollHistory}
 use Rattle.slate_model.proofs.Coming.{planned-other}
 use Rattle.slate_model.proofs.Fronts.{last-there, seen-as, seen-both, seen-log, stored-below}
-use Rattle.slate_model.proofs.Logging.{LogsFollow, all-seen, none-seen, stay-follow, still-seen}
+use Rattle.slate_model.proofs.Logging.{LogsFollow, all-seen, none-seen, stay-follow}
 use Rattle.slate_model.proofs.Maintained.{Maintained}
 use Rattle.slate_model.proofs.Moving.{Follows}
 use Rattle.slate_model.proofs.Putting.{put-maintains, was-put}

@@ -1,8 +1,8 @@
 -- What a reader that keeps a checkpoint sees: of a manifest that was put after the latest one, or as it goes on.
-use Rattle.std.proofs.Common.{◌≡◌, ◌⊎◌, ℕ, ◌+◌, ◌<◌, ◌≤◌, max, inl, inr, List, map, Option, Some, None, is_some, Bool, true, false, cond, Ok, Err, refl, sym, ap, subst, ◌∙◌, arith}
+use Rattle.std.proofs.Common.{◌≡◌, ◌⊎◌, ℕ, ◌+◌, ◌<◌, ◌≤◌, max, inl, inr, List, map, Option, Some, None, is_some, Bool, true, false, Ok, refl, sym, ap, subst, ◌∙◌, arith}
 use Rattle.std.proofs.Math.Bool.{or-true}
 use Rattle.std.proofs.Math.Logic.{⊎_map}
-use Rattle.std.specs.Prelude.{ℤ, nat_lt}
+use Rattle.std.specs.Prelude.{ℤ}
 use Rattle.slate_types.specs.Line.{Line, end}
 use Rattle.slate_types.specs.declared.batches.Batch.{Batch}
 use Rattle.slate_store.proofs.Checkpointed.{refresh-keeps, write-keeps}
@@ -12,7 +12,6 @@ use Rattle.slate_store.specs.Objects.{Objects, PutManifest, changed, greatest, l
 use Rattle.slate_store.specs.Refusals.{KeepsContent, planned, planned_after}
 use Rattle.slate_store.specs.declared.objects.Checkpoint.{Checkpoint as AnyCheckpoint}
 use Rattle.slate_store.specs.declared.objects.VersionedManifest.{VersionedManifest}
-use Rattle.slate_store.specs.declared.refusals.StoreRefusal.TheVariants as refusals
 use Rattle.slate_store.specs.declared.reader_modes.DbReaderMode.{DbReaderMode}
 use Rattle.slate_store.specs.declared.reader_modes.DbReaderMode.TheVariants.{Checkpoint, FollowLatest, ManagedCheckpoint}
 use Rattle.slate_model.proofs.Leased.{leased-is, put-low}
@@ -23,7 +22,7 @@ use Rattle.slate_model.specs.Follow.{HasAllLogs, IsOwed, SeesOwed, SeesPolled}
 use Rattle.slate_model.specs.Followed.{IsView, last_read}
 use Rattle.slate_model.specs.Follower.{Follower, is_managed, kept_follower, number, rebuilt, unsegmented}
 use Rattle.slate_model.specs.Handle.{line_above, up_to}
-use Rattle.slate_model.specs.Lease.{lease_of, leased}
+use Rattle.slate_model.specs.Lease.{leased}
 use Rattle.slate_model.specs.Managed.{SeesLatest, follower_under}
 use Rattle.slate_model.specs.Stores.{by_objects}
 use Rattle.slate_model.specs.declared.answers.PollAnswer.{PollAnswer}

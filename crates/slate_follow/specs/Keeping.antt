@@ -27,7 +27,7 @@ use Rattle.slate_model.specs.declared.answers.PollAnswer.{PollAnswer}
 use Rattle.slate_model.specs.declared.leases.Lease.{Lease}
 use Rattle.slate_follow.specs.declared.keeps.Kept.{Kept}
 use Rattle.slate_follow.specs.Lagging.{IsLastTaken}
-use Rattle.slate_follow.specs.Rebuilding.{Builds, GoingLacks, Lacks, Reaches, TakesUnder, TakingLacks, followed, last_above, new_logs, reached}
+use Rattle.slate_follow.specs.Rebuilding.{Builds, GoingLacks, Lacks, Reaches, TakesUnder, TakingLacks, followed, new_logs, reached}
 
 -- the latest manifest, or why it wasn't read
 abbrev pub FindsLatest : Objects → Result VersionedManifest SlateError → Type 0

@@ -1,4 +1,4 @@
-use Rattle.std.proofs.Common.{rules, ◌≡◌, ◌∙◌, ℕ, ◌+◌, ◌<◌, ◌≤◌, ◌⊎◌, inl, inr, min, Some, Ok, ap, refl, subst, sym, arith}
+use Rattle.std.proofs.Common.{rules, ◌≡◌, ◌+◌, ◌<◌, ◌≤◌, ◌⊎◌, inl, inr, Some, ap, refl, subst, arith}
 use Rattle.std.specs.Option.{IfSome, option_map}
 use Rattle.slate_store.specs.Objects.{log_at}
 use Rattle.slate_model.specs.Begun.{Begun, LooksAt, greatest_number, reached_number, replayed}

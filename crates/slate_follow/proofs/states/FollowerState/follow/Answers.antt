@@ -5,7 +5,7 @@ use Rattle.slate_errors.specs.declared.errors.SlateError.TheVariants.{EmptySegme
 use Rattle.slate_model.specs.Follower.{Follower, number}
 use Rattle.slate_model.specs.declared.answers.PollAnswer.{PollAnswer}
 use Rattle.slate_follow.specs.Lagging.{IsLastRead, IsLastTaken}
-use Rattle.slate_follow.specs.Rebuilding.{BuildLacks, Builds, GoesOn, GoingLacks, goes_on, unleased}
+use Rattle.slate_follow.specs.Rebuilding.{BuildLacks, Builds, GoesOn, GoingLacks, unleased}
 use Rattle.slate_follow.proofs.Rebuilt.{if_some, some_at}
 use Rattle.slate_follow.proofs.Refusing.{err-same}
 use Rattle.slate_follow.proofs.states.FollowerState.follow.Goals as goal

@@ -1,4 +1,4 @@
-use Rattle.std.proofs.Common.{◌≡◌, ◌≤◌, ◌∙◌, false, true, is_none, None, Option, Some, Ok, Err, IfErr, IfOk, IfSome, refl, rules, sym, ap, subst, arith, of_z, to_z}
+use Rattle.std.proofs.Common.{◌≡◌, ◌∙◌, false, true, is_none, None, Option, Some, Ok, Err, IfErr, IfOk, IfSome, refl, rules, sym, ap, subst, arith, of_z, to_z}
 use Rattle.std.proofs.Math.Facts.{to_z-of_z}
 use Rattle.std.proofs.lemmas.Result.{err_from_is_err_and}
 use Rattle.std.specs.Int.{w64}

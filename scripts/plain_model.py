@@ -562,6 +562,8 @@ class Run:
                 self.take_lease(reader, latest, reader.lease[2], moment)
                 latest = reader.view
             self.replay(reader, latest)
+            if reader.view is not old:
+                saw = dict(reader.__dict__)  # only the renewal of the lease that it took may fail then
             which, end, lifetime = reader.lease
             if moment > end - lifetime // 2:
                 if which in [each for each, _ in latest.checkpoints]:

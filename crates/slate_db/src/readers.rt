@@ -178,8 +178,9 @@ impl<S: Store, M, E: PrefixExtractor, C: Clock> DbReader<S, M, E, C> {
     /// On a closed reader it answers `Closed` or the error that closed it. Else it answers
     /// `LatestTransactionalObjectVersionMissing` where there is no manifest, `InvalidDBState` where no id is left or a key has
     /// no segment, `TransactionalObjectTimeout` where others put their manifests first eight times, `ObjectStoreError` for a
-    /// fault of the store, and `NoMemory`. A poll that fails leaves what the reader sees; it closes a reader that keeps a
-    /// checkpoint of its own, `NoMemory` excepted, and no other.
+    /// fault of the store, and `NoMemory`. A poll that fails leaves what the reader sees, or, where only the renewal of
+    /// a lease failed that it took, shows what is new; it closes a reader that keeps a checkpoint of its own, `NoMemory` excepted,
+    /// and no other.
     pub fn poll<R: Wait>(&self, rt: &R, alloc: Global) -> Result<PollAnswer, Error> {
         let mut guarded = self.lock(rt);
         let moment = guarded.clock.now_ms();

@@ -11,6 +11,7 @@ use crate::told_stores::ToldStore;
 use slate_live::{Command, LineAnswer, LiveState, Options, print_replies, read_line};
 use slate_reads::IndexedTable;
 use slate_replay::{Replayed, replay};
+use slate_route::Router;
 use slate_writer::{BoardWatch, Transaction, WriterState};
 use std::alloc::Global;
 use uuid::Uuid;
@@ -31,6 +32,7 @@ enum Call {
     Transaction,
     Reader,
     Feed,
+    Router,
     Put,
     Replay,
     Restart,
@@ -47,6 +49,7 @@ const CALLS: &[(&[u8], Call)] = &[
     (b"transaction", Call::Transaction),
     (b"reader", Call::Reader),
     (b"feed", Call::Feed),
+    (b"router", Call::Router),
     (b"put", Call::Put),
     (b"replay", Call::Replay),
     (b"restart", Call::Restart),
@@ -55,7 +58,7 @@ const CALLS: &[(&[u8], Call)] = &[
     (b"watch", Call::Watch),
 ];
 
-/// A store, the objects of a session over it, and one handle, one reader and one feed beside these.
+/// A store, the objects of a session over it, and one handle, one reader, one feed and one router beside these.
 pub struct Database {
     pub store: ToldStore,
     pub operator: Option<Refusing>,
@@ -68,6 +71,7 @@ pub struct Database {
     pub transactions: Vec<Option<Transaction>>,
     pub reader: Option<PolledReader>,
     pub feed: Option<SteppedFeed>,
+    pub router: Router,
     checkpoints: Vec<Uuid>,
 }
 
@@ -83,6 +87,7 @@ impl Drop for Database {
             transactions: _,
             reader: _,
             feed: _,
+            router: _,
             checkpoints: _,
         } = self;
     }
@@ -101,6 +106,7 @@ impl Database {
             transactions: Vec::new(alloc),
             reader: None,
             feed: None,
+            router: Router::new(alloc),
             checkpoints: Vec::new(alloc),
         }
     }
@@ -142,6 +148,7 @@ impl Subject for Database {
             Some(Call::Transaction) => self.call_transaction(line),
             Some(Call::Reader) => self.call_reader(line),
             Some(Call::Feed) => self.call_feed(line),
+            Some(Call::Router) => self.call_router(line),
             Some(Call::Put) => self.put(line),
             Some(Call::Replay) => replay_twice(&mut self.store, line),
             Some(Call::Restart) => self.live = LiveState::new(line.alloc(), &OPTIONS),

@@ -31,6 +31,7 @@ mod polled;
 mod ranges;
 mod readers;
 mod replies;
+mod routers;
 mod rows;
 mod sessions;
 mod statuses;

@@ -2,6 +2,7 @@
 use slate_feed::feed_session;
 use slate_jobs::jobs_session;
 use slate_live::{Finished, Sink, Source, session};
+use slate_route::route_session;
 use slate_store::Store;
 use std::alloc::Global;
 
@@ -16,6 +17,7 @@ pub fn run_session<I: Source, O: Sink, S: Store>(
     match words {
         [word] if word.as_str() == "jobs" => jobs_session(alloc, source, sink, store),
         [word] if word.as_str() == "feed" => feed_session(alloc, source, sink, store),
+        [word] if word.as_str() == "route" => route_session(alloc, source, sink, store),
         _ => session(alloc, words, source, sink, store),
     }
 }

@@ -1,5 +1,6 @@
 //! The program `slate`: runs a script from standard input over a fresh store in memory, or over a directory, and prints
-//! its replies. The script is one of commands, one with feeds, or one of a job store.
+//! its replies. The script is one of commands, beside readers on threads or not, one with feeds, one of a job store, or one of a
+//! router.
 #![tactic(auto)]
 
 mod looks;
@@ -9,11 +10,16 @@ use looks::{check_directory, show_directory};
 use slate_directory::open_directory;
 use slate_feed::feed_session;
 use slate_jobs::jobs_session;
-use slate_live::{Outcome, session};
+use slate_live::{Finished, Outcome, Sink, Source, session};
+use slate_readers::{Live, OpenGate, live_session, read_live_words};
+use slate_route::route_session;
 use slate_script::read_words;
 use slate_store::{MemoryStore, Store};
 use slate_text::read_time;
+use std::alloc::Global;
 use std::process::ExitCode;
+use std::sync::Wait;
+use std::thread::Threads;
 use std::{env, io};
 use streams::Counted;
 
@@ -26,6 +32,8 @@ usage: slate [--store DIR] [--merge concat] [--segments N] [--limit N] [--bare]
        slate [--store DIR] gen SEED COUNT
        slate [--store DIR] jobs < SCRIPT
        slate [--store DIR] feed < SCRIPT
+       slate [--store DIR] live --readers N [the options above] < SCRIPT
+       slate [--store DIR] route < SCRIPT
        slate check --store DIR
        slate show --store DIR [--sweep MOMENT]
        slate --help | --version
@@ -63,6 +71,21 @@ With feed the script may also have lines of feeds, as in
 which opens a feed of the stored batches after number 0, and asks it for the
 next ones, at most 100; feeds are numbered from 0.
 
+With live the script is run beside N readers, from 1 to 16, which view on threads
+of their own, without a lock, what the first reader of the script sees. Behind the
+replies a line is printed for each, as reader 0 at 5, with the number of the last
+batch that it saw.
+
+With route a handle of the database is open, a router has readers, and a line of
+the script is a moment and one of these, as in
+  0 put a x
+  0 flush
+  0 add 1000 500
+  0 read 1 a
+which writes a row, stores it, adds a reader whose checkpoint lasts 1000
+milliseconds and is to be polled each 500, and reads the key a of a reader that
+sees at least the batches up to number 1.
+
 With check no script is read either, and no file is changed: whether the database
 in DIR is sound is printed, as sound at K, where K is the number of the last
 stored batch, or as the first thing that is wrong, with the status 1. With show
@@ -90,7 +113,7 @@ pub(crate) const NO_DIRECTORY: u8 = 74;
 
 fn main(rt: HostRuntime) -> ExitCode {
     let status = match read_arguments(&rt) {
-        Ok(words) => answer(&rt, words.as_slice()),
+        Ok(words) => answer(&rt, &rt, words.as_slice()),
         Err(error) => report(&rt, outcome_of(error.kind())),
     };
     ExitCode::from(status)
@@ -102,8 +125,8 @@ fn read_arguments(rt: &HostRuntime) -> io::Result<Vec<String>> {
     Ok(words)
 }
 
-/// Does what these words ask for. It answers the exit status.
-fn answer(rt: &HostRuntime, words: &[String]) -> u8 {
+/// Does what these words ask for, with threads by `threads`. It answers the exit status.
+fn answer<R: Threads + Wait + Sync>(rt: &HostRuntime, threads: &R, words: &[String]) -> u8 {
     match words {
         [word] if word.as_str() == "--help" => print(rt, HELP),
         [word] if word.as_str() == "--version" => print(rt, VERSION),
@@ -123,20 +146,25 @@ fn answer(rt: &HostRuntime, words: &[String]) -> u8 {
             }
         }
         [word, path, others @ ..] if word.as_str() == "--store" => {
-            run_over_directory(rt, path.as_str(), others)
+            run_over_directory(rt, threads, path.as_str(), others)
         }
-        _ => run_words(rt, words, &mut MemoryStore::new(rt.alloc())),
+        _ => run_words(rt, threads, words, &mut MemoryStore::new(rt.alloc())),
     }
 }
 
 /// Runs what these words ask for over a directory, which isn't touched where they ask for nothing. It answers the exit
 /// status.
-fn run_over_directory(rt: &HostRuntime, path: &str, words: &[String]) -> u8 {
-    if !is_word(words, "jobs") && !is_word(words, "feed") && read_words(words).is_none() {
+fn run_over_directory<R: Threads + Wait + Sync>(
+    rt: &HostRuntime,
+    threads: &R,
+    path: &str,
+    words: &[String],
+) -> u8 {
+    if !is_script(words) {
         return report(rt, Outcome::WordsRefused);
     }
     match open_directory(*rt, rt.alloc(), path) {
-        Ok(mut store) => run_words(rt, words, &mut store),
+        Ok(mut store) => run_words(rt, threads, words, &mut store),
         Err(error) if error.kind() == io::ErrorKind::OutOfMemory => report(rt, Outcome::NoMemory),
         Err(error) => {
             let _ = eprintln!(rt; "slate: the directory {path:?} can't be used: {error}");
@@ -145,24 +173,67 @@ fn run_over_directory(rt: &HostRuntime, path: &str, words: &[String]) -> u8 {
     }
 }
 
+/// Whether these words ask for a script of any kind, or for the generator.
+fn is_script(words: &[String]) -> bool {
+    is_word(words, "jobs")
+        || is_word(words, "feed")
+        || is_word(words, "route")
+        || read_live_words(words).is_some()
+        || read_words(words).is_some()
+}
+
 /// Whether these words are this one.
 fn is_word(words: &[String], wanted: &str) -> bool {
     matches!(words, [word] if word.as_str() == wanted)
 }
 
-/// Runs the script from standard input, of commands, with feeds or of a job store, or the generator, over a store. It answers the exit
-/// status.
-fn run_words<S: Store>(rt: &HostRuntime, words: &[String], store: &mut S) -> u8 {
+/// Runs the script from standard input, of commands, beside readers, with feeds, of a job store or of a router, or the generator,
+/// over a store. It answers the exit status.
+fn run_words<R: Threads + Wait + Sync, S: Store + Send>(
+    rt: &HostRuntime,
+    threads: &R,
+    words: &[String],
+    store: &mut S,
+) -> u8 {
     let mut source = Counted::new(rt.stdin());
     let mut sink = Counted::new(rt.stdout());
     let finished = if is_word(words, "jobs") {
         jobs_session(rt.alloc(), &mut source, &mut sink, store)
     } else if is_word(words, "feed") {
         feed_session(rt.alloc(), &mut source, &mut sink, store)
+    } else if is_live(words) {
+        run_live(threads, rt.alloc(), words, &mut source, &mut sink, store)
+    } else if is_word(words, "route") {
+        route_session(rt.alloc(), &mut source, &mut sink, store)
     } else {
         session(rt.alloc(), words, &mut source, &mut sink, store)
     };
     report(rt, finished.outcome())
+}
+
+/// Whether the first of these words is `live`.
+fn is_live(words: &[String]) -> bool {
+    words.first().is_some_and(|word| word.as_str() == "live")
+}
+
+/// Runs the script beside readers, and ends what published to them.
+fn run_live<R: Threads + Wait + Sync, I: Source, O: Sink, S: Store + Send>(
+    threads: &R,
+    alloc: Global,
+    words: &[String],
+    source: &mut I,
+    sink: &mut O,
+    store: &mut S,
+) -> Finished {
+    let Live {
+        finished,
+        publisher,
+        readers: _,
+    } = live_session(threads, alloc, words, source, sink, store, &OpenGate);
+    if let Some(publisher) = publisher {
+        publisher.end(threads);
+    }
+    finished
 }
 
 /// Prints a text. It answers the exit status.

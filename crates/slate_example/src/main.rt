@@ -1,9 +1,10 @@
-//! The program `slate_example`: how a program calls the library. It prints what each example finds: a first one, and then one for
-//! a read service.
+//! The program `slate_example`: how a program calls the library. It prints what each example finds: a first one, then one for a
+//! read service, and one for a service whose readers view without a lock.
 #![tactic(auto)]
 
 mod first;
 mod read_service;
+mod reader_threads;
 
 use bytes::Bytes;
 use slate_db::Error;
@@ -15,7 +16,8 @@ use std::thread::Threads;
 
 fn main(rt: HostRuntime) -> io::Result<()> {
     print_first(rt, rt.alloc())?;
-    print_service(rt, rt.alloc())
+    print_service(rt, rt.alloc())?;
+    print_readers(rt, rt.alloc())
 }
 
 fn print_first<R: Print + Wait + Clock + Copy>(rt: R, alloc: Global) -> io::Result<()> {
@@ -45,6 +47,18 @@ where
                 "service: served whole states {is_served}, and bob {} at last",
                 last.bob
             )
+        }
+        Err(error) => print_error(&rt, &error),
+    }
+}
+
+fn print_readers<R>(rt: R, alloc: Global) -> io::Result<()>
+where
+    R: Print + Threads + Wait + Copy + Send + Sync,
+{
+    match reader_threads::serve_without_lock(rt, alloc) {
+        Ok((are_whole, balances)) => {
+            println!(&rt; "readers: served whole states {are_whole}, and bob {balances:?} at last")
         }
         Err(error) => print_error(&rt, &error),
     }

@@ -4,8 +4,9 @@
 // Here the states are the balances of two accounts. Each transfer writes both as one batch, so that in every state they come to
 // 100.
 use slate_db::{
-    ByteRange, Db, DbReadOps, DbReader, DbReaderMode, DbReaderOptions, DbWriteOps, Error,
-    MemoryStore, NoExtractor, NoMerge, SharedStore, Stop, SystemClock, WriteBatch, WriterOptions,
+    ByteRange, Db, DbIterator, DbReadOps, DbReader, DbReaderMode, DbReaderOptions, DbWriteOps,
+    Error, MemoryStore, NoExtractor, NoMerge, SharedStore, SlateError, Stop, SystemClock,
+    WriteBatch, WriterOptions,
 };
 use std::alloc::Global;
 use std::rt::Clock;
@@ -28,7 +29,7 @@ type Bank<R> = Db<SharedStore<R, MemoryStore>, NoMerge, NoExtractor, SystemClock
 type Service<R> = DbReader<SharedStore<R, MemoryStore>, NoMerge, NoExtractor, SystemClock<R>>;
 
 /// The balances of Ann and Bob after each transfer.
-const TRANSFERS: [(u8, u8); 5] = [(100, 0), (90, 10), (70, 30), (40, 60), (20, 80)];
+pub const TRANSFERS: [(u8, u8); 5] = [(100, 0), (90, 10), (70, 30), (40, 60), (20, 80)];
 
 /// What a service finds in a hundred scans beside all transfers, and after its last poll.
 pub fn serve_transfers<R>(rt: R, alloc: Global) -> Result<(bool, Served), Error>
@@ -118,9 +119,12 @@ where
 
 /// Serves both balances, which one scan finds.
 fn serve<R: Wait + Clock>(rt: &R, alloc: Global, service: &Service<R>) -> Result<Served, Error> {
-    let rows = service
-        .scan(rt, alloc, &ByteRange::full())?
-        .into_rows(alloc)?;
+    Ok(served_of(alloc, service.scan(rt, alloc, &ByteRange::full())?)?)
+}
+
+/// What the rows of a scan come to.
+pub fn served_of(alloc: Global, rows: DbIterator) -> Result<Served, SlateError> {
+    let rows = rows.into_rows(alloc)?;
     let (mut sum, mut bob) = (0_u8, 0);
     for row in rows.as_slice() {
         bob = row.value.as_slice().first().copied().unwrap_or(0);

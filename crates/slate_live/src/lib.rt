@@ -15,7 +15,7 @@ mod states;
 
 pub use laws::{begun_polls_stand, calls_are_steps, commands_lead_on};
 pub use runs::run;
-pub use sessions::session;
+pub use sessions::{extractor_of, session};
 pub use slate_receivers::{
     Clock, DurabilityWaiter, HandClock, StatusManager, StatusReceiver, SystemClock, WriteHandle,
 };

@@ -47,8 +47,9 @@ fn write_summary<O: Sink>(alloc: Global, sink: &mut O, commands: u64, replies: &
 /// No extractor, for the commands of the generator.
 const NO_EXTRACTOR: Option<&FixedPrefix> = None;
 
-/// The extractor of prefixes of this length, where there is one.
-fn extractor_of(alloc: Global, length: Option<u8>) -> Result<Option<FixedPrefix>, NoMemory>
+/// The extractor that cuts keys at a length from 1 to 255, where a session's options ask for one by `--segments`. It takes the
+/// memory of its name.
+pub fn extractor_of(alloc: Global, length: Option<u8>) -> Result<Option<FixedPrefix>, NoMemory>
     ensures { IfOk result (λ extractor. extractor ≡ length) }
 {
     match length {

@@ -9,6 +9,7 @@ mod walks;
 mod windows;
 
 pub use indexed_reads::{Indexed, read_indexed, read_key, take_history};
-pub use reads::{Version, fold, is_base, is_within, prepare_max_seq, read};
+pub use reads::{Version, fold, is_base, is_within, prepare_max_seq, read, take_versions};
 pub use shared_tables::Table;
-pub use tables::IndexedTable;
+pub use tables::{IndexedTable, ops_size};
+pub use walks::{as_bound, is_crossed};

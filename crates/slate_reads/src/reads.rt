@@ -86,8 +86,8 @@ pub(crate) fn tail_of<'a>(
     Ok(versions)
 }
 
-/// Adds a batch's versions of a key to a tail. A put or a delete begins it anew.
-fn take_versions<'a>(
+/// Adds a batch's versions of a key to a tail, oldest first. A put or a delete begins it anew. One pass over the batch.
+pub fn take_versions<'a>(
     versions: &mut Vec<Version<'a>>,
     batch: &'a Batch,
     key: &[u8],

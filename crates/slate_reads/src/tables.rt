@@ -204,8 +204,15 @@ impl IndexedTable {
 fn batch_size(batch: &Batch) -> u128
     ensures { result ≡ ops_size batch.now.ops }
 {
+    ops_size(batch.ops.as_slice())
+}
+
+/// The bytes of keys and values in operations, in one pass over them.
+pub fn ops_size(ops: &[KeyOp]) -> u128
+    ensures { result ≡ ops_size ops.now }
+{
     let mut size = 0;
-    for key_op in batch.ops.as_slice() {
+    for key_op in ops {
         size += key_op.key.len() as u128 + value_len(&key_op.op) as u128;
     }
     size

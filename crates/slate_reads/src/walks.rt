@@ -33,8 +33,8 @@ impl IndexedTable {
     }
 }
 
-/// Whether the bounds of a range cross, so that no key is between them.
-fn is_crossed(range: &ByteRange) -> bool
+/// Whether the bounds of a range cross, so that no key is between them; an ordered set or map isn't asked for such a range.
+pub fn is_crossed(range: &ByteRange) -> bool
     ensures { result ≡ is_crossed range.now.low range.now.high }
 {
     match (&range.low, &range.high) {
@@ -47,8 +47,8 @@ fn is_crossed(range: &ByteRange) -> bool
     }
 }
 
-/// A bound, as an ordered set takes it.
-fn as_bound(bound: &KeyBound) -> Bound<&Bytes>
+/// A bound, as an ordered set or map takes it.
+pub fn as_bound(bound: &KeyBound) -> Bound<&Bytes>
     ensures { bound_map (λ key. key.now) result ≡ bound_of bound.now }
 {
     match bound {

@@ -1,16 +1,19 @@
 -- The segments of operations and batches, one after another.
-use Rattle.std.proofs.Common.{◌≡◌, ℕ, ◌<◌, ◌+◌, ◌||◌, List, [], ◌∷◌, ◌++◌, length, take, drop, get_or, Option, Some, None, refl, sym, ap, subst, ◌∙◌, append_assoc}
+use Rattle.std.proofs.Common.{◌≡◌, ℕ, ◌<◌, ◌+◌, ◌||◌, true, All, Contains, List, [], ◌∷◌, ◌++◌, length, take, drop, get_or, Option, Some, None, refl, sym, ap, subst, ◌∙◌, append_assoc}
 use Rattle.std.specs.List.{cons_option}
 use Rattle.std.specs.Option.{option_or}
 use Rattle.std.proofs.lemmas.List.{append-nil, drop_more, take_more}
-use Rattle.std.proofs.lemmas.List.Elements.{filter_map-append}
+use Rattle.std.proofs.lemmas.List.Elements.{All-head, All-tail, filter_map-append}
+use Rattle.std.proofs.lemmas.Map.Views.{list_any-from_Contains}
+use Rattle.std.specs.Cmp.{eq_by_cmp_equiv}
+use Rattle.std.specs.Cmp.Lexicographic.{nat_list_cmp_total}
 use Rattle.slate_types.specs.declared.batches.Batch.{Batch}
 use Rattle.slate_types.specs.declared.batches.KeyOp.{KeyOp}
 use Rattle.slate_errors.specs.declared.errors.SlateError.{SlateError}
 use Rattle.slate_status.specs.Segments.{AreRising, union_of}
 use Rattle.slate_model.specs.Segments.{Extractor, empty_refusal, ops_of, prefixes_of, segments_of, unsegmented_refusal}
 use Rattle.slate_segments.specs.Prefixes.{HaveSame, is_one_of}
-use Rattle.slate_segments.proofs.Prefixes.{members-keys, no-rising, one_of-append, rising-keys, rising-same, union-is}
+use Rattle.slate_segments.proofs.Prefixes.{members-keys, no-rising, one_of-append, rising-keys, rising-same, same-equal, same-known, union-is}
 
 -- the prefix of one key
 pub one-prefix : (x : Extractor) (op : KeyOp) (key prefix : List ℕ) → op.key ≡ key → x.prefix_of key ≡ Some prefix → prefixes_of x (op ∷ []) ≡ prefix ∷ []
@@ -25,6 +28,13 @@ same-after front a b same q = one_of-append front a q ∙ (ap (λ t. is_one_of f
 
 pub same-then : (a b c : List (List ℕ)) → HaveSame a b → HaveSame b c → HaveSame a c
 same-then a b c first second q = first q ∙ second q
+
+-- what a list has adds nothing to it
+pub same-among : (old ks : List (List ℕ)) → All (Contains old) ks → HaveSame old (old ++ ks)
+same-among old [] all = same-equal old (old ++ []) (sym (append-nil old))
+same-among old (k ∷ ks) all =
+    let known : is_one_of old k ≡ true = list_any-from_Contains (eq_by_cmp_equiv nat_list_cmp_total) k old (All-head (Contains old) k ks all) in
+    subst (HaveSame old) (append_assoc old (k ∷ []) ks) (same-push old (old ++ k ∷ []) old ks (same-known old k known) (same-among old ks (All-tail (Contains old) k ks all)))
 
 -- one more of a list
 pub same-more : (a old new ks : List (List ℕ)) (i : ℕ) (k : List ℕ) → i < length ks → k ≡ get_or ks i k → HaveSame old (a ++ take i ks) → HaveSame new (old ++ k ∷ []) → HaveSame new (a ++ take (i + 1) ks)

@@ -6,4 +6,4 @@ mod extractors;
 mod segments;
 
 pub use extractors::{extractor_refusal, name_of};
-pub use segments::{listed, replayed_segments, segment_of, take_segments};
+pub use segments::{replayed_segments, segment_of, take_segments};

@@ -8,6 +8,7 @@ ghost use Rattle.slate_segments.specs.Refusals.{IsOfSegment};
 
 use bytes::Bytes;
 use slate_errors::SlateError;
+use slate_status::listed;
 use slate_types::{Batch, KeyOp, NoMemory, PrefixExtractor};
 use std::alloc::Global;
 use std::collections::BTreeSet;
@@ -88,12 +89,4 @@ pub fn replayed_segments<E: PrefixExtractor>(
         take_segments(alloc, extractor, &mut taken, batch.ops.as_slice())?;
     }
     Ok(listed(alloc, taken)?)
-}
-
-/// The prefixes of a set, rising.
-pub fn listed(alloc: Global, set: BTreeSet<Bytes>) -> Result<Vec<Bytes>, NoMemory>
-    ensures listed { IfOk result (λ prefixes. prefixes.items ≡ set.keys) }
-    ensures rising { IfOk result (λ prefixes. AreRising prefixes.items) }
-{
-    Ok(set.into_iter().collect(alloc)?)
 }

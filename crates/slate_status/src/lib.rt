@@ -7,7 +7,7 @@ mod segments;
 mod statuses;
 
 pub use records::StatusRecord;
-pub use segments::{SegmentPrefix, copies, union};
+pub use segments::{SegmentPrefix, are_among, copies, listed, union};
 pub use slate_errors::{
     CloseCell, CloseFault, CloseReason, Ended, Ending, Error, ErrorKind, RetryReason, SlateError,
     TaskName, write_error,

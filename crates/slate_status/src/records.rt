@@ -1,8 +1,8 @@
 // Recording reports of a database's status, and answering waits for durable numbers.
-ghost use Rattle.std.specs.Prelude.{◌≡◌, ◌↔◌, ℕ, List, true, None, [], if◌then◌else◌, IsTrue, IfOk, OnErr, All, Contains};
+ghost use Rattle.std.specs.Prelude.{◌≡◌, ◌↔◌, ℕ, List, true, None, [], if◌then◌else◌, IsTrue, IfOk, OnErr};
 ghost use Rattle.slate_status.specs.Records.{reason_for};
 
-use crate::segments::{copies, union};
+use crate::segments::{are_among, copies, union};
 use crate::{DbStatus, DurableAnswer};
 use bytes::Bytes;
 use slate_errors::{CloseCell, CloseFault, CloseReason, SlateError};
@@ -272,23 +272,4 @@ fn are_same_prefixes(some: &[Bytes], others: &[Bytes]) -> bool
     ensures { IsTrue result ↔ (some.now ≡ others.now) }
 {
     some == others
-}
-
-// Whether a search in the present prefixes finds this one.
-fn is_among(prefix: &Bytes, present: &[Bytes]) -> bool
-    ensures { result ≡ true → Contains present.now prefix.now }
-{
-    present.binary_search(prefix).is_ok()
-}
-
-// Whether searches in the present prefixes find each of these.
-fn are_among(prefixes: &[Bytes], present: &[Bytes]) -> bool
-    ensures { result ≡ true → All (Contains present.now) prefixes.now }
-{
-    for prefix in prefixes {
-        if !is_among(prefix, present) {
-            return false;
-        }
-    }
-    true
 }

@@ -1,9 +1,9 @@
 // Lists of segment prefixes: copies, unions, and segments of them.
-ghost use Rattle.std.specs.Prelude.{◌≡◌, ◌++◌, IfOk, IsTrue, All, Contains, map};
+ghost use Rattle.std.specs.Prelude.{◌≡◌, ◌++◌, true, IfOk, IsTrue, All, Contains, map};
 ghost use Rattle.std.specs.Ordering.{nat_cmp};
 ghost use Rattle.std.specs.Cmp.Lexicographic.{slice_cmp};
 ghost use Rattle.std.specs.BTreeSet.{IsFromIterResult};
-ghost use Rattle.slate_status.specs.Segments.{IsUnion, union_of};
+ghost use Rattle.slate_status.specs.Segments.{AreRising, IsUnion, union_of};
 
 use bytes::Bytes;
 use slate_types::NoMemory;
@@ -37,9 +37,10 @@ fn set_of(alloc: Global, prefixes: Vec<Bytes>) -> Result<BTreeSet<Bytes>, NoMemo
     Ok(prefixes.into_iter().collect(alloc)?)
 }
 
-// The prefixes of a set, rising.
-fn list_of(alloc: Global, set: BTreeSet<Bytes>) -> Result<Vec<Bytes>, NoMemory>
-    ensures { IfOk result (λ prefixes. prefixes.items ≡ set.keys) }
+/// The prefixes of a set, rising.
+pub fn listed(alloc: Global, set: BTreeSet<Bytes>) -> Result<Vec<Bytes>, NoMemory>
+    ensures listed { IfOk result (λ prefixes. prefixes.items ≡ set.keys) }
+    ensures rising { IfOk result (λ prefixes. AreRising prefixes.items) }
 {
     Ok(set.into_iter().collect(alloc)?)
 }
@@ -51,7 +52,7 @@ pub fn union(alloc: Global, first: &[Bytes], second: &[Bytes]) -> Result<Vec<Byt
 {
     let mut all = copies(alloc, first)?;
     all.append(&mut copies(alloc, second)?)?;
-    list_of(alloc, set_of(alloc, all)?)
+    listed(alloc, set_of(alloc, all)?)
 }
 
 // The segments of these prefixes, in their order.
@@ -67,4 +68,23 @@ pub(crate) fn segments_of(
             .map(|prefix| SegmentPrefix { prefix })
             .collect(alloc)?,
     )
+}
+
+// Whether a search in prefixes that rise finds this one.
+fn is_among(prefix: &Bytes, present: &[Bytes]) -> bool
+    ensures { result ≡ true → Contains present.now prefix.now }
+{
+    present.binary_search(prefix).is_ok()
+}
+
+/// Whether searches in these prefixes, which rise, find each of those. A logarithm of them for each.
+pub fn are_among(prefixes: &[Bytes], present: &[Bytes]) -> bool
+    ensures { result ≡ true → All (Contains present.now) prefixes.now }
+{
+    for prefix in prefixes {
+        if !is_among(prefix, present) {
+            return false;
+        }
+    }
+    true
 }

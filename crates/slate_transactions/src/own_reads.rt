@@ -1,16 +1,15 @@
 // Reading a key in tables and in a transaction's own operations.
-ghost use Rattle.std.specs.Prelude.{◌≡◌, ◌∷◌, ◌++◌, [], List, Option, Some, IfOk, IfSome, OnOk};
+ghost use Rattle.std.specs.Prelude.{◌≡◌, ◌∷◌, ◌++◌, [], Option, IfOk, IfSome};
 ghost use Rattle.std.specs.List.{flat_map, list_any};
 ghost use Rattle.std.specs.Option.{option_copied};
 ghost use Rattle.slate_types.specs.Operator.{Merge};
-ghost use Rattle.slate_reads.specs.Read.{IsOperator, Reads, Version as SeenVersion, is_base, read_at, versions_in};
-ghost use Rattle.slate_reads.specs.Tails.{IsTail, seen};
+ghost use Rattle.slate_reads.specs.Read.{IsOperator, Reads, is_base, read_at};
 ghost use Rattle.slate_transactions.specs.Kept.{row_batch};
 ghost use Rattle.slate_transactions.specs.Own.{seen_with};
 
 use crate::OwnWrites;
 use bytes::Bytes;
-use slate_reads::{IndexedTable, Table, Version, fold, is_base, read_key};
+use slate_reads::{IndexedTable, Table, fold, is_base, read_key, take_versions};
 use slate_types::{Batch, KeyOp, KeyValue, MergeOperator, NoMemory, Op, ReadFault, Seq};
 use std::alloc::Global;
 
@@ -91,32 +90,4 @@ fn row_batch(alloc: Global, row: Option<KeyValue>) -> Result<Batch, NoMemory>
         create_ts: row.create_ts,
         ops: Seq::of(ops),
     })
-}
-
-/// Adds a batch's versions of a key to a tail. A put or a delete begins it anew.
-fn take_versions<'a>(
-    versions: &mut Vec<Version<'a>>,
-    batch: &'a Batch,
-    key: &[u8],
-) -> Result<(), NoMemory>
-    ensures { OnOk result ((history : List SeenVersion) → IsTail key.now history versions.old.items →
-        IsTail key.now (history ++ versions_in key.now batch.now) versions.new.items) }
-{
-    for key_op in batch.ops.as_slice() {
-        if key_op.key.as_slice() == key {
-            take_version(versions, Version { batch, key_op })?;
-        }
-    }
-    Ok(())
-}
-
-/// Adds a version to a tail. A put or a delete begins it anew.
-fn take_version<'a>(versions: &mut Vec<Version<'a>>, version: Version<'a>) -> Result<(), NoMemory>
-    ensures { OnOk result ((history : List SeenVersion) → IsTail version.entry.key_op.now.key history versions.old.items →
-        IsTail version.entry.key_op.now.key (history ++ seen version.entry ∷ []) versions.new.items) }
-{
-    if is_base(&version.key_op.op) {
-        versions.clear();
-    }
-    Ok(versions.push(version)?)
 }

@@ -4,7 +4,7 @@ ghost use Rattle.std.specs.Option.{option_copied};
 ghost use Rattle.slate_status.specs.Segments.{AreRising};
 ghost use Rattle.slate_model.specs.Segments.{Extractor, IsExtractor, IsLawful, key_refusal, nest, nesting_refusal, prefixes_of, segment_refusal};
 ghost use Rattle.slate_model.specs.Write.{IsOfSegments};
-ghost use Rattle.slate_segments.specs.Prefixes.{HaveSame, is_one_of};
+ghost use Rattle.slate_segments.specs.Prefixes.{HaveSame};
 ghost use Rattle.slate_writer.specs.Segments.{IsConflict, IsNext, IsPlace, IsSame, prefixes_by};
 
 use bytes::Bytes;
@@ -266,23 +266,4 @@ pub(crate) fn take_prefixes<E: PrefixExtractor>(
         take_prefix(alloc, extractor, stored, rising, segments, &mut taken, key)?;
     }
     Ok(taken)
-}
-
-/// Whether a search in prefixes that rise finds this one.
-fn is_among(prefix: &Bytes, prefixes: &[Bytes]) -> bool
-    ensures { result ≡ true → is_one_of prefixes.now prefix.now ≡ true }
-{
-    prefixes.binary_search(prefix).is_ok()
-}
-
-/// Whether searches in prefixes that rise find each of these.
-pub(crate) fn are_among(taken: &[Bytes], prefixes: &[Bytes]) -> bool
-    ensures { result ≡ true → HaveSame prefixes.now (prefixes.now ++ taken.now) }
-{
-    for prefix in taken {
-        if !is_among(prefix, prefixes) {
-            return false;
-        }
-    }
-    true
 }

@@ -28,7 +28,6 @@ use std::cell::Cell;
 use std::fs::Files;
 use std::rt::Clock;
 use std::sync::Wait;
-use std::thread::Threads;
 
 const ARROW: &[u8; 4] = b" -> ";
 
@@ -88,7 +87,7 @@ struct Run<'a> {
 
 /// Makes the calls of a file one after the other, and answers the first that isn't answered as the file says. `left` is how
 /// many calls of the system on these files are made before each fails.
-pub fn run_calls<R: Threads + Wait + Clock + Sync + Copy, F: Files + Copy>(
+pub fn run_calls<R: Wait + Clock + Copy, F: Files + Copy>(
     rt: R,
     alloc: Global,
     files: F,
@@ -117,7 +116,7 @@ pub fn run_calls<R: Threads + Wait + Clock + Sync + Copy, F: Files + Copy>(
         Some(Name::Replies) => run.over(Replies),
         Some(Name::Rows) => run.over(Rows::new(alloc)),
         Some(Name::Status) => run.over(Statuses::new()),
-        Some(Name::Streams) => run.over(Streams::new(alloc, rt)),
+        Some(Name::Streams) => run.over(Streams::new(alloc)),
         Some(Name::Tasks) => run.over(TaskCalls::new()),
         Some(Name::Text) => run.over(Texts),
         Some(Name::Tracker) => run.over(Trackers::new(alloc)),

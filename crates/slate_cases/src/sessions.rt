@@ -9,9 +9,23 @@ use std::alloc::Global;
 use std::sync::Wait;
 use std::thread::Threads;
 
-/// Runs the session that these words ask for.
-pub fn run_session<R: Threads + Wait + Sync, I: Source, O: Sink, S: Store + Send>(
+/// Runs the session that these words ask for, with threads where it is one beside readers.
+pub fn run_on_threads<R: Threads + Wait + Sync, I: Source, O: Sink, S: Store + Send>(
     rt: &R,
+    alloc: Global,
+    words: &[String],
+    source: &mut I,
+    sink: &mut O,
+    store: &mut S,
+) -> Finished {
+    match words {
+        [word, ..] if word.as_str() == "live" => run_live(rt, alloc, words, source, sink, store),
+        _ => run_session(alloc, words, source, sink, store),
+    }
+}
+
+/// Runs the session that these words ask for, on this thread alone.
+pub fn run_session<I: Source, O: Sink, S: Store>(
     alloc: Global,
     words: &[String],
     source: &mut I,
@@ -22,7 +36,6 @@ pub fn run_session<R: Threads + Wait + Sync, I: Source, O: Sink, S: Store + Send
         [word] if word.as_str() == "jobs" => jobs_session(alloc, source, sink, store),
         [word] if word.as_str() == "feed" => feed_session(alloc, source, sink, store),
         [word] if word.as_str() == "route" => route_session(alloc, source, sink, store),
-        [word, ..] if word.as_str() == "live" => run_live(rt, alloc, words, source, sink, store),
         _ => session(alloc, words, source, sink, store),
     }
 }

@@ -10,8 +10,6 @@ use slate_live::{InputFault, ReadAnswer, SliceSource, Source, VecSink, read_whol
 use slate_store::MemoryStore;
 use slate_types::Seq;
 use std::alloc::Global;
-use std::sync::Wait;
-use std::thread::Threads;
 
 #[derive(Clone, Copy)]
 enum Call {
@@ -37,17 +35,15 @@ const CALLS: &[(&[u8], Call)] = &[
 ];
 
 /// A source, a sink, and the store of the sessions that read the one and write to the other.
-pub struct Streams<R> {
-    rt: R,
+pub struct Streams {
     source: SliceSource,
     sink: VecSink,
     store: MemoryStore,
 }
 
-impl<R: Drop> Drop for Streams<R> {
+impl Drop for Streams {
     fn drop(self) {
         let Streams {
-            rt: _,
             source: _,
             sink: _,
             store: _,
@@ -55,12 +51,11 @@ impl<R: Drop> Drop for Streams<R> {
     }
 }
 
-impl<R: Threads + Wait + Sync + Copy> Streams<R> {
+impl Streams {
     /// An empty source, and a sink to which nothing is written.
-    pub fn new(alloc: Global, rt: R) -> Streams<R> {
+    pub fn new(alloc: Global) -> Streams {
         let none = Seq::of(Vec::new(alloc));
         Streams {
-            rt,
             source: SliceSource::new(Vec::new(alloc), 1, none),
             sink: VecSink::new(alloc, 1, Seq::of(Vec::new(alloc))),
             store: MemoryStore::new(alloc),
@@ -94,7 +89,6 @@ impl<R: Threads + Wait + Sync + Copy> Streams<R> {
         let words = line.strings();
         let (source, sink) = (&mut self.source, &mut self.sink);
         let finished = run_session(
-            &self.rt,
             line.alloc(),
             words.as_slice(),
             source,
@@ -105,9 +99,9 @@ impl<R: Threads + Wait + Sync + Copy> Streams<R> {
     }
 }
 
-impl<R: Threads + Wait + Sync + Copy> Subject for Streams<R> {
-    fn anew(&self, alloc: Global) -> Streams<R> {
-        Streams::new(alloc, self.rt)
+impl Subject for Streams {
+    fn anew(&self, alloc: Global) -> Streams {
+        Streams::new(alloc)
     }
 
     fn call(&mut self, line: &mut CallLine<'_>) {

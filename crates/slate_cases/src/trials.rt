@@ -1,7 +1,7 @@
 // Running a case over a fresh store, and comparing what came of it.
 use crate::cases::Case;
 use crate::failures::Failure;
-use crate::sessions::run_session;
+use crate::sessions::run_on_threads;
 use slate_live::{SliceSource, VecSink};
 use slate_store::{FailingCall, FaultyStore, MemoryStore};
 use slate_types::Seq;
@@ -42,7 +42,7 @@ fn run_script<R: Threads + Wait + Sync>(
 ) -> u8 {
     let mut source = SliceSource::new(script, PIECE, Seq::of(Vec::new(alloc)));
     let mut store = FaultyStore::new(MemoryStore::new(alloc), failing);
-    run_session(rt, alloc, words, &mut source, sink, &mut store).status
+    run_on_threads(rt, alloc, words, &mut source, sink, &mut store).status
 }
 
 /// Compares the replies and the status that were found with those that are wanted.

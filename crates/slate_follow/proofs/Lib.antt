@@ -1,4 +1,5 @@
 pub mod Above
+pub mod Anew
 pub mod Answering
 pub mod Closing
 pub mod Continued
@@ -11,6 +12,8 @@ pub mod Informed
 pub mod Joining
 pub mod Keeping
 pub mod Lacking
+pub mod Lagging
+pub mod Later
 pub mod Leased
 pub mod Planned
 pub mod Rebuilt

@@ -1,14 +1,14 @@
 -- What the steps of a reader that keeps a checkpoint of its own put and answer.
-use Rattle.std.specs.Prelude.{◌≡◌, ℕ, ℤ, ◌+◌, ◌*◌, ◌≤◌, ◌⊎◌, is_none, if◌then◌else◌, Bool, true, false, max, List, [], ◌++◌, length, Option, Some, None, Result, Ok, Err, IfErr, IfSome, IsSome}
+use Rattle.std.specs.Prelude.{◌≡◌, ℕ, ℤ, ◌+◌, ◌*◌, ◌<◌, ◌≤◌, ◌⊎◌, is_none, if◌then◌else◌, Bool, true, false, max, List, [], ◌++◌, length, Option, Some, None, Result, Ok, Err, IfErr, IfSome, IsSome}
 use Rattle.slate_types.specs.declared.batches.Batch.{Batch}
-use Rattle.slate_types.specs.Line.{batches_above}
+use Rattle.slate_types.specs.Line.{batches_above, end}
 use Rattle.slate_types.specs.declared.store_errors.StoreFault.TheVariants.{Unavailable}
 use Rattle.slate_store.specs.declared.objects.VersionedManifest.{VersionedManifest}
 use Rattle.slate_store.specs.declared.reader_modes.DbReaderMode.TheVariants.{ManagedCheckpoint}
 use Rattle.slate_store.specs.declared.refusals.StoreRefusal.TheVariants as refusals
 use Rattle.slate_store.specs.Checkpoints.{Plan, found, to_write}
 use Rattle.slate_store.specs.Content.{IsSound, content}
-use Rattle.slate_store.specs.Objects.{Objects, PutManifest, changed, is_present, latest_manifest}
+use Rattle.slate_store.specs.Objects.{Objects, PutManifest, changed, is_present, last_log, latest_manifest}
 use Rattle.slate_store.specs.Refusals.{planned}
 use Rattle.slate_replay.specs.Replay.{Replays, line_of}
 use Rattle.slate_replay.specs.declared.replays.Replayed.{Replayed}
@@ -16,6 +16,7 @@ use Rattle.slate_replay.specs.declared.replays.Replayed.TheVariants.{Whole}
 use Rattle.slate_errors.specs.declared.errors.SlateError.{SlateError}
 use Rattle.slate_errors.specs.declared.errors.SlateError.TheVariants as errors
 use Rattle.slate_model.specs.Changes.{PartMade, after_part}
+use Rattle.slate_model.specs.Follow.{come_by}
 use Rattle.slate_model.specs.Follower.{Follower, number, rebuilt}
 use Rattle.slate_model.specs.Followed.{last_read}
 use Rattle.slate_model.specs.Lease.{differs, is_due, leased, renews_taken, to_keep}
@@ -25,7 +26,8 @@ use Rattle.slate_model.specs.Stores.{Stands, kept_seen}
 use Rattle.slate_model.specs.declared.answers.PollAnswer.{PollAnswer}
 use Rattle.slate_model.specs.declared.leases.Lease.{Lease}
 use Rattle.slate_follow.specs.declared.keeps.Kept.{Kept}
-use Rattle.slate_follow.specs.Rebuilding.{Builds, GoingLacks, Lacks, Reaches, TakesUnder, TakingLacks, followed, last_above, new_logs, reached}
+use Rattle.slate_follow.specs.Lagging.{IsLastTaken}
+use Rattle.slate_follow.specs.Rebuilding.{Builds, GoingLacks, Lacks, Reaches, TakesUnder, TakingLacks, followed, new_logs, reached}
 
 -- the latest manifest, or why it wasn't read
 abbrev pub FindsLatest : Objects → Result VersionedManifest SlateError → Type 0
@@ -108,10 +110,10 @@ pub record PutsBy {A : Type 0} (refused : Objects → SlateError → Type 0) (pl
   pub leased : LeaseBy plan old result made lease
 
 -- A reader takes its view and its batches anew from a manifest, which its plan put.
-pub record BuildsLatest (plan : Plan Lease) (skips : Bool) (objects : Objects) (follower : Follower) (answer : PollAnswer) : Type 0 where
+pub record BuildsLatest (plan : Plan Lease) (skips : Bool) (lag : ℕ) (objects : Objects) (follower : Follower) (answer : PollAnswer) : Type 0 where
   pub given : Lease
   pub puts : plan ≡ Ok (Some follower.view, given)
-  pub builds : Builds objects ManagedCheckpoint skips follower.view (last_read ManagedCheckpoint skips follower.view objects) (follower_under follower.view follower) answer
+  pub builds : Builds objects ManagedCheckpoint skips lag follower.view (last_read ManagedCheckpoint skips follower.view objects) (follower_under follower.view follower) answer
 
 -- or takes what log files have under it
 pub record TakesLatest (plan : Plan Lease) (old : Follower) (objects : Objects) (follower : Follower) (answer : PollAnswer) : Type 0 where
@@ -124,12 +126,12 @@ abbrev pub IsNews : Objects → Follower → (latest : VersionedManifest) → (s
 IsNews objects follower latest true added found mark =
     (added ≡ []) × (found ≡ Whole) × (mark ≡ latest.manifest.replay_after_wal_id)
 IsNews objects follower latest false added found mark =
-    let last = last_above follower latest objects in
-    Replays (max follower.mark latest.manifest.replay_after_wal_id) last (number follower) [] added objects (Ok found) × (mark ≡ reached found last)
+    let from = max follower.mark latest.manifest.replay_after_wal_id in
+    (last : ℕ) × IsLastTaken follower.lag (number follower) from objects last × Replays from last (number follower) [] added objects (Ok found) × (mark ≡ reached found last)
 
 -- the follower that has these, and goes by its view: one that skips log files has the tables alone
 abbrev pub informed : Follower → (skips : Bool) → List Batch → (mark : ℕ) → Follower
-informed old true added mark = rebuilt old.mode old.skips old.view (line_of old.view.manifest.last_l0_seq []) mark
+informed old true added mark = rebuilt old.mode old.skips old.lag old.view (line_of old.view.manifest.last_l0_seq []) mark
 informed old false added mark = followed old old.view added mark
 
 -- the errors of what a poll takes: those of a replay, and that a key has no segment
@@ -143,21 +145,35 @@ IsOfPolling error = ⊥
 abbrev pub NewsLacks : Option Extractor → Follower → (latest : VersionedManifest) → Objects → Type 0
 NewsLacks extractor follower latest objects =
     (key : List ℕ) × (added : List Batch) × (found : Replayed) × (follower.skips ≡ false)
-    × Replays (max follower.mark latest.manifest.replay_after_wal_id) (last_above follower latest objects) (number follower) [] added objects (Ok found)
+    × (last : ℕ) × IsLastTaken follower.lag (number follower) (max follower.mark latest.manifest.replay_after_wal_id) objects last
+    × Replays (max follower.mark latest.manifest.replay_after_wal_id) last (number follower) [] added objects (Ok found)
     × Lacks extractor (batches_above follower.view.manifest.last_l0_seq (follower.line.batches ++ added)) key
+
+-- A reader is at the number where it was, with no mark past the latest replay mark but its own, or at the end of what is stored, which
+-- it would have lagged behind further than it may.
+abbrev pub HasCome : (old from : Follower) → Objects → Type 0
+HasCome old from objects =
+    (latest : VersionedManifest) × (latest_manifest objects ≡ Some latest)
+    × (((number from ≡ number old) × ((from.mark ≡ old.mark) ⊎ (from.mark ≡ max old.mark latest.manifest.replay_after_wal_id)))
+    ⊎ ((number from ≡ end (content objects)) × (from.mark ≡ last_log latest.manifest.replay_after_wal_id objects) × ((old.lag ≡ 0) ⊎ (come_by old latest + old.lag < end (content objects)))))
 
 -- A reader has come on from what it was: in the mode that keeps a checkpoint, and where it reads log files it has seen them up to its
 -- mark, as it had before.
 pub record ComesFrom (old from : Follower) (objects : Objects) : Type 0 where
-  pub mode : from.mode ≡ ManagedCheckpoint
+  pub managed : old.mode ≡ ManagedCheckpoint
+  pub mode : from.mode ≡ old.mode
   pub skips : from.skips ≡ old.skips
+  pub lag : from.lag ≡ old.lag
+  pub view : from.view ≡ old.view
+  pub came : from.skips ≡ false → IsSound objects → kept_seen old objects (content objects) → HasCome old from objects
   pub seen : from.skips ≡ false → IsSound objects → kept_seen old objects (content objects) → kept_seen from objects (content objects)
 
 -- so has what it takes that goes on by the latest manifest
 abbrev pub OnLacks : Option Extractor → Follower → (latest : VersionedManifest) → Objects → Type 0
 OnLacks extractor follower latest objects =
     (follower.mode ≡ ManagedCheckpoint) × (follower.skips ≡ false) × Reaches follower latest
-    × ((key : List ℕ) × GoingLacks extractor objects latest (last_above follower latest objects) follower key)
+    × (last : ℕ) × IsLastTaken follower.lag (number follower) (max follower.mark latest.manifest.replay_after_wal_id) objects last
+    × ((key : List ℕ) × GoingLacks extractor objects latest last follower key)
 
 -- a key of what a reader takes under the manifest that a plan puts has no segment
 abbrev pub NextLacks : Option Extractor → Plan Lease → Follower → Objects → Type 0
@@ -191,7 +207,7 @@ HasTaken follower = IfSome follower.lease (λ lease. IsSome (found lease.id foll
 abbrev pub LeftBy : SlateError → (old new : Follower) → Type 0
 LeftBy error old new =
     (new ≡ record old { lease = new.lease; result = poll_result error })
-    ⊎ ((middle : Follower) × (answer : PollAnswer) × IsOpenAt old.skips middle answer × (new ≡ record middle { result = poll_result error }))
+    ⊎ ((middle : Follower) × (answer : PollAnswer) × IsOpenAt old.skips old.lag middle answer × (new ≡ record middle { result = poll_result error }))
 
 -- ---- calls
 -- How often a round of a poll of a reader that keeps a checkpoint calls a store, where log files are to be read so often: it reads the latest

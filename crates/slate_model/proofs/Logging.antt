@@ -293,8 +293,8 @@ module _ (o : Objects) (latest : VersionedManifest) (sound : IsSound o) (is : la
       let parts : length (joined ++ logged o m) ≡ length joined + length (logged o m) = length-append joined (logged o m) in
       ap (λ found. end (content_by o found)) is ∙ (let e : number_before joined m.last_l0_seq + length (joined ++ logged o m) ≡ m.last_l0_seq + length (logged o m) = omega (arith, its, parts) in e)
 
-  pub all-seen : (mode : DbReaderMode) (skips : Bool) → HasSeen o (rebuilt mode skips latest (content o) (last_log m.replay_after_wal_id o))
-  all-seen mode skips = record {
+  pub all-seen : (mode : DbReaderMode) (skips : Bool) (lag : ℕ) → HasSeen o (rebuilt mode skips lag latest (content o) (last_log m.replay_after_wal_id o))
+  all-seen mode skips lag = record {
     mark = λ found at. let same : latest ≡ found = (cc) in let e = ap (λ (x : VersionedManifest). last_log x.manifest.replay_after_wal_id o) same in omega (arith, e);
     logs = λ found id bs at over under there. within id bs (let same : latest ≡ found = (cc) in let e = ap (λ (x : VersionedManifest). x.manifest.replay_after_wal_id) same in omega (arith, e, over)) under there;
   } where
@@ -308,8 +308,8 @@ module _ (o : Objects) (latest : VersionedManifest) (sound : IsSound o) (is : la
         above-within m.last_l0_seq (end (content o)) bs (omega (arith, ends)) (λ k d less. let low = stands-within _ line (stand k d less) in omega (arith, low, ends))
 
 -- what one that has read no log file above the replay mark has seen
-pub none-seen : (o : Objects) (view : VersionedManifest) (mode : DbReaderMode) (skips : Bool) (line : Line) → latest_manifest o ≡ Some view → HasSeen o (rebuilt mode skips view line view.manifest.replay_after_wal_id)
-none-seen o view mode skips line is = record {
+pub none-seen : (o : Objects) (view : VersionedManifest) (mode : DbReaderMode) (skips : Bool) (lag : ℕ) (line : Line) → latest_manifest o ≡ Some view → HasSeen o (rebuilt mode skips lag view line view.manifest.replay_after_wal_id)
+none-seen o view mode skips lag line is = record {
   mark = λ found at.
       let same : view ≡ found = (cc) in
       let e = ap (λ (x : VersionedManifest). x.manifest.replay_after_wal_id) same in

@@ -1,4 +1,4 @@
-use Rattle.std.proofs.Common.{◌≡◌, ℕ, ◌≤◌, Ok, Err, Some, None, true, ap, refl, rules, subst, sym, arith, ◌∙◌}
+use Rattle.std.proofs.Common.{◌≡◌, ℕ, Ok, Err, Some, None, true, ap, refl, rules, subst, sym, arith, ◌∙◌}
 use Rattle.std.proofs.Math.Facts.{to_z-of_z}
 use Rattle.std.specs.Int.{w64}
 use Rattle.std.specs.Option.{IfSome}
@@ -29,7 +29,7 @@ returns-in_err-view-clause-takes g c x lawful =
     let e = c.in_err-view.field-0.0 in
     let lifetime = c.args.options.now.checkpoint_lifetime_ms in
     let puts = subst (λ m. WhereModelled (λ o o'. (made : ℕ) × PutsPlanned {B = VersionedManifest × Lease} Stands MayMismatch (to_take lifetime m) o (Err e) made o') (g.S.Store.objects c.args.store.now) (g.S.Store.objects c.take_lease.new.store)) (to_z-of_z {w = w64} {z = c.args.moment} (search rules)) c.in_err-view.ensures.puts in
-    let all = take-failed x lifetime c.args.options.now.skip_wal_replay c.args.moment (g.S.Store.objects c.args.store.now) (g.S.Store.objects c.take_lease.new.store) (g.S.Store.faults c.args.store.now) (g.S.Store.faults c.take_lease.new.store) e puts (c.in_err-view.ensures.mismatch x lawful) (λ key is. c.in_err-view.ensures.whole key (ap Err is)) c.in_err-view.ensures.faults in
+    let all = take-failed x lifetime c.args.options.now.skip_wal_replay c.args.options.now.max_lag c.args.moment (g.S.Store.objects c.args.store.now) (g.S.Store.objects c.take_lease.new.store) (g.S.Store.faults c.args.store.now) (g.S.Store.faults c.take_lease.new.store) e puts (c.in_err-view.ensures.mismatch x lawful) (λ key is. c.in_err-view.ensures.whole key (ap Err is)) c.in_err-view.ensures.faults in
     let is : c.from_residual.result ≡ Err e = search rules in
     rw is all
 
@@ -44,7 +44,7 @@ returns-in_err-last-clause-takes g c x lawful =
     let faults = counts-then {B = Follower × PollAnswer} (g.S.Store.faults c.args.store.now) (g.S.Store.faults c.take_lease.new.store) (g.S.Store.faults c.last_read.new.store) e v.ensures.faults.stays c.in_err-last.ensures.faults in
     let plans : IfSome t (λ o. PlanIs (to_take lifetime c.args.moment) o (Ok (Some v.view, v.lease))) = search rules in
     let fits : IfSome t (λ o. RefusesLatest x true o None) = search (rules, v.ensures.fits x lawful) in
-    let all = take-broken x lifetime c.args.options.now.skip_wal_replay c.args.moment t (g.S.Store.objects c.last_read.new.store) (g.S.Store.faults c.args.store.now) (g.S.Store.faults c.last_read.new.store) v.view v.lease t1 c.in_err-last.ensures.kept puts plans fits e (replay-rebuilding e c.in_err-last.ensures.refusals) (λ key is. absurd (replay-unnamed e key c.in_err-last.ensures.refusals is)) faults in
+    let all = take-broken x lifetime c.args.options.now.skip_wal_replay c.args.options.now.max_lag c.args.moment t (g.S.Store.objects c.last_read.new.store) (g.S.Store.faults c.args.store.now) (g.S.Store.faults c.last_read.new.store) v.view v.lease t1 c.in_err-last.ensures.kept puts plans fits e (replay-rebuilding e c.in_err-last.ensures.refusals) (λ key is. absurd (replay-unnamed e key c.in_err-last.ensures.refusals is)) faults in
     let is : c.from_residual-in_err-last.result ≡ Err e = search rules in
     rw is all
 
@@ -60,7 +60,7 @@ returns-in_err-rebuilt-clause-takes g c x lawful =
     let faults = counts-then {B = Follower × PollAnswer} (g.S.Store.faults c.args.store.now) (g.S.Store.faults c.last_read.new.store) (g.S.Store.faults c.rebuild.new.store) e same c.in_err-rebuilt.ensures.faults in
     let plans : IfSome t (λ o. PlanIs (to_take lifetime c.args.moment) o (Ok (Some v.view, v.lease))) = search rules in
     let fits : IfSome t (λ o. RefusesLatest x true o None) = search (rules, v.ensures.fits x lawful) in
-    let all = take-broken x lifetime c.args.options.now.skip_wal_replay c.args.moment t (g.S.Store.objects c.rebuild.new.store) (g.S.Store.faults c.args.store.now) (g.S.Store.faults c.rebuild.new.store) v.view v.lease t1 (c.in_err-rebuilt.ensures.kept ∙ c.in_ok-last.ensures.kept) puts plans fits e c.in_err-rebuilt.ensures.refusals
+    let all = take-broken x lifetime c.args.options.now.skip_wal_replay c.args.options.now.max_lag c.args.moment t (g.S.Store.objects c.rebuild.new.store) (g.S.Store.faults c.args.store.now) (g.S.Store.faults c.rebuild.new.store) v.view v.lease t1 (c.in_err-rebuilt.ensures.kept ∙ c.in_ok-last.ensures.kept) puts plans fits e c.in_err-rebuilt.ensures.refusals
     (λ key is. lacks-read x ManagedCheckpoint c.args.options.now.skip_wal_replay v.view c.in_ok-last.last key c.in_ok-last.ensures.kept c.in_err-rebuilt.ensures.kept c.in_ok-last.ensures.where_modelled (c.in_err-rebuilt.ensures.lacks x key lawful (ap Err is))) faults in
     let is : c.from_residual-in_err-rebuilt.result ≡ Err e = search rules in
     rw is all
@@ -76,7 +76,7 @@ returns-in_err-new-clause-takes g c x lawful =
     let faults = no-fault {A = Follower × PollAnswer} (g.S.Store.faults c.args.store.now) (g.S.Store.faults c.rebuild.new.store) same in
     let plans : IfSome t (λ o. PlanIs (to_take lifetime c.args.moment) o (Ok (Some v.view, v.lease))) = search rules in
     let fits : IfSome t (λ o. RefusesLatest x true o None) = search (rules, v.ensures.fits x lawful) in
-    let all = take-broken x lifetime c.args.options.now.skip_wal_replay c.args.moment t (g.S.Store.objects c.rebuild.new.store) (g.S.Store.faults c.args.store.now) (g.S.Store.faults c.rebuild.new.store) v.view v.lease t1 (c.in_ok-rebuilt.ensures.kept ∙ c.in_ok-last.ensures.kept) puts plans fits NoMemory tt (λ key is. absurd (cc)) faults in
+    let all = take-broken x lifetime c.args.options.now.skip_wal_replay c.args.options.now.max_lag c.args.moment t (g.S.Store.objects c.rebuild.new.store) (g.S.Store.faults c.args.store.now) (g.S.Store.faults c.rebuild.new.store) v.view v.lease t1 (c.in_ok-rebuilt.ensures.kept ∙ c.in_ok-last.ensures.kept) puts plans fits NoMemory tt (λ key is. absurd (cc)) faults in
     let is : c.from_residual-in_err-new.result ≡ Err NoMemory = search rules in
     rw is all
 
@@ -95,12 +95,12 @@ returns-clause-takes g c x lawful =
     let fits : IfSome t (λ o. RefusesLatest x true o None) = search (rules, v.ensures.fits x lawful) in
     let s = b.ensures.segments x lawful in
     let reads = subst (λ x. IfSome x (λ o. c.in_ok-last.last ≡ last_read ManagedCheckpoint skips v.view o)) (sym (b.ensures.kept ∙ c.in_ok-last.ensures.kept)) c.in_ok-last.ensures.where_modelled in
-    let builds = subst (λ x. IfSome x (λ o. Builds o ManagedCheckpoint skips v.view c.in_ok-last.last b.rebuilt b.answer)) (sym b.ensures.kept) b.ensures.built in
+    let builds = subst (λ x. IfSome x (λ o. Builds o ManagedCheckpoint skips c.args.options.now.max_lag v.view c.in_ok-last.last b.rebuilt b.answer)) (sym b.ensures.kept) b.ensures.built in
     let same : g.S.Store.faults c.rebuild.new.store ≡ g.S.Store.faults c.args.store.now = (let a = v.ensures.faults.stays in let d = c.in_ok-last.ensures.faults.stays in let h = b.ensures.faults.stays in omega (arith, a, d, h)) in
     let new : Follower = record b.rebuilt { lease = Some v.lease } in
     let faults = all-well (g.S.Store.faults c.args.store.now) (g.S.Store.faults c.rebuild.new.store) (new, b.answer) same in
-    let answers : IsOpenAt skips new b.answer = (b.ensures.asked.0, b.ensures.asked.1, b.ensures.answer.1, b.ensures.answer.2) in
-    let all = take-done x lifetime skips c.args.moment t t' (g.S.Store.faults c.args.store.now) (g.S.Store.faults c.rebuild.new.store) v.view v.lease t1 (b.ensures.kept ∙ c.in_ok-last.ensures.kept) puts plans fits
+    let answers : IsOpenAt skips c.args.options.now.max_lag new b.answer = (b.ensures.asked.0, b.ensures.asked.1, b.ensures.asked.2, b.ensures.answer.1, b.ensures.answer.2) in
+    let all = take-done x lifetime skips c.args.options.now.max_lag c.args.moment t t' (g.S.Store.faults c.args.store.now) (g.S.Store.faults c.rebuild.new.store) v.view v.lease t1 (b.ensures.kept ∙ c.in_ok-last.ensures.kept) puts plans fits
     b.rebuilt new b.answer c.in_ok-last.last reads builds b.ensures.answer.0 refl s.0 s.1 answers faults in
     rw c.in_ok-new.ensures all
 
@@ -184,4 +184,4 @@ returns-clause-truncates g c =
     let t' = g.S.Store.objects c.rebuild.new.store in
     rw c.in_ok-new.ensures
     (if_some t' (λ o at. leased-truncates o b.rebuilt (Some v.lease) b.answer
-    (builds-truncates o ManagedCheckpoint skips v.view c.in_ok-last.last b.rebuilt b.answer (some_at (λ o. Builds o ManagedCheckpoint skips v.view c.in_ok-last.last b.rebuilt b.answer) t1 o (sym b.ensures.kept ∙ at) b.ensures.built))))
+    (builds-truncates o ManagedCheckpoint skips c.args.options.now.max_lag v.view c.in_ok-last.last b.rebuilt b.answer (some_at (λ o. Builds o ManagedCheckpoint skips c.args.options.now.max_lag v.view c.in_ok-last.last b.rebuilt b.answer) t1 o (sym b.ensures.kept ∙ at) b.ensures.built))))

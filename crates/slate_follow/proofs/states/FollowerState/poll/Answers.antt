@@ -15,7 +15,7 @@ use Rattle.slate_follow.specs.Keeping.{CallsKeeping}
 use Rattle.slate_follow.specs.Rebuilding.{poll_error}
 use Rattle.slate_errors.specs.declared.errors.SlateError.TheVariants.{InvalidDBState}
 use Rattle.slate_follow.proofs.Answering.{taking-key, taking-poll}
-use Rattle.slate_follow.proofs.Handed.{handed}
+use Rattle.slate_follow.proofs.Handed.{polled-handed}
 use Rattle.slate_follow.proofs.Handing.{polls-handed}
 use Rattle.slate_follow.proofs.Leased.{managed-is, mode-leased}
 use Rattle.slate_follow.proofs.Refusing.{err-same}
@@ -90,7 +90,7 @@ pub returns-in-Ok-clause-handed : goal.returns-in-Ok-clause-handed
 returns-in-Ok-clause-handed g c x lawful = λ unmanaged free o line at stored seen.
     let r = c.in-Ok.ensures.rebuilds x lawful in
     let old = c.args.self.now in
-    handed (g.S.Store.objects c.args.store.now) o line old.mode old.skips false c.take_new.new.self c.in-Ok.answer at stored (r.can o at) free (r.sees o line at stored seen)
+    polled-handed (g.S.Store.objects c.args.store.now) o line old c.take_new.new.self c.in-Ok.answer at stored (r.can o at) free seen (r.sees o line at stored seen)
 
 pub returns-in-Err-clause-handed : goal.returns-in-Err-clause-handed
 returns-in-Err-clause-handed g c x lawful = λ unmanaged free o line at stored seen. subst (λ f. kept_seen f o line) (sym c.in-Err.ensures.failed) seen

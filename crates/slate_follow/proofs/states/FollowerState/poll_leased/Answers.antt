@@ -1,15 +1,13 @@
-use Rattle.std.proofs.Common.{◌≡◌, true, false, Option, Result, Ok, Err, ap, inl, refl, rules, subst, of_z, to_z}
+use Rattle.std.proofs.Common.{◌≡◌, true, false, Result, Ok, Err, ap, inl, refl, rules, subst}
 use Rattle.std.proofs.Math.Facts.{to_z-of_z}
 use Rattle.std.specs.Int.{w64}
-use Rattle.std.specs.Option.{IfSome, option_copied}
+use Rattle.std.specs.Option.{IfSome}
 use Rattle.slate_types.specs.Modelled.{WhereModelled}
 use Rattle.slate_errors.specs.declared.errors.SlateError.{SlateError}
 use Rattle.slate_errors.specs.declared.errors.SlateError.TheVariants.{InvalidDBState}
-use Rattle.slate_model.specs.Follower.{Follower}
 use Rattle.slate_model.specs.Known.{known}
 use Rattle.slate_model.specs.Lease.{is_due}
 use Rattle.slate_model.specs.Managed.{Keeps}
-use Rattle.slate_model.specs.Segments.{Extractor, IsExtractor}
 use Rattle.slate_model.specs.Stores.{by_objects}
 use Rattle.slate_model.specs.declared.leases.Lease.{Lease}
 use Rattle.slate_follow.specs.Keeping.{CallsRound, KeepLacks, MovesBy}

@@ -20,5 +20,5 @@ pub record HasCauses (n : ℕ) (w : World) (reader : Follower) (begun : Begun) (
   pub tried : (tries : ℕ) → reply ≡ replies.Refused (errors.TransactionalObjectTimeout tries) → IsEighth w.catalogue begun
   pub eighth : is_pinned reader.mode ≡ false → IsEighth w.catalogue begun → (HasRisen w.faults w'.faults → ⊥) →
       (reply ≡ replies.Refused (errors.TransactionalObjectTimeout 8)) ⊎ (reply ≡ replies.NoMemory)
-  pub stepped : reply ≡ replies.Stepped → (is_pinned reader.mode ≡ false) × IsFew begun
+  pub stepped : reply ≡ replies.Stepped → (is_pinned reader.mode ≡ false) × IsFew reader.lag begun
   pub whole : (at : ℕ) → reply ≡ replies.Polled true at → (w'.owed n ≤ at) × (at ≤ owed_now w reader)

@@ -12,7 +12,7 @@ returns-in-Ok-clause-does g c x extracts =
     (Ok c.in-Ok.answer) _ c.polled_reply.ensures _ (search rules) (c.in-Ok.ensures.polls x extracts) (c.in-Ok.ensures.managed x extracts)
 
 pub returns-in-Err-clause-calls : goal.returns-in-Err-clause-calls
-returns-in-Err-clause-calls g c = polling-calls _ (is_managed c.args.follower.now.mode) _ _ c.poll.ensures.calls c.poll.ensures.managed_calls
+returns-in-Err-clause-calls g c = polling-calls _ (is_managed c.args.follower.now.mode) c.args.follower.now.lag _ _ c.poll.ensures.calls c.poll.ensures.managed_calls
 
 pub returns-in-Err-clause-does : goal.returns-in-Err-clause-does
 returns-in-Err-clause-does g c x extracts =

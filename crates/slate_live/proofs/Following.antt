@@ -52,7 +52,7 @@ prefix-floor : (a b : Line) → IsPrefix a b → a.floor ≡ b.floor
 prefix-floor a b p = sym (ap (λ (l : Line). l.floor) p.1)
 
 -- what a follower is owed under a manifest doesn't end below its number, where one that skips isn't above the tables of that
-pub owed-not_below : (stored : Line) (c : Catalogue) (o : ObjectsOf Span) (f : Follower) (mode : DbReaderMode) (view : VersionedManifest) (owed : Line) → IsPrefix f.line stored → is_pinned mode ≡ false → (f.skips ≡ true → number f ≤ view.manifest.last_l0_seq) →
+owed-not_below : (stored : Line) (c : Catalogue) (o : ObjectsOf Span) (f : Follower) (mode : DbReaderMode) (view : VersionedManifest) (owed : Line) → IsPrefix f.line stored → is_pinned mode ≡ false → (f.skips ≡ true → number f ≤ view.manifest.last_l0_seq) →
     IsOwed (by_catalogue stored c) mode f.skips o view stored owed → number f ≤ end owed
 owed-not_below stored c o f mode view owed begins free tabled is = elim (owed-by c o mode f.skips view stored owed free is) [
   | inl all ↦ subst (λ l. number f ≤ end l) (sym all) (prefix-end f.line stored begins)
@@ -61,9 +61,6 @@ owed-not_below stored c o f mode view owed begins free tabled is = elim (owed-by
       let floor = prefix-floor f.line stored begins in
       subst (λ l. number f ≤ end l) (sym few.1) (front-end view.manifest.last_l0_seq (number f) stored low (prefix-end f.line stored begins) (omega (arith, floor)))
 ]
-
-pub owed-above : (stored : Line) (c : Catalogue) (f : Follower) (view : VersionedManifest) (owed : Line) → IsValidFollower stored c f → is_pinned f.mode ≡ false → IsView f.mode false c view → IsOwed (by_catalogue stored c) f.mode f.skips c view stored owed → number f ≤ end owed
-owed-above stored c f view owed v free goes is = owed-not_below stored c c f f.mode view owed v.0 free (λ few. v.1 few free view (latest-view f.mode false c view free goes)) is
 
 -- nor does what a poll leaves of it: it is there, or where it was by the tables
 pub polled-above : (stored : Line) (c : Catalogue) (o : ObjectsOf Span) (f f' : Follower) (answer : PollAnswer) → IsPrefix f.line stored → is_pinned f.mode ≡ false → (f.skips ≡ true → number f ≤ f'.view.manifest.last_l0_seq) →

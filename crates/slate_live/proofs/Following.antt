@@ -1,6 +1,6 @@
 -- What an opening and a poll of a follower leave of it: over sound objects it sees what it is owed, or what it saw and the tables, where
 -- it may lag.
-use Rattle.std.proofs.Common.{◌≡◌, ℕ, ◌-◌, ◌<◌, ◌≤◌, max, inl, inr, ◌⊎◌, Bool, true, false, List, Option, Some, refl, sym, subst, ap, ◌∙◌, arith}
+use Rattle.std.proofs.Common.{◌≡◌, ℕ, ◌+◌, ◌-◌, ◌<◌, ◌≤◌, max, inl, inr, ◌⊎◌, Bool, true, false, List, Option, Some, refl, sym, subst, ap, ◌∙◌, arith}
 use Rattle.std.proofs.lemmas.List.{length-take}
 use Rattle.slate_types.specs.Line.{IsLine, IsPrefix, Line, end}
 use Rattle.slate_store.specs.Content.{IsSound, content}
@@ -10,9 +10,10 @@ use Rattle.slate_store.specs.declared.reader_modes.DbReaderMode.{DbReaderMode}
 use Rattle.slate_store.specs.declared.reader_modes.DbReaderMode.TheVariants as modes
 use Rattle.slate_model.specs.Catalogue.{Catalogue, Span, catalogue_of}
 use Rattle.slate_model.specs.declared.answers.PollAnswer.{PollAnswer}
+use Rattle.slate_model.specs.declared.answers.PollAnswer.TheVariants.{Whole}
 use Rattle.slate_model.specs.Follow.{IsOwed, SeesOwed, SeesPolled, StaysBehind}
 use Rattle.slate_model.specs.Followed.{IsView, last_read}
-use Rattle.slate_model.specs.Follower.{Follower, is_managed, is_pinned, kept_follower, number, rebuilt, unsegmented}
+use Rattle.slate_model.specs.Follower.{Follower, follower_tasks, is_managed, is_pinned, kept_follower, number, rebuilt, unsegmented}
 use Rattle.slate_model.specs.Handle.{up_to}
 use Rattle.slate_model.specs.Object.{Follower as AFollower}
 use Rattle.slate_model.specs.Seen.{HasSeen}
@@ -67,6 +68,24 @@ pub polled-above : (stored : Line) (c : Catalogue) (o : ObjectsOf Span) (f f' : 
     SeesPolled (by_catalogue stored c) f o stored f' answer → number f ≤ number f'
 polled-above stored c o f f' answer begins free tabled (inl (all, catches)) = subst (λ (g : Follower). number f ≤ number g) (sym all.2) (owed-not_below stored c o f f.mode f'.view all.0 begins free tabled all.1)
 polled-above stored c o f f' answer begins free tabled (inr stays) = let reached = stays.reached in omega (arith, reached)
+
+-- its answer is that all was read, and gives the number that it leaves
+pub polled-answer : (stored : Line) (c : Catalogue) (o : ObjectsOf Span) (f f' : Follower) (answer : PollAnswer) → SeesPolled (by_catalogue stored c) f o stored f' answer → answer ≡ Whole (number f')
+polled-answer stored c o f f' answer (inl (all, catches)) = all.3 ∙ ap (λ (g : Follower). Whole (number g)) (sym all.2)
+polled-answer stored c o f f' answer (inr stays) = stays.answered
+
+-- one that follows all that is stored isn't further behind that than it may lag
+pub polled-near : (stored : Line) (c : Catalogue) (o : ObjectsOf Span) (f f' : Follower) (answer : PollAnswer) → follows_all f.mode f.skips ≡ true → SeesPolled (by_catalogue stored c) f o stored f' answer → end stored ≤ number f' + f.lag
+polled-near stored c o f f' answer follows (inl (all, catches)) =
+    let at : number f' ≡ end all.0 = ap (λ (g : Follower). number g) all.2 in
+    let whole = ap end (owed-all c o f.mode f.skips f'.view stored all.0 follows all.1) in
+    omega (arith, at, whole)
+polled-near stored c o f f' answer follows (inr stays) = let near = stays.near in let reached = stays.reached in omega (arith, near, reached)
+
+-- the tasks of what it leaves are those of its mode
+pub polled-tasks : (stored : Line) (c : Catalogue) (o : ObjectsOf Span) (f f' : Follower) (answer : PollAnswer) → SeesPolled (by_catalogue stored c) f o stored f' answer → f'.tasks ≡ follower_tasks f.mode
+polled-tasks stored c o f f' answer (inl (all, catches)) = ap (λ (g : Follower). g.tasks) all.2
+polled-tasks stored c o f f' answer (inr stays) = ap (λ (g : Follower). g.tasks) stays.sees
 
 -- a follower that was valid is valid over objects that follow
 pub follower-follows : (stored stored' : Line) (o o' : Objects) (latest latest' : VersionedManifest) → latest_manifest o ≡ Some latest → Follows stored stored' o o' latest latest' → (g : Follower) → IsValidFollower stored (catalogue_of o) g → IsValidFollower stored' (catalogue_of o') g

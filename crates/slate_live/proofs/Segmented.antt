@@ -245,7 +245,7 @@ named-at : (objects : List Object) (target : Target) (h : Handle) → named obje
 named-at objects (OfObject n) h is = (n, is)
 named-at objects (NewHandle keeps) h is = absurd (cc)
 named-at objects (NewSnapshot n) h is = absurd (cc)
-named-at objects (NewFollower mode managed skips) h is = absurd (cc)
+named-at objects (NewFollower mode managed skips lag) h is = absurd (cc)
 named-at objects (NewCheckpoint lifetime) h is = absurd (cc)
 named-at objects WholeStore h is = absurd (cc)
 named-at objects (OfWrite n) h is = absurd (cc)
@@ -436,9 +436,9 @@ module _ (settings : Settings) (w w' : World) (command : Command) (reply : Reply
   fine-target : (target : Target) → DoesBy k settings command target made (state_of w) reply s' → AllFine
   fine-target (NewHandle keeps_log) d = fine-added AHandle d.result d.objects (λ b is. handle-opened keeps_log d.result d.does d.objects b is)
   fine-target (NewSnapshot n) d = opened-fine n (slice_get w.objects n) d
-  fine-target (NewFollower modes.FollowLatest managed skips) d = fine-added _ (d.0).result (d.0).objects (followed-fine modes.FollowLatest skips (d.0).result (d.0).does)
-  fine-target (NewFollower (modes.Checkpoint id) managed skips) d = fine-added _ (d.0).result (d.0).objects (followed-fine (modes.Checkpoint id) skips (d.0).result (d.0).does)
-  fine-target (NewFollower modes.ManagedCheckpoint managed skips) d = fine-added _ d.result d.objects (took-fine (lifetime_of managed) (interval_of managed) skips d.result d.does)
+  fine-target (NewFollower modes.FollowLatest managed skips lag) d = fine-added _ (d.0).result (d.0).objects (followed-fine modes.FollowLatest skips (d.0).result (d.0).does)
+  fine-target (NewFollower (modes.Checkpoint id) managed skips lag) d = fine-added _ (d.0).result (d.0).objects (followed-fine (modes.Checkpoint id) skips (d.0).result (d.0).does)
+  fine-target (NewFollower modes.ManagedCheckpoint managed skips lag) d = fine-added _ d.result d.objects (took-fine (lifetime_of managed) (interval_of managed) skips d.result d.does)
   fine-target (NewCheckpoint lifetime) d = fine-same d.objects
   fine-target WholeStore d = fine-same d.objects
   fine-target (OfWrite n) d = fine-state d.2

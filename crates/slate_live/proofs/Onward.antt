@@ -75,6 +75,7 @@ module _ (w : World) (o : Objects) where
           latest_is = is;
           epochs = omega arith;
           tabled = omega arith;
+          leaps = inl refl;
           marked = λ same. refl;
           logs = stay-follow o o _ _ refl (logs-same _ _ o o refl);
           logs_are = logs-are_same (OfLine w.stored) o o refl;

@@ -1,5 +1,5 @@
 -- What an opening leaves of the handles of a world, and the handle that it gives.
-use Rattle.std.proofs.Common.{◌≡◌, ℕ, ◌+◌, ◌<◌, ◌≤◌, List, [], ◌∷◌, Some, None, Option, Bool, false, refl, sym, subst, ap, ◌∙◌, arith}
+use Rattle.std.proofs.Common.{◌≡◌, ℕ, ◌+◌, ◌<◌, ◌≤◌, inl, List, [], ◌∷◌, Some, None, Option, Bool, false, refl, sym, subst, ap, ◌∙◌, arith}
 use Rattle.std.specs.List.{Contains}
 use Rattle.std.proofs.lemmas.Bool.{false_from_ne_true}
 use Rattle.std.proofs.lemmas.List.Elements.{All-head, All-nil, All-tail}
@@ -80,6 +80,7 @@ module _ (x : Option Extractor) (stored : Line) (o : Objects) (made : ℕ) (soun
         latest_is = b.latest;
         epochs = omega (arith, epoch);
         tabled = omega (arith, number);
+        leaps = inl number;
         marked = λ same. mark;
         logs = stay-follow o o' latest.manifest.replay_after_wal_id v.manifest.replay_after_wal_id (sym mark) (part-logs latest.manifest.replay_after_wal_id (last_log latest.manifest.replay_after_wal_id o) made (open_changes (extractor_name x) (λ xs. xs) o) o (before-fence latest is, tt));
         logs_are = opened-logs_are;

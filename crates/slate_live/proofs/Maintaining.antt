@@ -8,7 +8,7 @@ use Rattle.slate_model.specs.Catalogue.{catalogue_of}
 use Rattle.slate_model.specs.Handle.{Handle}
 use Rattle.slate_model.specs.Object.{Follower as AFollower, Object, tables_of}
 use Rattle.slate_model.proofs.Maintained.{Maintained}
-use Rattle.slate_model.proofs.Logging.{OfLine, none-put_logs, stay-follow}
+use Rattle.slate_model.proofs.Logging.{OfLine, PastLine, none-put_logs, stay-follow}
 use Rattle.slate_model.proofs.Moving.{Follows, still-valid}
 use Rattle.slate_model.proofs.Prefixes.{prefix-same}
 use Rattle.slate_live.specs.Represents.{IsHeld, Holds, IsHandleAt, IsValid, IsValidHandle}
@@ -37,6 +37,7 @@ module _ (w : World) (o : Objects) (is_sound : IsSound o) (holds : Holds o w) (v
         marked = λ same. next.4;
         logs = stay-follow o o' latest.manifest.replay_after_wal_id next.0.manifest.replay_after_wal_id (sym next.4) (m.logs latest is);
         logs_are = none-put_logs o o' m.logs_are (OfLine w.stored);
+        news = none-put_logs o o' m.logs_are (PastLine w.stored);
         goes = m.goes (last_log latest.manifest.replay_after_wal_id o);
       }
 

@@ -6,7 +6,7 @@ use Rattle.std.proofs.lemmas.List.Elements.{All-contains_itself, All-nil, Contai
 use Rattle.std.specs.List.{Contains}
 use Rattle.std.specs.Prelude.{nat_le}
 use Rattle.slate_types.proofs.Lines.{above-none}
-use Rattle.slate_types.specs.Line.{IsLine, IsPrefix, Line, batches_above, end, extended}
+use Rattle.slate_types.specs.Line.{AreNumberedFrom, IsLine, IsPrefix, Line, batches_above, end, extended}
 use Rattle.slate_types.specs.declared.batches.Batch.{Batch}
 use Rattle.slate_types.specs.declared.options.FlushType.{FlushType}
 use Rattle.slate_types.specs.declared.options.FlushType.TheVariants.{Wal, MemTable}
@@ -28,9 +28,10 @@ use Rattle.slate_model.specs.Valid.{AreBefore, IsValidHandle, ReadsLine, up_to}
 use Rattle.slate_model.proofs.Adding.{AreAdded, Lasts, Stay, flush-puts, one-put, other-table, stay-added}
 use Rattle.slate_model.proofs.Flushed.{Leaves, flush-leaves, part_le}
 use Rattle.slate_model.proofs.Keeping.{changes-kept, view-kept}
-use Rattle.slate_model.proofs.Logging.{keep-append, KeepLogs, LogsAre, LogsFollow, LogsGo, LogsStay, mark-follow, OfLine, part-are, part-logs, PutLogs, puts-part, stay-follow, stay-go}
+use Rattle.slate_model.proofs.Logging.{keep-append, KeepLogs, LogsAre, LogsFollow, LogsGo, LogsStay, mark-follow, OfLine, PastLine, numbered-past, part-are, part-logs, PutLogs, puts-part, stay-follow, stay-go}
 use Rattle.slate_store.proofs.LastLog.{at_least}
 use Rattle.slate_model.proofs.Moving.{Follows, Moved, known-none, none-known, still-reads}
+use Rattle.slate_model.proofs.Reopened.{numbered_rest}
 use Rattle.slate_model.proofs.Prefixes.{extended-nil, prefix-after, prefix-end, prefix-same, up_to-all}
 use Rattle.slate_model.proofs.Reduced.{whole}
 use Rattle.slate_model.proofs.Tabled.{joined-line, tables-within}
@@ -427,6 +428,19 @@ module _ (stored : Line) (o o' : Objects) (latest : VersionedManifest) (t : Flus
         let logs : to_log h ≡ [] = ap (λ x. cond x (unstored h) []) is_b in
         subst (OfLine stored') (sym logs) (All-nil (λ batch. Contains stored'.batches batch))
 
+  -- and comes after what was
+  logged-past : 0 < made → PastLine stored (to_log h)
+  logged-past some = by h.keeps_log refl where
+    by : (b : Bool) → h.keeps_log ≡ b → PastLine stored (to_log h)
+    by true is_b =
+        let line = line-is (made-current some) in
+        let numbered : AreNumberedFrom stored.floor (stored.batches ++ unstored h) = subst (λ (l : Line). AreNumberedFrom l.floor l.batches) (sym line) v.numbered in
+        let logs : to_log h ≡ unstored h = ap (λ x. cond x (unstored h) []) is_b in
+        subst (PastLine stored) (sym logs) (numbered-past (end stored) (unstored h) (numbered_rest stored.floor stored.batches (unstored h) numbered))
+    by false is_b =
+        let logs : to_log h ≡ [] = ap (λ x. cond x (unstored h) []) is_b in
+        subst (PastLine stored) (sym logs) (All-nil (λ (batch : Batch). end stored < batch.number))
+
   follows : Follows stored stored' o o' latest n'
   follows = record {
     sound = newest.sound_after;
@@ -439,6 +453,7 @@ module _ (stored : Line) (o o' : Objects) (latest : VersionedManifest) (t : Flus
     marked = next-marked;
     logs = logs-follow;
     logs_are = subst (LogsAre (OfLine stored') o) (sym after) (part-are (OfLine stored') made cs o (flush-put_logs (OfLine stored') t h latest last made logged-of));
+    news = subst (LogsAre (PastLine stored) o) (sym after) (part-are (PastLine stored) made cs o (flush-put_logs (PastLine stored) t h latest last made logged-past));
     goes = subst (LogsGo last o) (sym after) (stay-go last o (after_part made cs o) (part-logs 0 last made cs o (flush-keeps-logs 0 t h latest last)));
   }
 

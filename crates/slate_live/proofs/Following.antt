@@ -168,7 +168,7 @@ module _ (stored : Line) (f : Follower) (o : Objects) (view : VersionedManifest)
       let before = prefix-end f.line stored begins in
       up_to-number stored numbered n (omega (arith, low, reached)) (omega (arith, high, before, reached))
 
-  bare : Follower
+  abbrev bare : Follower
   bare = rebuilt f.mode f.skips f.lag view (up_to n stored) view.manifest.replay_after_wal_id
 
   bare-seen : HasSeen o bare

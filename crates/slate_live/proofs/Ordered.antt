@@ -4,11 +4,11 @@ use Rattle.std.proofs.lemmas.Bool.{cases_lt, le-ltb, lt-ltb}
 use Rattle.std.proofs.lemmas.List.Elements.{All-cons, All-filter, All-head, All-nil, All-tail}
 use Rattle.std.specs.List.{All}
 use Rattle.std.specs.Prelude.{nat_lt}
-use Rattle.slate_types.specs.Line.{AreNumberedFrom, batches_above, end}
+use Rattle.slate_types.specs.Line.{AreNumberedFrom, batches_above}
 use Rattle.slate_types.specs.declared.batches.Batch.{Batch}
 use Rattle.slate_store.proofs.LastLog.{at_least}
 use Rattle.slate_store.proofs.Logs.{between-next, between-parts}
-use Rattle.slate_store.specs.Content.{IsSound, content}
+use Rattle.slate_store.specs.Content.{IsSound}
 use Rattle.slate_store.specs.Logs.{batches_between}
 use Rattle.slate_store.specs.Objects.{Objects, last_log, latest_manifest, log_at}
 use Rattle.slate_store.specs.declared.objects.VersionedManifest.{VersionedManifest}

@@ -1,5 +1,6 @@
 -- What a command leaves of the tasks that run for an object.
 use Rattle.std.proofs.Common.{◌≡◌, ◌≢◌, ◌++◌, ◌∙◌, inl, inr, ℕ, ℤ, Bool, true, false, cond, List, [], set, Option, Some, None, Result, Ok, Err, refl, sym, subst, ap}
+use Rattle.std.specs.Prelude.{unwrap_or}
 use Rattle.std.proofs.lemmas.Bool.{cases_eq, eq-eqb, eqb-true}
 use Rattle.std.specs.List.{slice_get}
 use Rattle.slate_types.specs.declared.batches.KeyOp.{KeyOp}

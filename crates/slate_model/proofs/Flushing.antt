@@ -382,7 +382,7 @@ module _ (stored : Line) (o o' : Objects) (latest : VersionedManifest) (t : Flus
         let e = ap (λ (m : VersionedManifest). m.manifest.last_l0_seq) new.0 in
         elim (view-leaps t h latest last) [
           | inl same ↦ inl (e ∙ same)
-          | inr all ↦ let low = prefix-end stored h.line (unstored h, line-is new.1) in inr (omega (arith, e, all, low))
+          | inr all ↦ let low = prefix-end stored h.line (unstored h, sym (line-is new.1)) in inr (omega (arith, e, all, low))
         ]
   ]
 

@@ -92,7 +92,7 @@ module _ (stored : Line) (skips opening : Bool) (lag : ℕ) (o : Objects) (lates
   pub taken-answers : AnswersAt (end owed_then) answer
   taken-answers = inl (all.3 ∙ ap (λ l. Whole (end l)) (owed-is t o modes.ManagedCheckpoint skips latest stored all.0 all.1))
 
-  pub taken-sees : (c : Catalogue) (seen : Line → Type 0) → (skips ≡ false → 0 ≡ 0 → HasAllLogs o f answer) →
+  pub taken-sees : (c : Catalogue) (seen : Line → Type 0) → (skips ≡ false → ◌≡◌ {A = ℕ} 0 0 → HasAllLogs o f answer) →
       SeesLatest (by_catalogue stored c) skips 0 (SeesOwed (by_catalogue stored c) modes.ManagedCheckpoint skips lag) seen latest (catalogue_of o) taken_one answer
   taken-sees c seen logs = record {
     logs = λ reads none. logs-known o f taken_one answer refl (logs reads none);

@@ -191,7 +191,7 @@ module _ (o : Objects) (sound : IsSound o) (l : VersionedManifest) (is : latest_
     where
       top-is : (k : ℕ) → k ≤ top → (latest : VersionedManifest) → latest_manifest o ≡ Some latest → k ≤ last_log latest.manifest.replay_after_wal_id o
       top-is k high latest at = let same = ap (λ (x : VersionedManifest). last_log x.manifest.replay_after_wal_id o) (some-same l latest (sym is ∙ at)) in omega (arith, same, high)
-  find-down target reached past k (suc d) r go is_k high = by (log_at k o) refl
+  find-down target reached past k (suc d) r go is_k high = by (find-down target reached past (k - 1) d r go (omega (arith, is_k)) (omega (arith, high))) (log_at k o) refl
     where
       over : r.id < k
       over = omega (arith, is_k)
@@ -205,9 +205,8 @@ module _ (o : Objects) (sound : IsSound o) (l : VersionedManifest) (is : latest_
       here : (log_at k o ≡ None) ⊎ HasFrom target k o → IsToFind target reached past k o
       here has = record { at = k; above = past_over; below = omega arith; within = top-is; has = has; none = λ n batches over under there. absurd (omega (arith, over, under)) }
 
-      further : (bs : List Batch) → log_at k o ≡ Some bs → greatest_number bs ≤ reached → IsToFind target reached past k o
-      further bs stored few =
-          let f = find-down target reached past (k - 1) d r go (omega (arith, is_k)) (omega (arith, high)) in
+      further : IsToFind target reached past (k - 1) o → (bs : List Batch) → log_at k o ≡ Some bs → greatest_number bs ≤ reached → IsToFind target reached past k o
+      further f bs stored few =
           record {
             at = f.at;
             above = f.above;
@@ -223,10 +222,10 @@ module _ (o : Objects) (sound : IsSound o) (l : VersionedManifest) (is : latest_
             ];
           }
 
-      by : (log : Option (List Batch)) → log_at k o ≡ log → IsToFind target reached past k o
-      by None none = here (inl none)
-      by (Some bs) stored = elim (go k bs over stored) [
-        | inl few ↦ further bs stored few
+      by : IsToFind target reached past (k - 1) o → (log : Option (List Batch)) → log_at k o ≡ log → IsToFind target reached past k o
+      by f None none = here (inl none)
+      by f (Some bs) stored = elim (go k bs over stored) [
+        | inl few ↦ further f bs stored few
         | inr late ↦ here (inr (bs, stored, late))
       ]
 
@@ -564,8 +563,8 @@ module _ (target : ℕ) (o : Objects) (reader : Follower) where
       }
 
       or-true : (x y : Bool) → (x || y) ≡ true → x ≡ false → y ≡ true
-      or-true true y is no = absurd (cc)
-      or-true false y is no = is
+      or-true true y is isnt = absurd (cc)
+      or-true false y is isnt = is
 
       -- one that has none that wasn't reached isn't the first above the mark
       not-first : (f : IsToFind target (reached_number b) b.mark id o) → f.at < id → newest ≤ reached_number b → (nat_lt (reached_number b) newest || id == b.mark + 1) ≡ true → ⊥

@@ -48,6 +48,7 @@ pub mod Representing
 pub mod Rising
 pub mod Running
 pub mod Seeing
+pub mod Seen
 pub mod Segmented
 pub mod Skipping
 pub mod Snapshots

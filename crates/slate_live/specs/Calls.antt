@@ -1,5 +1,5 @@
 -- Where a command goes, what it asks of the object that it names, and how often it may call the store.
-use Rattle.std.specs.Prelude.{◌≡◌, ℕ, ℤ, ◌+◌, ◌*◌, ◌==◌, Bool, true, false, List, [], ◌∷◌, length, slice_get, Option, Some, None}
+use Rattle.std.specs.Prelude.{◌≡◌, ℕ, ℤ, ◌+◌, ◌*◌, ◌==◌, Bool, true, false, List, [], ◌∷◌, length, list_any, slice_get, Option, Some, None}
 use Rattle.slate_types.specs.declared.batches.KeyOp.{KeyOp}
 use Rattle.slate_types.specs.declared.batches.Op.TheVariants.{Put, Delete, Merge as MergeOperand}
 use Rattle.slate_types.specs.declared.options.CloseOptions.{CloseOptions}
@@ -169,6 +169,13 @@ goes_by_extractor (actions.Batch n batch) = true
 goes_by_extractor (actions.Poll n) = true
 goes_by_extractor (actions.Step n) = true
 goes_by_extractor action = false
+
+-- whether one of these commands goes by the one, or by the other
+abbrev pub one_goes_by_operator : List Command → Bool
+one_goes_by_operator commands = list_any (λ (command : Command). goes_by_operator command.action) commands
+
+abbrev pub one_goes_by_extractor : List Command → Bool
+one_goes_by_extractor commands = list_any (λ (command : Command). goes_by_extractor command.action) commands
 
 -- what a snapshot of a handle asks the handle: to read up to the snapshot's number
 abbrev pub at_snapshot : ℕ → Call → Call

@@ -1,5 +1,5 @@
 -- Commands that are done one after another lead through a chain of worlds.
-use Rattle.std.proofs.Common.{◌≡◌, ◌≤◌, ◌<◌, ◌+◌, ℕ, Bool, true, length, take, map, get_or, List, [], ◌∷◌, ◌++◌, Option, Some, refl, sym, subst, ap, ◌∙◌}
+use Rattle.std.proofs.Common.{◌≡◌, ◌≤◌, ◌<◌, ◌+◌, ◌&&◌, ℕ, Bool, true, false, length, take, map, get_or, List, [], ◌∷◌, ◌++◌, Option, Some, refl, sym, subst, ap, ◌∙◌}
 use Rattle.std.specs.List.{All, list_any, slice_get}
 use Rattle.std.proofs.lemmas.List.{map-append, take_all, take_more}
 use Rattle.std.proofs.lemmas.List.Elements.{All-nil, All-push}
@@ -79,6 +79,10 @@ reached live store w stands = (stands.valid, (stands.held).0, (stands.held).2, (
 -- no command, done
 pub done_none : (settings : Settings) (first : World) (replies : List Reply) → replies ≡ [] → Done settings first [] replies []
 done_none settings first replies none = record { commands_are = refl; replies_are = sym none; chain = tt; reached = All-nil (λ (step : Step). IsReached step.world) }
+
+pub first-true : (x y : Bool) → (x && y) ≡ true → x ≡ true
+first-true true y is = refl
+first-true false y is = is
 
 -- where one of the commands goes by something, so does the list
 pub one-asks : (goes_by : Action → Bool) (commands : List Command) (i : ℕ) (command : Command) → i < length commands → command ≡ get_or commands i command → goes_by command.action ≡ true → list_any (λ (x : Command). goes_by x.action) commands ≡ true

@@ -6,6 +6,7 @@ pub mod Carrying
 pub mod Cases
 pub mod Chains
 pub mod Changing
+pub mod Closed
 pub mod Commencing
 pub mod Completing
 pub mod Confirming

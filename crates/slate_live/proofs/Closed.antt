@@ -1,5 +1,5 @@
 -- What is closed answers that, whatever an operator or an extractor does.
-use Rattle.std.proofs.Common.{◌≡◌, ◌≢◌, inr, ℕ, ℤ, Bool, true, false, List, [], Option, Some, None, Result, Ok, Err, refl, sym, subst}
+use Rattle.std.proofs.Common.{◌≡◌, ◌≢◌, inr, ℕ, ℤ, Bool, true, false, List, [], Option, Some, None, Result, Err, refl, sym, subst}
 use Rattle.std.specs.Option.{IfSome, option_or}
 use Rattle.std.specs.Result.{IfErr}
 use Rattle.slate_types.specs.declared.batches.Batch.{Batch}
@@ -9,18 +9,16 @@ use Rattle.slate_store.specs.declared.objects.TableId.{TableId}
 use Rattle.slate_errors.specs.Errors.{closed_error}
 use Rattle.slate_errors.specs.declared.closing.CloseFault.{CloseFault}
 use Rattle.slate_errors.specs.declared.errors.SlateError.{SlateError}
-use Rattle.slate_model.specs.Follow.{Polls}
 use Rattle.slate_model.specs.Follower.{Follower, HasSegments, is_managed}
 use Rattle.slate_model.specs.Handle.{CloseResult, Handle}
 use Rattle.slate_model.specs.Knowledge.{Knowledge}
 use Rattle.slate_model.specs.Known.{Known, Untouched}
-use Rattle.slate_model.specs.Managed.{PollsManaged}
 use Rattle.slate_model.specs.Object.{Object}
 use Rattle.slate_model.specs.Read.{Reads, ReadsByAny}
 use Rattle.slate_model.specs.Segments.{Extractor}
 use Rattle.slate_model.specs.Write.{Writes, WritesByAny, closed_refusal}
 use Rattle.slate_model.specs.declared.answers.PollAnswer.{PollAnswer}
-use Rattle.slate_model.specs.declared.written.Written.{Written}
+use Rattle.slate_model.specs.declared.answers.Written.{Written}
 use Rattle.slate_script.specs.declared.commands.Action.{Action}
 use Rattle.slate_script.specs.declared.replies.Reply.{Reply}
 use Rattle.slate_live.specs.Calls.{asks_extractor, named, read_by, target_of}
@@ -50,7 +48,7 @@ either-writes x old new ops moment second result (Some r) is open_ any =
 module _ {L : Type 0} (k : Knowledge L) (x : Option Extractor) (moment : ℤ) (old new : Follower) (before after : Known L) (result : Result PollAnswer SlateError) where
   closed-polls : (managed : Bool) (r : Result (Unit {0}) CloseFault) → old.result ≡ Some r → result ≡ Err (closed_error r) → new ≡ old → after ≡ before → PollsAs k x managed 0 moment old before result new after
   closed-polls true r is error same kept = record {
-    closed = subst (λ (q : CloseResult). IfSome q (λ r. (result ≡ Err (closed_error r)) × (new ≡ old) × Untouched 0 before after)) (sym is) (error, same, refl, kept);
+    closed = subst (λ (q : CloseResult). IfSome q (λ r. (result ≡ Err (closed_error r)) × (new ≡ old) × Untouched 0 before after)) (sym is) (error, same, (refl, kept));
     keeps = λ lease live at. absurd (cc);
   }
   closed-polls false r is error same kept = (

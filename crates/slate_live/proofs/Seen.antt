@@ -1,10 +1,9 @@
 -- What is stored when a poll is begun by single calls is seen where that has read all.
-use Rattle.std.proofs.Common.{◌≡◌, ◌⊎◌, ◌≤◌, ◌∙◌, ◌&&◌, ◌||◌, not, ◌∷◌, ◌++◌, [], inl, inr, ℕ, Bool, true, false, if◌then◌else◌, List, option_map, set, Option, Some, None, refl, sym, ap, subst, arith}
+use Rattle.std.proofs.Common.{◌≡◌, ◌⊎◌, ◌≤◌, ◌∙◌, ◌&&◌, ◌||◌, not, ◌∷◌, ◌++◌, [], inl, inr, ℕ, Bool, true, false, if◌then◌else◌, List, option_map, Option, Some, None, refl, sym, ap, subst, arith}
 use Rattle.std.proofs.lemmas.Bool.{cases_eq}
 use Rattle.std.specs.List.{slice_get}
 use Rattle.std.specs.Option.{is_none}
 use Rattle.slate_types.specs.Line.{end}
-use Rattle.slate_types.specs.declared.batches.Batch.{Batch}
 use Rattle.slate_store.specs.declared.reader_modes.DbReaderMode.{DbReaderMode}
 use Rattle.slate_model.specs.Begun.{Begun}
 use Rattle.slate_model.specs.Follower.{Follower, is_pinned, kept_follower}
@@ -33,12 +32,12 @@ use Rattle.slate_live.proofs.Seeing.{stands-end}
 use Rattle.slate_live.proofs.Segmented.{free-of}
 use Rattle.slate_live.proofs.Wholes.{link-halves, next-whole}
 
+never : (pinned : Bool) → (not pinned && not true) ≡ true → ⊥
+never true is = cc
+never false is = cc
+
 reading-of : (mode : DbReaderMode) (skips : Bool) → follows_all mode skips ≡ true → skips ≡ false
-reading-of mode true all = absurd (by (is_pinned mode) all)
-  where
-    by : (pinned : Bool) → (not pinned && not true) ≡ true → ⊥
-    by true no = cc
-    by false no = cc
+reading-of mode true all = absurd (never (is_pinned mode) all)
 reading-of mode false all = refl
 
 -- a reader stays one, in its mode
@@ -53,10 +52,10 @@ reader-then w w' n f rises at = let r = rises n (AFollower f) at in by r.0 r.1 r
 -- what one of all that is stored is owed at a step is stored at the first, and else what it was owed then
 first-owed : (pinned none skips : Bool) (least own tabled stored owed : ℕ) → pinned ≡ false → skips ≡ false → least ≤ stored → (none ≡ false → least ≤ owed) →
     least ≤ (if pinned || none then (if pinned then own else (if skips then tabled else stored)) else owed)
-first-owed true none skips least own tabled stored owed free reads now then = absurd (cc)
-first-owed false none true least own tabled stored owed free reads now then = absurd (cc)
-first-owed false true false least own tabled stored owed free reads now then = now
-first-owed false false false least own tabled stored owed free reads now then = then refl
+first-owed true none skips least own tabled stored owed free reads now earlier = absurd (cc)
+first-owed false none true least own tabled stored owed free reads now earlier = absurd (cc)
+first-owed false true false least own tabled stored owed free reads now earlier = now
+first-owed false false false least own tabled stored owed free reads now earlier = earlier refl
 
 -- a poll of the reader was begun before its step, or the step answers that there is none
 was-begun : (settings : Settings) (n : ℕ) (w w' : World) (reply : Reply) (f : Follower) → NextStep settings n w reply w' → IsFollowerAt w.objects n f →
@@ -70,7 +69,7 @@ was-begun settings n w w' reply f next at =
       where
         none-then : a.poll' ≡ None → (b : Begun) → IsBegunAt w'.polls n b → ⊥
         none-then none b is = elim (begun-set w.polls n n a.poll' b (subst (λ ps. IsBegunAt ps n b) (ap (λ (l : Live). l.polls) a.same) is)) [
-          | inl mine ↦ (let no = sym none ∙ mine.1 in absurd (cc))
+          | inl mine ↦ (let no = sym none ∙ mine.1 in cc)
           | inr other ↦ absurd (other.0 refl)
         ]
 
@@ -97,65 +96,56 @@ module _ (settings : Settings) (least n : ℕ) where
   -- whatever command comes next
   owes-then : (w : World) (step : Step) → Link settings w step.command step.reply step.world → Owes w → Owes step.world
   owes-then w step link o =
-      let g = reader-then w w' n f link.rises o.there in
+      let g = reader-then w (step.world) n (o.reader) link.rises o.there in
       record {
         reader = g.0;
         there = g.1;
-        stored = (let more = prefix-end w.stored w'.stored link.grows in let now = o.stored in omega (arith, more, now));
-        owed = λ all b at second. by (kind_of step.command.action) refl (ap (λ m. follows_all m f.skips) (sym g.2) ∙ (ap (follows_all (g.0).mode) (sym g.3) ∙ all)) b at second;
+        stored = (let more = prefix-end w.stored (step.world).stored link.grows in let now = o.stored in omega (arith, more, now));
+        owed = λ all b at second. by (kind_of step.command.action) refl (ap (λ m. follows_all m (o.reader).skips) (sym g.2) ∙ (ap (follows_all (g.0).mode) (sym g.3) ∙ all)) b at second;
       }
     where
-      abbrev w' : World
-      w' = step.world
-
-      abbrev f : Follower
-      f = o.reader
-
-      own : NextStep settings n w step.reply w' → follows_all f.mode f.skips ≡ true → (b : Begun) → IsBegunAt w'.polls n b → least ≤ w'.owed n
-      own next all b at = elim (was-begun settings n w w' step.reply f next o.there) [
-        | inl was ↦ owed-then w w' step.reply next o all was.0 was.1
+      own : NextStep settings n w step.reply (step.world) → follows_all (o.reader).mode (o.reader).skips ≡ true → (b : Begun) → IsBegunAt (step.world).polls n b → least ≤ (step.world).owed n
+      own next all b at = elim (was-begun settings n w (step.world) step.reply (o.reader) next o.there) [
+        | inl was ↦ owed-then w (step.world) step.reply next o all was.0 was.1
         | inr none ↦ absurd (none.1 b at)
       ]
 
-      by : (kind : Kind) → kind_of step.command.action ≡ kind → follows_all f.mode f.skips ≡ true → (b : Begun) → IsBegunAt w'.polls n b → is_none b.history.first ≡ false → least ≤ w'.owed n
+      by : (kind : Kind) → kind_of step.command.action ≡ kind → follows_all (o.reader).mode (o.reader).skips ≡ true → (b : Begun) → IsBegunAt (step.world).polls n b → is_none b.history.first ≡ false → least ≤ (step.world).owed n
       by Whole kind all b at second =
-          let next = next-whole settings w step.command step.reply w' kind link.next in
+          let next = next-whole settings w step.command step.reply (step.world) kind link.next in
           subst (λ (owed : ℕ → ℕ). least ≤ owed n) (sym next.owed) (o.owed all b ((next.polls n b).0 at).0 second)
       by (Begins m) kind all b at second =
-          let next : NextBegun settings m w step.command step.reply w' = subst (λ k. NextBy k settings w step.command step.reply w') kind link.next in
+          let next : NextBegun settings m w step.command step.reply (step.world) = subst (λ k. NextBy k settings w step.command step.reply (step.world)) kind link.next in
           subst (λ (owed : ℕ → ℕ). least ≤ owed n) (sym (ap (λ (x : World). x.owed) next.same))
-          (elim (begun-from settings m w w' step.command step.reply next n b at) [
+          (elim (begun-from settings m w (step.world) step.command step.reply next n b at) [
             | inl old ↦ o.owed all b old second
             | inr (here, g, at_g, open_, replied, is) ↦ (let no = ap (λ (x : Begun). is_none x.history.first) is ∙ second in absurd (cc))
           ])
       by (Steps m) kind all b at second =
-          let next : NextStep settings m w step.reply w' = subst (λ k. NextBy k settings w step.command step.reply w') kind link.next in
+          let next : NextStep settings m w step.reply (step.world) = subst (λ k. NextBy k settings w step.command step.reply (step.world)) kind link.next in
           elim (cases_eq n m) [
-            | inl same ↦ own (subst (λ i. NextStep settings i w step.reply w') (sym same) next) all b at
+            | inl same ↦ own (subst (λ i. NextStep settings i w step.reply (step.world)) (sym same) next) all b at
             | inr other ↦ subst (λ x. least ≤ x) (sym (next.owed_others n other)) (o.owed all b (sym ((link.leaves m kind).polls n other) ∙ at) second)
           ]
 
   -- once its poll is begun
   begins-owing : (w : World) (begin : Step) → Link settings w begin.command begin.reply begin.world → begin.command.action ≡ actions.Begin n → begin.reply ≡ replies.Begun → least ≤ end (begin.world).stored → Owes begin.world
-  begins-owing w begin link begins replied now = by (slice_get w.objects n) refl (subst (λ found. BeginsOn n (begin.command).moment found (shown settings.options w) begin.reply (shown settings.options w')) (get-map kept w.objects n) next.begins)
+  begins-owing w begin link begins replied now = by (slice_get w.objects n) refl (subst (λ found. BeginsOn n (begin.command).moment found (shown settings.options w) begin.reply (shown settings.options (begin.world))) (get-map kept w.objects n) next.begins)
     where
-      abbrev w' : World
-      w' = begin.world
-
-      next : NextBegun settings n w begin.command begin.reply w'
-      next = subst (λ k. NextBy k settings w begin.command begin.reply w') (ap kind_of begins) link.next
+      next : NextBegun settings n w begin.command begin.reply (begin.world)
+      next = subst (λ k. NextBy k settings w begin.command begin.reply (begin.world)) (ap kind_of begins) link.next
 
       fresh : (f : Follower) (closed : CloseResult) (poll' : Option Begun) (b : Begun) → BeginsReader closed (begin.command).moment (kept_follower f) begin.reply poll' → poll' ≡ Some b → is_none b.history.first ≡ false → ⊥
       fresh f None poll' b did is second = (let e : Some _ ≡ Some b = sym did.1 ∙ is in let no = ap (λ (x : Option Begun). option_map (λ (y : Begun). is_none y.history.first) x) e in cc)
       fresh f (Some r) poll' b did is second = (let no = sym did.1 ∙ is in cc)
 
-      begun-fresh : (f : Follower) (a : BeginsAt n (begin.command).moment (AFollower (kept_follower f)) (shown settings.options w) begin.reply (shown settings.options w')) (b : Begun) → IsBegunAt w'.polls n b → is_none b.history.first ≡ false → ⊥
+      begun-fresh : (f : Follower) (a : BeginsAt n (begin.command).moment (AFollower (kept_follower f)) (shown settings.options w) begin.reply (shown settings.options (begin.world))) (b : Begun) → IsBegunAt (begin.world).polls n b → is_none b.history.first ≡ false → ⊥
       begun-fresh f a b at second = elim (begun-set w.polls n n a.poll' b (subst (λ ps. IsBegunAt ps n b) (ap (λ (l : Live). l.polls) a.same) at)) [
         | inl mine ↦ fresh f f.result a.poll' b a.begins mine.1 second
         | inr other ↦ absurd (other.0 refl)
       ]
 
-      by : (found : Option Object) → slice_get w.objects n ≡ found → BeginsOn n (begin.command).moment (option_map kept found) (shown settings.options w) begin.reply (shown settings.options w') → Owes w'
+      by : (found : Option Object) → slice_get w.objects n ≡ found → BeginsOn n (begin.command).moment (option_map kept found) (shown settings.options w) begin.reply (shown settings.options (begin.world)) → Owes (begin.world)
       by None at a = absurd (let no = sym replied ∙ a.0 in cc)
       by (Some (AHandle h)) at a = absurd (let no = sym replied ∙ a.begins.0 in cc)
       by (Some (ASnapshot x)) at a = absurd (let no = sym replied ∙ a.begins.0 in cc)
@@ -170,20 +160,17 @@ module _ (settings : Settings) (least n : ℕ) where
   -- and answered
   last-sees : (w : World) (step : Step) → Link settings w step.command step.reply step.world → Owes w → step.command.action ≡ actions.Step n → (at : ℕ) → step.reply ≡ replies.Polled true at → (reader : Follower) → IsFollowerAt (step.world).objects n reader → follows_all reader.mode reader.skips ≡ true → least ≤ at
   last-sees w step link o is at replied reader there all =
-      let g = reader-then w step.world n f link.rises o.there in
+      let g = reader-then w step.world n (o.reader) link.rises o.there in
       let same : g.0 ≡ reader = (let e = sym g.1 ∙ there in cc) in
-      let follows : follows_all f.mode f.skips ≡ true = ap (λ m. follows_all m f.skips) (sym g.2) ∙ (ap (follows_all (g.0).mode) (sym g.3) ∙ (ap (λ (x : Follower). follows_all x.mode x.skips) same ∙ all)) in
-      elim (was-begun settings n w step.world step.reply f next o.there) [
+      let follows : follows_all (o.reader).mode (o.reader).skips ≡ true = ap (λ m. follows_all m (o.reader).skips) (sym g.2) ∙ (ap (follows_all (g.0).mode) (sym g.3) ∙ (ap (λ (x : Follower). follows_all x.mode x.skips) same ∙ all)) in
+      elim (was-begun settings n w step.world step.reply (o.reader) next o.there) [
         | inl was ↦
-            let enough = ((link.causes n f was.0 kind o.there was.1).whole at replied).0 in
+            let enough = ((link.causes n (o.reader) was.0 kind o.there was.1).whole at replied).0 in
             let owed = owed-then w step.world step.reply next o follows was.0 was.1 in
             omega (arith, enough, owed)
         | inr none ↦ (let no = sym replied ∙ none.0 in absurd (cc))
       ]
     where
-      abbrev f : Follower
-      f = o.reader
-
       kind : kind_of step.command.action ≡ Steps n
       kind = ap kind_of is
 

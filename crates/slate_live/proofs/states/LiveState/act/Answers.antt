@@ -40,9 +40,9 @@ returns-clause-does g c settings lawful extracts =
     let objects = c.args.self.now.objects in
     let old = object_of c.index_mut-object.result.now in
     let there = read-old objects c.args.number (object_of c.index.result.now) old
-        (rw (← c.self.view_is) (get-map_at object_of c.self.inside.objects.items c.args.number c.index.result.now (omega (arith, c.len.ensures)) c.index.ensures))
-        (rw (← c.self.view_is) (get-map_at object_of c.self.inside.objects.items c.args.number c.index_mut-object.result.now (omega (arith, c.len.ensures)) c.index_mut-object.ensures.value))
-        (sym c.snapshot.ensures ∙ none-of c.snapshot.result c.in_default.not-Some) in
+    (rw (← c.self.view_is) (get-map_at object_of c.self.inside.objects.items c.args.number c.index.result.now (omega (arith, c.len.ensures)) c.index.ensures))
+    (rw (← c.self.view_is) (get-map_at object_of c.self.inside.objects.items c.args.number c.index_mut-object.result.now (omega (arith, c.len.ensures)) c.index_mut-object.ensures.value))
+    (sym c.snapshot.ensures ∙ none-of c.snapshot.result c.in_default.not-Some) in
     let d = c.act.ensures.does settings (λ asks. lawful (subst (λ o. asks_operator o c.args.command.now.action ≡ true) (sym there) asks)) (λ asks. extracts (subst (λ o. asks_extractor o c.args.command.now.action ≡ true) (sym there) asks)) in
     rw (← c.self.view_is) (
       d.0,

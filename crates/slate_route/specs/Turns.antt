@@ -17,7 +17,7 @@ use Rattle.slate_live.specs.World.{World}
 use Rattle.slate_route.specs.declared.answers.RouteRefusal.{RouteRefusal}
 use Rattle.slate_route.specs.declared.answers.RouteRefusal.TheVariants as refusals
 use Rattle.slate_route.specs.declared.routers.Covering.{Covering}
-use Rattle.slate_route.specs.Reading.{FindsNone, GoesBy, is_memory, is_open, opening_refusal}
+use Rattle.slate_route.specs.Reading.{FindsNone, GoesBy, Passes, is_memory, is_open, opening_refusal}
 use Rattle.slate_route.specs.Standing.{CanCover, IsAnswered, PollsLead, first_error}
 
 -- The reader at a place is polled, and no other changes. After an error it is as it was; or closed, but not for want of memory.
@@ -43,7 +43,9 @@ CoverEnds at_least stored steps readers (Err (refusals.Behind asked best)) = (fi
 CoverEnds at_least stored steps readers (Err refusal) = Unit {0}
 
 pub record CoverLeads (settings : Settings) (moment : ℤ) (at_least : ℕ) (live : Live) (places : List ℕ) (w : World) (old new : List Follower) (result : Result Covering RouteRefusal) (store : Known (List Batch)) : Type 0 where
-  pub polled : PollsLead settings moment live places w new store
+  pub passed : ℕ
+  pub passes : Passes at_least old new passed result
+  pub polled : PollsLead settings moment live places w old passed new store
   pub ends : CoverEnds at_least w.stored polled.steps new result
   pub completes : CanCover moment at_least places old w (last_world w polled.steps) → IsAnswered result
 

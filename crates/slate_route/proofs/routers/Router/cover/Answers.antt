@@ -9,7 +9,7 @@ returns-then-not-has_open-clause-leads g c live places w merge over =
     closed-leads c.args.at_least c.args.moment c.args.self.now _ (ap (list_any is_open) (sym c.self.view_is ∙ sym c.as_slice.ensures.value) ∙ (sym c.has_open.ensures ∙ c.if-not-has_open.true)) merge live places w over
 
 pub returns-in-Some-clause-leads : goal.returns-in-Some-clause-leads
-returns-in-Some-clause-leads g c live places w merge over = quiet-leads c.args.at_least c.args.moment c.args.self.now _ merge live places w over _ refl
+returns-in-Some-clause-leads g c live places w merge over = quiet-leads c.args.at_least c.args.moment c.args.self.now _ c.in-Some.place (search rules) merge live places w over _ refl
 
 pub returns-in-None-clause-leads : goal.returns-in-None-clause-leads
 returns-in-None-clause-leads g c live places w merge over = covers-with _ _ (search rules) (c.poll_until.ensures.leads live places w merge over)

@@ -41,8 +41,9 @@ returns-then-covers_at-clause-leads g c live places w merge over =
     let p = c.loop-place.invariant in
     let q = c.poll_at.ensures.polls in
     let opened = open-at c.loop-place.self c.loop-place.place q.reader c.is_open.result c.is_open.ensures q.there ∙ c.if-not-is_open.false in
+    let covering = sym (some-of (λ (f : Follower). c.covers_at.result ≡ covers c.args.at_least f) (slice_get c.poll_at.new.self c.loop-place.place) q.left (left-there q) c.covers_at.ensures) ∙ c.if-covers_at.true in
     covers-with _ _ (search rules)
-    (covered-leads c.args.at_least _ c.args.self.now _ c.loop-place.place c.loop-place.self _ c.loop-place.polls c.loop-place.first.error p c.poll_at.result c.poll_at.new.self _ q opened c.in-Ok._answer c.in-Ok.is _ refl merge live places w over)
+    (covered-leads c.args.at_least _ c.args.self.now _ c.loop-place.place c.loop-place.self _ c.loop-place.polls c.loop-place.first.error p c.poll_at.result c.poll_at.new.self _ q opened c.requires.none covering c.in-Ok._answer c.in-Ok.is _ refl merge live places w over)
 
 pub returns-then-is_memory-clause-covers : goal.returns-then-is_memory-clause-covers
 returns-then-is_memory-clause-covers g c =

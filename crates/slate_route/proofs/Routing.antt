@@ -1,5 +1,5 @@
 -- A read of a router: its polls, and then the read of the reader that covers.
-use Rattle.std.proofs.Common.{◌≡◌, ◌≢◌, ◌∙◌, ◌≤◌, inl, inr, ℕ, ℤ, false, List, get_or, length, Option, Some, None, Result, Ok, Err, refl, sym, subst, ap, arith}
+use Rattle.std.proofs.Common.{◌≡◌, ◌≢◌, ◌∙◌, ◌≤◌, inl, inr, ℕ, ℤ, false, List, get_or, Option, Some, None, Result, Ok, Err, refl, sym, subst, ap, arith}
 use Rattle.std.specs.Prelude.{slice_get}
 use Rattle.std.proofs.lemmas.List.Quantifiers.{position-Some}
 use Rattle.std.proofs.lemmas.Option.{get_or_from_slice_get, slice_get-get_or, slice_get_within}
@@ -32,10 +32,11 @@ use Rattle.slate_route.specs.declared.answers.RouteRefusal.{RouteRefusal}
 use Rattle.slate_route.specs.declared.answers.RouteRefusal.TheVariants as refusals
 use Rattle.slate_route.specs.declared.answers.Routed.{Routed}
 use Rattle.slate_route.specs.declared.routers.Covering.{Covering}
-use Rattle.slate_route.specs.Reading.{Answers, FindsNone, GoesBy, Passes, covers, first_covering, passed_by, read_refusal}
+use Rattle.slate_route.specs.Reading.{Answers, FindsNone, GoesBy, covers, first_covering, read_refusal}
 use Rattle.slate_route.specs.Standing.{CanRead, IsAnswered, IsReadAt, ReadEnds, ReadFails, ReadLeads, RoutesOver, command_at, routing}
 use Rattle.slate_route.specs.Turns.{CoverEnds, CoverLeads}
 use Rattle.slate_route.proofs.Leading.{GetLeads, get-leads}
+use Rattle.slate_route.proofs.Passing.{none-passes, refusal-passes}
 use Rattle.slate_route.proofs.Turning.{covers-open, open-none, risen-first, stands-of}
 
 -- the reader that a read goes by is open
@@ -53,10 +54,6 @@ refusal-ends settings moment key at_least places stored steps new w place w' err
 refusal-answered : (error : SlateError) → (error ≢ errors.NoMemory → ⊥) → IsAnswered {A = Routed} (Err (read_refusal error))
 refusal-answered errors.NoMemory never = tt
 refusal-answered error never = never (λ same. cc)
-
-refusal-passes : (at_least : ℕ) (old new : List Follower) (passed : ℕ) (error : SlateError) → passed ≡ passed_by (first_covering at_least old) (first_covering at_least new) (length old) → Passes {A = Routed} at_least old new passed (Err (read_refusal error))
-refusal-passes at_least old new passed errors.NoMemory is = tt
-refusal-passes at_least old new passed error is = is
 
 -- ---- over any store
 read-refused : (at_least : ℕ) (old new : List Follower) (a b c : ℕ) (place polls : ℕ) → GoesBy at_least old place polls new → a ≤ b → (error : SlateError) → FaultsRise b c (let r : Result (Option KeyValue) SlateError = Err error in r) → Answers at_least old new a c (Err (read_refusal error))
@@ -174,11 +171,6 @@ none-ends settings moment key at_least places stored steps old new faults faults
 none-answered : (refusal : RouteRefusal) → IsAnswered {A = Covering} (Err refusal) → IsAnswered {A = Routed} (Err refusal)
 none-answered refusals.NoMemory answered = tt
 none-answered refusal answered = absurd answered
-
-none-passes : (at_least : ℕ) (old new : List Follower) (passed : ℕ) (refusal : RouteRefusal) → Passes {A = Covering} at_least old new passed (Err refusal) → Passes {A = Routed} at_least old new passed (Err refusal)
-none-passes at_least old new passed refusals.NoFollower passes = passes
-none-passes at_least old new passed refusals.NoMemory passes = passes
-none-passes at_least old new passed refusal passes = passes
 
 pub none-leads : (merge : Option Merge) (live : Live) (places : List ℕ) (w : World) (moment : ℤ) (key : List ℕ) (at_least : ℕ) (old new : List Follower) (refusal : RouteRefusal) (faults faults' : ℕ) (between : Known (List Batch)) → FindsNone at_least old new faults faults' refusal →
     CoverLeads (routing merge live) moment at_least live places w old new (Err refusal) between → ReadLeads (routing merge live) moment key at_least live places w old new (Err refusal) between

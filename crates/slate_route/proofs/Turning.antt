@@ -3,6 +3,7 @@ use Rattle.std.proofs.Common.{◌≡◌, ◌≢◌, ◌∙◌, ◌+◌, ◌<◌,
 use Rattle.std.specs.Prelude.{IfErr, IfOk, IfSome, ◌&&◌, count_by, is_none, nat_le, slice_get}
 use Rattle.std.specs.List.{list_any}
 use Rattle.std.specs.Option.{option_map, option_or, unwrap_or}
+use Rattle.std.specs.Result.{result_err}
 use Rattle.std.proofs.lemmas.Bool.{cases_eq, leb-false, lt-leb}
 use Rattle.std.proofs.lemmas.List.{length-set, map-append, take_all}
 use Rattle.std.proofs.lemmas.Option.{slice_get_within, slice_get-get_or}
@@ -36,8 +37,9 @@ use Rattle.slate_route.specs.declared.answers.RouteRefusal.TheVariants as refusa
 use Rattle.slate_route.specs.declared.routers.Covering.{Covering}
 use Rattle.slate_route.specs.Reading.{FindsNone, GoesBy, IsBest, IsOpenOne, NoneCovers, StandsInRefusal, Stay, covers, first_covering, is_memory, is_open, of_open, passed_by}
 use Rattle.slate_route.specs.Standing.{CanCover, PollEach, PollsLead, RoutesOver, first_error, poll_command, refused, routing}
-use Rattle.slate_route.specs.Turns.{CoverLeads, PollsAt}
+use Rattle.slate_route.specs.Turns.{CoverLeads, PollsAt, PollsFor}
 use Rattle.slate_route.proofs.Finding.{count-more, count-some, fails-at, first-at, none-at, open-more, open-same, some-pass}
+use Rattle.slate_route.proofs.Passing.{SoFar, far-all, far-closed, far-next, far-none, or-none, or-or, polls-for}
 use Rattle.slate_route.proofs.Polling.{TurnLeads, turn-leads, whole-at}
 
 -- ---- one reader
@@ -111,10 +113,6 @@ stands-of (errors.ObjectStoreError Unavailable) a b c {A} other more faults = ri
 stands-of (errors.ObjectStoreError NotFound) a b c {A} other more faults = tt
 stands-of error a b c {A} other more faults = tt
 
-or-none : {A : Type 0} (o : Option A) → option_or o None ≡ o
-or-none None = refl
-or-none (Some x) = refl
-
 or-some : (o : Option SlateError) (error : SlateError) → option_or o (Some error) ≡ None → ⊥
 or-some None error is = cc
 or-some (Some x) error is = cc
@@ -122,10 +120,7 @@ or-some (Some x) error is = cc
 -- the first error of more steps
 error-push : (steps : List Step) (step : Step) → first_error (steps ++ step ∷ []) ≡ option_or (first_error steps) (refused step.reply)
 error-push [] step = or-none (refused step.reply)
-error-push (s ∷ steps) step = ap (option_or (refused s.reply)) (error-push steps step) ∙ or-or (refused s.reply) (first_error steps) (refused step.reply) where
-  or-or : {A : Type 0} (a b c : Option A) → option_or a (option_or b c) ≡ option_or (option_or a b) c
-  or-or None b c = refl
-  or-or (Some x) b c = refl
+error-push (s ∷ steps) step = ap (option_or (refused s.reply)) (error-push steps step) ∙ or-or (refused s.reply) (first_error steps) (refused step.reply)
 
 -- ---- the polls so far
 -- what they lead to over an honest store
@@ -156,6 +151,7 @@ pub record Progress (at_least : ℕ) (moment : ℤ) (old : List Follower) (befor
   pub uncovered : (i : ℕ) (f : Follower) → i < place → slice_get cur i ≡ Some f → covers at_least f ≡ false
   pub shut : (i : ℕ) (f : Follower) → slice_get old i ≡ Some f → is_open f ≡ false → slice_get cur i ≡ Some f
   pub counted : polls ≡ count_by is_open (take place old)
+  pub so_far : SoFar moment old before place cur after first
   pub faults : before.faults ≤ after.faults
   pub kind : IfSome first (λ error. IsOfPoll ManagedCheckpoint error × StandsInRefusal error before.faults after.faults)
   pub leads : (merge : Option Merge) (live : Live) (places : List ℕ) (w : World) → RoutesOver live before places old w → Led merge live places w at_least moment old place cur after polls first
@@ -180,6 +176,7 @@ module _ (at_least : ℕ) (moment : ℤ) (old : List Follower) (before : Known (
     uncovered = λ i f below at. absurd (omega (arith, below));
     shut = λ i f at closed. at;
     counted = refl;
+    so_far = far-none moment old before;
     faults = omega arith;
     kind = tt;
     leads = λ merge live places w over. record {
@@ -207,6 +204,7 @@ module _ (at_least : ℕ) (moment : ℤ) (old : List Follower) (before : Known (
           ];
           shut = p.shut;
           counted = (let more = count-more is_open old place f false was closed in let had = p.counted in omega (arith, more, had));
+          so_far = far-closed moment old before place cur after first p.so_far f was closed;
           faults = p.faults;
           kind = p.kind;
           leads = λ merge live places w over.
@@ -257,6 +255,12 @@ module _ (at_least : ℕ) (moment : ℤ) (old : List Follower) (before : Known (
 
       faults' : before.faults ≤ after'.faults
       faults' = let had = p.faults in let more = (q.faults).count in omega (arith, had, more)
+
+      so_far' : SoFar moment old before (place + 1) cur' after' (option_or first (result_err result))
+      so_far' = far-next moment old before place cur after first p.so_far q.reader was opened result cur' after' q
+
+      so-far-at : (r : Result PollAnswer SlateError) → result ≡ r → SoFar moment old before (place + 1) cur' after' (option_or first (result_err r))
+      so-far-at r is = subst (λ (x : Result PollAnswer SlateError). SoFar moment old before (place + 1) cur' after' (option_or first (result_err x))) is so_far'
 
       pub stay : Stay old cur'
       stay = record { count = count'; closed = shut' }
@@ -385,6 +389,7 @@ module _ (at_least : ℕ) (moment : ℤ) (old : List Follower) (before : Known (
         uncovered = uncovered' less;
         shut = shut';
         counted = polls';
+        so_far = subst (SoFar moment old before (place + 1) cur' after') (or-none first) (so-far-at (Ok answer) is);
         faults = faults';
         kind = kind-more;
         leads = λ merge live places w over.
@@ -422,6 +427,7 @@ module _ (at_least : ℕ) (moment : ℤ) (old : List Follower) (before : Known (
         uncovered = uncovered' (still-uncovers at_least q.reader q.left error other (fails-at (covers at_least) old nothing place q.reader was) (error-kind error is).0);
         shut = shut';
         counted = polls';
+        so_far = so-far-at (Err error) is;
         faults = faults';
         kind = kinds first kind-more;
         leads = λ merge live places w over. record {
@@ -461,6 +467,12 @@ module _ (at_least : ℕ) (moment : ℤ) (old : List Follower) (before : Known (
         completes = λ can. tt;
       }
 
+      pub covered-polls : (nothing : first_covering at_least old ≡ None) → covers at_least q.left ≡ true → (covering : Covering) → PollsFor at_least moment old before (Ok covering) cur' after'
+      covered-polls nothing reaches covering = polls-for moment old before (place + 1) cur' after' (option_or first (result_err result)) so_far' at_least (Ok covering) (covered-passes nothing reaches) (λ turns told. tt)
+
+      pub memory-polls : PollsFor {A = Covering} at_least moment old before (Err refusals.NoMemory) cur' after'
+      memory-polls = polls-for moment old before (place + 1) cur' after' (option_or first (result_err result)) so_far' at_least (Err refusals.NoMemory) tt (λ turns told. tt)
+
       pub memory-leads : (merge : Option Merge) (live : Live) (places : List ℕ) (w : World) → RoutesOver live before places old w →
           CoverLeads (routing merge live) moment at_least live places w old cur' (Err refusals.NoMemory) after'
       memory-leads merge live places w over = record { passed = place + 1; passes = tt; polled = polled-on merge live places w over; ends = tt; completes = λ can. tt }
@@ -495,6 +507,15 @@ module _ (at_least : ℕ) (moment : ℤ) (old : List Follower) (before : Known (
 
       abbrev all-led : (merge : Option Merge) (live : Live) (places : List ℕ) (w : World) → PollsLead (routing merge live) moment live places w old place cur after → PollsLead (routing merge live) moment live places w old (length old) cur after
       all-led merge live places w l = polls-as place (length old) (ap (λ (readers : List Follower). of_open readers places) (take_all place old over-all ∙ sym (take_all (length old) old (omega arith)))) l
+
+      so-far-all : SoFar moment old before (length old) cur after first
+      so-far-all = far-all moment old before place cur after first p.so_far over-all
+
+      pub failed-polls : (error : SlateError) → first ≡ Some error → PollsFor {A = Covering} at_least moment old before (Err (refusals.Poll error)) cur after
+      failed-polls error is = polls-for moment old before (length old) cur after first so-far-all at_least (Err (refusals.Poll error)) all-passes (λ turns told. told ∙ is)
+
+      pub behind-polls : first ≡ None → (best : ℕ) → PollsFor {A = Covering} at_least moment old before (Err (refusals.Behind at_least best)) cur after
+      behind-polls is best = polls-for moment old before (length old) cur after first so-far-all at_least (Err (refusals.Behind at_least best)) all-passes (λ turns told. told ∙ is)
 
       pub failed-leads : (error : SlateError) → first ≡ Some error → (merge : Option Merge) (live : Live) (places : List ℕ) (w : World) → RoutesOver live before places old w →
           CoverLeads (routing merge live) moment at_least live places w old cur (Err (refusals.Poll error)) after
@@ -562,6 +583,12 @@ module _ (at_least : ℕ) (moment : ℤ) (old : List Follower) (before : Known (
     ends = λ some. absurd (omega (arith, some, none));
     completes = λ can. tt;
   }
+
+  pub quiet-polls : (place : ℕ) → first_covering at_least old ≡ Some place → (covering : Covering) → PollsFor at_least moment old before (Ok covering) old before
+  quiet-polls place is covering = polls-for moment old before 0 old before None (far-none moment old before) at_least (Ok covering) (quiet-passes place is) (λ turns told. tt)
+
+  pub closed-polls : PollsFor {A = Covering} at_least moment old before (Err refusals.NoFollower) old before
+  closed-polls = polls-for moment old before 0 old before None (far-none moment old before) at_least (Err refusals.NoFollower) refl (λ turns told. tt)
 
   pub closed-leads : list_any is_open old ≡ false → (merge : Option Merge) (live : Live) (places : List ℕ) (w : World) → RoutesOver live before places old w → CoverLeads (routing merge live) moment at_least live places w old old (Err refusals.NoFollower) before
   closed-leads none merge live places w over = record {

@@ -163,8 +163,8 @@ impl Router {
     ///
     /// # What stands after
     ///
-    /// No reader's number falls. A reader that was answered an error by its poll, except want of memory, is closed by that: it is read
-    /// and polled no more. A refused read changes no reader that it didn't poll.
+    /// Over an honest store no reader's number falls. A reader that was answered an error by its poll, except want of memory, is closed
+    /// by that: it is read and polled no more. A read changes no reader that it didn't poll.
     pub fn read_at_least<S: Store, M: MergeOperator>(
         &mut self,
         alloc: Global,

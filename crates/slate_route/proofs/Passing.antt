@@ -38,7 +38,7 @@ failure-push (t ∷ turns) turn = ap (option_or (result_err t.result)) (failure-
 polled-push : (moment : ℤ) (turns : List Turn) (turn : Turn) (old : List Follower) (before : Known (List Batch)) (mid : List Follower) (between : Known (List Batch)) (new : List Follower) (after : Known (List Batch)) → Polled moment turns old before mid between →
     PollsAt turn.place moment mid between turn.result new after → Polled moment (turns ++ turn ∷ []) old before new after
 polled-push moment [] turn old before mid between new after polled last =
-    (new, after, subst (λ (k : Known (List Batch)). PollsAt turn.place moment old k turn.result new after) polled.1 (subst (λ (xs : List Follower). PollsAt turn.place moment xs between turn.result new after) polled.0 last), refl, refl)
+    (new, after, subst (λ (k : Known (List Batch)). PollsAt turn.place moment old k turn.result new after) polled.1 (subst (λ (xs : List Follower). PollsAt turn.place moment xs between turn.result new after) polled.0 last), (refl, refl))
 polled-push moment (t ∷ turns) turn old before mid between new after polled last =
     (polled.0, polled.1, polled.2, polled-push moment turns turn polled.0 polled.1 mid between new after polled.3 last)
 

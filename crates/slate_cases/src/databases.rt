@@ -1,16 +1,16 @@
 // The subject `database`: a store that fails as told, and what is opened over it, by script lines and by calls.
-use crate::answers::Answer;
-use crate::call_line::CallLine;
 use crate::feeds::SteppedFeed;
-use crate::object_calls::{call_checkpoints, call_objects};
-use crate::operators::{Cuts, Refusing, extractor_of, operator_of};
 use crate::polled::PolledReader;
-use crate::store_calls::call_store;
-use crate::subjects::Subject;
-use crate::told_stores::ToldStore;
+use slate_calls::answers::Answer;
+use slate_calls::call_line::CallLine;
+use slate_calls::object_calls::{call_checkpoints, call_objects};
+use slate_calls::operators::{Cuts, Refusing, extractor_of, operator_of};
+use slate_calls::store_calls::call_store;
+use slate_calls::subjects::Subject;
+use slate_calls::told_stores::ToldStore;
 use slate_live::{Command, LineAnswer, LiveState, Options, print_replies, read_line};
 use slate_reads::IndexedTable;
-use slate_replay::{Replayed, replay};
+use slate_replay::replay;
 use slate_route::Router;
 use slate_writer::{BoardWatch, Transaction, WriterState};
 use std::alloc::Global;
@@ -180,17 +180,4 @@ fn replay_twice(store: &mut ToldStore, line: &mut CallLine<'_>) {
     replay(line.alloc(), store, &mut memory, floor, mark, last).print(line);
     replay(line.alloc(), store, &mut memory, floor, mark, last).print(line);
     line.print_number(memory.batches().len() as u64);
-}
-
-impl Answer for Replayed {
-    fn print(self, line: &mut CallLine<'_>) {
-        match self {
-            Replayed::Whole => line.print_text("whole "),
-            Replayed::Truncated(id) => {
-                line.print_text("truncated at ");
-                line.print_number(id);
-                line.print_text(" ");
-            }
-        }
-    }
 }

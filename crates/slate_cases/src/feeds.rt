@@ -1,9 +1,9 @@
 // Calls of a feed of a database: whole ones, and one that makes its steps one by one.
 ghost use Rattle.std.specs.Prelude.{None};
 
-use crate::answers::Answer;
-use crate::call_line::CallLine;
 use crate::databases::Database;
+use slate_calls::answers::Answer;
+use slate_calls::call_line::CallLine;
 use slate_feed::{Feed, FeedMachine, FeedRefusal, FeedStep};
 use slate_store::Store;
 use slate_types::{Batch, Seq};
@@ -95,14 +95,14 @@ impl Database {
             (Some(Call::Cursor), Some(feed)) => line.print_number(feed.feed.cursor()),
             (Some(Call::Next), Some(feed)) => {
                 let limit = limit_of(line);
-                feed.next(alloc, &mut self.store, limit).print(line);
+                print_batches(feed.next(alloc, &mut self.store, limit), line);
             }
             (Some(Call::Begin), Some(feed)) => {
                 feed.begin(alloc, limit_of(line));
                 line.print_text("begun");
             }
             (Some(Call::Step), Some(feed)) => match feed.step(alloc, &mut self.store) {
-                Some(stepped) => stepped.print(line),
+                Some(stepped) => print_step(stepped, line),
                 None => line.unread(),
             },
             _ => line.unread(),
@@ -121,7 +121,7 @@ impl Database {
                     machine: None,
                 });
             }
-            Err(refusal) => refusal.print(line),
+            Err(refusal) => print_refusal(refusal, line),
         }
     }
 }
@@ -132,50 +132,41 @@ fn limit_of(line: &mut CallLine<'_>) -> u32 {
     u32::try_from(limit).unwrap_or(u32::MAX)
 }
 
-impl Answer for Seq<Batch> {
-    fn print(self, line: &mut CallLine<'_>) {
-        line.print_text("batches ");
-        line.print_number(self.as_slice().len() as u64);
-        for batch in self.as_slice() {
-            line.print_text("; batch ");
-            line.print_number(batch.number);
-            line.print_text(" created ");
-            line.print_time(batch.create_ts);
-            line.print_text(" ops ");
-            line.print_number(batch.ops.as_slice().len() as u64);
-        }
+/// Prints what a whole call answers.
+fn print_batches(answer: Result<Seq<Batch>, FeedRefusal>, line: &mut CallLine<'_>) {
+    match answer {
+        Ok(batches) => batches.print(line),
+        Err(refusal) => print_refusal(refusal, line),
     }
 }
 
-impl Answer for FeedStep {
-    fn print(self, line: &mut CallLine<'_>) {
-        match self {
-            FeedStep::More => line.print_text("more"),
-            FeedStep::Batches(batches) => batches.print(line),
-            FeedStep::Moved => line.print_text("moved"),
-        }
+/// Prints what a step answers.
+fn print_step(answer: Result<FeedStep, FeedRefusal>, line: &mut CallLine<'_>) {
+    match answer {
+        Ok(FeedStep::More) => line.print_text("more"),
+        Ok(FeedStep::Batches(batches)) => batches.print(line),
+        Ok(FeedStep::Moved) => line.print_text("moved"),
+        Err(refusal) => print_refusal(refusal, line),
     }
 }
 
-impl Answer for FeedRefusal {
-    fn print(self, line: &mut CallLine<'_>) {
-        match self {
-            FeedRefusal::LatestTransactionalObjectVersionMissing => line.print_text("missing"),
-            FeedRefusal::BeforeFloor { cursor, floor } => {
-                line.print_text("floor ");
-                line.print_number(floor);
-                line.print_text(" of ");
-                line.print_number(cursor);
-            }
-            FeedRefusal::Ahead { cursor, end } => {
-                line.print_text("ahead ");
-                line.print_number(cursor);
-                line.print_text(" of ");
-                line.print_number(end);
-            }
-            FeedRefusal::ObjectStoreError => line.print_text("failed"),
-            FeedRefusal::NoMemory => line.print_text("no memory"),
-            FeedRefusal::Moved => line.print_text("refused as moved"),
+fn print_refusal(refusal: FeedRefusal, line: &mut CallLine<'_>) {
+    match refusal {
+        FeedRefusal::LatestTransactionalObjectVersionMissing => line.print_text("missing"),
+        FeedRefusal::BeforeFloor { cursor, floor } => {
+            line.print_text("floor ");
+            line.print_number(floor);
+            line.print_text(" of ");
+            line.print_number(cursor);
         }
+        FeedRefusal::Ahead { cursor, end } => {
+            line.print_text("ahead ");
+            line.print_number(cursor);
+            line.print_text(" of ");
+            line.print_number(end);
+        }
+        FeedRefusal::ObjectStoreError => line.print_text("failed"),
+        FeedRefusal::NoMemory => line.print_text("no memory"),
+        FeedRefusal::Moved => line.print_text("refused as moved"),
     }
 }

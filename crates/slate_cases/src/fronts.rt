@@ -1,11 +1,11 @@
 // The subject `front`: a database that threads share, without an operator and an extractor, its snapshots and its transactions,
 // and a reader, all over one store in memory.
-use crate::answers::Answer;
-use crate::call_line::CallLine;
-use crate::ranges::range_of;
-use crate::rows::print_left;
-use crate::subjects::Subject;
 use crate::transactions::LEVELS;
+use slate_calls::answers::Answer;
+use slate_calls::call_line::CallLine;
+use slate_calls::ranges::range_of;
+use slate_calls::rows::print_left;
+use slate_calls::subjects::Subject;
 use slate_db::{
     Db, DbMetadataOps, DbReadOps, DbReader, DbReaderMode, DbReaderOptions, DbSnapshot,
     DbTransaction, DbTransactionOps, DbWriteOps, HandClock, IsolationLevel, MemoryStore,
@@ -268,13 +268,13 @@ fn write<D: DbWriteOps, R: Wait>(db: &D, rt: &R, call: Call, line: &mut CallLine
     match call {
         Call::Put => {
             let value = line.bytes();
-            db.put(rt, alloc, key, value.as_slice()).print(line);
+            print_written(db.put(rt, alloc, key, value.as_slice()), line);
         }
         Call::Merge => {
             let value = line.bytes();
-            db.merge(rt, alloc, key, value.as_slice()).print(line);
+            print_written(db.merge(rt, alloc, key, value.as_slice()), line);
         }
-        _ => db.delete(rt, alloc, key).print(line),
+        _ => print_written(db.delete(rt, alloc, key), line),
     }
 }
 
@@ -318,7 +318,7 @@ fn operate<T: DbTransactionOps, R: Wait>(transaction: &T, rt: &R, line: &mut Cal
 fn commit<T: DbTransactionOps, R: Wait>(transaction: T, rt: &R, line: &mut CallLine<'_>) {
     let committed = transaction.commit(rt, line.alloc());
     match line.made(committed) {
-        Some(Some(handle)) => handle.print(line),
+        Some(Some(handle)) => print_handle(&handle, line),
         Some(None) => line.print_text("nothing"),
         None => {}
     }
@@ -387,18 +387,17 @@ fn call_reader<R: Wait + Clock>(
     }
 }
 
-/// The number of a write, and when it was accepted.
-impl Answer for WriteHandle {
-    fn print(self, line: &mut CallLine<'_>) {
-        line.print_number(self.seqnum());
-        line.print_text("+");
-        line.print_time(self.create_ts());
-    }
+/// Prints the number of a write, and when it was accepted.
+fn print_handle(handle: &WriteHandle, line: &mut CallLine<'_>) {
+    line.print_number(handle.seqnum());
+    line.print_text("+");
+    line.print_time(handle.create_ts());
 }
 
-impl Answer for Error {
-    fn print(self, line: &mut CallLine<'_>) {
-        line.print_text("error ");
-        line.print_public(&self);
+/// Prints that, or why nothing was written.
+fn print_written(written: Result<WriteHandle, Error>, line: &mut CallLine<'_>) {
+    match written {
+        Ok(handle) => print_handle(&handle, line),
+        Err(error) => error.print(line),
     }
 }

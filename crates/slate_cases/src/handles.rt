@@ -1,18 +1,14 @@
 // Calls of the handle of a database, beside those of script lines.
-use crate::answers::Answer;
-use crate::call_line::CallLine;
 use crate::databases::Database;
-use crate::keys::level_of;
-use crate::operators::Refusing;
-use crate::ranges::{order_of, range_of};
-use crate::tasks::print_names;
-use crate::told_stores::ToldStore;
-use crate::trackers::find_of;
-use slate_errors::{Ended, SlateError};
-use slate_rows::{DbIterator, DbRecencyIterator};
+use slate_calls::answers::Answer;
+use slate_calls::call_line::CallLine;
+use slate_calls::keys::level_of;
+use slate_calls::operators::Refusing;
+use slate_calls::ranges::{order_of, range_of};
+use slate_calls::told_stores::ToldStore;
+use slate_calls::trackers::find_of;
 use slate_types::{CloseOptions, FlushType, KeyOp, Op, ScanOptions, Seq, WriteBatch};
-use slate_writer::{WriteRefusal, WriterOptions, WriterState, Written};
-use std::alloc::Global;
+use slate_writer::{WriterOptions, WriterState};
 
 #[derive(Clone, Copy)]
 enum Call {
@@ -79,6 +75,7 @@ impl Database {
         if let Some(handle) = &mut self.handle {
             handle
                 .write(line.alloc(), batch, moment, None, extractor)
+                .map_err(|refusal| refusal.error)
                 .print(line);
         }
     }
@@ -177,53 +174,4 @@ fn op_of(line: &mut CallLine<'_>) -> KeyOp {
         Op::Put(value, expiry)
     };
     KeyOp { key, op }
-}
-
-/// The number of a write.
-impl Answer for Written {
-    fn print(self, line: &mut CallLine<'_>) {
-        line.print_number(self.number);
-    }
-}
-
-impl Answer for WriteRefusal {
-    fn print(self, line: &mut CallLine<'_>) {
-        line.print_error(&self.error);
-    }
-}
-
-/// The names of the tasks that a close ended, or its error.
-impl Answer for Ended {
-    fn print(self, line: &mut CallLine<'_>) {
-        match &self.fault {
-            Some(error) => line.print_error(error),
-            None => print_names(self.tasks.names(), line),
-        }
-    }
-}
-
-/// The rows of a scan, or the fault that ends them.
-impl Answer for DbIterator {
-    fn print(self, line: &mut CallLine<'_>) {
-        match self.into_rows(line.alloc()) {
-            Ok(rows) => line.print_rows(rows.as_slice()),
-            Err(fault) => SlateError::from(fault).print(line),
-        }
-    }
-}
-
-/// The keys of operations with their numbers, as `key@number`, at most a hundred.
-impl Answer for DbRecencyIterator {
-    fn print(self, line: &mut CallLine<'_>) {
-        let mut found = self;
-        for _ in 0..100 {
-            let Some(entry) = found.next_entry() else {
-                break;
-            };
-            line.print_blank();
-            line.print_bytes(entry.key.as_slice());
-            line.print_text("@");
-            line.print_number(entry.seq);
-        }
-    }
 }

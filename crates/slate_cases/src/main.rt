@@ -3,45 +3,20 @@
 //! forms of the files.
 #![tactic(auto)]
 
-mod answers;
-mod batches;
-mod bits;
-mod blob_stores;
-mod call_line;
 mod calls;
 mod cases;
 mod databases;
-mod directories;
-mod dispatchers;
 mod ending_files;
-mod errors;
-mod executors;
 mod failures;
 mod feeds;
 mod folders;
 mod fronts;
 mod handles;
-mod keys;
-mod lines;
-mod manifests;
-mod object_calls;
-mod objects;
-mod operators;
 mod polled;
-mod ranges;
 mod readers;
-mod replies;
 mod routers;
-mod rows;
 mod sessions;
-mod statuses;
-mod store_calls;
 mod streams;
-mod subjects;
-mod tasks;
-mod texts;
-mod told_stores;
-mod trackers;
 mod transactions;
 mod trials;
 

@@ -1,17 +1,17 @@
 // Calls of a reader of a database beside those of script lines, and what others put for it.
-use crate::answers::Answer;
-use crate::call_line::CallLine;
 use crate::databases::Database;
 use crate::handles::ops_of;
-use crate::manifests::{first_manifest, prefixes_of};
-use crate::object_calls::latest_of;
-use crate::operators::{Cuts, Refusing};
 use crate::polled::PolledReader;
-use crate::ranges::{order_of, range_of};
-use crate::rows::print_left;
-use crate::store_calls::{push, stored};
-use crate::told_stores::ToldStore;
-use slate_follow::{DbReaderMode, DbReaderOptions, FollowerState, PollAnswer};
+use slate_calls::answers::Answer;
+use slate_calls::call_line::CallLine;
+use slate_calls::manifests::{first_manifest, prefixes_of};
+use slate_calls::object_calls::latest_of;
+use slate_calls::operators::{Cuts, Refusing};
+use slate_calls::ranges::{order_of, range_of};
+use slate_calls::rows::print_left;
+use slate_calls::store_calls::{push, stored};
+use slate_calls::told_stores::ToldStore;
+use slate_follow::{DbReaderMode, DbReaderOptions, FollowerState};
 use slate_reads::IndexedTable;
 use slate_store::{LogFile, Manifest, Store, TableId};
 use slate_types::{Batch, Name, PrefixExtractor, Seq};
@@ -166,21 +166,6 @@ fn scan_first(
     let rows = reader.scan_first(line.alloc(), store, &range, order, limit, operator);
     if let Some(mut rows) = line.made(rows) {
         print_left(&mut rows, line);
-    }
-}
-
-impl Answer for PollAnswer {
-    fn print(self, line: &mut CallLine<'_>) {
-        match self {
-            PollAnswer::Whole { at } => {
-                line.print_text("whole at ");
-                line.print_number(at);
-            }
-            PollAnswer::Truncated { at } => {
-                line.print_text("truncated at ");
-                line.print_number(at);
-            }
-        }
     }
 }
 

@@ -1,12 +1,12 @@
 // The subject `streams`: sources and sinks in memory that fail as told, and sessions over them.
 ghost use Rattle.std.specs.Prelude.{◌≤◌};
 
-use crate::answers::Answer;
-use crate::call_line::CallLine;
 use crate::sessions::run_session;
-use crate::store_calls::print_stored;
-use crate::subjects::Subject;
-use slate_live::{InputFault, ReadAnswer, SliceSource, Source, VecSink, read_whole, write_whole};
+use slate_calls::answers::Answer;
+use slate_calls::call_line::CallLine;
+use slate_calls::store_calls::print_stored;
+use slate_calls::subjects::Subject;
+use slate_live::{ReadAnswer, SliceSource, Source, VecSink, read_whole, write_whole};
 use slate_store::MemoryStore;
 use slate_types::Seq;
 use std::alloc::Global;
@@ -156,16 +156,6 @@ fn flow(line: &mut CallLine<'_>) {
     let read = read_whole(line.alloc(), &mut Unheld { left }, limit);
     if let Some(bytes) = line.made(read) {
         line.print_number(bytes.len() as u64);
-    }
-}
-
-impl Answer for InputFault {
-    fn print(self, line: &mut CallLine<'_>) {
-        match self {
-            InputFault::Failed => line.print_text("failed"),
-            InputFault::TooLong => line.print_text("too long"),
-            InputFault::NoMemory => line.no_memory(),
-        }
     }
 }
 

@@ -1,8 +1,8 @@
 // Calls of the transactions of a database's handle.
-use crate::answers::Answer;
-use crate::call_line::CallLine;
 use crate::databases::Database;
-use crate::keys::level_of;
+use slate_calls::answers::Answer;
+use slate_calls::call_line::CallLine;
+use slate_calls::keys::level_of;
 use slate_types::{ByteRange, KeyBound, ReadOptions, ScanOptions};
 use slate_writer::{IsolationLevel, Transaction};
 use uuid::Uuid;

@@ -1,14 +1,16 @@
 -- Commands that are done one after another lead through a chain of worlds.
-use Rattle.std.proofs.Common.{◌≡◌, ◌≤◌, ◌<◌, ◌+◌, ℕ, length, take, map, get_or, List, [], ◌∷◌, ◌++◌, Option, Some, refl, sym, subst, ap, ◌∙◌}
-use Rattle.std.specs.List.{All, slice_get}
+use Rattle.std.proofs.Common.{◌≡◌, ◌≤◌, ◌<◌, ◌+◌, ◌&&◌, ℕ, Bool, true, false, length, take, map, get_or, List, [], ◌∷◌, ◌++◌, Option, Some, refl, sym, subst, ap, ◌∙◌}
+use Rattle.std.specs.List.{All, list_any, slice_get}
 use Rattle.std.proofs.lemmas.List.{map-append, take_all, take_more}
 use Rattle.std.proofs.lemmas.List.Elements.{All-nil, All-push}
+use Rattle.std.proofs.lemmas.Map.Keys.{any_passes_from_place}
 use Rattle.slate_types.specs.declared.batches.Batch.{Batch}
 use Rattle.slate_types.specs.Line.{IsPrefix}
 use Rattle.slate_store.specs.Objects.{Objects}
 use Rattle.slate_store.specs.Content.{IsSound}
 use Rattle.slate_model.specs.Known.{Known}
 use Rattle.slate_model.specs.Segments.{Extractor}
+use Rattle.slate_script.specs.declared.commands.Action.{Action}
 use Rattle.slate_script.specs.declared.commands.Command.{Command}
 use Rattle.slate_script.specs.declared.options.Options.{Options}
 use Rattle.slate_script.specs.declared.replies.Reply.{Reply}
@@ -20,6 +22,7 @@ use Rattle.slate_live.specs.Represents.{AllInSegments, IsReached, Represents, Re
 use Rattle.slate_live.specs.Steps.{Chain, Step, last_world}
 use Rattle.slate_live.specs.Valid.{Link}
 use Rattle.slate_live.specs.World.{World, start}
+use Rattle.slate_live.proofs.Places.{get_read}
 use Rattle.slate_live.proofs.Prefixes.{prefix-same, prefix-then}
 use Rattle.slate_live.proofs.Lasting.{leases_hold}
 use Rattle.slate_live.proofs.Listing.{list_tasks}
@@ -28,6 +31,7 @@ use Rattle.slate_live.proofs.Polling.{polls_fit}
 use Rattle.slate_live.proofs.Repeating.{repeat_errors}
 use Rattle.slate_live.proofs.Segmented.{segmented-start}
 use Rattle.slate_live.proofs.Statuses.{statuses_name}
+use Rattle.slate_live.proofs.Seen.{polls_see}
 use Rattle.slate_live.proofs.Staying.{stay_confirmed}
 use Rattle.slate_live.proofs.Tracking.{trackers_stay}
 
@@ -76,6 +80,14 @@ reached live store w stands = (stands.valid, (stands.held).0, (stands.held).2, (
 pub done_none : (settings : Settings) (first : World) (replies : List Reply) → replies ≡ [] → Done settings first [] replies []
 done_none settings first replies none = record { commands_are = refl; replies_are = sym none; chain = tt; reached = All-nil (λ (step : Step). IsReached step.world) }
 
+pub first-true : (x y : Bool) → (x && y) ≡ true → x ≡ true
+first-true true y is = refl
+first-true false y is = is
+
+-- where one of the commands goes by something, so does the list
+pub one-asks : (goes_by : Action → Bool) (commands : List Command) (i : ℕ) (command : Command) → i < length commands → command ≡ get_or commands i command → goes_by command.action ≡ true → list_any (λ (x : Command). goes_by x.action) commands ≡ true
+one-asks goes_by commands i command inside item asks = any_passes_from_place (λ (x : Command). goes_by x.action) commands i command (get_read commands i command inside item) asks
+
 -- the command at a place of a list, done after those before it
 pub done-next : (settings : Settings) (first last : World) (steps : List Step) (commands : List Command) (i : ℕ) (command : Command) (replies replies' : List Reply) (reply : Reply) → i < length commands → command ≡ get_or commands i command → replies' ≡ replies ++ reply ∷ [] → Done settings first (take i commands) replies steps → Link settings (last_world first steps) command reply last → IsReached last → Done settings first (take (i + 1) commands) replies' (steps ++ record { command = command; reply = reply; world = last } ∷ [])
 done-next settings first last steps commands i command replies replies' reply inside item pushed done link valid =
@@ -123,6 +135,7 @@ leads_all settings commands i replies o faults live store steps sound all done s
       is_last = refl;
       grows = chain-grows settings (start o faults) steps done.chain;
       confirmed = stay_confirmed settings (start o faults) steps refl done.chain;
+      seen = polls_see settings (start o faults) steps done.chain;
       snapshots = snapshots_stay settings (start o faults) steps refl done.chain done.reached;
       closings = list_tasks settings (start o faults) steps done.chain done.reached;
       repeated = repeat_errors settings (start o faults) steps done.chain;

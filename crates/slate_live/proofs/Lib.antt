@@ -6,6 +6,7 @@ pub mod Carrying
 pub mod Cases
 pub mod Chains
 pub mod Changing
+pub mod Closed
 pub mod Commencing
 pub mod Completing
 pub mod Confirming
@@ -49,6 +50,7 @@ pub mod Representing
 pub mod Rising
 pub mod Running
 pub mod Seeing
+pub mod Seen
 pub mod Segmented
 pub mod Skipping
 pub mod Snapshots

@@ -1,5 +1,6 @@
 -- Where a command goes, what it asks of the object that it names, and how often it may call the store.
-use Rattle.std.specs.Prelude.{◌≡◌, ℕ, ℤ, ◌+◌, ◌*◌, ◌==◌, Bool, true, false, List, [], ◌∷◌, length, slice_get, Option, Some, None}
+use Rattle.std.specs.Prelude.{◌≡◌, ℕ, ℤ, ◌+◌, ◌*◌, ◌==◌, ◌&&◌, ◌||◌, is_none, Bool, true, false, List, [], ◌∷◌, length, slice_get, Option, Some, None}
+use Rattle.std.specs.List.{list_any}
 use Rattle.slate_types.specs.declared.batches.KeyOp.{KeyOp}
 use Rattle.slate_types.specs.declared.batches.Op.TheVariants.{Put, Delete, Merge as MergeOperand}
 use Rattle.slate_types.specs.declared.options.CloseOptions.{CloseOptions}
@@ -172,6 +173,13 @@ goes_by_extractor (actions.Poll n) = true
 goes_by_extractor (actions.Step n) = true
 goes_by_extractor action = false
 
+-- whether one of these commands goes by the one, or by the other
+abbrev pub one_goes_by_operator : List Command → Bool
+one_goes_by_operator commands = list_any (λ (command : Command). goes_by_operator command.action) commands
+
+abbrev pub one_goes_by_extractor : List Command → Bool
+one_goes_by_extractor commands = list_any (λ (command : Command). goes_by_extractor command.action) commands
+
 -- what a snapshot of a handle asks the handle: to read up to the snapshot's number
 abbrev pub at_snapshot : ℕ → Call → Call
 at_snapshot number (Get key remote snapshot) = Get key remote (Some number)
@@ -185,6 +193,28 @@ read_by objects None = None
 read_by objects (Some (Handle handle)) = Some (Handle handle)
 read_by objects (Some (Snapshot snapshot)) = slice_get objects snapshot.handle
 read_by objects (Some (Follower follower)) = Some (Follower follower)
+
+-- whether it is no handle and no reader that is closed
+abbrev pub is_open : Option Object → Bool
+is_open (Some (Handle handle)) = is_none handle.result
+is_open (Some (Follower follower)) = is_none follower.result
+is_open object = true
+
+abbrev pub merges : Action → Bool
+merges (actions.Merge n key value expire) = true
+merges action = false
+
+-- whether a command asks the merge operator, where this object is read by it: what is closed answers that, but for a merge that has none
+abbrev pub asks_operator : Option Object → Action → Bool
+asks_operator object action = goes_by_operator action && (merges action || is_open object)
+
+abbrev pub makes_step : Action → Bool
+makes_step (actions.Step n) = true
+makes_step action = false
+
+-- and whether it asks the extractor
+abbrev pub asks_extractor : Option Object → Action → Bool
+asks_extractor object action = goes_by_extractor action && (makes_step action || is_open object)
 
 -- how many tables a read of an object reads: those of its view
 abbrev pub table_count : Option Object → ℕ

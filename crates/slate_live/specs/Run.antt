@@ -12,7 +12,7 @@ use Rattle.slate_script.specs.declared.replies.Reply.{Reply}
 use Rattle.slate_live.specs.Closings.{ListTasks, RepeatErrors}
 use Rattle.slate_live.specs.State.{Live}
 use Rattle.slate_live.specs.Stepping.{IsDone}
-use Rattle.slate_live.specs.Steps.{Chain, StayConfirmed, Step, last_world}
+use Rattle.slate_live.specs.Steps.{Chain, PollsSee, StayConfirmed, Step, last_world}
 use Rattle.slate_live.specs.Represents.{Holds, IsReached}
 use Rattle.slate_live.specs.Settings.{Settings}
 use Rattle.slate_live.specs.Leases.{LeasesHold}
@@ -37,11 +37,11 @@ abbrev pub DidAll : Settings → List Command → List Reply → Known (List Bat
 DidAll settings commands replies store store' = (last : Live) × DoAll settings (none_live settings.options) store commands replies last store'
 
 -- The commands lead from the world of these objects, by one step each with its reply and each to a valid world, to one that the store
--- holds afterwards. What was stored before is stored afterwards, a write that is reported durable is confirmed for good, what a snapshot
--- gives stays, the first close of a handle or a reader lists the tasks that its opening registered, a close of a reader that an error
--- closed answers that, a handle that is opened has the tracker of the one that flushed to a table before, a status names the segments
--- above the view, a reader that is polled by whole calls keeps its checkpoint while sweeps come in time, and no poll finds a key
--- without a segment.
+-- holds afterwards. What was stored before is stored afterwards, a write that is reported durable is confirmed for good, what is stored
+-- when a poll is begun by single calls is seen at its end, what a snapshot gives stays, the first close of a handle or a reader lists the
+-- tasks that its opening registered, a close of a reader that an error closed answers that, a handle that is opened has the tracker of the
+-- one that flushed to a table before, a status names the segments above the view, a reader that is polled by whole calls keeps its
+-- checkpoint while sweeps come in time, and no poll finds a key without a segment.
 pub record LeadsTo (settings : Settings) (commands : List Command) (replies : List Reply) (before : Objects) (faults : ℕ) (store : Known (List Batch)) : Type 0 where
   pub steps : List Step
   pub commands_are : map (λ step. step.command) steps ≡ commands
@@ -52,6 +52,7 @@ pub record LeadsTo (settings : Settings) (commands : List Command) (replies : Li
   pub is_last : last ≡ last_world (start before faults) steps
   pub grows : IsPrefix (content before) last.stored
   pub confirmed : StayConfirmed steps
+  pub seen : PollsSee steps
   pub snapshots : SnapshotsStay steps
   pub closings : ListTasks settings.options steps
   pub repeated : RepeatErrors steps

@@ -1,11 +1,13 @@
 -- A run, step by step, and what holds over all of it.
-use Rattle.std.specs.Prelude.{◌≡◌, ℕ, ◌<◌, List, [], ◌∷◌, slice_get, Some}
+use Rattle.std.specs.Prelude.{◌≡◌, ℕ, ◌<◌, ◌≤◌, true, List, [], ◌∷◌, ◌++◌, slice_get, Some}
 use Rattle.slate_types.specs.declared.batches.Batch.{Batch}
+use Rattle.slate_model.specs.Follower.{Follower}
 use Rattle.slate_script.specs.declared.commands.Action.TheVariants as actions
 use Rattle.slate_script.specs.declared.commands.Command.{Command}
 use Rattle.slate_script.specs.declared.replies.Reply.{Reply}
 use Rattle.slate_script.specs.declared.replies.Reply.TheVariants as replies
 use Rattle.slate_live.specs.Confirmed.{IsBatchOf, Sees, StandsIn}
+use Rattle.slate_live.specs.Represents.{IsFollowerAt, follows_all}
 use Rattle.slate_live.specs.Settings.{Settings}
 use Rattle.slate_live.specs.Valid.{Link}
 use Rattle.slate_live.specs.World.{World}
@@ -40,3 +42,12 @@ pub record StaysConfirmed (steps : List Step) (i n : ℕ) (reported : Step) : Ty
 abbrev pub StayConfirmed : List Step → Type 0
 StayConfirmed steps =
     (i n : ℕ) (reported : Step) → slice_get steps i ≡ Some reported → reported.command.action ≡ actions.Await n → reported.reply ≡ replies.Durable → StaysConfirmed steps i n reported
+
+-- What is stored when a poll of a reader is begun by single calls of the store is seen by the step that answers that it read all,
+-- whatever commands come between: one of all that is stored answers a number at or above that of each batch.
+abbrev pub PollsSee : List Step → Type 0
+PollsSee steps =
+    (before between rest : List Step) (begin step : Step) (n at : ℕ) (batch : Batch) → steps ≡ before ++ begin ∷ (between ++ step ∷ rest) →
+    begin.command.action ≡ actions.Begin n → begin.reply ≡ replies.Begun → StandsIn batch begin.world.stored →
+    step.command.action ≡ actions.Step n → step.reply ≡ replies.Polled true at →
+    (reader : Follower) → IsFollowerAt step.world.objects n reader → follows_all reader.mode reader.skips ≡ true → batch.number ≤ at

@@ -11,7 +11,7 @@ ghost use Rattle.slate_model.specs.Stores.{by_objects};
 ghost use Rattle.slate_live.specs.declared.states.Write.{Write};
 ghost use Rattle.slate_model.specs.Segments.{Extractor, IsExtractor};
 ghost use Rattle.slate_live.specs.Settings.{Settings};
-ghost use Rattle.slate_live.specs.Calls.{call_of, end_calls, ends_poll, goes_by_extractor, goes_by_operator, most_asked, poll_calls};
+ghost use Rattle.slate_live.specs.Calls.{asks_extractor, asks_operator, call_of, end_calls, ends_poll, most_asked, poll_calls};
 ghost use Rattle.slate_live.specs.Followers.{ClosesFollower, FollowerActs, GetsFromFollower, PollsFollower, TakesFromFollower};
 ghost use Rattle.slate_live.specs.Replies.{AnswersStatus, follower_closed_reply, polled_reply};
 ghost use Rattle.slate_live.specs.Scans.{scanned, sought};
@@ -38,7 +38,7 @@ pub(crate) fn act<S: Store, M: MergeOperator, E: PrefixExtractor>(
     ensures faults { S.faults store.old ≤ S.faults store.new }
     ensures calls { IfSome (S.objects store.old) (λ o. S.calls store.new ≤ S.calls store.old + most_asked o (Some (AFollower follower.old)) (call_of command.now.action)) }
     ensures untouched { (follower.old.result ≡ None → ⊥) → store.new ≡ store.old }
-    ensures does { (settings : Settings) (writes : List Write) → (goes_by_operator command.now.action ≡ true → IsOperator M.may_answer (option_copied operator.entry) settings.merge) → (goes_by_extractor command.now.action ≡ true → IsExtractor E.may_name E.may_extract (option_copied extractor.entry) settings.extractor) →
+    ensures does { (settings : Settings) (writes : List Write) → (asks_operator (Some (AFollower follower.old)) command.now.action ≡ true → IsOperator M.may_answer (option_copied operator.entry) settings.merge) → (asks_extractor (Some (AFollower follower.old)) command.now.action ≡ true → IsExtractor E.may_name E.may_extract (option_copied extractor.entry) settings.extractor) →
         (made : ℕ) × FollowerActs (by_objects (S.objects store.old)) settings command.now.moment (call_of command.now.action) made
         follower.old (known S.objects S.faults store.old) writes result follower.new (known S.objects S.faults store.new) writes }
     ensures stays { ends_poll command.now.action ≡ false → follower.new ≡ follower.old }
@@ -81,7 +81,7 @@ fn get<S: Store, M: MergeOperator>(
     ensures faults { S.faults store.old ≤ S.faults store.new }
     ensures calls { S.calls store.new ≤ S.calls store.old + length follower.now.view.manifest.tables }
     ensures untouched { (follower.now.result ≡ None → ⊥) → store.new ≡ store.old }
-    ensures read { (merge : Option Merge) → IsOperator M.may_answer (option_copied operator.entry) merge →
+    ensures read { (merge : Option Merge) → (follower.now.result ≡ None → IsOperator M.may_answer (option_copied operator.entry) merge) →
         GetsFromFollower (by_objects (S.objects store.old)) merge key.now follower.now (known S.objects S.faults store.old) result (known S.objects S.faults store.new) }
 {
     read_reply(follower.get(alloc, store, key.as_slice(), operator))
@@ -99,7 +99,7 @@ fn scan<S: Store, M: MergeOperator>(
     ensures faults { S.faults store.old ≤ S.faults store.new }
     ensures calls { S.calls store.new ≤ S.calls store.old + length follower.now.view.manifest.tables }
     ensures untouched { (follower.now.result ≡ None → ⊥) → store.new ≡ store.old }
-    ensures read { (merge : Option Merge) → IsOperator M.may_answer (option_copied operator.entry) merge →
+    ensures read { (merge : Option Merge) → (follower.now.result ≡ None → IsOperator M.may_answer (option_copied operator.entry) merge) →
         TakesFromFollower (by_objects (S.objects store.old)) merge range.now order scanned
         follower.now (known S.objects S.faults store.old) result (known S.objects S.faults store.new) }
 {
@@ -120,7 +120,7 @@ fn seek<S: Store, M: MergeOperator>(
     ensures faults { S.faults store.old ≤ S.faults store.new }
     ensures calls { S.calls store.new ≤ S.calls store.old + length follower.now.view.manifest.tables }
     ensures untouched { (follower.now.result ≡ None → ⊥) → store.new ≡ store.old }
-    ensures read { (merge : Option Merge) → IsOperator M.may_answer (option_copied operator.entry) merge →
+    ensures read { (merge : Option Merge) → (follower.now.result ≡ None → IsOperator M.may_answer (option_copied operator.entry) merge) →
         TakesFromFollower (by_objects (S.objects store.old)) merge range.now order (sought range.now take_and_key.entry.0 take_and_key.entry.1.now)
         follower.now (known S.objects S.faults store.old) result (known S.objects S.faults store.new) }
 {
@@ -140,7 +140,7 @@ fn poll<S: Store, E: PrefixExtractor>(
     ensures faults { S.faults store.old ≤ S.faults store.new }
     ensures calls { IfSome (S.objects store.old) (λ o. S.calls store.new ≤ S.calls store.old + poll_calls (is_managed follower.old.mode) follower.old.lag o) }
     ensures untouched { (follower.old.result ≡ None → ⊥) → store.new ≡ store.old }
-    ensures does { (x : Option Extractor) → IsExtractor E.may_name E.may_extract (option_copied extractor.entry) x →
+    ensures does { (x : Option Extractor) → (follower.old.result ≡ None → IsExtractor E.may_name E.may_extract (option_copied extractor.entry) x) →
         (made : ℕ) × PollsFollower (by_objects (S.objects store.old)) x made moment follower.old (known S.objects S.faults store.old) result follower.new (known S.objects S.faults store.new) }
 {
     match follower.poll(alloc, store, extractor, moment) {

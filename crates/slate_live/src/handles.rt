@@ -12,7 +12,7 @@ ghost use Rattle.slate_model.specs.Segments.{Extractor, IsExtractor};
 ghost use Rattle.slate_model.specs.Status.{handle_status};
 ghost use Rattle.slate_model.specs.Write.{Writes};
 ghost use Rattle.slate_live.specs.Settings.{Settings};
-ghost use Rattle.slate_live.specs.Calls.{at_snapshot, call_of, flush_of_close, goes_by_extractor, goes_by_operator, most_asked, ops_of};
+ghost use Rattle.slate_live.specs.Calls.{asks_extractor, asks_operator, at_snapshot, call_of, flush_of_close, most_asked, ops_of};
 ghost use Rattle.slate_live.specs.declared.states.Write.{Write as AWrite};
 ghost use Rattle.slate_live.specs.Handles.{ClosesHandle, CompactsHandle, FlushesHandle, GetsFrom, HandleActs, IsPlainScan, RefreshesHandle};
 ghost use Rattle.slate_live.specs.Handles.{TakesFrom, WritesTo, durable_reply, flush_type_by, level_of, noted};
@@ -49,7 +49,7 @@ pub(crate) fn act<S: Store, M: MergeOperator, E: PrefixExtractor>(
     ensures calls { IfSome (S.objects store.old) (λ o.
         S.calls store.new ≤ S.calls store.old + most_asked o (Some (AHandle writer.old)) (call_of command.now.action)) }
     ensures untouched { (writer.old.result ≡ None → ⊥) → store.new ≡ store.old }
-    ensures does { (settings : Settings) → (goes_by_operator command.now.action ≡ true → IsOperator M.may_answer (option_copied operator.entry) settings.merge) → (goes_by_extractor command.now.action ≡ true → IsExtractor E.may_name E.may_extract (option_copied extractor.entry) settings.extractor) →
+    ensures does { (settings : Settings) → (asks_operator (Some (AHandle writer.old)) command.now.action ≡ true → IsOperator M.may_answer (option_copied operator.entry) settings.merge) → (asks_extractor (Some (AHandle writer.old)) command.now.action ≡ true → IsExtractor E.may_name E.may_extract (option_copied extractor.entry) settings.extractor) →
         (made : ℕ) × HandleActs (by_objects (S.objects store.old)) settings number command.now.moment command.now.second (call_of command.now.action) made
         writer.old (known S.objects S.faults store.old) writes.old.items result writer.new (known S.objects S.faults store.new) writes.new.items }
 {
@@ -127,7 +127,7 @@ pub(crate) fn act_at<S: Store, M: MergeOperator>(
     ensures calls { IfSome (S.objects store.old) (λ o.
         S.calls store.new ≤ S.calls store.old + most_asked o (Some (AHandle writer.now)) (call_of command.now.action)) }
     ensures untouched { (writer.now.result ≡ None → ⊥) → store.new ≡ store.old }
-    ensures does { (settings : Settings) (handle : ℕ) (writes : List AWrite) → (goes_by_operator command.now.action ≡ true → IsOperator M.may_answer (option_copied operator.entry) settings.merge) →
+    ensures does { (settings : Settings) (handle : ℕ) (writes : List AWrite) → (asks_operator (Some (AHandle writer.now)) command.now.action ≡ true → IsOperator M.may_answer (option_copied operator.entry) settings.merge) →
         HandleActs (by_objects (S.objects store.old)) settings handle command.now.moment command.now.second (at_snapshot snapshot (call_of command.now.action)) 0
         writer.now (known S.objects S.faults store.old) writes result writer.now (known S.objects S.faults store.new) writes }
 {
@@ -184,7 +184,7 @@ fn write<E: PrefixExtractor>(
     command: &Command,
     extractor: Option<&E>,
 ) -> Reply
-    ensures { (x : Option Extractor) → IsExtractor E.may_name E.may_extract (option_copied extractor.entry) x → WritesTo x number (ops_of command.now.action) command.now.moment command.now.second
+    ensures { (x : Option Extractor) → (writer.old.result ≡ None → IsExtractor E.may_name E.may_extract (option_copied extractor.entry) x) → WritesTo x number (ops_of command.now.action) command.now.moment command.now.second
         writer.old writes.old.items result writer.new writes.new.items }
 {
     let write = writes.len() as u64;
@@ -206,7 +206,7 @@ fn write_noted<E: PrefixExtractor>(
     command: &Command,
     extractor: Option<&E>,
 ) -> Result<Written, SlateError>
-    ensures does { (x : Option Extractor) → IsExtractor E.may_name E.may_extract (option_copied extractor.entry) x → Writes x writer.old (ops_of command.now.action) command.now.moment command.now.second result writer.new }
+    ensures does { (x : Option Extractor) → (writer.old.result ≡ None → IsExtractor E.may_name E.may_extract (option_copied extractor.entry) x) → Writes x writer.old (ops_of command.now.action) command.now.moment command.now.second result writer.new }
     ensures noted { writes.new.items ≡ writes.old.items ++ noted handle result }
 {
     writes.reserve(1).map_err(NoMemory::from)?;
@@ -343,7 +343,7 @@ fn get<S: Store, M: MergeOperator>(
     ensures faults { S.faults store.old ≤ S.faults store.new }
     ensures calls { S.calls store.new ≤ S.calls store.old + length writer.now.view.manifest.tables }
     ensures untouched { (writer.now.result ≡ None → ⊥) → store.new ≡ store.old }
-    ensures read { (merge : Option Merge) → IsOperator M.may_answer (option_copied operator.entry) merge →
+    ensures read { (merge : Option Merge) → (writer.now.result ≡ None → IsOperator M.may_answer (option_copied operator.entry) merge) →
         GetsFrom (by_objects (S.objects store.old)) merge key.now remote snapshot writer.now (known S.objects S.faults store.old) result (known S.objects S.faults store.new) }
 {
     let options = read_options(remote);
@@ -390,7 +390,7 @@ fn scan<S: Store, M: MergeOperator>(
     ensures faults { S.faults store.old ≤ S.faults store.new }
     ensures calls { S.calls store.new ≤ S.calls store.old + length writer.now.view.manifest.tables }
     ensures untouched { (writer.now.result ≡ None → ⊥) → store.new ≡ store.old }
-    ensures read { (merge : Option Merge) → IsOperator M.may_answer (option_copied operator.entry) merge →
+    ensures read { (merge : Option Merge) → (writer.now.result ≡ None → IsOperator M.may_answer (option_copied operator.entry) merge) →
         TakesFrom (by_objects (S.objects store.old)) merge range.now order remote snapshot scanned
         writer.now (known S.objects S.faults store.old) result (known S.objects S.faults store.new) }
 {
@@ -415,7 +415,7 @@ fn seek<S: Store, M: MergeOperator>(
     ensures faults { S.faults store.old ≤ S.faults store.new }
     ensures calls { S.calls store.new ≤ S.calls store.old + length writer.now.view.manifest.tables }
     ensures untouched { (writer.now.result ≡ None → ⊥) → store.new ≡ store.old }
-    ensures read { (merge : Option Merge) → IsOperator M.may_answer (option_copied operator.entry) merge →
+    ensures read { (merge : Option Merge) → (writer.now.result ≡ None → IsOperator M.may_answer (option_copied operator.entry) merge) →
         TakesFrom (by_objects (S.objects store.old)) merge range.now order remote snapshot (sought range.now take_and_key.entry.0 take_and_key.entry.1.now)
         writer.now (known S.objects S.faults store.old) result (known S.objects S.faults store.new) }
 {
@@ -440,7 +440,7 @@ fn begin_scan<S: Store, M: MergeOperator>(
     ensures faults { S.faults store.old ≤ S.faults store.new }
     ensures calls { S.calls store.new ≤ S.calls store.old + length writer.now.view.manifest.tables }
     ensures untouched { (writer.now.result ≡ None → ⊥) → store.new ≡ store.old }
-    ensures scans { (merge : Option Merge) → IsOperator M.may_answer (option_copied operator.entry) merge →
+    ensures scans { (merge : Option Merge) → (writer.now.result ≡ None → IsOperator M.may_answer (option_copied operator.entry) merge) →
         Reads writer.now.result writer.now.view.manifest.tables (kept_rows (S.objects store.old) (AHandle writer.now))
         (Gives (IsPlainScan merge range.now order remote snapshot writer.now)) (known S.objects S.faults store.old) result (known S.objects S.faults store.new) }
 {

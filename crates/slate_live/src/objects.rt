@@ -5,7 +5,7 @@ ghost use Rattle.slate_reads.specs.Read.{IsOperator};
 ghost use Rattle.slate_model.specs.Known.{known};
 ghost use Rattle.slate_model.specs.Stores.{by_objects};
 ghost use Rattle.slate_live.specs.Shut.{IsShut, IsShutAt};
-ghost use Rattle.slate_live.specs.Calls.{at_snapshot, call_of, ends_poll, goes_by_extractor, goes_by_operator, most_asked, read_by};
+ghost use Rattle.slate_live.specs.Calls.{asks_extractor, asks_operator, at_snapshot, call_of, ends_poll, most_asked, read_by};
 ghost use Rattle.slate_live.specs.Commands.{Acts, asked_reply};
 ghost use Rattle.slate_live.specs.Objects.{object_of, poll_of};
 ghost use Rattle.slate_model.specs.Follower.{Follower, is_managed};
@@ -67,7 +67,7 @@ impl Object {
         ensures calls { IfSome (S.objects store.old) (λ o.
             S.calls store.new ≤ S.calls store.old + most_asked o (Some (object_of self.old)) (call_of command.now.action)) }
         ensures untouched { IsShut (object_of self.old) → store.new ≡ store.old }
-        ensures does { (settings : Settings) → (goes_by_operator command.now.action ≡ true → IsOperator M.may_answer (option_copied operator.entry) settings.merge) → (goes_by_extractor command.now.action ≡ true → IsExtractor E.may_name E.may_extract (option_copied extractor.entry) settings.extractor) →
+        ensures does { (settings : Settings) → (asks_operator (Some (object_of self.old)) command.now.action ≡ true → IsOperator M.may_answer (option_copied operator.entry) settings.merge) → (asks_extractor (Some (object_of self.old)) command.now.action ≡ true → IsExtractor E.may_name E.may_extract (option_copied extractor.entry) settings.extractor) →
             (made : ℕ) × Acts (by_objects (S.objects store.old)) settings number command.now (call_of command.now.action) made
             (object_of self.old) (known S.objects S.faults store.old) writes.old.items result (object_of self.new) (known S.objects S.faults store.new) writes.new.items }
         ensures poll { poll_of self.new ≡ (if ends_poll command.now.action then None else poll_of self.old) }
@@ -125,7 +125,7 @@ impl Object {
         ensures calls { IfSome (S.objects store.old) (λ o.
             S.calls store.new ≤ S.calls store.old + most_asked o (Some (object_of self.now)) (call_of command.now.action)) }
         ensures untouched { IsShut (object_of self.now) → store.new ≡ store.old }
-        ensures does { (settings : Settings) (handle : ℕ) (writes : List AWrite) → (goes_by_operator command.now.action ≡ true → IsOperator M.may_answer (option_copied operator.entry) settings.merge) →
+        ensures does { (settings : Settings) (handle : ℕ) (writes : List AWrite) → (asks_operator (Some (object_of self.now)) command.now.action ≡ true → IsOperator M.may_answer (option_copied operator.entry) settings.merge) →
             ActsAsOf (by_objects (S.objects store.old)) settings handle command.now (at_snapshot snapshot (call_of command.now.action))
             (object_of self.now) (known S.objects S.faults store.old) writes result (known S.objects S.faults store.new) }
     {

@@ -1,9 +1,10 @@
 // Running a list of commands over a store, with a reply to each.
-ghost use Rattle.std.specs.Prelude.{All, ◌≡◌, ◌≤◌, [], List, None, Option, IfOk, OnErr};
+ghost use Rattle.std.specs.Prelude.{All, ◌≡◌, ◌≤◌, [], List, None, Option, IfOk, OnErr, true};
 ghost use Rattle.std.specs.Option.{option_copied};
 ghost use Rattle.slate_reads.specs.Read.{IsOperator};
 ghost use Rattle.slate_model.specs.Known.{known};
 ghost use Rattle.slate_types.specs.declared.batches.Batch.{Batch};
+ghost use Rattle.slate_live.specs.Calls.{one_goes_by_extractor, one_goes_by_operator};
 ghost use Rattle.slate_live.specs.Run.{DidAll, IsRun};
 ghost use Rattle.slate_model.specs.Segments.{IsExtractor};
 ghost use Rattle.slate_live.specs.Settings.{Settings};
@@ -18,10 +19,11 @@ use std::alloc::Global;
 ///
 /// Over any store each command is answered once, in order, and does what `apply` says of it.
 ///
-/// Over an honest store, with a lawful operator and extractor or without, the commands lead through worlds, one link for each command with its
-/// reply, from the world of the store as it was to one that the store holds afterwards. Where memory runs out before
-/// the first command, nothing was done; a command that finds no memory has a reply of its own. It takes room for all
-/// replies first, and then the time of each command.
+/// Over an honest store, with a lawful operator and extractor or without, the commands lead through worlds, one link for
+/// each command with its reply, from the world of the store as it was to one that the store holds afterwards. Of the
+/// operator that is asked only where a command merges or reads, and of the extractor only where one opens, writes, polls
+/// or makes a step. Where memory runs out before the first command, nothing was done; a command that finds no memory has
+/// a reply of its own. It takes room for all replies first, and then the time of each command.
 pub fn run<S: Store, M: MergeOperator, E: PrefixExtractor>(
     alloc: Global,
     store: &mut S,
@@ -33,9 +35,9 @@ pub fn run<S: Store, M: MergeOperator, E: PrefixExtractor>(
     ensures faults { S.faults store.old ≤ S.faults store.new }
     ensures nothing { OnErr result (store.new ≡ store.old) }
     // Over any store each command is done as `apply` says, with its reply, from a state without an object on.
-    ensures does { IfOk result (λ replies. (settings : Settings) → IsOperator M.may_answer (option_copied operator.entry) settings.merge → IsExtractor E.may_name E.may_extract (option_copied extractor.entry) settings.extractor → settings.options ≡ options.now →
+    ensures does { IfOk result (λ replies. (settings : Settings) → (one_goes_by_operator commands.now ≡ true → IsOperator M.may_answer (option_copied operator.entry) settings.merge) → (one_goes_by_extractor commands.now ≡ true → IsExtractor E.may_name E.may_extract (option_copied extractor.entry) settings.extractor) → settings.options ≡ options.now →
         DidAll settings commands.now replies.items (known S.objects S.faults store.old) (known S.objects S.faults store.new)) }
-    ensures leads { IfOk result (λ replies. (settings : Settings) → IsOperator M.may_answer (option_copied operator.entry) settings.merge → IsExtractor E.may_name E.may_extract (option_copied extractor.entry) settings.extractor → settings.options ≡ options.now →
+    ensures leads { IfOk result (λ replies. (settings : Settings) → (one_goes_by_operator commands.now ≡ true → IsOperator M.may_answer (option_copied operator.entry) settings.merge) → (one_goes_by_extractor commands.now ≡ true → IsExtractor E.may_name E.may_extract (option_copied extractor.entry) settings.extractor) → settings.options ≡ options.now →
         IsRun settings commands.now replies.items (known S.objects S.faults store.old) (known S.objects S.faults store.new)) }
 {
     let mut replies = Vec::with_capacity(alloc, commands.len())?;

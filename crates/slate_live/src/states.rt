@@ -8,7 +8,7 @@ ghost use Rattle.slate_model.specs.Known.{Known, known};
 ghost use Rattle.slate_model.specs.Open.{replayed_logs};
 ghost use Rattle.slate_model.specs.Stores.{by_objects};
 ghost use Rattle.slate_live.specs.Shut.{IsShutAt};
-ghost use Rattle.slate_live.specs.Calls.{ArePolls, HaveSamePolls, OfObject, Whole, call_of, follow_calls, goes_by_extractor, goes_by_operator, kind_of, most_asked, most_calls, named, read_by, target_of};
+ghost use Rattle.slate_live.specs.Calls.{ArePolls, HaveSamePolls, OfObject, Whole, asks_extractor, asks_operator, call_of, follow_calls, kind_of, most_asked, most_calls, named, read_by, target_of};
 ghost use Rattle.slate_live.specs.Commands.{ActsOn, Does, interval_of, lag_of, lifetime_of, OpensFollowerIn, OpensHandleIn, OpensSnapshot, ReadsSnapshot, write_reply};
 ghost use Rattle.slate_live.specs.Sampling.{Pushes};
 ghost use Rattle.slate_live.specs.Replies.{followed_reply};
@@ -106,9 +106,9 @@ impl LiveState {
         ensures calls { IfSome (S.objects store.old) (λ o. S.calls store.new ≤ S.calls store.old + most_calls o self.old.objects command.now) }
         // On a closed handle or reader, and on a snapshot of a closed handle, a command leaves the store as it is, and so calls it not once.
         ensures untouched { IsShutAt (read_by self.old.objects (named self.old.objects (target_of command.now.action))) → store.new ≡ store.old }
-        ensures does { (settings : Settings) → (goes_by_operator command.now.action ≡ true → IsOperator M.may_answer (option_copied operator.entry) settings.merge) → (goes_by_extractor command.now.action ≡ true → IsExtractor E.may_name E.may_extract (option_copied extractor.entry) settings.extractor) → settings.options ≡ self.old.options →
+        ensures does { (settings : Settings) → (asks_operator (read_by self.old.objects (named self.old.objects (target_of command.now.action))) command.now.action ≡ true → IsOperator M.may_answer (option_copied operator.entry) settings.merge) → (asks_extractor (read_by self.old.objects (named self.old.objects (target_of command.now.action))) command.now.action ≡ true → IsExtractor E.may_name E.may_extract (option_copied extractor.entry) settings.extractor) → settings.options ≡ self.old.options →
             IsDone settings self.old (known S.objects S.faults store.old) command.now result self.new (known S.objects S.faults store.new) }
-        ensures link { (settings : Settings) → (goes_by_operator command.now.action ≡ true → IsOperator M.may_answer (option_copied operator.entry) settings.merge) → (goes_by_extractor command.now.action ≡ true → IsExtractor E.may_name E.may_extract (option_copied extractor.entry) settings.extractor) → settings.options ≡ self.old.options →
+        ensures link { (settings : Settings) → (asks_operator (read_by self.old.objects (named self.old.objects (target_of command.now.action))) command.now.action ≡ true → IsOperator M.may_answer (option_copied operator.entry) settings.merge) → (asks_extractor (read_by self.old.objects (named self.old.objects (target_of command.now.action))) command.now.action ≡ true → IsExtractor E.may_name E.may_extract (option_copied extractor.entry) settings.extractor) → settings.options ≡ self.old.options →
             Links settings.extractor (λ w reply w'. Link settings w command.now reply w')
             self.old (known S.objects S.faults store.old) result self.new (known S.objects S.faults store.new) }
     {
@@ -157,7 +157,7 @@ impl LiveState {
         ensures calls { IfSome (S.objects store.old) (λ o. S.calls store.new ≤ S.calls store.old + most_calls o self.old.objects command.now) }
         ensures untouched { IsShutAt (read_by self.old.objects (named self.old.objects (target_of command.now.action))) → store.new ≡ store.old }
         ensures polls { ArePolls command.now.action self.old.polls self.new.polls }
-        ensures does { (settings : Settings) → (goes_by_operator command.now.action ≡ true → IsOperator M.may_answer (option_copied operator.entry) settings.merge) → (goes_by_extractor command.now.action ≡ true → IsExtractor E.may_name E.may_extract (option_copied extractor.entry) settings.extractor) → settings.options ≡ self.old.options →
+        ensures does { (settings : Settings) → (asks_operator (read_by self.old.objects (named self.old.objects (target_of command.now.action))) command.now.action ≡ true → IsOperator M.may_answer (option_copied operator.entry) settings.merge) → (asks_extractor (read_by self.old.objects (named self.old.objects (target_of command.now.action))) command.now.action ≡ true → IsExtractor E.may_name E.may_extract (option_copied extractor.entry) settings.extractor) → settings.options ≡ self.old.options →
             (made : ℕ) × Does (by_objects (S.objects store.old)) settings made
             (running self.old (known S.objects S.faults store.old)) command.now result (running self.new (known S.objects S.faults store.new)) }
     {
@@ -361,7 +361,7 @@ impl LiveState {
             S.calls store.new ≤ S.calls store.old + most_asked o (read_by self.old.objects (slice_get self.old.objects number)) (call_of command.now.action)) }
         ensures untouched { IsShutAt (read_by self.old.objects (slice_get self.old.objects number)) → store.new ≡ store.old }
         ensures polls { target_of command.now.action ≡ OfObject number → ArePolls command.now.action self.old.polls self.new.polls }
-        ensures does { (settings : Settings) → (goes_by_operator command.now.action ≡ true → IsOperator M.may_answer (option_copied operator.entry) settings.merge) → (goes_by_extractor command.now.action ≡ true → IsExtractor E.may_name E.may_extract (option_copied extractor.entry) settings.extractor) →
+        ensures does { (settings : Settings) → (asks_operator (read_by self.old.objects (slice_get self.old.objects number)) command.now.action ≡ true → IsOperator M.may_answer (option_copied operator.entry) settings.merge) → (asks_extractor (read_by self.old.objects (slice_get self.old.objects number)) command.now.action ≡ true → IsExtractor E.may_name E.may_extract (option_copied extractor.entry) settings.extractor) →
             (made : ℕ) × ActsOn (by_objects (S.objects store.old)) settings number command.now (call_of command.now.action) made (slice_get self.old.objects number)
             (running self.old (known S.objects S.faults store.old)) result (running self.new (known S.objects S.faults store.new)) }
     {
@@ -397,7 +397,7 @@ impl LiveState {
         ensures calls { IfSome (S.objects store.old) (λ o.
             S.calls store.new ≤ S.calls store.old + most_asked o (slice_get self.now.objects snapshot.handle) (call_of command.now.action)) }
         ensures untouched { IsShutAt (slice_get self.now.objects snapshot.handle) → store.new ≡ store.old }
-        ensures does { (settings : Settings) → (goes_by_operator command.now.action ≡ true → IsOperator M.may_answer (option_copied operator.entry) settings.merge) →
+        ensures does { (settings : Settings) → (asks_operator (slice_get self.now.objects snapshot.handle) command.now.action ≡ true → IsOperator M.may_answer (option_copied operator.entry) settings.merge) →
             ReadsSnapshot (by_objects (S.objects store.old)) settings snapshot command.now (call_of command.now.action) 0 (slice_get self.now.objects snapshot.handle)
             (running self.now (known S.objects S.faults store.old)) result (running self.now (known S.objects S.faults store.new)) }
     {

@@ -184,7 +184,7 @@ fn run_live<R: Threads + Wait + Sync, O: Sink, S: Store, G: Gate + Sync>(
 /// it before anything is read (64).
 ///
 /// What that reader sees is published after its opening, and after each later command after which it sees something else: a
-/// higher number, or other tables. The readers take views until the last command is done, each at least one; then each learns
+/// higher number, or another manifest. The readers take views until the last command is done, each at least one; then each learns
 /// the last news and takes a last view. So each has seen all that was published, and behind the replies a line is written for
 /// each, by its number from 0: `reader I at K`, where K is the number of the last state, 0 where the script opened no reader.
 /// `gate` is called around each view.

@@ -1,6 +1,6 @@
 -- An opening of a reader for a router is a step of the world to which its readers belong.
 use Rattle.std.proofs.Common.{◌≡◌, ◌∙◌, ◌<◌, ◌++◌, ◌∷◌, inl, inr, ℕ, ℤ, true, false, List, [], get_or, length, Option, Some, None, Result, Ok, Err, refl, sym, subst, ap, arith}
-use Rattle.std.specs.Prelude.{is_none, slice_get}
+use Rattle.std.specs.Prelude.{IfErr, is_none, slice_get}
 use Rattle.std.proofs.lemmas.List.{length-append, length-map}
 use Rattle.std.proofs.lemmas.Option.{slice_get_within, slice_get-get_or}
 use Rattle.slate_types.specs.declared.batches.Batch.{Batch}
@@ -20,6 +20,7 @@ use Rattle.slate_model.specs.Lease.{lease_refusal}
 use Rattle.slate_model.specs.Managed.{OpensManaged, TakesLease}
 use Rattle.slate_model.specs.Object.{Object, Follower as AFollower, kept}
 use Rattle.slate_model.specs.Stores.{by_objects}
+use Rattle.slate_follow.specs.Answering.{IsOfOpening}
 use Rattle.slate_script.specs.declared.commands.Command.{Command}
 use Rattle.slate_script.specs.declared.replies.Reply.{Reply}
 use Rattle.slate_script.specs.declared.replies.Reply.TheVariants as replies
@@ -37,9 +38,10 @@ use Rattle.slate_live.proofs.Wholes.{next-whole}
 use Rattle.slate_route.specs.declared.answers.Added.{Added}
 use Rattle.slate_route.specs.declared.answers.RouteRefusal.{RouteRefusal}
 use Rattle.slate_route.specs.declared.answers.RouteRefusal.TheVariants as refusals
-use Rattle.slate_route.specs.Reading.{is_open, opening_refusal}
+use Rattle.slate_route.specs.Reading.{Adds, is_open, most_readers, opening_refusal}
 use Rattle.slate_route.specs.Standing.{AddEnds, AddLeads, AreAt, Grows, IsRouted, RoutesOver, opens_at, routing}
 use Rattle.slate_route.specs.Turns.{OpensReader, reader_of}
+use Rattle.slate_route.proofs.Turning.{stands-of}
 
 -- ---- one reader more
 module _ (objects : List Object) (places : List ℕ) (readers : List Follower) (a : AreAt objects places readers) (reader : Follower) (managed : IsRouted reader) where
@@ -243,6 +245,19 @@ opening-ready {moment} {lifetime} {interval} {before} {after} reader o = by o.op
       let it : b.0 ≡ reader = cc in
       (ap (λ (f : Follower). is_none f.result) (sym it) ∙ ap is_none (opened-open b opens), faults.stays)
   by (Err error) is faults made opens = absurd (cc)
+
+-- and an error refuses it, and no more
+pub opening-refuses : {moment : ℤ} {lifetime interval : ℕ} {before after : Known (List Batch)} (old : List Follower) → length old < most_readers → (refused : RouteRefusal) → OpensReader moment lifetime interval before (Err refused) after → Adds old old before.faults after.faults (Err refused)
+opening-refuses {moment} {lifetime} {interval} {before} {after} old few refused o = by o.opened o.result_is o.faults o.kind where
+  one : (error : SlateError) → IsOfOpening ManagedCheckpoint error → FaultsRise before.faults after.faults (let r : Result (Follower × PollAnswer) SlateError = Err error in r) → Adds old old before.faults after.faults (Err (opening_refusal error))
+  one errors.NoMemory kind faults = (few, refl)
+  one error kind faults = (few, refl, kind, stands-of error before.faults before.faults after.faults {A = Follower × PollAnswer} (λ same. cc) (omega arith) faults)
+
+  by : (opened : Result (Follower × PollAnswer) SlateError) → Err refused ≡ reader_of opened → FaultsRise before.faults after.faults opened → IfErr opened (IsOfOpening ManagedCheckpoint) → Adds old old before.faults after.faults (Err refused)
+  by (Ok b) is faults kind = absurd (cc)
+  by (Err error) is faults kind =
+      let it : opening_refusal error ≡ refused = cc in
+      subst (λ (r : RouteRefusal). Adds old old before.faults after.faults (Err r)) it (one error kind faults)
 
 pub leads-with : {settings : Settings} {lifetime interval : ℕ} {live : Live} {places : List ℕ} {w : World} {new new' : List Follower} {result : Result Added RouteRefusal} {store : Known (List Batch)} (at moment : ℤ) → at ≡ moment → new ≡ new' →
     AddLeads settings at lifetime interval live places w new result store → AddLeads settings moment lifetime interval live places w new' result store

@@ -1,10 +1,12 @@
--- The first reader that passes a test, and how many pass it.
-use Rattle.std.proofs.Common.{◌≡◌, ◌∙◌, ◌+◌, ◌<◌, inl, inr, ℕ, suc, Bool, true, false, cond, ltb, List, [], ◌∷◌, get_or, length, take, Some, None, refl, sym, ap, arith}
-use Rattle.std.specs.Prelude.{◌||◌, count_by, position, slice_get}
+-- The first reader that passes a test, how many pass it, and what belongs to the open ones.
+use Rattle.std.proofs.Common.{◌≡◌, ◌∙◌, ◌+◌, ◌<◌, inl, inr, ℕ, zero, suc, Bool, true, false, cond, ltb, List, [], ◌∷◌, ◌++◌, get_or, length, take, Some, None, refl, sym, ap, arith}
+use Rattle.std.specs.Prelude.{◌||◌, if◌then◌else◌, count_by, position, slice_get}
 use Rattle.std.specs.List.{list_any, position_or_len}
 use Rattle.std.proofs.lemmas.Bool.{cases_lt, le-ltb, lt-ltb}
 use Rattle.std.proofs.lemmas.List.Sums.{count_by_more_no, count_by_more_yes, fails_before_first, position_or_len_is, sum_by-take-le}
 use Rattle.std.proofs.lemmas.Option.{slice_get-get_or, slice_get_within, get_or_from_slice_get}
+use Rattle.slate_model.specs.Follower.{Follower}
+use Rattle.slate_route.specs.Reading.{is_open, of_open}
 
 module _ {X : Type 0} (p : X → Bool) where
   -- the place of the first of a list
@@ -56,3 +58,31 @@ module _ {X : Type 0} (p : X → Bool) where
       let more = count-more xs i x true at passes in
       let few = sum_by-take-le (λ y. cond (p y) 1 0) xs (i + 1) in
       omega (arith, more, few)
+
+module _ {X : Type 0} where
+  -- a closed one more has no part in it
+  open-past : (readers : List Follower) (xs : List X) (i : ℕ) (f : Follower) → slice_get readers i ≡ Some f → is_open f ≡ false → of_open (take (suc i) readers) xs ≡ of_open (take i readers) xs
+  open-past [] xs i f at closed = absurd (cc)
+  open-past (g ∷ readers) [] zero f at closed = refl
+  open-past (g ∷ readers) [] (suc i) f at closed = refl
+  open-past (g ∷ readers) (x ∷ xs) zero f at closed = let it : g ≡ f = cc in ap (λ c. if c then x ∷ [] else []) (ap is_open it ∙ closed)
+  open-past (g ∷ readers) (x ∷ xs) (suc i) f at closed = ap (λ ys. if is_open g then x ∷ ys else ys) (open-past readers xs i f at closed)
+
+  pub open-same : (readers : List Follower) (xs : List X) (i : ℕ) (f : Follower) → slice_get readers i ≡ Some f → is_open f ≡ false → of_open (take (i + 1) readers) xs ≡ of_open (take i readers) xs
+  open-same readers xs i f at closed = let on : i + 1 ≡ suc i = omega arith in ap (λ n. of_open (take n readers) xs) on ∙ open-past readers xs i f at closed
+
+  -- an open one more has its own
+  open-next : (readers : List Follower) (xs : List X) (i : ℕ) (f : Follower) (x : X) → slice_get readers i ≡ Some f → is_open f ≡ true → slice_get xs i ≡ Some x → of_open (take (suc i) readers) xs ≡ of_open (take i readers) xs ++ x ∷ []
+  open-next [] xs i f x at opened there = absurd (cc)
+  open-next (g ∷ readers) [] i f x at opened there = absurd (cc)
+  open-next (g ∷ readers) (y ∷ xs) zero f x at opened there =
+      let it : g ≡ f = cc in
+      let mine : y ≡ x = cc in
+      ap (λ c. if c then y ∷ [] else []) (ap is_open it ∙ opened) ∙ ap (λ z. z ∷ []) mine
+  open-next (g ∷ readers) (y ∷ xs) (suc i) f x at opened there = by (is_open g) (of_open (take (suc i) readers) xs) (of_open (take i readers) xs) (open-next readers xs i f x at opened there) where
+    by : (c : Bool) (ys zs : List X) → ys ≡ zs ++ x ∷ [] → (if c then y ∷ ys else ys) ≡ (if c then y ∷ zs else zs) ++ x ∷ []
+    by true ys zs same = ap (λ l. y ∷ l) same
+    by false ys zs same = same
+
+  pub open-more : (readers : List Follower) (xs : List X) (i : ℕ) (f : Follower) (x : X) → slice_get readers i ≡ Some f → is_open f ≡ true → slice_get xs i ≡ Some x → of_open (take (i + 1) readers) xs ≡ of_open (take i readers) xs ++ x ∷ []
+  open-more readers xs i f x at opened there = let on : i + 1 ≡ suc i = omega arith in ap (λ n. of_open (take n readers) xs) on ∙ open-next readers xs i f x at opened there

@@ -2,6 +2,7 @@ pub mod Adding
 pub mod Finding
 pub mod Leading
 pub mod Opening
+pub mod Passing
 pub mod Polling
 pub mod Routing
 pub mod Running

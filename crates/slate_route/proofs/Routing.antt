@@ -36,7 +36,8 @@ use Rattle.slate_route.specs.Reading.{Answers, FindsNone, GoesBy, covers, first_
 use Rattle.slate_route.specs.Standing.{CanRead, IsAnswered, IsReadAt, ReadEnds, ReadFails, ReadLeads, RoutesOver, command_at, routing}
 use Rattle.slate_route.specs.Turns.{CoverEnds, CoverLeads}
 use Rattle.slate_route.proofs.Leading.{GetLeads, get-leads}
-use Rattle.slate_route.proofs.Turning.{covers-open, failed-of, open-none, risen-first}
+use Rattle.slate_route.proofs.Passing.{none-passes, refusal-passes}
+use Rattle.slate_route.proofs.Turning.{covers-open, open-none, risen-first, stands-of}
 
 -- the reader that a read goes by is open
 first-open : (at_least : ℕ) (readers : List Follower) (place : ℕ) (reader : Follower) → first_covering at_least readers ≡ Some place → slice_get readers place ≡ Some reader → reader.result ≡ None
@@ -57,7 +58,7 @@ refusal-answered error never = never (λ same. cc)
 -- ---- over any store
 read-refused : (at_least : ℕ) (old new : List Follower) (a b c : ℕ) (place polls : ℕ) → GoesBy at_least old place polls new → a ≤ b → (error : SlateError) → FaultsRise b c (let r : Result (Option KeyValue) SlateError = Err error in r) → Answers at_least old new a c (Err (read_refusal error))
 read-refused at_least old new a b c place polls goes more errors.NoMemory faults = goes.stay
-read-refused at_least old new a b c place polls goes more error faults = (place, polls, goes, failed-of error a b c {A = Option KeyValue} more faults)
+read-refused at_least old new a b c place polls goes more error faults = (place, polls, goes, stands-of error a b c {A = Option KeyValue} (λ same. cc) more faults)
 
 module _ (at_least : ℕ) (old new : List Follower) (covering : Covering) (goes : GoesBy at_least old covering.place covering.polls new) (reader : Follower) (there : slice_get new covering.place ≡ Some reader) where
   opened : reader.result ≡ None
@@ -104,6 +105,8 @@ module _ (at_least : ℕ) (old new : List Follower) (covering : Covering) (goes 
 
       pub row-leads : (row : Option KeyValue) → result ≡ Ok row → (m : ℕ) → m ≡ number reader → ReadLeads (routing merge live) moment key at_least live places w old new (Ok (record { follower = covering.place; number = m; polls = covering.polls; row = row })) after
       row-leads row is m same = record {
+        passed = l.passed;
+        passes = l.passes;
         between = between;
         polled = l.polled;
         last = g.world;
@@ -146,6 +149,8 @@ module _ (at_least : ℕ) (old new : List Follower) (covering : Covering) (goes 
 
       pub error-leads : (error : SlateError) → result ≡ Err error → store.faults ≤ between.faults → ReadLeads (routing merge live) moment key at_least live places w old new (Err (read_refusal error)) after
       error-leads error is more = record {
+        passed = l.passed;
+        passes = refusal-passes at_least old new l.passed error l.passes;
         between = between;
         polled = l.polled;
         last = g.world;
@@ -170,6 +175,8 @@ none-answered refusal answered = absurd answered
 pub none-leads : (merge : Option Merge) (live : Live) (places : List ℕ) (w : World) (moment : ℤ) (key : List ℕ) (at_least : ℕ) (old new : List Follower) (refusal : RouteRefusal) (faults faults' : ℕ) (between : Known (List Batch)) → FindsNone at_least old new faults faults' refusal →
     CoverLeads (routing merge live) moment at_least live places w old new (Err refusal) between → ReadLeads (routing merge live) moment key at_least live places w old new (Err refusal) between
 none-leads merge live places w moment key at_least old new refusal faults faults' between finds l = record {
+  passed = l.passed;
+  passes = none-passes at_least old new l.passed refusal l.passes;
   between = between;
   polled = l.polled;
   last = last_world w (l.polled).steps;

@@ -1,5 +1,5 @@
 -- The steps of a session, one after another.
-use Rattle.std.proofs.Common.{◌≡◌, ◌∙◌, ◌++◌, ◌∷◌, inl, inr, ℕ, ℤ, true, List, [], length, map, set, Option, Some, None, Result, Ok, Err, refl, sym, subst, ap, arith}
+use Rattle.std.proofs.Common.{◌≡◌, ◌∙◌, ◌++◌, ◌∷◌, inl, inr, ℕ, ℤ, true, List, [], length, map, set, take, Option, Some, None, Result, Ok, Err, refl, sym, subst, ap, arith}
 use Rattle.std.specs.Prelude.{slice_get}
 use Rattle.std.proofs.lemmas.List.{length-map, map-append}
 use Rattle.std.proofs.lemmas.Option.{slice_get_within}
@@ -42,9 +42,9 @@ use Rattle.slate_route.specs.declared.commands.RouteAction.TheVariants as asked
 use Rattle.slate_route.specs.declared.commands.RouteAnswer.{RouteAnswer}
 use Rattle.slate_route.specs.declared.commands.RouteAnswer.TheVariants as answers
 use Rattle.slate_route.specs.declared.commands.RouteCommand.{RouteCommand}
-use Rattle.slate_route.specs.Reading.{Adds, Answers}
+use Rattle.slate_route.specs.Reading.{Adds, Answers, Passes}
 use Rattle.slate_route.specs.Session.{AddsTo, HoldsWorld, IsReachedRoute, ReadsTo, Route, RouteChain, RouteLink, RouteLinks, RouteStep, RoutesOn, Runs, StandFor, flush_command, last_route, none_routed, opening, put_command, route_settings}
-use Rattle.slate_route.specs.Standing.{AddEnds, AddLeads, AreAt, CanRead, ReadLeads, RoutesOver, opens_at, places_after, routing}
+use Rattle.slate_route.specs.Standing.{AddEnds, AddLeads, AreAt, CanRead, PollEach, ReadLeads, RoutesOver, opens_at, places_after, routing}
 
 -- ---- one line
 module _ (live : Live) (store : Known (List Batch)) (readers : List Follower) (route : Route) (s : StandFor live store readers route) where
@@ -182,7 +182,9 @@ module _ (live : Live) (store : Known (List Batch)) (readers : List Follower) (r
         record {
           steps = (l.polled).steps;
           chain = (l.polled).chain;
-          polls = (l.polled).polls;
+          passed = l.passed;
+          passes = subst (λ rs. Passes at_least rs readers' l.passed result) s.same l.passes;
+          polls = subst (λ rs. PollEach moment route.places (take l.passed rs) (l.polled).steps) s.same (l.polled).polls;
           answers = subst (λ n. Answers at_least route.readers readers' route.world.faults n result) faults' (subst (λ n. Answers at_least route.readers readers' n store'.faults result) faults-is (subst (λ rs. Answers at_least rs readers' store.faults store'.faults result) s.same answered));
           ends = l.ends;
           completes = λ can. l.completes (subst (λ rs. CanRead route_settings moment key at_least route.places rs readers' route.world l.last) (sym s.same) can);

@@ -1,11 +1,11 @@
 -- The polls of a read, one after another.
-use Rattle.std.proofs.Common.{◌≡◌, ◌≢◌, ◌∙◌, ◌+◌, ◌<◌, ◌≤◌, ◌⊎◌, ◌++◌, ◌∷◌, inl, inr, ℕ, zero, suc, ℤ, Bool, true, false, List, [], get_or, length, take, Option, Some, None, Result, Ok, Err, refl, sym, subst, ap, arith}
+use Rattle.std.proofs.Common.{◌≡◌, ◌≢◌, ◌∙◌, ◌+◌, ◌<◌, ◌≤◌, ◌⊎◌, ◌++◌, ◌∷◌, inl, inr, ℕ, zero, suc, ℤ, Bool, true, false, List, [], get_or, length, map, take, Option, Some, None, Result, Ok, Err, refl, sym, subst, ap, arith}
 use Rattle.std.specs.Prelude.{IfErr, IfOk, IfSome, ◌&&◌, count_by, is_none, nat_le, slice_get}
 use Rattle.std.specs.List.{list_any}
 use Rattle.std.specs.Option.{option_map, option_or, unwrap_or}
+use Rattle.std.specs.Result.{result_err}
 use Rattle.std.proofs.lemmas.Bool.{cases_eq, leb-false, lt-leb}
-use Rattle.std.proofs.lemmas.List.{length-set, take_all}
-use Rattle.std.proofs.lemmas.List.Elements.{All-nil, All-push}
+use Rattle.std.proofs.lemmas.List.{length-set, map-append, take_all}
 use Rattle.std.proofs.lemmas.Option.{slice_get_within, slice_get-get_or}
 use Rattle.slate_types.specs.declared.batches.Batch.{Batch}
 use Rattle.slate_types.specs.declared.store_errors.StoreFault.TheVariants.{NotFound, Unavailable}
@@ -21,7 +21,7 @@ use Rattle.slate_model.specs.Follower.{Follower, number}
 use Rattle.slate_model.specs.Known.{FaultsRise, Known}
 use Rattle.slate_model.specs.Object.{Follower as AFollower}
 use Rattle.slate_follow.specs.Answering.{IsOfPoll}
-use Rattle.slate_script.specs.declared.commands.Action.TheVariants as actions
+use Rattle.slate_script.specs.declared.commands.Command.{Command}
 use Rattle.slate_live.specs.Replies.{polled_reply, refusal, reply_to}
 use Rattle.slate_live.specs.Settings.{Settings}
 use Rattle.slate_live.specs.State.{Live}
@@ -35,10 +35,11 @@ use Rattle.slate_live.proofs.Places.{get-set_other, get-set_same}
 use Rattle.slate_route.specs.declared.answers.RouteRefusal.{RouteRefusal}
 use Rattle.slate_route.specs.declared.answers.RouteRefusal.TheVariants as refusals
 use Rattle.slate_route.specs.declared.routers.Covering.{Covering}
-use Rattle.slate_route.specs.Reading.{FindsNone, GoesBy, HasFailed, IsBest, IsOpenOne, NoneCovers, Stay, covers, first_covering, is_memory, is_open}
-use Rattle.slate_route.specs.Standing.{CanCover, IsPoll, PollsLead, RoutesOver, command_at, first_error, refused, routing}
-use Rattle.slate_route.specs.Turns.{CoverLeads, PollsAt}
-use Rattle.slate_route.proofs.Finding.{count-more, count-some, fails-at, first-at, none-at, some-pass}
+use Rattle.slate_route.specs.Reading.{FindsNone, GoesBy, IsBest, IsOpenOne, NoneCovers, StandsInRefusal, Stay, covers, first_covering, is_memory, is_open, of_open, passed_by}
+use Rattle.slate_route.specs.Standing.{CanCover, PollEach, PollsLead, RoutesOver, first_error, poll_command, refused, routing}
+use Rattle.slate_route.specs.Turns.{CoverLeads, PollsAt, PollsFor}
+use Rattle.slate_route.proofs.Finding.{count-more, count-some, fails-at, first-at, none-at, open-more, open-same, some-pass}
+use Rattle.slate_route.proofs.Passing.{SoFar, far-all, far-closed, far-next, far-none, or-none, or-or, polls-for}
 use Rattle.slate_route.proofs.Polling.{TurnLeads, turn-leads, whole-at}
 
 -- ---- one reader
@@ -100,19 +101,17 @@ pub risen-first : (a b c : ℕ) → a ≤ b → HasRisen b c → HasRisen a c
 risen-first a b c more (inl up) = inl (omega (arith, more, up))
 risen-first a b c more (inr full) = inr full
 
-failed-more : (error : SlateError) (a b c : ℕ) → b ≤ c → HasFailed error a b → HasFailed error a c
-failed-more (errors.ObjectStoreError Unavailable) a b c more failed = risen-more a b c more failed
-failed-more (errors.ObjectStoreError NotFound) a b c more failed = tt
-failed-more error a b c more failed = tt
+stands-more : (error : SlateError) (a b c : ℕ) → b ≤ c → StandsInRefusal error a b → StandsInRefusal error a c
+stands-more errors.NoMemory a b c more stands = stands
+stands-more (errors.ObjectStoreError Unavailable) a b c more stands = risen-more a b c more stands
+stands-more (errors.ObjectStoreError NotFound) a b c more stands = tt
+stands-more error a b c more stands = tt
 
-pub failed-of : (error : SlateError) (a b c : ℕ) {A : Type 0} → a ≤ b → FaultsRise b c (let r : Result A SlateError = Err error in r) → HasFailed error a c
-failed-of (errors.ObjectStoreError Unavailable) a b c {A} more faults = risen-first a b c more (faults.unavailable refl)
-failed-of (errors.ObjectStoreError NotFound) a b c {A} more faults = tt
-failed-of error a b c {A} more faults = tt
-
-or-none : {A : Type 0} (o : Option A) → option_or o None ≡ o
-or-none None = refl
-or-none (Some x) = refl
+pub stands-of : (error : SlateError) (a b c : ℕ) {A : Type 0} → error ≢ errors.NoMemory → a ≤ b → FaultsRise b c (let r : Result A SlateError = Err error in r) → StandsInRefusal error a c
+stands-of errors.NoMemory a b c {A} other more faults = absurd (other refl)
+stands-of (errors.ObjectStoreError Unavailable) a b c {A} other more faults = risen-first a b c more (faults.unavailable refl)
+stands-of (errors.ObjectStoreError NotFound) a b c {A} other more faults = tt
+stands-of error a b c {A} other more faults = tt
 
 or-some : (o : Option SlateError) (error : SlateError) → option_or o (Some error) ≡ None → ⊥
 or-some None error is = cc
@@ -121,19 +120,29 @@ or-some (Some x) error is = cc
 -- the first error of more steps
 error-push : (steps : List Step) (step : Step) → first_error (steps ++ step ∷ []) ≡ option_or (first_error steps) (refused step.reply)
 error-push [] step = or-none (refused step.reply)
-error-push (s ∷ steps) step = ap (option_or (refused s.reply)) (error-push steps step) ∙ or-or (refused s.reply) (first_error steps) (refused step.reply) where
-  or-or : {A : Type 0} (a b c : Option A) → option_or a (option_or b c) ≡ option_or (option_or a b) c
-  or-or None b c = refl
-  or-or (Some x) b c = refl
+error-push (s ∷ steps) step = ap (option_or (refused s.reply)) (error-push steps step) ∙ or-or (refused s.reply) (first_error steps) (refused step.reply)
 
 -- ---- the polls so far
 -- what they lead to over an honest store
 pub record Led (merge : Option Merge) (live : Live) (places : List ℕ) (w : World) (at_least : ℕ) (moment : ℤ) (old : List Follower) (place : ℕ) (cur : List Follower) (after : Known (List Batch)) (polls : ℕ) (first : Option SlateError) : Type 0 where
-  pub polled : PollsLead (routing merge live) moment live places w cur after
+  pub polled : PollsLead (routing merge live) moment live places w old place cur after
   pub error : first_error polled.steps ≡ first
   pub none : polls ≡ 0 → polled.steps ≡ []
   pub reached : first ≡ None → (i : ℕ) (f : Follower) → i < place → slice_get old i ≡ Some f → is_open f ≡ true → (g : Follower) × (slice_get cur i ≡ Some g) × (is_open g ≡ true) × (number g ≡ end w.stored)
   pub completes : CanCover moment at_least places old w (last_world w polled.steps) → polls ≡ 0
+
+-- where the open ones of more or fewer readers are the same, so are the polls
+abbrev polls-as : {settings : Settings} {moment : ℤ} {live : Live} {places : List ℕ} {w : World} {old new : List Follower} {store : Known (List Batch)} (n m : ℕ) → of_open (take n old) places ≡ of_open (take m old) places →
+    PollsLead settings moment live places w old n new store → PollsLead settings moment live places w old m new store
+polls-as {settings} {moment} {live} {places} {w} {old} {new} {store} n m same l = record {
+  steps = l.steps;
+  chain = l.chain;
+  polls = l.polls ∙ ap (λ (xs : List ℕ). map (poll_command moment) xs) same;
+  next = l.next;
+  over = l.over;
+  stored = l.stored;
+  others = l.others;
+}
 
 -- the readers before a place were polled, where they are open, and none of them covers
 pub record Progress (at_least : ℕ) (moment : ℤ) (old : List Follower) (before : Known (List Batch)) (place : ℕ) (cur : List Follower) (after : Known (List Batch)) (polls : ℕ) (first : Option SlateError) : Type 0 where
@@ -142,16 +151,17 @@ pub record Progress (at_least : ℕ) (moment : ℤ) (old : List Follower) (befor
   pub uncovered : (i : ℕ) (f : Follower) → i < place → slice_get cur i ≡ Some f → covers at_least f ≡ false
   pub shut : (i : ℕ) (f : Follower) → slice_get old i ≡ Some f → is_open f ≡ false → slice_get cur i ≡ Some f
   pub counted : polls ≡ count_by is_open (take place old)
+  pub so_far : SoFar moment old before place cur after first
   pub faults : before.faults ≤ after.faults
-  pub kind : IfSome first (λ error. IsOfPoll ManagedCheckpoint error × HasFailed error before.faults after.faults)
+  pub kind : IfSome first (λ error. IsOfPoll ManagedCheckpoint error × StandsInRefusal error before.faults after.faults)
   pub leads : (merge : Option Merge) (live : Live) (places : List ℕ) (w : World) → RoutesOver live before places old w → Led merge live places w at_least moment old place cur after polls first
 
 module _ (at_least : ℕ) (moment : ℤ) (old : List Follower) (before : Known (List Batch)) where
-  abbrev none-led : (merge : Option Merge) (live : Live) (places : List ℕ) (w : World) → RoutesOver live before places old w → PollsLead (routing merge live) moment live places w old before
+  abbrev none-led : (merge : Option Merge) (live : Live) (places : List ℕ) (w : World) → RoutesOver live before places old w → PollsLead (routing merge live) moment live places w old 0 old before
   none-led merge live places w over = record {
     steps = [];
     chain = tt;
-    polls = All-nil (λ (s : Step). IsPoll moment places s.command);
+    polls = refl;
     next = live;
     over = over;
     stored = refl;
@@ -166,6 +176,7 @@ module _ (at_least : ℕ) (moment : ℤ) (old : List Follower) (before : Known (
     uncovered = λ i f below at. absurd (omega (arith, below));
     shut = λ i f at closed. at;
     counted = refl;
+    so_far = far-none moment old before;
     faults = omega arith;
     kind = tt;
     leads = λ merge live places w over. record {
@@ -193,12 +204,13 @@ module _ (at_least : ℕ) (moment : ℤ) (old : List Follower) (before : Known (
           ];
           shut = p.shut;
           counted = (let more = count-more is_open old place f false was closed in let had = p.counted in omega (arith, more, had));
+          so_far = far-closed moment old before place cur after first p.so_far f was closed;
           faults = p.faults;
           kind = p.kind;
           leads = λ merge live places w over.
               let l = p.leads merge live places w over in
               record {
-                polled = l.polled;
+                polled = polls-as place (place + 1) (sym (open-same old places place f was closed)) l.polled;
                 error = l.error;
                 none = l.none;
                 reached = λ is i g below there opened. elim (cases_eq i place) [
@@ -244,6 +256,12 @@ module _ (at_least : ℕ) (moment : ℤ) (old : List Follower) (before : Known (
       faults' : before.faults ≤ after'.faults
       faults' = let had = p.faults in let more = (q.faults).count in omega (arith, had, more)
 
+      so_far' : SoFar moment old before (place + 1) cur' after' (option_or first (result_err result))
+      so_far' = far-next moment old before place cur after first p.so_far q.reader was opened result cur' after' q
+
+      so-far-at : (r : Result PollAnswer SlateError) → result ≡ r → SoFar moment old before (place + 1) cur' after' (option_or first (result_err r))
+      so-far-at r is = subst (λ (x : Result PollAnswer SlateError). SoFar moment old before (place + 1) cur' after' (option_or first (result_err x))) is so_far'
+
       pub stay : Stay old cur'
       stay = record { count = count'; closed = shut' }
 
@@ -276,13 +294,20 @@ module _ (at_least : ℕ) (moment : ℤ) (old : List Follower) (before : Known (
         t = turned.turn
 
         abbrev step : Step
-        step = record { command = command_at moment (actions.Poll turned.i); reply = reply_to polled_reply result; world = t.world }
+        step = record { command = poll_command moment turned.i; reply = reply_to polled_reply result; world = t.world }
 
-        pub polled-on : PollsLead (routing merge live) moment live places w cur' after'
+        polls-on : PollEach moment places (take (place + 1) old) ((l.polled).steps ++ step ∷ [])
+        polls-on =
+            map-append (λ (s : Step). s.command) (l.polled).steps (step ∷ [])
+            ∙ (ap (λ (cs : List Command). cs ++ poll_command moment turned.i ∷ []) (l.polled).polls
+            ∙ (sym (map-append (poll_command moment) (of_open (take place old) places) (turned.i ∷ []))
+            ∙ ap (λ (ns : List ℕ). map (poll_command moment) ns) (sym (open-more old places place q.reader turned.i was opened turned.named))))
+
+        pub polled-on : PollsLead (routing merge live) moment live places w old (place + 1) cur' after'
         polled-on = record {
           steps = (l.polled).steps ++ step ∷ [];
           chain = chain-push (routing merge live) w (l.polled).steps step (l.polled).chain t.link;
-          polls = All-push (λ (s : Step). IsPoll moment places s.command) (l.polled).steps step (l.polled).polls (place, turned.i, turned.named, refl);
+          polls = polls-on;
           next = t.next;
           over = subst (RoutesOver t.next after' places cur') (sym (last-push w (l.polled).steps step)) t.over;
           stored = ap (λ (v : World). v.stored) (last-push w (l.polled).steps step) ∙ (t.stored ∙ (l.polled).stored);
@@ -352,10 +377,10 @@ module _ (at_least : ℕ) (moment : ℤ) (old : List Follower) (before : Known (
         | inr other ↦ p.uncovered i f (omega (arith, below, other)) (sym (elsewhere i other) ∙ at)
       ]
 
-      kind-more : IfSome first (λ error. IsOfPoll ManagedCheckpoint error × HasFailed error before.faults after'.faults)
+      kind-more : IfSome first (λ error. IsOfPoll ManagedCheckpoint error × StandsInRefusal error before.faults after'.faults)
       kind-more =
-          if-some first (λ error. IsOfPoll ManagedCheckpoint error × HasFailed error before.faults after.faults) (λ error. IsOfPoll ManagedCheckpoint error × HasFailed error before.faults after'.faults)
-          (λ error k. (k.0, failed-more error before.faults after.faults after'.faults (q.faults).count k.1)) p.kind
+          if-some first (λ error. IsOfPoll ManagedCheckpoint error × StandsInRefusal error before.faults after.faults) (λ error. IsOfPoll ManagedCheckpoint error × StandsInRefusal error before.faults after'.faults)
+          (λ error k. (k.0, stands-more error before.faults after.faults after'.faults (q.faults).count k.1)) p.kind
 
       pub progress-behind : (answer : PollAnswer) → result ≡ Ok answer → covers at_least q.left ≡ false → Progress at_least moment old before (place + 1) cur' after' (polls + 1) first
       progress-behind answer is less = record {
@@ -364,6 +389,7 @@ module _ (at_least : ℕ) (moment : ℤ) (old : List Follower) (before : Known (
         uncovered = uncovered' less;
         shut = shut';
         counted = polls';
+        so_far = subst (SoFar moment old before (place + 1) cur' after') (or-none first) (so-far-at (Ok answer) is);
         faults = faults';
         kind = kind-more;
         leads = λ merge live places w over.
@@ -391,8 +417,8 @@ module _ (at_least : ℕ) (moment : ℤ) (old : List Follower) (before : Known (
       error-kind : (error : SlateError) → result ≡ Err error → ((q.left ≡ q.reader) ⊎ (is_open q.left ≡ is_memory error)) × IsOfPoll ManagedCheckpoint error
       error-kind error is = subst (λ (r : Result PollAnswer SlateError). IfErr r (λ e. ((q.left ≡ q.reader) ⊎ (is_open q.left ≡ is_memory e)) × IsOfPoll ManagedCheckpoint e)) is q.failed
 
-      error-failed : (error : SlateError) → result ≡ Err error → HasFailed error before.faults after'.faults
-      error-failed error is = failed-of error before.faults after.faults after'.faults {A = PollAnswer} p.faults (subst (FaultsRise after.faults after'.faults) is q.faults)
+      error-stands : (error : SlateError) → result ≡ Err error → error ≢ errors.NoMemory → StandsInRefusal error before.faults after'.faults
+      error-stands error is other = stands-of error before.faults after.faults after'.faults {A = PollAnswer} other p.faults (subst (FaultsRise after.faults after'.faults) is q.faults)
 
       pub progress-failed : (nothing : first_covering at_least old ≡ None) (error : SlateError) → result ≡ Err error → error ≢ errors.NoMemory → Progress at_least moment old before (place + 1) cur' after' (polls + 1) (option_or first (Some error))
       progress-failed nothing error is other = record {
@@ -401,6 +427,7 @@ module _ (at_least : ℕ) (moment : ℤ) (old : List Follower) (before : Known (
         uncovered = uncovered' (still-uncovers at_least q.reader q.left error other (fails-at (covers at_least) old nothing place q.reader was) (error-kind error is).0);
         shut = shut';
         counted = polls';
+        so_far = so-far-at (Err error) is;
         faults = faults';
         kind = kinds first kind-more;
         leads = λ merge live places w over. record {
@@ -411,8 +438,8 @@ module _ (at_least : ℕ) (moment : ℤ) (old : List Follower) (before : Known (
           completes = λ can. absurd (other (fails-on merge live places w over error is can));
         };
       } where
-        kinds : (f : Option SlateError) → IfSome f (λ e. IsOfPoll ManagedCheckpoint e × HasFailed e before.faults after'.faults) → IfSome (option_or f (Some error)) (λ e. IsOfPoll ManagedCheckpoint e × HasFailed e before.faults after'.faults)
-        kinds None k = ((error-kind error is).1, error-failed error is)
+        kinds : (f : Option SlateError) → IfSome f (λ e. IsOfPoll ManagedCheckpoint e × StandsInRefusal e before.faults after'.faults) → IfSome (option_or f (Some error)) (λ e. IsOfPoll ManagedCheckpoint e × StandsInRefusal e before.faults after'.faults)
+        kinds None k = ((error-kind error is).1, error-stands error is other)
         kinds (Some e) k = k
 
       -- ---- the polls end there
@@ -424,9 +451,15 @@ module _ (at_least : ℕ) (moment : ℤ) (old : List Follower) (before : Known (
         stay = stay;
       }
 
-      pub covered-leads : (answer : PollAnswer) → result ≡ Ok answer → (covering : Covering) → covering.place ≡ place → (merge : Option Merge) (live : Live) (places : List ℕ) (w : World) → RoutesOver live before places old w →
+      pub covered-passes : (nothing : first_covering at_least old ≡ None) → covers at_least q.left ≡ true → place + 1 ≡ passed_by (first_covering at_least old) (first_covering at_least cur') (length old)
+      covered-passes nothing covering =
+          sym (ap (λ o. passed_by o (first_covering at_least cur') (length old)) nothing ∙ ap (λ o. passed_by None o (length old)) (goes-by nothing covering).first)
+
+      pub covered-leads : (nothing : first_covering at_least old ≡ None) → covers at_least q.left ≡ true → (answer : PollAnswer) → result ≡ Ok answer → (covering : Covering) → covering.place ≡ place → (merge : Option Merge) (live : Live) (places : List ℕ) (w : World) → RoutesOver live before places old w →
           CoverLeads (routing merge live) moment at_least live places w old cur' (Ok covering) after'
-      covered-leads answer is covering placed merge live places w over = record {
+      covered-leads nothing reaches answer is covering placed merge live places w over = record {
+        passed = place + 1;
+        passes = covered-passes nothing reaches;
         polled = polled-on merge live places w over;
         ends = λ some f at.
             let it : q.left ≡ f = (let there = subst (λ k. slice_get cur' k ≡ Some f) placed at in let mine = here in cc) in
@@ -434,9 +467,15 @@ module _ (at_least : ℕ) (moment : ℤ) (old : List Follower) (before : Known (
         completes = λ can. tt;
       }
 
+      pub covered-polls : (nothing : first_covering at_least old ≡ None) → covers at_least q.left ≡ true → (covering : Covering) → PollsFor at_least moment old before (Ok covering) cur' after'
+      covered-polls nothing reaches covering = polls-for moment old before (place + 1) cur' after' (option_or first (result_err result)) so_far' at_least (Ok covering) (covered-passes nothing reaches) (λ turns told. tt)
+
+      pub memory-polls : PollsFor {A = Covering} at_least moment old before (Err refusals.NoMemory) cur' after'
+      memory-polls = polls-for moment old before (place + 1) cur' after' (option_or first (result_err result)) so_far' at_least (Err refusals.NoMemory) tt (λ turns told. tt)
+
       pub memory-leads : (merge : Option Merge) (live : Live) (places : List ℕ) (w : World) → RoutesOver live before places old w →
           CoverLeads (routing merge live) moment at_least live places w old cur' (Err refusals.NoMemory) after'
-      memory-leads merge live places w over = record { polled = polled-on merge live places w over; ends = tt; completes = λ can. tt }
+      memory-leads merge live places w over = record { passed = place + 1; passes = tt; polled = polled-on merge live places w over; ends = tt; completes = λ can. tt }
 
     -- ---- all open ones were polled
     module _ (nothing : first_covering at_least old ≡ None) (some : list_any is_open old ≡ true) (over-all : length old ≤ place) where
@@ -460,13 +499,35 @@ module _ (at_least : ℕ) (moment : ℤ) (old : List Follower) (before : Known (
           omega (arith, had, all, low)
 
       pub failed-finds : (error : SlateError) → first ≡ Some error → FindsNone at_least old cur before.faults after.faults (refusals.Poll error)
-      failed-finds error is = let k = subst (λ f. IfSome f (λ e. IsOfPoll ManagedCheckpoint e × HasFailed e before.faults after.faults)) is p.kind in (none-covers, k.0, k.1)
+      failed-finds error is = let k = subst (λ f. IfSome f (λ e. IsOfPoll ManagedCheckpoint e × StandsInRefusal e before.faults after.faults)) is p.kind in (none-covers, k.0, k.1)
+
+      -- all were passed
+      pub all-passes : length old ≡ passed_by (first_covering at_least old) (first_covering at_least cur) (length old)
+      all-passes = sym (ap (λ o. passed_by o (first_covering at_least cur) (length old)) nothing ∙ ap (λ o. passed_by None o (length old)) none-covers.after)
+
+      abbrev all-led : (merge : Option Merge) (live : Live) (places : List ℕ) (w : World) → PollsLead (routing merge live) moment live places w old place cur after → PollsLead (routing merge live) moment live places w old (length old) cur after
+      all-led merge live places w l = polls-as place (length old) (ap (λ (readers : List Follower). of_open readers places) (take_all place old over-all ∙ sym (take_all (length old) old (omega arith)))) l
+
+      so-far-all : SoFar moment old before (length old) cur after first
+      so-far-all = far-all moment old before place cur after first p.so_far over-all
+
+      pub failed-polls : (error : SlateError) → first ≡ Some error → PollsFor {A = Covering} at_least moment old before (Err (refusals.Poll error)) cur after
+      failed-polls error is = polls-for moment old before (length old) cur after first so-far-all at_least (Err (refusals.Poll error)) all-passes (λ turns told. told ∙ is)
+
+      pub behind-polls : first ≡ None → (best : ℕ) → PollsFor {A = Covering} at_least moment old before (Err (refusals.Behind at_least best)) cur after
+      behind-polls is best = polls-for moment old before (length old) cur after first so-far-all at_least (Err (refusals.Behind at_least best)) all-passes (λ turns told. told ∙ is)
 
       pub failed-leads : (error : SlateError) → first ≡ Some error → (merge : Option Merge) (live : Live) (places : List ℕ) (w : World) → RoutesOver live before places old w →
           CoverLeads (routing merge live) moment at_least live places w old cur (Err (refusals.Poll error)) after
       failed-leads error is merge live places w over =
           let l = p.leads merge live places w over in
-          record { polled = l.polled; ends = l.error ∙ is; completes = λ can. (let no = l.completes can in let low = all-polled in absurd (omega (arith, no, low))) }
+          record {
+            passed = length old;
+            passes = all-passes;
+            polled = all-led merge live places w l.polled;
+            ends = l.error ∙ is;
+            completes = λ can. (let no = l.completes can in let low = all-polled in absurd (omega (arith, no, low)));
+          }
 
       -- an open reader was open before
       was-open : (i : ℕ) (f : Follower) → slice_get cur i ≡ Some f → is_open f ≡ true → (g : Follower) × (slice_get old i ≡ Some g) × (is_open g ≡ true)
@@ -494,7 +555,9 @@ module _ (at_least : ℕ) (moment : ℤ) (old : List Follower) (before : Known (
           let below = sees-less at_least reached.0 reached.2 (p.uncovered one.0 reached.0 less reached.1) in
           let bound = bests.bounds one.0 reached.0 reached.1 reached.2 in
           record {
-            polled = l.polled;
+            passed = length old;
+            passes = all-passes;
+            polled = all-led merge live places w l.polled;
             ends = (l.error ∙ is, omega (arith, below, sees), attained reached.0 bests.attained sees bound);
             completes = λ can. (let no = l.completes can in let low = all-polled in absurd (omega (arith, no, low)));
           }
@@ -508,15 +571,29 @@ module _ (at_least : ℕ) (moment : ℤ) (old : List Follower) (before : Known (
               sym one.is ∙ (ap number (sym it) ∙ reached.3)
 
   -- ---- a read for which none is polled
-  pub quiet-leads : (merge : Option Merge) (live : Live) (places : List ℕ) (w : World) → RoutesOver live before places old w → (covering : Covering) → covering.polls ≡ 0 → CoverLeads (routing merge live) moment at_least live places w old old (Ok covering) before
-  quiet-leads merge live places w over covering none = record {
+  pub quiet-passes : (place : ℕ) → first_covering at_least old ≡ Some place → 0 ≡ passed_by (first_covering at_least old) (first_covering at_least old) (length old)
+  quiet-passes place is = sym (ap (λ o. passed_by o (first_covering at_least old) (length old)) is)
+
+  pub quiet-leads : (place : ℕ) → first_covering at_least old ≡ Some place → (merge : Option Merge) (live : Live) (places : List ℕ) (w : World) → RoutesOver live before places old w → (covering : Covering) → covering.polls ≡ 0 →
+      CoverLeads (routing merge live) moment at_least live places w old old (Ok covering) before
+  quiet-leads place is merge live places w over covering none = record {
+    passed = 0;
+    passes = quiet-passes place is;
     polled = none-led merge live places w over;
     ends = λ some. absurd (omega (arith, some, none));
     completes = λ can. tt;
   }
 
+  pub quiet-polls : (place : ℕ) → first_covering at_least old ≡ Some place → (covering : Covering) → PollsFor at_least moment old before (Ok covering) old before
+  quiet-polls place is covering = polls-for moment old before 0 old before None (far-none moment old before) at_least (Ok covering) (quiet-passes place is) (λ turns told. tt)
+
+  pub closed-polls : PollsFor {A = Covering} at_least moment old before (Err refusals.NoFollower) old before
+  closed-polls = polls-for moment old before 0 old before None (far-none moment old before) at_least (Err refusals.NoFollower) refl (λ turns told. tt)
+
   pub closed-leads : list_any is_open old ≡ false → (merge : Option Merge) (live : Live) (places : List ℕ) (w : World) → RoutesOver live before places old w → CoverLeads (routing merge live) moment at_least live places w old old (Err refusals.NoFollower) before
   closed-leads none merge live places w over = record {
+    passed = 0;
+    passes = refl;
     polled = none-led merge live places w over;
     ends = tt;
     completes = λ can. (let no : true ≡ false = sym can.some ∙ none in absurd (cc));

@@ -1,5 +1,5 @@
 -- What a router answers, over any store: which reader a read goes by, how many are polled for it, and why it is refused.
-use Rattle.std.specs.Prelude.{◌≡◌, ℕ, ◌+◌, ◌<◌, ◌≤◌, Bool, true, false, ◌&&◌, ◌⊎◌, nat_le, count_by, take, is_none, length, List, [], ◌∷◌, ◌++◌, position, slice_get, Option, Some, None, Result, Ok, Err}
+use Rattle.std.specs.Prelude.{◌≡◌, ℕ, ◌+◌, ◌<◌, ◌≤◌, Bool, true, false, ◌&&◌, ◌⊎◌, nat_le, if◌then◌else◌, count_by, take, is_none, length, List, [], ◌∷◌, ◌++◌, position, slice_get, Option, Some, None, Result, Ok, Err}
 use Rattle.std.specs.List.{list_any}
 use Rattle.slate_types.specs.declared.store_errors.StoreFault.TheVariants.{Unavailable}
 use Rattle.slate_types.specs.Counts.{HasRisen}
@@ -59,10 +59,11 @@ abbrev pub opening_refusal : SlateError → RouteRefusal
 opening_refusal errors.NoMemory = refusals.NoMemory
 opening_refusal error = refusals.Open error
 
--- a fault of the store is answered only where it has failed
-abbrev pub HasFailed : SlateError → (faults faults' : ℕ) → Type 0
-HasFailed (errors.ObjectStoreError Unavailable) faults faults' = HasRisen faults faults'
-HasFailed error faults faults' = Unit {0}
+-- what stands in another refusal: no want of memory, and a fault of the store only where that has failed
+abbrev pub StandsInRefusal : SlateError → (faults faults' : ℕ) → Type 0
+StandsInRefusal errors.NoMemory faults faults' = ⊥
+StandsInRefusal (errors.ObjectStoreError Unavailable) faults faults' = HasRisen faults faults'
+StandsInRefusal error faults faults' = Unit {0}
 
 -- Readers from before a read to after its polls: there are as many, and a closed one is as it was.
 pub record Stay (old new : List Follower) : Type 0 where
@@ -77,6 +78,25 @@ pub record GoesBy (at_least : ℕ) (old : List Follower) (place polls : ℕ) (ne
   pub polled : first_covering at_least old ≡ None → (0 < polls) × (polls ≡ count_by is_open (take (place + 1) old)) × ((i : ℕ) → place < i → slice_get new i ≡ slice_get old i)
   pub stay : Stay old new
 
+-- of things that belong to readers, one to each, those of the open ones, in their order
+abbrev pub of_open : {X : Type 0} → List Follower → List X → List X
+of_open [] xs = []
+of_open (reader ∷ readers) [] = []
+of_open (reader ∷ readers) (x ∷ xs) = if is_open reader then x ∷ of_open readers xs else of_open readers xs
+
+-- how many readers a read passes, by the first that covers before its polls and the first that does after them
+abbrev pub passed_by : (before after : Option ℕ) → (all : ℕ) → ℕ
+passed_by (Some place) after all = 0
+passed_by None (Some place) all = place + 1
+passed_by None None all = all
+
+-- A read passes so many readers, from the first on, and polls each that is open: none where one covers, else up to the first that covers
+-- then, or all. Where none is open, it passes none; want of memory may end it anywhere.
+abbrev pub Passes : {A : Type 0} → (at_least : ℕ) → (old new : List Follower) → (passed : ℕ) → Result A RouteRefusal → Type 0
+Passes at_least old new passed (Err refusals.NoFollower) = passed ≡ 0
+Passes at_least old new passed (Err refusals.NoMemory) = Unit {0}
+Passes at_least old new passed result = passed ≡ passed_by (first_covering at_least old) (first_covering at_least new) (length old)
+
 -- No reader covered, and none does after all open ones were polled; there is one.
 pub record NoneCovers (at_least : ℕ) (old new : List Follower) : Type 0 where
   pub some : list_any is_open old ≡ true
@@ -87,7 +107,7 @@ pub record NoneCovers (at_least : ℕ) (old new : List Follower) : Type 0 where
 -- Why the polls of a read left no reader to read. That no reader is open is looked at first, and nothing changes then.
 abbrev pub FindsNone : (at_least : ℕ) → (old new : List Follower) → (faults faults' : ℕ) → RouteRefusal → Type 0
 FindsNone at_least old new faults faults' refusals.NoFollower = (list_any is_open old ≡ false) × (new ≡ old) × (faults' ≡ faults)
-FindsNone at_least old new faults faults' (refusals.Poll error) = NoneCovers at_least old new × IsOfPoll ManagedCheckpoint error × HasFailed error faults faults'
+FindsNone at_least old new faults faults' (refusals.Poll error) = NoneCovers at_least old new × IsOfPoll ManagedCheckpoint error × StandsInRefusal error faults faults'
 FindsNone at_least old new faults faults' (refusals.Behind asked best) = (asked ≡ at_least) × NoneCovers at_least old new × IsBest new best
 FindsNone at_least old new faults faults' refusals.NoMemory = Stay old new
 FindsNone at_least old new faults faults' refusal = ⊥
@@ -99,7 +119,7 @@ IsNumberAt readers place n = (reader : Follower) × (slice_get readers place ≡
 -- What a read answers, and what it leaves of the readers: it goes by the first that covers, which it reads; or there is none.
 abbrev pub Answers : (at_least : ℕ) → (old new : List Follower) → (faults faults' : ℕ) → Result Routed RouteRefusal → Type 0
 Answers at_least old new faults faults' (Ok routed) = GoesBy at_least old routed.follower routed.polls new × IsNumberAt new routed.follower routed.number
-Answers at_least old new faults faults' (Err (refusals.Read error)) = (place : ℕ) × (polls : ℕ) × GoesBy at_least old place polls new × HasFailed error faults faults'
+Answers at_least old new faults faults' (Err (refusals.Read error)) = (place : ℕ) × (polls : ℕ) × GoesBy at_least old place polls new × StandsInRefusal error faults faults'
 Answers at_least old new faults faults' (Err refusal) = FindsNone at_least old new faults faults' refusal
 
 -- What an opening answers, and what it leaves of the readers. That there are as many as have numbers is looked at first, and nothing
@@ -108,6 +128,6 @@ abbrev pub Adds : (old new : List Follower) → (faults faults' : ℕ) → Resul
 Adds old new faults faults' (Ok added) =
     (added.follower ≡ length old) × (reader : Follower) × (new ≡ old ++ reader ∷ []) × (is_open reader ≡ true) × (number reader ≡ added.at) × (faults' ≡ faults)
 Adds old new faults faults' (Err refusals.Full) = (length old ≡ most_readers) × (new ≡ old) × (faults' ≡ faults)
-Adds old new faults faults' (Err (refusals.Open error)) = (length old < most_readers) × (new ≡ old) × IsOfOpening ManagedCheckpoint error × HasFailed error faults faults'
+Adds old new faults faults' (Err (refusals.Open error)) = (length old < most_readers) × (new ≡ old) × IsOfOpening ManagedCheckpoint error × StandsInRefusal error faults faults'
 Adds old new faults faults' (Err refusals.NoMemory) = (length old < most_readers) × (new ≡ old)
 Adds old new faults faults' (Err refusal) = ⊥

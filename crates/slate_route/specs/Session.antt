@@ -1,5 +1,5 @@
 -- What a session with a router does.
-use Rattle.std.specs.Prelude.{◌≡◌, ◌⊎◌, ℕ, ℤ, All, true, List, [], ◌∷◌, length, map, slice_get, Option, Some, None, Result, Ok, Err}
+use Rattle.std.specs.Prelude.{◌≡◌, ◌⊎◌, ℕ, ℤ, true, List, [], ◌∷◌, length, map, take, slice_get, Option, Some, None, Result, Ok, Err}
 use Rattle.slate_types.specs.declared.batches.Batch.{Batch}
 use Rattle.slate_types.specs.declared.options.FlushType.TheVariants.{Wal}
 use Rattle.slate_store.specs.Content.{IsSound}
@@ -28,8 +28,8 @@ use Rattle.slate_route.specs.declared.commands.RouteAction.TheVariants as asked
 use Rattle.slate_route.specs.declared.commands.RouteAnswer.{RouteAnswer}
 use Rattle.slate_route.specs.declared.commands.RouteAnswer.TheVariants as answers
 use Rattle.slate_route.specs.declared.commands.RouteCommand.{RouteCommand}
-use Rattle.slate_route.specs.Reading.{Adds, Answers}
-use Rattle.slate_route.specs.Standing.{AddEnds, AreAt, CanRead, IsAnswered, IsPoll, ReadEnds, RoutesOver, command_at, opens_at, places_after}
+use Rattle.slate_route.specs.Reading.{Adds, Answers, Passes}
+use Rattle.slate_route.specs.Standing.{AddEnds, AreAt, CanRead, IsAnswered, PollEach, ReadEnds, RoutesOver, command_at, opens_at, places_after}
 use Rattle.slate_route.specs.Texts.{answers_text}
 
 -- what commands are run with: no operator, no extractor, and the options where no word says one
@@ -69,7 +69,9 @@ pub record AddsTo (moment : ℤ) (lifetime interval : ℕ) (result : Result Adde
 pub record ReadsTo (moment : ℤ) (at_least : ℕ) (key : List ℕ) (result : Result Routed RouteRefusal) (a b : Route) : Type 0 where
   pub steps : List Step
   pub chain : Chain route_settings a.world steps
-  pub polls : All (λ step. IsPoll moment a.places step.command) steps
+  pub passed : ℕ
+  pub passes : Passes at_least a.readers b.readers passed result
+  pub polls : PollEach moment a.places (take passed a.readers) steps
   pub answers : Answers at_least a.readers b.readers a.world.faults b.world.faults result
   pub ends : ReadEnds route_settings moment key at_least a.places a.world.stored steps b.readers (last_world a.world steps) result b.world
   pub completes : CanRead route_settings moment key at_least a.places a.readers b.readers a.world b.world → IsAnswered result
@@ -135,17 +137,22 @@ pub record RoutesAll (commands : List RouteCommand) (routed : List RouteAnswer) 
   pub opens : Link route_settings (start before faults) opening (replies.Handle 0) first
   pub runs : RoutesOn commands routed (none_routed first) store
 
+-- a reply that isn't a handle
+abbrev pub IsNoHandle : Reply → Type 0
+IsNoHandle reply = (object : ℕ) → reply ≡ replies.Handle object → ⊥
+
 -- It isn't opened, which is the one answer.
 pub record OpensNone (routed : List RouteAnswer) (before : Objects) (faults : ℕ) (store : Known (List Batch)) : Type 0 where
   pub reply : Reply
   pub answers_are : routed ≡ answers.Replied reply ∷ []
+  pub refused : IsNoHandle reply
   pub last : World
   pub opens : Link route_settings (start before faults) opening reply last
   pub left : HoldsWorld store last
 
--- Over any store there is one answer to each command, or the one to the opening; over an honest one they lead through worlds.
+-- Over any store there is one answer to each command, or the one by which the opening is refused; over an honest one they lead through worlds.
 pub record RunsAnswers (commands : List RouteCommand) (routed : List RouteAnswer) (before after : Known (List Batch)) : Type 0 where
-  pub each : (length routed ≡ length commands) ⊎ ((reply : Reply) × (routed ≡ answers.Replied reply ∷ []))
+  pub each : (length routed ≡ length commands) ⊎ ((reply : Reply) × (routed ≡ answers.Replied reply ∷ []) × IsNoHandle reply)
   pub honest : (objects : Objects) → before.objects ≡ Some objects → IsSound objects → RoutesAll commands routed objects before.faults after ⊎ OpensNone routed objects before.faults after
 
 -- and the text is that of the answers

@@ -1,5 +1,5 @@
 -- What a router's calls lead to over an honest store: its readers are objects of a world, and each call of one is a command's step.
-use Rattle.std.specs.Prelude.{◌≡◌, ◌<◌, ◌≤◌, ◌⊎◌, ℕ, ℤ, true, false, All, List, [], ◌∷◌, ◌++◌, length, slice_get, Option, Some, None, Result, Ok, Err}
+use Rattle.std.specs.Prelude.{◌≡◌, ◌<◌, ◌≤◌, ◌⊎◌, ℕ, ℤ, true, false, List, [], ◌∷◌, ◌++◌, length, map, take, slice_get, Option, Some, None, Result, Ok, Err}
 use Rattle.std.specs.List.{list_any}
 use Rattle.std.specs.Option.{option_or}
 use Rattle.slate_types.specs.declared.batches.Batch.{Batch}
@@ -35,7 +35,7 @@ use Rattle.slate_route.specs.declared.answers.Added.{Added}
 use Rattle.slate_route.specs.declared.answers.RouteRefusal.{RouteRefusal}
 use Rattle.slate_route.specs.declared.answers.RouteRefusal.TheVariants as refusals
 use Rattle.slate_route.specs.declared.answers.Routed.{Routed}
-use Rattle.slate_route.specs.Reading.{first_covering, is_open}
+use Rattle.slate_route.specs.Reading.{Passes, first_covering, is_open, of_open}
 
 -- ---- a router beside the objects of a program
 -- a reader keeps a checkpoint of its own, reads log files, and may not lag
@@ -72,8 +72,8 @@ routing merge live = record { merge = merge; extractor = None; options = live.op
 abbrev pub command_at : ℤ → Action → Command
 command_at moment action = record { moment = moment; second = None; action = action }
 
-abbrev pub IsPoll : (moment : ℤ) → (places : List ℕ) → Command → Type 0
-IsPoll moment places command = (i : ℕ) × (n : ℕ) × (slice_get places i ≡ Some n) × (command ≡ command_at moment (actions.Poll n))
+abbrev pub poll_command : ℤ → ℕ → Command
+poll_command moment n = command_at moment (actions.Poll n)
 
 -- the first error that steps were answered, where one was
 abbrev pub refused : Reply → Option SlateError
@@ -84,13 +84,17 @@ abbrev pub first_error : List Step → Option SlateError
 first_error [] = None
 first_error (step ∷ steps) = option_or (refused step.reply) (first_error steps)
 
--- The polls of a read, each a step of the world: what is stored stays the same.
-pub record PollsLead (settings : Settings) (moment : ℤ) (live : Live) (places : List ℕ) (w : World) (readers : List Follower) (store : Known (List Batch)) : Type 0 where
+-- steps are the polls of the open ones of readers, one for each, in the order of the readers
+abbrev pub PollEach : ℤ → (places : List ℕ) → List Follower → List Step → Type 0
+PollEach moment places readers steps = map (λ (step : Step). step.command) steps ≡ map (poll_command moment) (of_open readers places)
+
+-- The polls of a read that passed so many readers, each a step of the world: what is stored stays the same.
+pub record PollsLead (settings : Settings) (moment : ℤ) (live : Live) (places : List ℕ) (w : World) (old : List Follower) (passed : ℕ) (new : List Follower) (store : Known (List Batch)) : Type 0 where
   pub steps : List Step
   pub chain : Chain settings w steps
-  pub polls : All (λ step. IsPoll moment places step.command) steps
+  pub polls : PollEach moment places (take passed old) steps
   pub next : Live
-  pub over : RoutesOver next store places readers (last_world w steps)
+  pub over : RoutesOver next store places new (last_world w steps)
   pub stored : (last_world w steps).stored ≡ w.stored
   pub others : LeavesOthers places live next
 
@@ -146,8 +150,10 @@ IsAnswered (Err refusal) = ⊥
 
 -- A read of a router beside a world leads to another one: its polls, and then the read of one reader.
 pub record ReadLeads (settings : Settings) (moment : ℤ) (key : List ℕ) (at_least : ℕ) (live : Live) (places : List ℕ) (w : World) (old new : List Follower) (result : Result Routed RouteRefusal) (store : Known (List Batch)) : Type 0 where
+  pub passed : ℕ
+  pub passes : Passes at_least old new passed result
   pub between : Known (List Batch)
-  pub polled : PollsLead settings moment live places w new between
+  pub polled : PollsLead settings moment live places w old passed new between
   pub last : World
   pub over : RoutesOver polled.next store places new last
   pub stored : last.stored ≡ w.stored

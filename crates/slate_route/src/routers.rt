@@ -2,15 +2,16 @@
 ghost use Rattle.std.specs.Prelude.{◌≡◌, ◌<◌, ◌≤◌, ℕ, true, false, List, [], length, slice_get, None, Some, Option, IfSome, option_map, unwrap_or};
 ghost use Rattle.std.specs.List.{list_any};
 ghost use Rattle.std.specs.Option.{option_copied, option_or};
+ghost use Rattle.slate_types.specs.declared.batches.Batch.{Batch};
 ghost use Rattle.slate_types.specs.Operator.{Merge};
 ghost use Rattle.slate_reads.specs.Read.{IsOperator};
 ghost use Rattle.slate_model.specs.Follower.{Follower, number};
-ghost use Rattle.slate_model.specs.Known.{known};
+ghost use Rattle.slate_model.specs.Known.{Known, known};
 ghost use Rattle.slate_live.specs.State.{Live};
 ghost use Rattle.slate_live.specs.World.{World};
 ghost use Rattle.slate_route.specs.Reading.{Adds, Answers, IsBest, covers, first_covering, is_memory, is_open};
 ghost use Rattle.slate_route.specs.Standing.{AddLeads, ReadLeads, RoutesOver, routing};
-ghost use Rattle.slate_route.specs.Turns.{CoverLeads, Covers, OpensReader, PollsAt};
+ghost use Rattle.slate_route.specs.Turns.{CoverLeads, Covers, OpensReader, PollsAt, PollsFor};
 
 use crate::answers::{Added, RouteRefusal, Routed};
 use slate_errors::SlateError;
@@ -162,8 +163,8 @@ impl Router {
     ///
     /// # What stands after
     ///
-    /// No reader's number falls. A reader that was answered an error by its poll, except want of memory, is closed by that: it is read
-    /// and polled no more. A refused read changes no reader that it didn't poll.
+    /// Over an honest store no reader's number falls. A reader that was answered an error by its poll, except want of memory, is closed
+    /// by that: it is read and polled no more. A read changes no reader that it didn't poll.
     pub fn read_at_least<S: Store, M: MergeOperator>(
         &mut self,
         alloc: Global,
@@ -174,6 +175,8 @@ impl Router {
         operator: Option<&M>,
     ) -> Result<Routed, RouteRefusal>
         ensures answers { Answers at_least self.old self.new (S.faults store.old) (S.faults store.new) result }
+        // Which readers it polls, in which order, and what each poll does.
+        ensures polls { (between : Known (List Batch)) × PollsFor at_least moment self.old (known S.objects S.faults store.old) result self.new between }
         // Over an honest store its polls and its read are steps of the world to which the router's readers belong.
         ensures leads { (live : Live) (places : List ℕ) (w : World) (merge : Option Merge) → IsOperator M.may_answer (option_copied operator.entry) merge → RoutesOver live (known S.objects S.faults store.old) places self.old w →
             ReadLeads (routing merge live) moment key.now at_least live places w self.old self.new result (known S.objects S.faults store.new) }
@@ -205,6 +208,7 @@ impl Router {
         moment: i64,
     ) -> Result<Covering, RouteRefusal>
         ensures covers { Covers at_least self.old self.new (S.faults store.old) (S.faults store.new) result }
+        ensures polls { PollsFor at_least moment self.old (known S.objects S.faults store.old) result self.new (known S.objects S.faults store.new) }
         ensures leads { (live : Live) (places : List ℕ) (w : World) (merge : Option Merge) → RoutesOver live (known S.objects S.faults store.old) places self.old w →
             CoverLeads (routing merge live) moment at_least live places w self.old self.new result (known S.objects S.faults store.new) }
         ensures faults { S.faults store.old ≤ S.faults store.new }
@@ -232,6 +236,7 @@ impl Router {
         requires none { first_covering at_least self.old ≡ None }
         requires some { list_any is_open self.old ≡ true }
         ensures covers { Covers at_least self.old self.new (S.faults store.old) (S.faults store.new) result }
+        ensures polls { PollsFor at_least moment self.old (known S.objects S.faults store.old) result self.new (known S.objects S.faults store.new) }
         ensures leads { (live : Live) (places : List ℕ) (w : World) (merge : Option Merge) → RoutesOver live (known S.objects S.faults store.old) places self.old w →
             CoverLeads (routing merge live) moment at_least live places w self.old self.new result (known S.objects S.faults store.new) }
         ensures faults { S.faults store.old ≤ S.faults store.new }

@@ -1,21 +1,31 @@
-use Rattle.std.proofs.Common.{rules, ◌≡◌, ap, refl, sym, subst, w64, to_z, of_z}
+use Rattle.std.proofs.Common.{rules, ◌≡◌, ◌∙◌, inl, inr, ℕ, ℤ, List, Option, Some, ap, refl, sym, subst, w64, to_z, of_z}
 use Rattle.std.specs.Ordering.{int_cmp}
 use Rattle.slate_seqtrack.specs.Lookup.{IsPartner}
 use Rattle.slate_seqtrack.specs.Tracker.{numbers_of, times_of}
-use Rattle.slate_live.specs.Calls.{goes_by_operator}
+use Rattle.std.specs.Option.{is_none}
+use Rattle.slate_model.specs.Object.{Handle as AHandle}
+use Rattle.slate_types.specs.declared.batches.KeyOp.{KeyOp}
+use Rattle.slate_model.specs.Handle.{Handle}
+use Rattle.slate_model.specs.Knowledge.{Knowledge}
+use Rattle.slate_model.specs.Known.{Known}
+use Rattle.slate_script.specs.declared.replies.Reply.{Reply}
+use Rattle.slate_live.specs.Calls.{Call, Write as WriteCall, asks_extractor, asks_operator, call_of, ops_of}
+use Rattle.slate_live.specs.Handles.{HandleActs, WritesTo}
+use Rattle.slate_live.specs.Settings.{Settings}
+use Rattle.slate_live.specs.declared.states.Write.{Write}
 use Rattle.slate_live.proofs.handles.act.Goals as goal
 
 pub returns-in-Flush-clause-does : goal.returns-in-Flush-clause-does
 returns-in-Flush-clause-does g c settings lawful extracts = let d = c.flush.ensures.does in (d.0, rw c.in-Flush.is (d.1, refl {a = c.args.writes.now.items}))
 
 pub returns-in-Get-clause-does : goal.returns-in-Get-clause-does
-returns-in-Get-clause-does g c settings lawful extracts = (0, rw c.in-Get.is (c.get.ensures.read settings.merge (lawful (ap goes_by_operator c.in-Get.is)), refl {a = c.args.writer.now}, refl, refl {a = c.args.writes.now.items}))
+returns-in-Get-clause-does g c settings lawful extracts = (0, rw c.in-Get.is (c.get.ensures.read settings.merge (λ open_. lawful (ap (asks_operator (Some (AHandle c.args.writer.now))) c.in-Get.is ∙ ap is_none open_)), refl {a = c.args.writer.now}, refl, refl {a = c.args.writes.now.items}))
 
 pub returns-in-Scan-clause-does : goal.returns-in-Scan-clause-does
-returns-in-Scan-clause-does g c settings lawful extracts = (0, rw c.in-Scan.is (rw (sym c.as_ref.ensures) (c.scan.ensures.read settings.merge (lawful (ap goes_by_operator c.in-Scan.is))), refl {a = c.args.writer.now}, refl, refl {a = c.args.writes.now.items}))
+returns-in-Scan-clause-does g c settings lawful extracts = (0, rw c.in-Scan.is (rw (sym c.as_ref.ensures) (c.scan.ensures.read settings.merge (λ open_. lawful (ap (asks_operator (Some (AHandle c.args.writer.now))) c.in-Scan.is ∙ ap is_none open_))), refl {a = c.args.writer.now}, refl, refl {a = c.args.writes.now.items}))
 
 pub returns-in-Seek-clause-does : goal.returns-in-Seek-clause-does
-returns-in-Seek-clause-does g c settings lawful extracts = (0, rw c.in-Seek.is (rw (sym c.as_ref-in-Seek.ensures) (c.seek.ensures.read settings.merge (lawful (ap goes_by_operator c.in-Seek.is))), refl {a = c.args.writer.now}, refl, refl {a = c.args.writes.now.items}))
+returns-in-Seek-clause-does g c settings lawful extracts = (0, rw c.in-Seek.is (rw (sym c.as_ref-in-Seek.ensures) (c.seek.ensures.read settings.merge (λ open_. lawful (ap (asks_operator (Some (AHandle c.args.writer.now))) c.in-Seek.is ∙ ap is_none open_))), refl {a = c.args.writer.now}, refl, refl {a = c.args.writes.now.items}))
 
 pub returns-in-Ts-clause-does : goal.returns-in-Ts-clause-does
 returns-in-Ts-clause-does g c settings lawful extracts = (0, rw c.in-Ts.is ((c.find_ts.result, c.find_ts.ensures, refl), refl {a = c.args.writer.now}, (refl, refl), refl {a = c.args.writes.now.items}))
@@ -26,3 +36,28 @@ returns-in-Seq-clause-does g c settings lawful extracts =
     let tracker = c.args.writer.now.tracker in
     let found = subst (λ seconds. IsPartner int_cmp c.in-Seq.find seconds (times_of tracker) (numbers_of tracker) c.find_seq.result) back c.find_seq.ensures in
     (0, rw c.in-Seq.is ((c.find_seq.result, found, refl), refl {a = c.args.writer.now}, (refl, refl), refl {a = c.args.writes.now.items}))
+
+pub returns-else-is_none-clause-does : goal.returns-else-is_none-clause-does
+returns-else-is_none-clause-does g c settings lawful extracts =
+    let operator = lawful (ap (asks_operator (Some (AHandle c.args.writer.now))) c.in-Merge.is) in
+    let did = c.write.ensures settings.extractor (λ open_. extracts (ap (asks_extractor (Some (AHandle c.args.writer.now))) c.in-Merge.is ∙ ap is_none open_)) in
+    search rules
+
+-- a write, by the command that asks it
+writes-by : {L : Type 0} (k : Knowledge L) (settings : Settings) (n : ℕ) (moment : ℤ) (second : Option ℤ) (call : Call) (ops : List KeyOp) (old new : Handle) (before : Known L) (writes writes' : List Write) (reply : Reply) → call ≡ WriteCall ops →
+    WritesTo settings.extractor n ops moment second old writes reply new writes' → (made : ℕ) × HandleActs k settings n moment second call made old before writes reply new before writes'
+writes-by k settings n moment second call ops old new before writes writes' reply is did =
+    (0, subst (λ c. HandleActs k settings n moment second c 0 old before writes reply new before writes') (sym is) (did, (refl, refl)))
+
+pub returns-in-Put-clause-does : goal.returns-in-Put-clause-does
+returns-in-Put-clause-does g c settings lawful extracts =
+    let h = c.args.writer.now in
+    let action = c.args.command.now.action in
+    elim c.in-Put.is [
+      | inl put ↦ writes-by _ settings _ _ _ (call_of action) (ops_of action) h _ _ _ _ _ (ap call_of put.4 ∙ ap (λ a. WriteCall (ops_of a)) (sym put.4))
+          (c.write-in-Put.ensures settings.extractor (λ open_. extracts (ap (asks_extractor (Some (AHandle h))) put.4 ∙ ap is_none open_)))
+      | inr (inl delete) ↦ writes-by _ settings _ _ _ (call_of action) (ops_of action) h _ _ _ _ _ (ap call_of delete.2 ∙ ap (λ a. WriteCall (ops_of a)) (sym delete.2))
+          (c.write-in-Put.ensures settings.extractor (λ open_. extracts (ap (asks_extractor (Some (AHandle h))) delete.2 ∙ ap is_none open_)))
+      | inr (inr batch) ↦ writes-by _ settings _ _ _ (call_of action) (ops_of action) h _ _ _ _ _ (ap call_of batch.2 ∙ ap (λ a. WriteCall (ops_of a)) (sym batch.2))
+          (c.write-in-Put.ensures settings.extractor (λ open_. extracts (ap (asks_extractor (Some (AHandle h))) batch.2 ∙ ap is_none open_)))
+    ]

@@ -7,6 +7,7 @@ use Rattle.slate_model.specs.Known.{known}
 use Rattle.slate_model.specs.Object.{Handle}
 use Rattle.slate_model.specs.Read.{Reads}
 use Rattle.slate_model.specs.Stores.{kept_rows}
+use Rattle.slate_live.proofs.Closed.{either-reads}
 use Rattle.slate_live.proofs.handles.get.Goals as goal
 
 pub returns-clause-read : goal.returns-clause-read
@@ -17,5 +18,5 @@ returns-clause-read g c merge lawful =
     record {
       result = c.get.result;
       replied = c.read_reply.ensures;
-      does = rw (← c.as_slice.ensures) (subst (λ (o : ReadOptions). Reads h.result h.view.manifest.tables (kept_rows (g.S.Store.objects c.args.store.now) (Handle h)) (λ rows answer. answer ≡ read_at merge rows (read_bound c.args.snapshot h.durable (accepted h) o.durability_filter o.dirty) c.as_slice.result.now) before c.get.result after) c.read_options-options.ensures (c.get.ensures.read merge lawful));
+      does = rw (← c.as_slice.ensures) (subst (λ (o : ReadOptions). Reads h.result h.view.manifest.tables (kept_rows (g.S.Store.objects c.args.store.now) (Handle h)) (λ rows answer. answer ≡ read_at merge rows (read_bound c.args.snapshot h.durable (accepted h) o.durability_filter o.dirty) c.as_slice.result.now) before c.get.result after) c.read_options-options.ensures (either-reads h.result (λ open_. c.get.ensures.read merge (lawful open_)) c.get.ensures.by_any));
     }

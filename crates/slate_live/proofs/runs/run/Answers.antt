@@ -1,9 +1,10 @@
 use Rattle.std.proofs.Common.{arith, ap, refl, sym, ◌∙◌, ◌++◌, ◌∷◌, []}
 use Rattle.slate_model.specs.Known.{known}
+use Rattle.slate_live.specs.Calls.{goes_by_extractor, goes_by_operator}
 use Rattle.slate_live.specs.Run.{none_live}
 use Rattle.slate_live.specs.State.{Live}
 use Rattle.slate_live.specs.World.{start}
-use Rattle.slate_live.proofs.Chains.{all-start, do-all, do-next, do-none, done-next, done_none, leads_all, reached, segments-push, stands-push, stands_start}
+use Rattle.slate_live.proofs.Chains.{all-start, do-all, do-next, do-none, done-next, done_none, first-true, leads_all, one-asks, reached, segments-push, stands-push, stands_start}
 use Rattle.slate_live.proofs.runs.run.Goals as goal
 
 pub loop-command-init : goal.loop-command-init
@@ -31,11 +32,11 @@ loop-command-preserved g c =
       room = omega (arith, c.push_reserved.ensures.capacity, c.loop-command.invariant.room);
       options = c.apply-reply.ensures.options ∙ c.loop-command.invariant.options;
       does = λ settings lawful extracts options_are.
-          let d = c.apply-reply.ensures.does settings (λ _. lawful) (λ _. extracts) (options_are ∙ sym c.loop-command.invariant.options) in
+          let d = c.apply-reply.ensures.does settings (λ asks. lawful (one-asks goes_by_operator c.args.commands.now c.loop-command.command-index c.command-item.result c.loop-command-test.true c.command-item.is (first-true (goes_by_operator (c.command-item.result).action) _ asks))) (λ asks. extracts (one-asks goes_by_extractor c.args.commands.now c.loop-command.command-index c.command-item.result c.loop-command-test.true c.command-item.is (first-true (goes_by_extractor (c.command-item.result).action) _ asks))) (options_are ∙ sym c.loop-command.invariant.options) in
           do-next settings _ _ _ _ _ _ c.args.commands.now c.loop-command.command-index c.command-item.result _ _ c.apply-reply.result c.loop-command-test.true c.command-item.is c.push_reserved.ensures.items (c.loop-command.invariant.does settings lawful extracts options_are) d;
       leads = λ settings lawful extracts options_are before is sound.
           let prev = c.loop-command.invariant.leads settings lawful extracts options_are before is sound in
-          let link = c.apply-reply.ensures.link settings (λ _. lawful) (λ _. extracts) (options_are ∙ sym c.loop-command.invariant.options) _ prev.2 prev.3 in (
+          let link = c.apply-reply.ensures.link settings (λ asks. lawful (one-asks goes_by_operator c.args.commands.now c.loop-command.command-index c.command-item.result c.loop-command-test.true c.command-item.is (first-true (goes_by_operator (c.command-item.result).action) _ asks))) (λ asks. extracts (one-asks goes_by_extractor c.args.commands.now c.loop-command.command-index c.command-item.result c.loop-command-test.true c.command-item.is (first-true (goes_by_extractor (c.command-item.result).action) _ asks))) (options_are ∙ sym c.loop-command.invariant.options) _ prev.2 prev.3 in (
             prev.0 ++ record { command = c.command-item.result; reply = c.apply-reply.result; world = link.0 } ∷ [],
             done-next settings _ link.0 prev.0 c.args.commands.now c.loop-command.command-index c.command-item.result _ _ c.apply-reply.result c.loop-command-test.true c.command-item.is c.push_reserved.ensures.items prev.1 link.1 (reached _ _ link.0 (link.2).represents),
             stands-push _ link.0 prev.0 c.command-item.result c.apply-reply.result _ _ link.2,

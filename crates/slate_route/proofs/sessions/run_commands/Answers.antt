@@ -37,10 +37,10 @@ returns-in_default g c =
       faults = c.run.ensures.faults;
       nothing = tt;
       answers = record {
-        each = inr (c.run.result, one);
+        each = inr (c.run.result, one, c.in_default.not-Handle);
         honest = λ o at sound.
             let done = subst (λ (x : Command). IsDone route_settings none_yet before x c.run.result c.run.new.live between) c.open.ensures (subst (λ (l : Live). IsDone route_settings l before c.open.result.command c.run.result c.run.new.live between) empty c.run.ensures.done) in
             let opened = opening-leads o c.run.new.live before between c.run.result at sound done in
-            inr (record { reply = c.run.result; answers_are = one; last = opened.world; opens = opened.link; left = opened.left });
+            inr (record { reply = c.run.result; answers_are = one; refused = c.in_default.not-Handle; last = opened.world; opens = opened.link; left = opened.left });
       };
     }

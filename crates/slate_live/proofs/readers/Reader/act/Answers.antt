@@ -8,7 +8,7 @@ returns-then-ends_poll-clause-does g c settings writes lawful extracts =
       | in-Some-1 w ↦ ap (λ r. r.state) w.self-is
       | in-None-1 w ↦ ap (λ r. r.state) w.self-is
     ]) in
-    rw state (rw (← c.self.view_is) (c.act-reply.ensures.does settings writes lawful extracts))
+    rw state (rw (← c.self.view_is) (c.act-reply.ensures.does settings writes (λ asks. lawful (rw (← c.self.view_is) asks)) (λ asks. extracts (rw (← c.self.view_is) asks))))
 
 pub returns-else-ends_poll-clause-does : goal.returns-else-ends_poll-clause-does
-returns-else-ends_poll-clause-does g c settings writes lawful extracts = rw (← c.self.view_is) (c.act-reply.ensures.does settings writes lawful extracts)
+returns-else-ends_poll-clause-does g c settings writes lawful extracts = rw (← c.self.view_is) (c.act-reply.ensures.does settings writes (λ asks. lawful (rw (← c.self.view_is) asks)) (λ asks. extracts (rw (← c.self.view_is) asks)))

@@ -7,12 +7,13 @@ use Rattle.slate_model.specs.Object.{Follower as AFollower}
 use Rattle.slate_script.specs.declared.commands.Command.{Command}
 use Rattle.slate_script.specs.declared.replies.Reply.{Reply}
 use Rattle.slate_script.specs.declared.replies.Reply.TheVariants as replies
-use Rattle.slate_live.specs.Calls.{Begins, Kind, Steps, Whole, goes_by_extractor, kind_of, named, read_by, target_of}
+use Rattle.slate_live.specs.Calls.{Begins, Kind, Steps, Whole, kind_of, named, read_by, target_of}
 use Rattle.slate_live.specs.Settings.{Settings}
 use Rattle.slate_live.specs.Shut.{IsShutAt}
 use Rattle.slate_live.specs.State.{Live}
 use Rattle.slate_live.specs.Stepping.{BeginsPoll, DoesKind, IsDone}
 use Rattle.slate_live.proofs.Begun.{whole-of}
+use Rattle.slate_live.proofs.Closed.{asks-extractor}
 use Rattle.slate_live.proofs.Linking.{linked}
 use Rattle.slate_live.proofs.states.LiveState.apply.Goals as goal
 
@@ -48,13 +49,13 @@ returns-in-Begin-clause-link g c settings lawful extracts options_are =
 pub returns-in-Step-clause-does : goal.returns-in-Step-clause-does
 returns-in-Step-clause-does g c settings lawful extracts options_are =
     done-by settings c.args.self.now (known g.S.Store.objects g.S.Store.faults c.args.store.now) c.args.command.now c.step.result c.step.new.self (known g.S.Store.objects g.S.Store.faults c.step.new.store) (Steps c.in-Step.follower) (ap kind_of c.in-Step.is)
-    (c.step.ensures.steps settings.extractor (extracts (ap goes_by_extractor c.in-Step.is)))
+    (c.step.ensures.steps settings.extractor (extracts (ap (asks-extractor c.args.self.now.objects) c.in-Step.is)))
 
 pub returns-in-Step-clause-link : goal.returns-in-Step-clause-link
 returns-in-Step-clause-link g c settings lawful extracts options_are =
     linked settings c.args.command.now c.args.self.now c.step.new.self (known g.S.Store.objects g.S.Store.faults c.args.store.now) (known g.S.Store.objects g.S.Store.faults c.step.new.store) c.step.result (sym options_are)
     (done-by settings c.args.self.now (known g.S.Store.objects g.S.Store.faults c.args.store.now) c.args.command.now c.step.result c.step.new.self (known g.S.Store.objects g.S.Store.faults c.step.new.store) (Steps c.in-Step.follower) (ap kind_of c.in-Step.is)
-    (c.step.ensures.steps settings.extractor (extracts (ap goes_by_extractor c.in-Step.is))))
+    (c.step.ensures.steps settings.extractor (extracts (ap (asks-extractor c.args.self.now.objects) c.in-Step.is))))
     (never c.args.command.now (Steps c.in-Step.follower) (ap kind_of c.in-Step.is) (λ n no. absurd (cc)) _ c.args.self.now c.step.result)
 
 pub returns-in_default-clause-does : goal.returns-in_default-clause-does

@@ -1,5 +1,5 @@
-use Rattle.std.proofs.Common.{rules, ◌≡◌, ℕ, ℤ, Bool, Option, refl, subst, ap, w64, to_z, of_z}
-use Rattle.slate_live.specs.Calls.{NewHandle, NewFollower, NewCheckpoint, WholeStore, OfObject, drops, goes_by_extractor, target_of}
+use Rattle.std.proofs.Common.{rules, ◌≡◌, ℕ, ℤ, Bool, true, Option, refl, sym, subst, ap, w64, to_z, of_z}
+use Rattle.slate_live.specs.Calls.{NewHandle, NewFollower, NewCheckpoint, WholeStore, OfObject, asks_extractor, asks_operator, drops, named, read_by, target_of}
 use Rattle.slate_model.specs.Known.{known}
 use Rattle.slate_model.specs.Stores.{by_objects}
 use Rattle.slate_store.specs.declared.reader_modes.DbReaderMode.{DbReaderMode}
@@ -10,6 +10,7 @@ use Rattle.slate_live.specs.Maintenance.{CommitsTo, SweepsTo}
 use Rattle.slate_live.specs.Settings.{Settings}
 use Rattle.slate_live.specs.State.{State, running}
 use Rattle.slate_live.proofs.Begun.{are-kept, same-polls}
+use Rattle.slate_live.proofs.Closed.{asks-extractor}
 use Rattle.slate_live.proofs.Linking.{does-at, names-object}
 use Rattle.slate_live.proofs.states.LiveState.make_call.Goals as goal
 
@@ -23,7 +24,7 @@ opens_as k s mode managed made before reply after moment moment' skips skips' la
 
 pub returns-in-Open-clause-does : goal.returns-in-Open-clause-does
 returns-in-Open-clause-does g c settings lawful extracts options_are =
-    let d = c.open.ensures.does settings (extracts (ap goes_by_extractor c.in-Open.is)) options_are in
+    let d = c.open.ensures.does settings (extracts (ap (asks-extractor c.args.self.now.objects) c.in-Open.is)) options_are in
     let k = by_objects (g.S.Store.objects c.args.store.now) in
     let store = known g.S.Store.objects g.S.Store.faults c.args.store.now in
     let store' = known g.S.Store.objects g.S.Store.faults c.open.new.store in
@@ -32,7 +33,7 @@ returns-in-Open-clause-does g c settings lawful extracts options_are =
 pub returns-in-Follow-clause-does : goal.returns-in-Follow-clause-does
 returns-in-Follow-clause-does g c settings lawful extracts options_are =
     let o = c.reader_options-options.ensures in
-    let d = c.follow.ensures.does settings c.in-Follow.managed (extracts (ap goes_by_extractor c.in-Follow.is)) o.lifetime o.interval in
+    let d = c.follow.ensures.does settings c.in-Follow.managed (extracts (ap (asks-extractor c.args.self.now.objects) c.in-Follow.is)) o.lifetime o.interval in
     let k = by_objects (g.S.Store.objects c.args.store.now) in
     let before = running c.args.self.now (known g.S.Store.objects g.S.Store.faults c.args.store.now) in
     let after = running c.follow.new.self (known g.S.Store.objects g.S.Store.faults c.follow.new.store) in
@@ -61,11 +62,13 @@ returns-in-Sweep-clause-does g c settings lawful extracts options_are =
 
 pub returns-in-Put-clause-does : goal.returns-in-Put-clause-does
 returns-in-Put-clause-does g c settings lawful extracts options_are =
-    let d = c.act.ensures.does settings lawful extracts in
+    let names = names-object c.args.command.now.action c.in-Put.number c.in-Put.is in
+    let objects = c.args.self.now.objects in
+    let d = c.act.ensures.does settings (λ asks. lawful (subst (λ t. asks_operator (read_by objects (named objects t)) c.args.command.now.action ≡ true) (sym names) asks)) (λ asks. extracts (subst (λ t. asks_extractor (read_by objects (named objects t)) c.args.command.now.action ≡ true) (sym names) asks)) in
     let k = by_objects (g.S.Store.objects c.args.store.now) in
     let store = known g.S.Store.objects g.S.Store.faults c.args.store.now in
     let store' = known g.S.Store.objects g.S.Store.faults c.act.new.store in
-    (d.0, does-at k settings c.args.command.now d.0 (running c.args.self.now store) c.act.result (running c.act.new.self store') (OfObject c.in-Put.number) (names-object c.args.command.now.action c.in-Put.number c.in-Put.is) d.1)
+    (d.0, does-at k settings c.args.command.now d.0 (running c.args.self.now store) c.act.result (running c.act.new.self store') (OfObject c.in-Put.number) names d.1)
 
 pub returns-in-Open-clause-polls : goal.returns-in-Open-clause-polls
 returns-in-Open-clause-polls g c = are-kept c.args.command.now.action c.args.self.now.polls c.open.new.self.polls (λ n. ap (drops n) c.in-Open.is) c.open.ensures.polls

@@ -1,7 +1,8 @@
-use Rattle.std.proofs.Common.{rules, ◌≡◌, ◌++◌, ◌∷◌, [], List, sym, ap, ◌∙◌}
+use Rattle.std.proofs.Common.{rules, ◌≡◌, ◌<◌, ◌++◌, ◌∷◌, [], List, length, Err, sym, subst, ap, ◌∙◌}
 use Rattle.slate_model.specs.Follower.{Follower}
 use Rattle.slate_model.specs.Known.{known}
-use Rattle.slate_route.proofs.Adding.{leads-with, opening-adds, opening-ready, opening-refused}
+use Rattle.slate_route.specs.Reading.{Adds, most_readers}
+use Rattle.slate_route.proofs.Adding.{leads-with, opening-adds, opening-ready, opening-refused, opening-refuses}
 use Rattle.slate_route.proofs.routers.Router.add.Goals as goal
 
 pub returns-in-Ok-clause-adds : goal.returns-in-Ok-clause-adds
@@ -16,6 +17,13 @@ returns-in-Ok-clause-leads g c live places w merge over =
     let before = known g.S.Store.objects g.S.Store.faults c.args.store.now in
     let after = known g.S.Store.objects g.S.Store.faults c.open_reader.new.store in
     leads-with _ _ (search rules) (sym items) (opening-adds merge live before after places c.args.self.now w over c.args.lifetime_ms c.args.interval_ms _ c.in-Ok.reader c.in-Ok.ensures.opens (record { follower = c.count-follower.result; at = c.number-at.result }) c.number-at.ensures)
+
+pub returns-in-Err-clause-adds : goal.returns-in-Err-clause-adds
+returns-in-Err-clause-adds g c =
+    let before = known g.S.Store.objects g.S.Store.faults c.args.store.now in
+    let after = known g.S.Store.objects g.S.Store.faults c.open_reader.new.store in
+    let few : length c.args.self.now < most_readers = search rules in
+    subst (λ (xs : List Follower). Adds c.args.self.now xs before.faults after.faults (Err c.in-Err.refusal)) (sym (c.reserve.ensures.items ∙ c.self.view_is)) (opening-refuses c.args.self.now few c.in-Err.refusal c.in-Err.ensures.opens)
 
 pub returns-in-Err-clause-leads : goal.returns-in-Err-clause-leads
 returns-in-Err-clause-leads g c live places w merge over =

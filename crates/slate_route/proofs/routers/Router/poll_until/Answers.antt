@@ -9,8 +9,9 @@ use Rattle.slate_route.specs.declared.routers.Covering.{Covering}
 use Rattle.slate_route.specs.declared.routers.FirstError.{FirstError}
 use Rattle.slate_route.specs.Reading.{FindsNone, IsBest, covers, poll_refusal}
 use Rattle.slate_route.specs.Standing.{routing}
-use Rattle.slate_route.specs.Turns.{CoverLeads, Covers}
-use Rattle.slate_route.proofs.Turning.{Progress, at-place, behind-leads, covered-leads, covers-with, failed-finds, failed-leads, goes-by, left-there, memory-is, memory-leads, memory-other, none-covers, open-at, progress-behind, progress-closed, progress-failed, progress-none, stay}
+use Rattle.slate_route.specs.Turns.{CoverLeads, Covers, PollsFor}
+use Rattle.slate_route.proofs.Passing.{for-with}
+use Rattle.slate_route.proofs.Turning.{Progress, at-place, behind-leads, behind-polls, covered-leads, covered-polls, covers-with, failed-finds, failed-leads, failed-polls, goes-by, left-there, memory-is, memory-leads, memory-other, memory-polls, none-covers, open-at, progress-behind, progress-closed, progress-failed, progress-none, stay}
 use Rattle.slate_route.proofs.routers.Router.poll_until.Goals.{in-Ok+else-covers_at, in-Err+else-is_memory, in-Some, in-None}
 use Rattle.slate_route.proofs.routers.Router.poll_until.Goals as goal
 
@@ -41,8 +42,9 @@ returns-then-covers_at-clause-leads g c live places w merge over =
     let p = c.loop-place.invariant in
     let q = c.poll_at.ensures.polls in
     let opened = open-at c.loop-place.self c.loop-place.place q.reader c.is_open.result c.is_open.ensures q.there ∙ c.if-not-is_open.false in
+    let covering = sym (some-of (λ (f : Follower). c.covers_at.result ≡ covers c.args.at_least f) (slice_get c.poll_at.new.self c.loop-place.place) q.left (left-there q) c.covers_at.ensures) ∙ c.if-covers_at.true in
     covers-with _ _ (search rules)
-    (covered-leads c.args.at_least _ c.args.self.now _ c.loop-place.place c.loop-place.self _ c.loop-place.polls c.loop-place.first.error p c.poll_at.result c.poll_at.new.self _ q opened c.in-Ok._answer c.in-Ok.is _ refl merge live places w over)
+    (covered-leads c.args.at_least _ c.args.self.now _ c.loop-place.place c.loop-place.self _ c.loop-place.polls c.loop-place.first.error p c.poll_at.result c.poll_at.new.self _ q opened c.requires.none covering c.in-Ok._answer c.in-Ok.is _ refl merge live places w over)
 
 pub returns-then-is_memory-clause-covers : goal.returns-then-is_memory-clause-covers
 returns-then-is_memory-clause-covers g c =
@@ -120,4 +122,43 @@ returns-clause-leads g c live places w merge over =
           let best : IsBest c.loop-place.self v.best.result = subst (λ (xs : List Follower). IsBest xs v.best.result) (v.as_slice.ensures.value ∙ c.self.view_is) (record { bounds = v.best.ensures.bounds; attained = v.best.ensures.attained }) in
           subst Left (sym v.result-is)
           (behind-leads c.args.at_least moment c.args.self.now before c.loop-place.place c.loop-place.self after c.loop-place.polls c.loop-place.first.error p c.requires.none c.requires.some past (sym c.into_error.ensures ∙ v.in-None.is) v.best.result best merge live places w over)
+    ])
+
+pub returns-then-covers_at-clause-polls : goal.returns-then-covers_at-clause-polls
+returns-then-covers_at-clause-polls g c =
+    let p = c.loop-place.invariant in
+    let q = c.poll_at.ensures.polls in
+    let opened = open-at c.loop-place.self c.loop-place.place q.reader c.is_open.result c.is_open.ensures q.there ∙ c.if-not-is_open.false in
+    let covering = sym (some-of (λ (f : Follower). c.covers_at.result ≡ covers c.args.at_least f) (slice_get c.poll_at.new.self c.loop-place.place) q.left (left-there q) c.covers_at.ensures) ∙ c.if-covers_at.true in
+    for-with _ _ (search rules)
+    (covered-polls c.args.at_least _ c.args.self.now _ c.loop-place.place c.loop-place.self _ c.loop-place.polls c.loop-place.first.error p c.poll_at.result c.poll_at.new.self _ q opened c.requires.none covering _)
+
+pub returns-then-is_memory-clause-polls : goal.returns-then-is_memory-clause-polls
+returns-then-is_memory-clause-polls g c =
+    let p = c.loop-place.invariant in
+    let q = c.poll_at.ensures.polls in
+    let opened = open-at c.loop-place.self c.loop-place.place q.reader c.is_open.result c.is_open.ensures q.there ∙ c.if-not-is_open.false in
+    let before = known g.S.Store.objects g.S.Store.faults c.args.store.now in
+    let after = known g.S.Store.objects g.S.Store.faults c.poll_at.new.store in
+    let memory = memory-is c.in-Err.error (sym c.is_memory.ensures ∙ c.if-is_memory.true) in
+    for-with _ _ (search rules)
+    (subst (λ (r : RouteRefusal). PollsFor {A = Covering} c.args.at_least (to_z w64 (of_z w64 c.args.moment)) c.args.self.now before (Err r) c.poll_at.new.self after) (sym (c.of_poll.ensures ∙ ap poll_refusal memory))
+    (memory-polls c.args.at_least _ c.args.self.now _ c.loop-place.place c.loop-place.self _ c.loop-place.polls c.loop-place.first.error p c.poll_at.result c.poll_at.new.self _ q opened))
+
+pub returns-clause-polls : goal.returns-clause-polls
+returns-clause-polls g c =
+    let p = c.loop-place.invariant in
+    let moment : ℤ = to_z w64 (of_z w64 c.args.moment) in
+    let before = known g.S.Store.objects g.S.Store.faults c.args.store.now in
+    let after = known g.S.Store.objects g.S.Store.faults c.loop-place.store in
+    let past : length c.args.self.now ≤ c.loop-place.place = omega (arith, c.loop-place-test.false, c.count-place-end.ensures) in
+    let Left : Result Covering RouteRefusal → Type 0 = λ r. PollsFor c.args.at_least moment c.args.self.now before r c.loop-place.self after in
+    for-with _ _ (search rules)
+    (elim c.match-into_error.branch as (λ _. Left c.match-into_error.result) [
+      | in-Some v ↦
+          subst Left (sym v.result-is)
+          (failed-polls c.args.at_least moment c.args.self.now before c.loop-place.place c.loop-place.self after c.loop-place.polls c.loop-place.first.error p c.requires.none c.requires.some past v.in-Some.error (sym c.into_error.ensures ∙ v.in-Some.is))
+      | in-None v ↦
+          subst Left (sym v.result-is)
+          (behind-polls c.args.at_least moment c.args.self.now before c.loop-place.place c.loop-place.self after c.loop-place.polls c.loop-place.first.error p c.requires.none c.requires.some past (sym c.into_error.ensures ∙ v.in-None.is) v.best.result)
     ])

@@ -1,10 +1,13 @@
 use Rattle.std.proofs.Common.{rules, ◌≡◌, ◌∙◌, List, get_or, Result, Err, sym, subst, ap}
 use Rattle.slate_model.specs.Follower.{Follower}
-use Rattle.slate_model.specs.Known.{known}
+use Rattle.slate_types.specs.declared.batches.Batch.{Batch}
+use Rattle.slate_model.specs.Known.{Known, known}
 use Rattle.slate_route.specs.declared.answers.RouteRefusal.{RouteRefusal}
 use Rattle.slate_route.specs.declared.answers.Routed.{Routed}
 use Rattle.slate_route.specs.Reading.{Answers}
 use Rattle.slate_route.specs.Standing.{ReadLeads, routing}
+use Rattle.slate_route.specs.Turns.{PollsFor}
+use Rattle.slate_route.proofs.Passing.{for-with, polls-none, polls-refused, polls-row}
 use Rattle.slate_route.proofs.Routing.{error-answers, error-leads, none-leads, reader-there, row-answers, row-leads}
 use Rattle.slate_route.proofs.Turning.{covers-with}
 use Rattle.slate_route.proofs.routers.Router.read_at_least.Goals.{in-Ok-get, in-Err-get}
@@ -55,4 +58,24 @@ returns-clause-leads g c live places w merge lawful over =
       | in-Err-get v ↦
           subst Left (sym (v.result-is ∙ ap (λ (x : RouteRefusal). let r : Result Routed RouteRefusal = Err x in r) v.of_read.ensures))
           (error-leads c.args.at_least c.args.self.now new covering goes reader there merge live places w c.args.moment c.args.key.now before between after over l c.get.result read v.in-Err-get.error v.in-Err-get.is c.cover.ensures.faults)
+    ]
+
+pub returns-in-Err-clause-polls : goal.returns-in-Err-clause-polls
+returns-in-Err-clause-polls g c =
+    let before = known g.S.Store.objects g.S.Store.faults c.args.store.now in
+    let between = known g.S.Store.objects g.S.Store.faults c.cover.new.store in
+    (between, polls-none c.args.at_least c.args.moment c.args.self.now before c.cover.new.self between c.in-Err.refusal (for-with _ c.args.moment (search rules) c.in-Err.ensures.polls))
+
+pub returns-clause-polls : goal.returns-clause-polls
+returns-clause-polls g c =
+    let before = known g.S.Store.objects g.S.Store.faults c.args.store.now in
+    let between = known g.S.Store.objects g.S.Store.faults c.cover.new.store in
+    let new = c.cover.new.self in
+    let polls = for-with _ c.args.moment (search rules) c.in-Ok.ensures.polls in
+    let Left : Result Routed RouteRefusal → Type 0 = λ r. (k : Known (List Batch)) × PollsFor c.args.at_least c.args.moment c.args.self.now before r new k in
+    elim c.match-get.branch as (λ _. Left c.match-get.result) [
+      | in-Ok-get v ↦ subst Left (sym v.result-is) (between, polls-row c.args.at_least c.args.moment c.args.self.now before new between c.in-Ok.covering _ polls)
+      | in-Err-get v ↦
+          subst Left (sym (v.result-is ∙ ap (λ (x : RouteRefusal). let r : Result Routed RouteRefusal = Err x in r) v.of_read.ensures))
+          (between, polls-refused c.args.at_least c.args.moment c.args.self.now before new between c.in-Ok.covering v.in-Err-get.error polls)
     ]

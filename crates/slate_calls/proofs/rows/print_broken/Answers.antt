@@ -1,5 +1,5 @@
 use Rattle.std.specs.List.Sorted.{IsStrictlySortedBy}
-use Rattle.slate_cases.proofs.rows.print_broken.Goals as goal
+use Rattle.slate_calls.proofs.rows.print_broken.Goals as goal
 
 pub of_rows-made-requires-clause-in_order : goal.of_rows-made-requires-clause-in_order
 unfolding IsStrictlySortedBy

@@ -129,6 +129,11 @@ module _ (refused : Objects → SlateError → Type 0) (lifetime : ℕ) (skips :
       }
 
 -- ---- a poll
+-- a round that failed leaves a reader as it was, but for its lease, and the error is recorded
+pub failed-leaves : (old inner new : Follower) (e : SlateError) → inner ≡ record old { lease = inner.lease } → new ≡ record inner { result = poll_result e } → new ≡ record old { lease = new.lease; result = poll_result e }
+failed-leaves old inner new e failed closed =
+    closed ∙ (ap (λ (x : Follower). record x { result = poll_result e }) failed ∙ ap (λ l. record old { lease = l; result = poll_result e }) (sym (ap (λ (x : Follower). x.lease) closed)))
+
 module _ (x : Option Extractor) (lease : Lease) (moment : ℤ) (old : Follower) (t t' : Option Objects) (f f' : ℕ) where
   abbrev keeps_plan : VersionedManifest → Plan Lease
   keeps_plan = to_keep old.view lease moment
@@ -164,8 +169,7 @@ module _ (x : Option Extractor) (lease : Lease) (moment : ℤ) (old : Follower) 
       let P : ℕ → Objects → Objects → Type 0 = λ made o o'. PutsPlanned {B = PollAnswer} Stands MayLack keeps_plan o (Err e) made o' × IfErr {T = PollAnswer} (Err e) (λ _. KeepsOrNot keeps_plan made old o inner) in
       let m = with-made {P = P} {a = t} {b = t'} (modelled_as (λ o o'. (made : ℕ) × P made o o') goes (λ o o' h. (h.0, (h.1, h.2)))) in
       let same : new.lease ≡ inner.lease = ap (λ (x : Follower). x.lease) closed in
-      let becomes : new ≡ record old { lease = new.lease; result = poll_result e } =
-      closed ∙ (ap (λ (x : Follower). record x { result = poll_result e }) failed ∙ ap (λ l. record old { lease = l; result = poll_result e }) (sym same)) in (
+      let becomes = failed-leaves old inner new e failed closed in (
         m.0,
         record {
           faults = faults;

@@ -14,8 +14,8 @@ ghost use Rattle.slate_model.specs.Followed.{RefusesLatest};
 ghost use Rattle.slate_model.specs.Managed.{PutsPlanned, TakeRefusal};
 ghost use Rattle.slate_model.specs.Segments.{Extractor, IsExtractor};
 ghost use Rattle.slate_model.specs.Stores.{Stands};
-ghost use Rattle.slate_follow.specs.Answering.{IsOfOpening, IsOfOptions};
-ghost use Rattle.slate_follow.specs.Keeping.{FindsLatest, GivesLease, MayMismatch, PutsManifest, tried};
+ghost use Rattle.slate_follow.specs.Answering.{IsOfLatest, IsOfOpening, IsOfOptions};
+ghost use Rattle.slate_follow.specs.Keeping.{CallsRefused, FindsLatest, GivesLease, MayMismatch, PutsManifest, tried};
 ghost use Rattle.slate_follow.specs.Stepping.{IsOfTurn};
 
 use crate::DbReaderOptions;
@@ -86,6 +86,7 @@ pub(crate) fn put_next<S: Store>(
     ensures one { S.calls store.new ≡ one_more (S.calls store.old) }
     ensures kind { IfErr result (λ error. (mode : AnyMode) → IsOfTurn mode error) }
     ensures free { result ≡ Ok true → IfSome (S.objects store.old) (λ o. is_present (PutManifest next.now.id next.now.manifest) o ≡ false) }
+    ensures undecided { IfErr result (λ error. IsOfLatest error → ⊥) }
 {
     match store.put_manifest(alloc, next.id, &next.manifest) {
         Ok(()) => Ok(true),
@@ -137,6 +138,7 @@ fn try_to_take<S: Store, E: PrefixExtractor>(
 ) -> Result<Option<(VersionedManifest, Lease)>, SlateError>
     ensures faults { CountsFaults (S.faults store.old) (S.faults store.new) result }
     ensures calls { S.calls store.new ≤ S.calls store.old + 2 }
+    ensures first { IfErr result (λ error. IsOfLatest error → S.calls store.new ≤ S.calls store.old + 1) }
     ensures puts { WhereModelled (λ o o'. (made : ℕ) × PutsPlanned Stands MayMismatch (to_take lifetime moment) o (tried result) made o') (S.objects store.old) (S.objects store.new) }
     ensures mismatch { (x : Option Extractor) → IsExtractor E.may_name E.may_extract (option_copied extractor.entry) x → IfErr result (λ error. IfSome (S.objects store.old) (λ o. MayMismatch o error → TakeRefusal x o error)) }
     ensures given { IfOk (tried result) (λ p. IfSome (S.objects store.old) (λ o. PlanIs (to_take lifetime moment) o (Ok (Some p.0, p.1)))) }
@@ -170,6 +172,7 @@ pub(crate) fn take_lease<S: Store, E: PrefixExtractor>(
 ) -> Result<(VersionedManifest, Lease), SlateError>
     ensures faults { CountsFaults (S.faults store.old) (S.faults store.new) result }
     ensures calls { S.calls store.new ≤ S.calls store.old + 16 }
+    ensures first { IfErr result (λ error. IsOfLatest error → CallsRefused lifetime moment (S.objects store.old) (S.calls store.old) (S.calls store.new)) }
     ensures puts { WhereModelled (λ o o'. (made : ℕ) × PutsPlanned Stands MayMismatch (to_take lifetime moment) o result made o') (S.objects store.old) (S.objects store.new) }
     ensures mismatch { (x : Option Extractor) → IsExtractor E.may_name E.may_extract (option_copied extractor.entry) x → IfErr result (λ error. IfSome (S.objects store.old) (λ o. MayMismatch o error → TakeRefusal x o error)) }
     ensures given { IfOk result (λ p. IfSome (S.objects store.old) (λ o. PlanIs (to_take lifetime moment) o (Ok (Some p.0, p.1)))) }

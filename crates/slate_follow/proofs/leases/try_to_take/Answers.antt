@@ -167,3 +167,14 @@ returns-in_err-next-clause-decided g c x lawful is =
     let t = g.S.Store.objects c.args.store.now in
     let fits = followed x v.latest (sym (c.in_ok-refusal.ensures.refusal x lawful) ∙ c.in_default.is) t v.ensures.found in
     if_some t (λ o at. inr (some_at (λ o. RefusesLatest x true o None) t o at fits))
+
+-- ---- what the latest manifest decides takes one call
+pub returns-in_err-latest-clause-first : goal.returns-in_err-latest-clause-first
+returns-in_err-latest-clause-first g c =
+    let is : c.from_residual.result ≡ Err c.in_err-latest.field-0.0 = search rules in
+    rw is (λ first. c.in_err-latest.ensures.calls)
+
+pub returns-in_err-is_put-clause-first : goal.returns-in_err-is_put-clause-first
+returns-in_err-is_put-clause-first g c =
+    let is : c.from_residual-in_err-is_put.result ≡ Err c.in_err-is_put.field-0.0 = search rules in
+    rw is (λ first. absurd (c.in_err-is_put.ensures.undecided first))

@@ -21,7 +21,7 @@ use Rattle.slate_model.specs.Follow.{come_by}
 use Rattle.slate_model.specs.Follower.{Follower, number, rebuilt}
 use Rattle.slate_model.specs.Followed.{last_read}
 use Rattle.slate_model.specs.Lease.{differs, is_due, leased, renews_taken, to_keep, to_take}
-use Rattle.slate_model.specs.Managed.{IsOpenAt, Keeps, PutsRenewal, follower_under, poll_result}
+use Rattle.slate_model.specs.Managed.{IsOpenAt, Keeps, KeepsOrNot, PutsPlanned, PutsRenewal, follower_under, poll_result}
 use Rattle.slate_model.specs.Segments.{Extractor}
 use Rattle.slate_model.specs.Stores.{Stands, by_objects, kept_seen}
 use Rattle.slate_model.specs.declared.answers.PollAnswer.{PollAnswer}
@@ -203,9 +203,18 @@ MovesBy moved old objects = (latest : VersionedManifest) → latest_manifest obj
 abbrev pub HasTaken : Follower → Type 0
 HasTaken follower = IfSome follower.lease (λ lease. IsSome (found lease.id follower.view))
 
--- A round of a poll answered, and moved the reader to a manifest that it put for a view that differed; then the renewal failed of the
--- lease that the round took, which is due at the moment of the poll. So much is known with any extractor, lawful or not. The error is
--- recorded.
+-- ---- what an error of a poll at a moment leaves of a reader, with any extractor, lawful or not; the error is recorded
+-- A round failed: the reader is what it was, but for its lease. Over a store that is modelled, so many of the changes of its plan were
+-- made, and it has the old lease, or the one that was committed.
+pub record FailsRound (moment : ℤ) (old : Follower) (before : Option Objects) (error : SlateError) (new : Follower) (after : Option Objects) : Type 0 where
+  pub lease : Lease
+  pub held : old.lease ≡ Some lease
+  pub puts : WhereModelled (λ o o'. (made : ℕ) × PutsPlanned {B = PollAnswer} Stands MayLack (to_keep old.view lease moment) o (Err error) made o'
+      × KeepsOrNot (to_keep old.view lease moment) made old o new) before after
+  pub becomes : new ≡ record old { lease = new.lease; result = poll_result error }
+
+-- A round answered, and the reader goes by the manifest that it put for a view that differed; then the renewal failed of the lease that
+-- it took, which is due at once.
 pub record FailsRenewal (moment : ℤ) (old : Follower) (before : Option Objects) (error : SlateError) (new : Follower) (after : Option Objects) : Type 0 where
   pub lease : Lease
   pub held : old.lease ≡ Some lease
@@ -222,11 +231,8 @@ pub record FailsRenewal (moment : ℤ) (old : Follower) (before : Option Objects
   pub puts : WhereModelled (λ o o'. (made : ℕ) × PutsRenewal {A = Unit {0}} Stands (to_refresh taken.id taken.lifetime moment middle.view) o (Err error) made o') between after
   pub becomes : new ≡ record middle { result = poll_result error }
 
--- What an error of a poll at a moment leaves of a reader: what it was, but for its lease, and the error is recorded; or what a renewal
--- leaves that failed.
 abbrev pub LeftBy : (moment : ℤ) → (old : Follower) → (before : Option Objects) → SlateError → (new : Follower) → (after : Option Objects) → Type 0
-LeftBy moment old before error new after =
-    (new ≡ record old { lease = new.lease; result = poll_result error }) ⊎ FailsRenewal moment old before error new after
+LeftBy moment old before error new after = FailsRound moment old before error new after ⊎ FailsRenewal moment old before error new after
 
 -- How often an opening that takes a lease called a store, where the latest manifest refuses it: once, and twice before that for each
 -- time that another manifest was put first. Over a store that is modelled that comes only where one is stored under the next id.

@@ -49,7 +49,7 @@ closes errors.NoMemory kind = refl
 closes error kind = absurd kind
 
 left-closed : (moment : ℤ) (t t' : Option Objects) (error : SlateError) (reader left : Follower) → LeftBy moment reader t error left t' → IsOfPoll ManagedCheckpoint error → is_open left ≡ is_memory error
-left-closed moment t t' error reader left (inl is) kind = ap (λ (f : Follower). is_none f.result) is ∙ closes error kind
+left-closed moment t t' error reader left (inl failed) kind = ap (λ (f : Follower). is_none f.result) failed.becomes ∙ closes error kind
 left-closed moment t t' error reader left (inr failed) kind = ap (λ (f : Follower). is_none f.result) failed.becomes ∙ closes error kind
 
 error-leaves : (moment : ℤ) (t t' : Option Objects) (reader left : Follower) (result : Result PollAnswer SlateError) (managed : Bool) → is_managed reader.mode ≡ managed → reader.result ≡ None → (reader.result ≡ None → IfErr result (IsOfPoll reader.mode)) → (is_managed reader.mode ≡ false → IfErr result (λ _. left ≡ reader)) →

@@ -14,7 +14,7 @@ use Rattle.slate_follow.specs.Keeping.{CallsRound, KeepLacks, MovesBy}
 use Rattle.slate_follow.proofs.Keeping.{PutsAndKeeps}
 use Rattle.slate_follow.proofs.Rebuilt.{some_at}
 use Rattle.slate_follow.proofs.Renewing.{RenewsAt, failed-polls, one-round, renewal-calls, renewal-left, renewed-polls, unmoved}
-use Rattle.slate_follow.proofs.Taken.{all-well, counts-then, failed-leaves, keeps-err, keeps-ok}
+use Rattle.slate_follow.proofs.Taken.{all-well, counts-then, keeps-err, keeps-ok, round-left}
 use Rattle.slate_follow.proofs.states.FollowerState.poll_leased.Goals as goal
 
 -- ---- a round that fails
@@ -35,7 +35,16 @@ returns-in-Err-clause-keeps g c x lawful =
     (round.0, inl (record { round = round.1; ends = tt }))
 
 pub returns-in-Err-clause-left : goal.returns-in-Err-clause-left
-returns-in-Err-clause-left g c = inl (failed-leaves c.args.self.now c.keep_lease.new.self c.close_by.new.self c.in-Err.error c.in-Err.ensures.failed c.close_by.ensures)
+returns-in-Err-clause-left g c =
+    let k = c.in-Err.ensures in
+    let l = c.args.lease.now in
+    let old = c.args.self.now in
+    let inner = c.keep_lease.new.self in
+    let t = g.S.Store.objects c.args.store.now in
+    let t' = g.S.Store.objects c.keep_lease.new.store in
+    let held : old.lease ≡ Some l = search rules in
+    let goes = subst (λ m. WhereModelled (PutsAndKeeps l m old (Err c.in-Err.error) inner) t t') (to_z-of_z {w = w64} {z = c.args.moment} (search rules)) k.puts in
+    inl (round-left l c.args.moment old t t' held c.in-Err.error inner c.close_by.new.self goes k.failed c.close_by.ensures)
 
 -- ---- one that answers, and moves to no other manifest for a view that differs
 pub returns-then-not-kept-clause-keeps : goal.returns-then-not-kept-clause-keeps

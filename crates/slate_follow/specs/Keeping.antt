@@ -234,14 +234,6 @@ pub record FailsRenewal (moment : ℤ) (old : Follower) (before : Option Objects
 abbrev pub LeftBy : (moment : ℤ) → (old : Follower) → (before : Option Objects) → SlateError → (new : Follower) → (after : Option Objects) → Type 0
 LeftBy moment old before error new after = FailsRound moment old before error new after ⊎ FailsRenewal moment old before error new after
 
--- How often an opening that takes a lease called a store, where the latest manifest refuses it: once, and twice before that for each
--- time that another manifest was put first. Over a store that is modelled that comes only where one is stored under the next id.
-pub record CallsRefused (lifetime : ℕ) (moment : ℤ) (objects : Option Objects) (calls calls' : ℕ) : Type 0 where
-  pub overtaken : ℕ
-  pub few : overtaken < 8
-  pub most : calls' ≤ calls + 2 * overtaken + 1
-  pub stands : 0 < overtaken → IfSome objects (λ o. Stands (checkpoint_changes (to_take lifetime moment) o) o)
-
 -- ---- calls
 -- How often a round of a poll of a reader that keeps a checkpoint calls a store, where log files are to be read so often: it reads the latest
 -- manifest and asks for the last log file, and puts a manifest where its view differs or its lease is due; where its checkpoint isn't
@@ -261,3 +253,11 @@ abbrev pub CallsKeeping : Objects → Follower → Lease → (moment : ℤ) → 
 CallsKeeping objects old lease moment calls calls' =
     (latest : VersionedManifest) → latest_manifest objects ≡ Some latest →
     calls' ≤ calls + calls_to_keep old.view lease moment latest (new_logs old latest objects) + (if renews_taken old.view lease moment latest then 1 else 0)
+
+-- How often an opening that takes a lease called a store, where the latest manifest refuses it: once, and twice before that for each
+-- time that another manifest was put first. Over a store that is modelled that comes only where one is stored under the next id.
+pub record CallsRefused (lifetime : ℕ) (moment : ℤ) (objects : Option Objects) (calls calls' : ℕ) : Type 0 where
+  pub overtaken : ℕ
+  pub few : overtaken < 8
+  pub most : calls' ≤ calls + 2 * overtaken + 1
+  pub stands : 0 < overtaken → IfSome objects (λ o. Stands (checkpoint_changes (to_take lifetime moment) o) o)

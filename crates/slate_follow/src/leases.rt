@@ -5,7 +5,7 @@ ghost use Rattle.slate_types.specs.Counts.{one_more};
 ghost use Rattle.slate_store.specs.declared.reader_modes.DbReaderMode.{DbReaderMode as AnyMode};
 ghost use Rattle.slate_store.specs.declared.reader_modes.DbReaderMode.TheVariants.{ManagedCheckpoint};
 ghost use Rattle.slate_store.specs.Calls.{WhereModelled};
-ghost use Rattle.slate_store.specs.Objects.{PutManifest, is_present};
+ghost use Rattle.slate_store.specs.Objects.{Objects, PutManifest, is_present};
 ghost use Rattle.slate_store.specs.Checkpoints.{found, to_refresh, to_write};
 ghost use Rattle.slate_store.specs.Refusals.{PlanIs};
 ghost use Rattle.slate_model.specs.Known.{CountsFaults};
@@ -142,7 +142,7 @@ fn try_to_take<S: Store, E: PrefixExtractor>(
     ensures puts { WhereModelled (λ o o'. (made : ℕ) × PutsPlanned Stands MayMismatch (to_take lifetime moment) o (tried result) made o') (S.objects store.old) (S.objects store.new) }
     ensures mismatch { (x : Option Extractor) → IsExtractor E.may_name E.may_extract (option_copied extractor.entry) x → IfErr result (λ error. IfSome (S.objects store.old) (λ o. MayMismatch o error → TakeRefusal x o error)) }
     ensures given { IfOk (tried result) (λ p. IfSome (S.objects store.old) (λ o. PlanIs (to_take lifetime moment) o (Ok (Some p.0, p.1)))) }
-    ensures fits { (x : Option Extractor) → IsExtractor E.may_name E.may_extract (option_copied extractor.entry) x → IfOk (tried result) (λ p. IfSome (S.objects store.old) (λ o. RefusesLatest x true o None)) }
+    ensures fits { (x : Option Extractor) → IsExtractor E.may_name E.may_extract (option_copied extractor.entry) x → IfOk result (λ _. IfSome (S.objects store.old) (λ o. RefusesLatest x true o None)) }
     ensures whole { (key : List ℕ) → result ≡ Err (SlateError.EmptySegmentPrefix key) → ⊥ }
     ensures again { result ≡ Ok None → S.objects store.new ≡ S.objects store.old }
     ensures kind { IfErr result (IsOfOpening ManagedCheckpoint) }
@@ -172,7 +172,8 @@ pub(crate) fn take_lease<S: Store, E: PrefixExtractor>(
 ) -> Result<(VersionedManifest, Lease), SlateError>
     ensures faults { CountsFaults (S.faults store.old) (S.faults store.new) result }
     ensures calls { S.calls store.new ≤ S.calls store.old + 16 }
-    ensures first { IfErr result (λ error. IsOfLatest error → CallsRefused lifetime moment (S.objects store.old) (S.calls store.old) (S.calls store.new)) }
+    ensures first { (x : Option Extractor) (o : Objects) → IsExtractor E.may_name E.may_extract (option_copied extractor.entry) x → S.objects store.old ≡ Some o → IfErr result (λ error. IsOfLatest error → S.calls store.new ≤ S.calls store.old + 1) }
+    ensures tries { IfErr result (λ error. IsOfLatest error → CallsRefused lifetime moment (S.objects store.old) (S.calls store.old) (S.calls store.new)) }
     ensures puts { WhereModelled (λ o o'. (made : ℕ) × PutsPlanned Stands MayMismatch (to_take lifetime moment) o result made o') (S.objects store.old) (S.objects store.new) }
     ensures mismatch { (x : Option Extractor) → IsExtractor E.may_name E.may_extract (option_copied extractor.entry) x → IfErr result (λ error. IfSome (S.objects store.old) (λ o. MayMismatch o error → TakeRefusal x o error)) }
     ensures given { IfOk result (λ p. IfSome (S.objects store.old) (λ o. PlanIs (to_take lifetime moment) o (Ok (Some p.0, p.1)))) }

@@ -94,7 +94,9 @@ impl FollowerState {
         ensures handed { (x : Option Extractor) → IsExtractor E.may_name E.may_extract (option_copied extractor.entry) x → is_managed mode ≡ false → is_pinned mode ≡ false →
             IfOk result (λ p. (o : Objects) (line : Line) → S.objects store.old ≡ Some o → IsContent (S.objects store.old) line → kept_seen p.0 o line) }
         ensures first { is_managed mode ≡ false → IfErr result (λ error. IsOfLatest error → S.calls store.new ≤ S.calls store.old + 1) }
-        ensures first_managed { is_managed mode ≡ true → IfErr result (λ error. IsOfLatest error → CallsRefused options.now.checkpoint_lifetime_ms moment (S.objects store.old) (S.calls store.old) (S.calls store.new)) }
+        ensures first_managed { (x : Option Extractor) (o : Objects) → IsExtractor E.may_name E.may_extract (option_copied extractor.entry) x → is_managed mode ≡ true → S.objects store.old ≡ Some o →
+            IfErr result (λ error. IsOfLatest error → S.calls store.new ≤ S.calls store.old + 1) }
+        ensures tries_managed { is_managed mode ≡ true → IfErr result (λ error. IsOfLatest error → CallsRefused options.now.checkpoint_lifetime_ms moment (S.objects store.old) (S.calls store.old) (S.calls store.new)) }
         ensures errors { IfErr result (IsOfOpening mode) }
         // The latest manifest is looked at in this order, as by handles: it is initialised, it fits the extractor, and another may be put after it.
         ensures decided { (x : Option Extractor) → IsExtractor E.may_name E.may_extract (option_copied extractor.entry) x → is_managed mode ≡ true → result ≡ Err SlateError.InvalidDBState →
@@ -128,7 +130,8 @@ impl FollowerState {
             options.now.skip_wal_replay options.now.max_lag moment (known S.objects S.faults store.old) result (known S.objects S.faults store.new) }
         ensures refused { IfSome (lease_refusal options.now.checkpoint_lifetime_ms options.now.manifest_poll_interval_ms) (λ error. (result ≡ Err error) × (store.new ≡ store.old)) }
         ensures calls { IfSome (S.objects store.old) (λ o. S.calls store.new ≤ S.calls store.old + (followed_logs ManagedCheckpoint options.now.skip_wal_replay o + 17)) }
-        ensures first { IfErr result (λ error. IsOfLatest error → CallsRefused options.now.checkpoint_lifetime_ms moment (S.objects store.old) (S.calls store.old) (S.calls store.new)) }
+        ensures first { (x : Option Extractor) (o : Objects) → IsExtractor E.may_name E.may_extract (option_copied extractor.entry) x → S.objects store.old ≡ Some o → IfErr result (λ error. IsOfLatest error → S.calls store.new ≤ S.calls store.old + 1) }
+        ensures tries { IfErr result (λ error. IsOfLatest error → CallsRefused options.now.checkpoint_lifetime_ms moment (S.objects store.old) (S.calls store.old) (S.calls store.new)) }
         ensures faults { FaultsRise (S.faults store.old) (S.faults store.new) result }
         ensures kind { IfErr result (IsOfOpening ManagedCheckpoint) }
         ensures decided { (x : Option Extractor) → IsExtractor E.may_name E.may_extract (option_copied extractor.entry) x → result ≡ Err SlateError.InvalidDBState →
@@ -153,7 +156,8 @@ impl FollowerState {
             (made : ℕ) × TakesLease (by_objects (S.objects store.old)) x made options.now.checkpoint_lifetime_ms
             options.now.skip_wal_replay options.now.max_lag moment (known S.objects S.faults store.old) result (known S.objects S.faults store.new) }
         ensures calls { IfSome (S.objects store.old) (λ o. S.calls store.new ≤ S.calls store.old + (followed_logs ManagedCheckpoint options.now.skip_wal_replay o + 17)) }
-        ensures first { IfErr result (λ error. IsOfLatest error → CallsRefused options.now.checkpoint_lifetime_ms moment (S.objects store.old) (S.calls store.old) (S.calls store.new)) }
+        ensures first { (x : Option Extractor) (o : Objects) → IsExtractor E.may_name E.may_extract (option_copied extractor.entry) x → S.objects store.old ≡ Some o → IfErr result (λ error. IsOfLatest error → S.calls store.new ≤ S.calls store.old + 1) }
+        ensures tries { IfErr result (λ error. IsOfLatest error → CallsRefused options.now.checkpoint_lifetime_ms moment (S.objects store.old) (S.calls store.old) (S.calls store.new)) }
         ensures faults { FaultsRise (S.faults store.old) (S.faults store.new) result }
         ensures kind { IfErr result (IsOfOpening ManagedCheckpoint) }
         ensures decided { (x : Option Extractor) → IsExtractor E.may_name E.may_extract (option_copied extractor.entry) x → result ≡ Err SlateError.InvalidDBState →

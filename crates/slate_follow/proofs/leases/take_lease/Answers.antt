@@ -11,6 +11,7 @@ use Rattle.std.specs.Option.{IfSome}
 use Rattle.std.specs.Prelude.{◌⊎◌}
 use Rattle.slate_errors.specs.declared.errors.SlateError.TheVariants.{InvalidDBState, TransactionalObjectTimeout}
 use Rattle.slate_model.specs.Followed.{RefusesLatest}
+use Rattle.slate_follow.proofs.Planned.{first-try}
 use Rattle.slate_follow.proofs.Rebuilt.{if_some, some_at}
 use Rattle.slate_follow.proofs.Refusing.{err-same}
 use Rattle.slate_follow.proofs.leases.take_lease.Goals as goal
@@ -37,7 +38,17 @@ returns-in_err-taken-clause-decided g c x lawful is =
 
 -- ---- how often it called the store where the latest manifest decides
 pub returns-in_err-taken-clause-first : goal.returns-in_err-taken-clause-first
-returns-in_err-taken-clause-first g c =
+returns-in_err-taken-clause-first g c x o lawful at =
+    let e = c.in_err-taken.field-0.0 in
+    let a = c.in_err-taken.ensures in
+    let i = c.loop-earlier.invariant in
+    let is : c.from_residual.result ≡ Err e = search rules in
+    rw is
+    (first-try c.args.lifetime c.args.moment x (g.S.Store.objects c.args.store.now) (g.S.Store.objects c.loop-earlier.store) (g.S.Store.objects c.try_to_take.new.store) i.kept e (search rules) (a.mismatch x lawful) c.loop-earlier.earlier
+    (g.S.Store.calls c.args.store.now) (g.S.Store.calls c.loop-earlier.store) (g.S.Store.calls c.try_to_take.new.store) i.most a.first i.met (λ some. i.fits some x lawful) o at)
+
+pub returns-in_err-taken-clause-tries : goal.returns-in_err-taken-clause-tries
+returns-in_err-taken-clause-tries g c =
     let i = c.loop-earlier.invariant in
     let t = g.S.Store.objects c.args.store.now in
     let plan = to_take c.args.lifetime c.args.moment in

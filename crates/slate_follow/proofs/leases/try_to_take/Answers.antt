@@ -116,6 +116,11 @@ returns-in_err-is_put-clause-faults g c =
     let is : c.from_residual-in_err-is_put.result ≡ Err e = search rules in
     rw is (counts-then _ _ _ e c.in_ok-latest.ensures.faults.stays c.in_err-is_put.ensures.faults)
 
+pub returns-then-not-is_put-clause-fits : goal.returns-then-not-is_put-clause-fits
+returns-then-not-is_put-clause-fits g c x lawful =
+    let v = c.in_ok-latest in
+    followed x v.latest (sym (c.in_ok-refusal.ensures.refusal x lawful) ∙ c.in_default.is) (g.S.Store.objects c.args.store.now) v.ensures.found
+
 -- the plan is that after the latest manifest
 planned-is : (lifetime : ℕ) (moment : ℤ) (latest : VersionedManifest) (given : Plan Lease) → to_take lifetime moment latest ≡ given → (a : Option Objects) → IfSome a (λ o. FindsLatest o (Ok latest)) → IfSome a (λ o. PlanIs (to_take lifetime moment) o given)
 planned-is lifetime moment latest given plan None found = tt

@@ -176,7 +176,10 @@ pub returns-then-eq-clause-refused : goal.returns-then-eq-clause-refused
 returns-then-eq-clause-refused g c = λ managed. c.open_managed.ensures.refused
 
 pub returns-then-eq-clause-first_managed : goal.returns-then-eq-clause-first_managed
-returns-then-eq-clause-first_managed g c = λ managed.
+returns-then-eq-clause-first_managed g c x o lawful = λ managed at. c.open_managed.ensures.first x o lawful at
+
+pub returns-then-eq-clause-tries_managed : goal.returns-then-eq-clause-tries_managed
+returns-then-eq-clause-tries_managed g c = λ managed.
     let n = g.S.Store.calls c.args.store.now in
     let n' = g.S.Store.calls c.open_managed.new.store in
-    subst (λ m. IfErr c.open_managed.result (λ error. IsOfLatest error → CallsRefused c.args.options.now.checkpoint_lifetime_ms m (g.S.Store.objects c.args.store.now) n n')) (to_z-of_z {w = w64} {z = c.args.moment} (search rules)) c.open_managed.ensures.first
+    subst (λ m. IfErr c.open_managed.result (λ error. IsOfLatest error → CallsRefused c.args.options.now.checkpoint_lifetime_ms m (g.S.Store.objects c.args.store.now) n n')) (to_z-of_z {w = w64} {z = c.args.moment} (search rules)) c.open_managed.ensures.tries

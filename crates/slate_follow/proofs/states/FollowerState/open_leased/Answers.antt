@@ -189,22 +189,39 @@ returns-clause-truncates g c =
 
 -- ---- how often it called the store where the latest manifest decides
 pub returns-in_err-view-clause-first : goal.returns-in_err-view-clause-first
-returns-in_err-view-clause-first g c =
-    let e = c.in_err-view.field-0.0 in
-    let n = g.S.Store.calls c.args.store.now in
-    let n' = g.S.Store.calls c.take_lease.new.store in
-    let is : c.from_residual.result ≡ Err e = search rules in
-    rw is
-    (subst (λ m. IsOfLatest e → CallsRefused c.args.options.now.checkpoint_lifetime_ms m (g.S.Store.objects c.args.store.now) n n') (to_z-of_z {w = w64} {z = c.args.moment} (search rules)) c.in_err-view.ensures.first)
+returns-in_err-view-clause-first g c x o lawful at =
+    let is : c.from_residual.result ≡ Err c.in_err-view.field-0.0 = search rules in
+    rw is (c.in_err-view.ensures.first x o lawful at)
 
 pub returns-in_err-last-clause-first : goal.returns-in_err-last-clause-first
-returns-in_err-last-clause-first g c =
+returns-in_err-last-clause-first g c x o lawful at =
     let e = c.in_err-last.field-0.0 in
     let is : c.from_residual-in_err-last.result ≡ Err e = search rules in
     rw is (λ first. absurd (replay-later e c.in_err-last.ensures.refusals first))
 
 pub returns-in_err-rebuilt-clause-first : goal.returns-in_err-rebuilt-clause-first
-returns-in_err-rebuilt-clause-first g c =
+returns-in_err-rebuilt-clause-first g c x o lawful at =
+    let e = c.in_err-rebuilt.field-0.0 in
+    let is : c.from_residual-in_err-rebuilt.result ≡ Err e = search rules in
+    rw is (λ first. absurd (rebuilding-later e c.in_err-rebuilt.ensures.refusals first))
+
+pub returns-in_err-view-clause-tries : goal.returns-in_err-view-clause-tries
+returns-in_err-view-clause-tries g c =
+    let e = c.in_err-view.field-0.0 in
+    let n = g.S.Store.calls c.args.store.now in
+    let n' = g.S.Store.calls c.take_lease.new.store in
+    let is : c.from_residual.result ≡ Err e = search rules in
+    rw is
+    (subst (λ m. IsOfLatest e → CallsRefused c.args.options.now.checkpoint_lifetime_ms m (g.S.Store.objects c.args.store.now) n n') (to_z-of_z {w = w64} {z = c.args.moment} (search rules)) c.in_err-view.ensures.tries)
+
+pub returns-in_err-last-clause-tries : goal.returns-in_err-last-clause-tries
+returns-in_err-last-clause-tries g c =
+    let e = c.in_err-last.field-0.0 in
+    let is : c.from_residual-in_err-last.result ≡ Err e = search rules in
+    rw is (λ first. absurd (replay-later e c.in_err-last.ensures.refusals first))
+
+pub returns-in_err-rebuilt-clause-tries : goal.returns-in_err-rebuilt-clause-tries
+returns-in_err-rebuilt-clause-tries g c =
     let e = c.in_err-rebuilt.field-0.0 in
     let is : c.from_residual-in_err-rebuilt.result ≡ Err e = search rules in
     rw is (λ first. absurd (rebuilding-later e c.in_err-rebuilt.ensures.refusals first))

@@ -59,10 +59,16 @@ returns-clause-refused g c =
 
 -- ---- how often it called the store where the latest manifest decides
 pub returns-in-Some-clause-first : goal.returns-in-Some-clause-first
-returns-in-Some-clause-first g c = λ first. absurd (options-later c.in-Some.refusal (search rules) first)
+returns-in-Some-clause-first g c x o lawful at = λ first. absurd (options-later c.in-Some.refusal (search rules) first)
 
 pub returns-clause-first : goal.returns-clause-first
-returns-clause-first g c =
+returns-clause-first g c x o lawful at = c.open_leased.ensures.first x o lawful at
+
+pub returns-in-Some-clause-tries : goal.returns-in-Some-clause-tries
+returns-in-Some-clause-tries g c = λ first. absurd (options-later c.in-Some.refusal (search rules) first)
+
+pub returns-clause-tries : goal.returns-clause-tries
+returns-clause-tries g c =
     let n = g.S.Store.calls c.args.store.now in
     let n' = g.S.Store.calls c.open_leased.new.store in
-    subst (λ m. IfErr c.open_leased.result (λ error. IsOfLatest error → CallsRefused c.args.options.now.checkpoint_lifetime_ms m (g.S.Store.objects c.args.store.now) n n')) (to_z-of_z {w = w64} {z = c.args.moment} (search rules)) c.open_leased.ensures.first
+    subst (λ m. IfErr c.open_leased.result (λ error. IsOfLatest error → CallsRefused c.args.options.now.checkpoint_lifetime_ms m (g.S.Store.objects c.args.store.now) n n')) (to_z-of_z {w = w64} {z = c.args.moment} (search rules)) c.open_leased.ensures.tries

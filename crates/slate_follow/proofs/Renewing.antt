@@ -133,7 +133,7 @@ module _ (x : Option Extractor) (lease : Lease) (moment : ℤ) (old : Follower) 
     pub one-round : RenewsTaken old lease moment false before → PollsLeased (by_objects t) x made lease moment old before (Ok answer) middle between
     one-round ends = inl (record { round = round; ends = ends })
 
-    module _ (renews : RenewsTaken old lease moment true before) (taken : Lease) (leased : middle.lease ≡ Some taken) where
+    module _ (renews : RenewsTaken old lease moment true before) (taken : Lease) (leased : middle.lease ≡ Some taken) (due : is_due moment taken ≡ true) where
       abbrev plan : Plan Checkpoint
       plan = to_refresh taken.id taken.lifetime moment middle.view
 
@@ -156,6 +156,7 @@ module _ (x : Option Extractor) (lease : Lease) (moment : ℤ) (old : Follower) 
               renews = renews;
               given = taken;
               leased = leased;
+              due = due;
               faults = all-well f1 f' answer faults.stays;
               puts = modelled_as (λ o o'. PutsRenewal Stands plan o (Ok answer) again.0 o') again.1 (λ o o' h. record { cause = tt; done = h.done; part = h.part; after = h.after });
               answers = (refl, refl);
@@ -179,6 +180,7 @@ module _ (x : Option Extractor) (lease : Lease) (moment : ℤ) (old : Follower) 
               renews = renews;
               given = taken;
               leased = leased;
+              due = due;
               faults = counts-then f1 f1 f' e refl faults;
               puts = modelled_as (λ o o'. PutsRenewal {A = PollAnswer} Stands plan o (Err e) again.0 o') again.1 (λ o o' h. record { cause = h.cause; done = tt; part = h.part; after = h.after });
               answers = tt;
@@ -198,7 +200,7 @@ module _ (x : Option Extractor) (lease : Lease) (moment : ℤ) (old : Follower) 
         by None bare = once (none bare) (untaken-renews t t1 f old middle lease moment answer moves keeps bare)
         by (Some taken) held = by_due (is_due moment taken) refl where
           by_due : (b : Bool) → is_due moment taken ≡ b → (n : ℕ) × PollsLeased (by_objects t) x n lease moment old before (Ok answer) middle after
-          by_due true due = two-rounds (taken-renews t t1 f old middle lease moment answer moves keeps true taken held due) taken held faults (puts taken held due)
+          by_due true due = two-rounds (taken-renews t t1 f old middle lease moment answer moves keeps true taken held due) taken held due faults (puts taken held due)
           by_due false due = once (undue taken held due) (taken-renews t t1 f old middle lease moment answer moves keeps false taken held due)
 
       pub failed-polls : (e : SlateError) (new : Follower) → new ≡ record middle { result = poll_result e } → CountsFaults {A = Unit {0}} f1 f' (Err e) → ((taken : Lease) → middle.lease ≡ Some taken → RenewsAt {A = Unit {0}} moment middle.view (Err e) t1 t' taken) →
@@ -208,7 +210,7 @@ module _ (x : Option Extractor) (lease : Lease) (moment : ℤ) (old : Follower) 
         by None bare = absurd (none bare)
         by (Some taken) held = by_due (is_due moment taken) refl where
           by_due : (b : Bool) → is_due moment taken ≡ b → (n : ℕ) × PollsLeased (by_objects t) x n lease moment old before (Err e) new after
-          by_due true due = failed-again (taken-renews t t1 f old middle lease moment answer moves keeps true taken held due) taken held e new closed faults (puts taken held due)
+          by_due true due = failed-again (taken-renews t t1 f old middle lease moment answer moves keeps true taken held due) taken held due e new closed faults (puts taken held due)
           by_due false due = absurd (undue taken held due)
 
 -- what it leaves that fails, with any extractor

@@ -23,7 +23,7 @@ use crate::rebuilds::follow_refusal;
 use slate_errors::SlateError;
 use slate_model::{Lease, error_of_refusal};
 use slate_store::{
-    COMMIT_TRIES, Store, StoreError, VersionedManifest, next_with_checkpoint, next_with_end,
+    COMMIT_TRIES, Store, VersionedManifest, next_with_checkpoint, next_with_end, read_latest,
 };
 use slate_types::PrefixExtractor;
 use std::alloc::Global;
@@ -54,7 +54,7 @@ pub(crate) fn lease_refusal(options: &DbReaderOptions) -> Option<SlateError>
     None
 }
 
-/// The latest manifest.
+/// The latest manifest, as `read_latest` reads it.
 pub(crate) fn latest_of<S: Store>(
     alloc: Global,
     store: &mut S,
@@ -67,13 +67,13 @@ pub(crate) fn latest_of<S: Store>(
     ensures one { S.calls store.new ≡ one_more (S.calls store.old) }
     ensures kind { IfErr result (λ error. (mode : AnyMode) → IsOfTurn mode error) }
 {
-    match store.latest_manifest(alloc)? {
-        Some(latest) => Ok(latest),
-        None => Err(SlateError::LatestTransactionalObjectVersionMissing),
+    match read_latest(alloc, store) {
+        Ok(latest) => Ok(latest),
+        Err(refusal) => Err(error_of_refusal(refusal)),
     }
 }
 
-/// Puts a manifest, and answers whether it did: where one is stored under its id, it didn't.
+/// Puts a manifest as the store's `put_next` does, and answers whether it did: where one is stored under its id, it didn't.
 pub(crate) fn put_next<S: Store>(
     alloc: Global,
     store: &mut S,
@@ -88,10 +88,9 @@ pub(crate) fn put_next<S: Store>(
     ensures free { result ≡ Ok true → IfSome (S.objects store.old) (λ o. is_present (PutManifest next.now.id next.now.manifest) o ≡ false) }
     ensures undecided { IfErr result (λ error. IsOfLatest error → ⊥) }
 {
-    match store.put_manifest(alloc, next.id, &next.manifest) {
-        Ok(()) => Ok(true),
-        Err(StoreError::Exists) => Ok(false),
-        Err(error) => Err(SlateError::from(error)),
+    match slate_store::put_next(alloc, store, next) {
+        Ok(is_put) => Ok(is_put),
+        Err(refusal) => Err(error_of_refusal(refusal)),
     }
 }
 

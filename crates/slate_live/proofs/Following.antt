@@ -1,6 +1,6 @@
 -- What an opening and a poll of a follower leave of it: over sound objects it sees what it is owed, or what it saw and the tables, where
 -- it may lag.
-use Rattle.std.proofs.Common.{◌≡◌, ℕ, ◌-◌, ◌<◌, ◌≤◌, max, inl, inr, ◌⊎◌, Bool, true, false, List, Option, Some, refl, sym, subst, ap, ◌∙◌, arith}
+use Rattle.std.proofs.Common.{◌≡◌, ℕ, ◌+◌, ◌-◌, ◌<◌, ◌≤◌, max, inl, inr, ◌⊎◌, Bool, true, false, List, Option, Some, refl, sym, subst, ap, ◌∙◌, arith}
 use Rattle.std.proofs.lemmas.List.{length-take}
 use Rattle.slate_types.specs.Line.{IsLine, IsPrefix, Line, end}
 use Rattle.slate_store.specs.Content.{IsSound, content}
@@ -10,9 +10,10 @@ use Rattle.slate_store.specs.declared.reader_modes.DbReaderMode.{DbReaderMode}
 use Rattle.slate_store.specs.declared.reader_modes.DbReaderMode.TheVariants as modes
 use Rattle.slate_model.specs.Catalogue.{Catalogue, Span, catalogue_of}
 use Rattle.slate_model.specs.declared.answers.PollAnswer.{PollAnswer}
+use Rattle.slate_model.specs.declared.answers.PollAnswer.TheVariants.{Whole}
 use Rattle.slate_model.specs.Follow.{IsOwed, SeesOwed, SeesPolled, StaysBehind}
 use Rattle.slate_model.specs.Followed.{IsView, last_read}
-use Rattle.slate_model.specs.Follower.{Follower, is_managed, is_pinned, kept_follower, number, rebuilt, unsegmented}
+use Rattle.slate_model.specs.Follower.{Follower, follower_tasks, is_managed, is_pinned, kept_follower, number, rebuilt, unsegmented}
 use Rattle.slate_model.specs.Handle.{up_to}
 use Rattle.slate_model.specs.Object.{Follower as AFollower}
 use Rattle.slate_model.specs.Seen.{HasSeen}
@@ -52,7 +53,7 @@ prefix-floor : (a b : Line) → IsPrefix a b → a.floor ≡ b.floor
 prefix-floor a b p = sym (ap (λ (l : Line). l.floor) p.1)
 
 -- what a follower is owed under a manifest doesn't end below its number, where one that skips isn't above the tables of that
-pub owed-not_below : (stored : Line) (c : Catalogue) (o : ObjectsOf Span) (f : Follower) (mode : DbReaderMode) (view : VersionedManifest) (owed : Line) → IsPrefix f.line stored → is_pinned mode ≡ false → (f.skips ≡ true → number f ≤ view.manifest.last_l0_seq) →
+owed-not_below : (stored : Line) (c : Catalogue) (o : ObjectsOf Span) (f : Follower) (mode : DbReaderMode) (view : VersionedManifest) (owed : Line) → IsPrefix f.line stored → is_pinned mode ≡ false → (f.skips ≡ true → number f ≤ view.manifest.last_l0_seq) →
     IsOwed (by_catalogue stored c) mode f.skips o view stored owed → number f ≤ end owed
 owed-not_below stored c o f mode view owed begins free tabled is = elim (owed-by c o mode f.skips view stored owed free is) [
   | inl all ↦ subst (λ l. number f ≤ end l) (sym all) (prefix-end f.line stored begins)
@@ -62,14 +63,29 @@ owed-not_below stored c o f mode view owed begins free tabled is = elim (owed-by
       subst (λ l. number f ≤ end l) (sym few.1) (front-end view.manifest.last_l0_seq (number f) stored low (prefix-end f.line stored begins) (omega (arith, floor)))
 ]
 
-pub owed-above : (stored : Line) (c : Catalogue) (f : Follower) (view : VersionedManifest) (owed : Line) → IsValidFollower stored c f → is_pinned f.mode ≡ false → IsView f.mode false c view → IsOwed (by_catalogue stored c) f.mode f.skips c view stored owed → number f ≤ end owed
-owed-above stored c f view owed v free goes is = owed-not_below stored c c f f.mode view owed v.0 free (λ few. v.1 few free view (latest-view f.mode false c view free goes)) is
-
 -- nor does what a poll leaves of it: it is there, or where it was by the tables
 pub polled-above : (stored : Line) (c : Catalogue) (o : ObjectsOf Span) (f f' : Follower) (answer : PollAnswer) → IsPrefix f.line stored → is_pinned f.mode ≡ false → (f.skips ≡ true → number f ≤ f'.view.manifest.last_l0_seq) →
     SeesPolled (by_catalogue stored c) f o stored f' answer → number f ≤ number f'
 polled-above stored c o f f' answer begins free tabled (inl (all, catches)) = subst (λ (g : Follower). number f ≤ number g) (sym all.2) (owed-not_below stored c o f f.mode f'.view all.0 begins free tabled all.1)
 polled-above stored c o f f' answer begins free tabled (inr stays) = let reached = stays.reached in omega (arith, reached)
+
+-- its answer is that all was read, and gives the number that it leaves
+pub polled-answer : (stored : Line) (c : Catalogue) (o : ObjectsOf Span) (f f' : Follower) (answer : PollAnswer) → SeesPolled (by_catalogue stored c) f o stored f' answer → answer ≡ Whole (number f')
+polled-answer stored c o f f' answer (inl (all, catches)) = all.3 ∙ ap (λ (g : Follower). Whole (number g)) (sym all.2)
+polled-answer stored c o f f' answer (inr stays) = stays.answered
+
+-- one that follows all that is stored isn't further behind that than it may lag
+pub polled-near : (stored : Line) (c : Catalogue) (o : ObjectsOf Span) (f f' : Follower) (answer : PollAnswer) → follows_all f.mode f.skips ≡ true → SeesPolled (by_catalogue stored c) f o stored f' answer → end stored ≤ number f' + f.lag
+polled-near stored c o f f' answer follows (inl (all, catches)) =
+    let at : number f' ≡ end all.0 = ap (λ (g : Follower). number g) all.2 in
+    let whole = ap end (owed-all c o f.mode f.skips f'.view stored all.0 follows all.1) in
+    omega (arith, at, whole)
+polled-near stored c o f f' answer follows (inr stays) = let near = stays.near in let reached = stays.reached in omega (arith, near, reached)
+
+-- the tasks of what it leaves are those of its mode
+pub polled-tasks : (stored : Line) (c : Catalogue) (o : ObjectsOf Span) (f f' : Follower) (answer : PollAnswer) → SeesPolled (by_catalogue stored c) f o stored f' answer → f'.tasks ≡ follower_tasks f.mode
+polled-tasks stored c o f f' answer (inl (all, catches)) = ap (λ (g : Follower). g.tasks) all.2
+polled-tasks stored c o f f' answer (inr stays) = ap (λ (g : Follower). g.tasks) stays.sees
 
 -- a follower that was valid is valid over objects that follow
 pub follower-follows : (stored stored' : Line) (o o' : Objects) (latest latest' : VersionedManifest) → latest_manifest o ≡ Some latest → Follows stored stored' o o' latest latest' → (g : Follower) → IsValidFollower stored (catalogue_of o) g → IsValidFollower stored' (catalogue_of o') g
@@ -152,7 +168,7 @@ module _ (stored : Line) (f : Follower) (o : Objects) (view : VersionedManifest)
       let before = prefix-end f.line stored begins in
       up_to-number stored numbered n (omega (arith, low, reached)) (omega (arith, high, before, reached))
 
-  bare : Follower
+  abbrev bare : Follower
   bare = rebuilt f.mode f.skips f.lag view (up_to n stored) view.manifest.replay_after_wal_id
 
   bare-seen : HasSeen o bare

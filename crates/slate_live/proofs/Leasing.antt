@@ -71,26 +71,33 @@ module _ (stored : Line) (mode : DbReaderMode) (skips opening : Bool) (lag : ℕ
   leased-segments x has = segments-whole x f.view.manifest.last_l0_seq f.line line f.segments (ap (λ (g : Follower). g.line) leased-kept) has
 
 -- ---- an opening
+-- what it sees is what it is owed
+abbrev pub taken_line : (stored : Line) → (skips : Bool) → Objects → (latest : VersionedManifest) → Line
+taken_line stored skips o latest = owed_line modes.ManagedCheckpoint skips o latest stored
+
 module _ (stored : Line) (skips opening : Bool) (lag : ℕ) (o : Objects) (latest : VersionedManifest) (sound : IsSound o) (holds : content o ≡ stored) (v : IsView modes.ManagedCheckpoint opening o latest)
     (f : Follower) (t : Option Objects) (answer : PollAnswer) (all : SeesOwed (by_objects t) modes.ManagedCheckpoint skips lag o stored (follower_under latest f) answer) where
-  abbrev pub taken_line : Line
-  taken_line = owed_line modes.ManagedCheckpoint skips o latest stored
+  abbrev owed_then : Line
+  owed_then = taken_line stored skips o latest
 
-  pub taken-lined : Lined stored modes.ManagedCheckpoint skips lag o latest taken_line f.mark
+  abbrev taken_one : Follower
+  taken_one = leased_whole modes.ManagedCheckpoint skips lag latest owed_then f
+
+  pub taken-lined : Lined stored modes.ManagedCheckpoint skips lag o latest owed_then f.mark
   taken-lined = owed-lined stored modes.ManagedCheckpoint skips opening o latest sound holds v lag f.mark (seen-mark t stored modes.ManagedCheckpoint skips lag o (follower_under latest f) answer all)
 
-  pub taken-kept : follower_under latest f ≡ kept_follower (with_segments f.segments (rebuilt modes.ManagedCheckpoint skips lag latest taken_line f.mark))
+  pub taken-kept : follower_under latest f ≡ kept_follower (with_segments f.segments (rebuilt modes.ManagedCheckpoint skips lag latest owed_then f.mark))
   taken-kept = seen-kept t stored modes.ManagedCheckpoint skips lag o (follower_under latest f) answer all
 
-  pub taken-answers : AnswersAt (end taken_line) answer
+  pub taken-answers : AnswersAt (end owed_then) answer
   taken-answers = inl (all.3 ∙ ap (λ l. Whole (end l)) (owed-is t o modes.ManagedCheckpoint skips latest stored all.0 all.1))
 
   pub taken-sees : (c : Catalogue) (seen : Line → Type 0) → (skips ≡ false → 0 ≡ 0 → HasAllLogs o f answer) →
-      SeesLatest (by_catalogue stored c) skips 0 (SeesOwed (by_catalogue stored c) modes.ManagedCheckpoint skips lag) seen latest (catalogue_of o) (leased_whole modes.ManagedCheckpoint skips lag latest taken_line f) answer
+      SeesLatest (by_catalogue stored c) skips 0 (SeesOwed (by_catalogue stored c) modes.ManagedCheckpoint skips lag) seen latest (catalogue_of o) taken_one answer
   taken-sees c seen logs = record {
-    logs = λ reads none. logs-known o f (leased_whole modes.ManagedCheckpoint skips lag latest taken_line f) answer refl (logs reads none);
-    sees = λ line stored_is _.
-        subst (λ l. SeesOwed (by_catalogue stored c) modes.ManagedCheckpoint skips lag (catalogue_of o) l (follower_under latest (leased_whole modes.ManagedCheckpoint skips lag latest taken_line f)) answer) (sym stored_is)
+    logs = λ reads none. logs-known o f taken_one answer refl (logs reads none);
+    sees = λ _ stored_is _.
+        subst (λ l. SeesOwed (by_catalogue stored c) modes.ManagedCheckpoint skips lag (catalogue_of o) l (follower_under latest taken_one) answer) (sym stored_is)
         (sees-known stored c t modes.ManagedCheckpoint skips opening lag o (follower_under latest f) answer sound holds v all);
   }
 
@@ -117,28 +124,31 @@ pub polled-by-worlds : (c c' : Catalogue) (old : Follower) (o : ObjectsOf Span) 
 polled-by-worlds c c' old o stored line f answer (inl (all, catches)) = inl ((all.0, owed-by-worlds c c' old.mode old.skips o f.view stored line all.0 all.1, all.2, all.3), catches)
 polled-by-worlds c c' old o stored line f answer (inr s) = inr (record { reads = s.reads; may = s.may; near = s.near; reached = s.reached; sees = s.sees; mark = s.mark; answered = s.answered })
 
-module _ (stored : Line) (g : Follower) (o : Objects) (latest : VersionedManifest) (sound : IsSound o) (holds : content o ≡ stored) (v : IsView g.mode false o latest) (free : is_pinned g.mode ≡ false) (begins : IsPrefix g.line stored) (had : HasSeen o g)
+module _ (stored : Line) (g : Follower) (o : Objects) (latest : VersionedManifest) (sound : IsSound o) (holds : content o ≡ stored) (v : IsView g.mode false o latest)
     (f : Follower) (t : Option Objects) (answer : PollAnswer) (all : SeesPolled (by_objects t) (kept_follower g) o stored (follower_under latest f) answer) where
-  abbrev pub kept_line : Line
-  kept_line = polled_line stored f
+  abbrev saw : Line
+  saw = polled_line stored f
 
-  pub kept-lined : Lined stored g.mode g.skips g.lag o latest kept_line f.mark
-  kept-lined = polled-lined t stored g o (follower_under latest f) answer sound holds v begins free had all
+  abbrev polled_one : Follower
+  polled_one = leased_whole g.mode g.skips g.lag latest saw f
 
-  pub kept-kept : follower_under latest f ≡ kept_follower (with_segments f.segments (rebuilt g.mode g.skips g.lag latest kept_line f.mark))
+  pub kept-lined : is_pinned g.mode ≡ false → IsPrefix g.line stored → HasSeen o g → Lined stored g.mode g.skips g.lag o latest saw f.mark
+  kept-lined free begins had = polled-lined t stored g o (follower_under latest f) answer sound holds v begins free had all
+
+  pub kept-kept : follower_under latest f ≡ kept_follower (with_segments f.segments (rebuilt g.mode g.skips g.lag latest saw f.mark))
   kept-kept = polled-kept t stored g o (follower_under latest f) answer sound holds v all
 
-  known_by : IsKnown g.mode g.skips g.lag (SeesPolled (by_catalogue stored (catalogue_of o)) g) o stored kept_line (follower_under latest f) answer
+  known_by : IsKnown g.mode g.skips g.lag (SeesPolled (by_catalogue stored (catalogue_of o)) g) o stored saw (follower_under latest f) answer
   known_by = polled-by stored g o (follower_under latest f) answer sound holds v (polled-by-others t (Some o) (kept_follower g) o stored (follower_under latest f) answer all)
 
-  pub kept-answers : AnswersAt (end kept_line) answer
+  pub kept-answers : AnswersAt (end saw) answer
   kept-answers = known_by.answers
 
   pub kept-sees : (c : Catalogue) (seen : Line → Type 0) → (g.skips ≡ false → g.lag ≡ 0 → HasAllLogs o f answer) →
-      SeesLatest (by_catalogue stored c) g.skips g.lag (SeesPolled (by_catalogue stored c) g) seen latest (catalogue_of o) (leased_whole g.mode g.skips g.lag latest kept_line f) answer
+      SeesLatest (by_catalogue stored c) g.skips g.lag (SeesPolled (by_catalogue stored c) g) seen latest (catalogue_of o) polled_one answer
   kept-sees c seen logs = record {
-    logs = λ reads none. logs-known o f (leased_whole g.mode g.skips g.lag latest kept_line f) answer refl (logs reads none);
-    sees = λ line stored_is _.
-        subst (λ l. SeesPolled (by_catalogue stored c) g (catalogue_of o) l (follower_under latest (leased_whole g.mode g.skips g.lag latest kept_line f)) answer) (sym stored_is)
-        (polled-by-worlds (catalogue_of o) c g (catalogue_of o) stored stored (follower_under latest (leased_whole g.mode g.skips g.lag latest kept_line f)) answer known_by.sees);
+    logs = λ reads none. logs-known o f polled_one answer refl (logs reads none);
+    sees = λ _ stored_is _.
+        subst (λ l. SeesPolled (by_catalogue stored c) g (catalogue_of o) l (follower_under latest polled_one) answer) (sym stored_is)
+        (polled-by-worlds (catalogue_of o) c g (catalogue_of o) stored stored (follower_under latest polled_one) answer known_by.sees);
   }

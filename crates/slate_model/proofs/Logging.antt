@@ -11,7 +11,7 @@ use Rattle.std.specs.Ordering.{match_ordering, nat_cmp}
 use Rattle.std.specs.declared.cmp.Ordering.{Ordering}
 use Rattle.std.specs.declared.cmp.Ordering.TheVariants.{Less, Equal, Greater}
 use Rattle.slate_types.specs.declared.batches.Batch.{Batch}
-use Rattle.slate_types.specs.Line.{Line, batches_above, end}
+use Rattle.slate_types.specs.Line.{AreNumberedFrom, Line, batches_above, end}
 use Rattle.slate_store.proofs.Latest.{its-objects}
 use Rattle.slate_store.proofs.Logs.{belong-log}
 use Rattle.slate_store.specs.Content.{IsSound, content, content_by, logged, number_before, table_batches}
@@ -157,6 +157,17 @@ LogsAre P o o' = (id : ℕ) (batches : List Batch) → log_at id o' ≡ Some bat
 -- its batches are of a line
 abbrev pub OfLine : Line → List Batch → Type 0
 OfLine line batches = All (λ batch. Contains line.batches batch) batches
+
+-- they come after a line
+abbrev pub PastLine : Line → List Batch → Type 0
+PastLine line batches = All (λ batch. end line < batch.number) batches
+
+-- batches that are numbered from one on come after it
+pub numbered-past : (floor : ℕ) (bs : List Batch) → AreNumberedFrom floor bs → All (λ b. floor < b.number) bs
+numbered-past floor [] numbered = All-nil (λ (b : Batch). floor < b.number)
+numbered-past floor (b ∷ bs) numbered =
+    let first = numbered.0 in
+    All-cons (λ (x : Batch). floor < x.number) b bs (omega (arith, first)) (λ k d less. let rest = numbered-past (floor + 1) bs numbered.1 k d less in omega (arith, rest))
 
 pub puts-first : (P : List Batch → Type 0) (c : Change) (cs : List Change) → PutLogs P (c ∷ cs) → PutLogs P (c ∷ []) × PutLogs P cs
 puts-first P (PutLog id log) cs puts = ((puts.0, tt), puts.1)

@@ -481,7 +481,7 @@ module _ (stored : Line) (a : Follower) (o : Objects) (b : Follower) (answer : P
       let ends : number b ≡ end owed = ap number all.2 ∙ (line_above-end b.view.manifest.last_l0_seq all.0 ∙ ap end line) in
       sym (ap (λ l. up_to (number b) l) begins.1 ∙ (ap (λ n. up_to n (extended owed begins.0)) ends ∙ up_to-end owed begins.0))
 
-  polled-by : SeesPolled (by_objects (Some o)) (kept_follower a) o stored b answer → IsKnown a.mode a.skips a.lag (SeesPolled (by_catalogue stored (catalogue_of o)) a) o stored seen_line b answer
+  pub polled-by : SeesPolled (by_objects (Some o)) (kept_follower a) o stored b answer → IsKnown a.mode a.skips a.lag (SeesPolled (by_catalogue stored (catalogue_of o)) a) o stored seen_line b answer
   polled-by (inl (all, catches)) =
       let line = of-owed all in
       let known = owed-known-by stored a.mode a.skips false a.lag o b answer sound is v all in

@@ -21,13 +21,18 @@ use Rattle.slate_route.specs.Reading.{is_memory, is_open}
 use Rattle.slate_route.specs.Turns.{OpensReader, PollsAt, reader_of}
 
 pub opens-reader : {lifetime interval : ℕ} {moment : ℤ} {before after : Known (List Batch)} (opened : Result (Follower × PollAnswer) SlateError) (result : Result Follower RouteRefusal) → result ≡ reader_of opened → FaultsRise before.faults after.faults opened → IfErr opened (IsOfOpening ManagedCheckpoint) →
-    (skips : Bool) → skips ≡ false → (at : ℤ) → at ≡ moment → (made : ℕ) × OpensManaged (by_objects before.objects) None made lifetime interval skips at before opened after → OpensReader moment lifetime interval before result after
-opens-reader {lifetime} {interval} {moment} {before} {after} opened result is faults kind skips reads at same did = record {
+    (skips : Bool) → skips ≡ false → (lag : ℕ) → lag ≡ 0 → (at : ℤ) → at ≡ moment → (made : ℕ) × OpensManaged (by_objects before.objects) None made lifetime interval skips lag at before opened after → OpensReader moment lifetime interval before result after
+opens-reader {lifetime} {interval} {moment} {before} {after} opened result is faults kind skips reads lag none at same did = record {
   opened = opened;
   result_is = is;
   faults = faults;
   kind = kind;
-  opens = (did.0, subst (λ (m : ℤ). OpensManaged (by_objects before.objects) None did.0 lifetime interval false m before opened after) same (subst (λ s. OpensManaged (by_objects before.objects) None did.0 lifetime interval s at before opened after) reads did.1));
+  opens = (
+    did.0,
+    subst (λ (m : ℤ). OpensManaged (by_objects before.objects) None did.0 lifetime interval false 0 m before opened after) same
+        (subst (λ s. OpensManaged (by_objects before.objects) None did.0 lifetime interval s 0 at before opened after) reads
+        (subst (λ n. OpensManaged (by_objects before.objects) None did.0 lifetime interval skips n at before opened after) none did.1)),
+  );
 }
 
 -- the errors of a poll are those of a reader that keeps a checkpoint

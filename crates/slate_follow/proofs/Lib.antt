@@ -17,6 +17,7 @@ pub mod Later
 pub mod Leased
 pub mod Planned
 pub mod Rebuilt
+pub mod Refused
 pub mod Refusing
 pub mod Renewing
 pub mod Segmented

@@ -30,7 +30,7 @@ use Rattle.slate_model.specs.Segments.{Extractor, ops_of, unsegmented_refusal}
 use Rattle.slate_model.specs.Stores.{Stands, by_objects}
 use Rattle.slate_model.specs.declared.answers.PollAnswer.{PollAnswer}
 use Rattle.slate_model.specs.declared.leases.Lease.{Lease}
-use Rattle.slate_follow.specs.Keeping.{KeepLacks, MayLack, MayMismatch}
+use Rattle.slate_follow.specs.Keeping.{FailsRound, KeepLacks, MayLack, MayMismatch}
 use Rattle.slate_follow.specs.Rebuilding.{BuildLacks, Builds, IsOfRebuilding}
 use Rattle.slate_follow.proofs.Keeping.{PutsAndKeeps}
 use Rattle.slate_follow.proofs.Lacking.{keep-lacks, keep-some, put-refuses}
@@ -129,6 +129,25 @@ module _ (refused : Objects → SlateError → Type 0) (lifetime : ℕ) (skips :
       }
 
 -- ---- a poll
+-- a round that failed leaves a reader as it was, but for its lease, and the error is recorded
+pub failed-leaves : (old inner new : Follower) (e : SlateError) → inner ≡ record old { lease = inner.lease } → new ≡ record inner { result = poll_result e } → new ≡ record old { lease = new.lease; result = poll_result e }
+failed-leaves old inner new e failed closed =
+    closed ∙ (ap (λ (x : Follower). record x { result = poll_result e }) failed ∙ ap (λ l. record old { lease = l; result = poll_result e }) (sym (ap (λ (x : Follower). x.lease) closed)))
+
+-- so, with any extractor
+pub round-left : (lease : Lease) (moment : ℤ) (old : Follower) (t t' : Option Objects) → old.lease ≡ Some lease → (e : SlateError) (inner new : Follower) → WhereModelled (PutsAndKeeps lease moment old (Err e) inner) t t' →
+    inner ≡ record old { lease = inner.lease } → new ≡ record inner { result = poll_result e } → FailsRound moment old t e new t'
+round-left lease moment old t t' held e inner new goes failed closed =
+    let plan = to_keep old.view lease moment in
+    let same : new.lease ≡ inner.lease = ap (λ (x : Follower). x.lease) closed in
+    record {
+      lease = lease;
+      held = held;
+      puts = modelled_as (λ o o'. (made : ℕ) × PutsPlanned {B = PollAnswer} Stands MayLack plan o (Err e) made o' × KeepsOrNot plan made old o new) goes
+          (λ o o' h. (h.0, h.1, subst (λ l. KeepsOrNot plan h.0 old o (record old { lease = l })) (sym same) h.2));
+      becomes = failed-leaves old inner new e failed closed;
+    }
+
 module _ (x : Option Extractor) (lease : Lease) (moment : ℤ) (old : Follower) (t t' : Option Objects) (f f' : ℕ) where
   abbrev keeps_plan : VersionedManifest → Plan Lease
   keeps_plan = to_keep old.view lease moment
@@ -164,8 +183,7 @@ module _ (x : Option Extractor) (lease : Lease) (moment : ℤ) (old : Follower) 
       let P : ℕ → Objects → Objects → Type 0 = λ made o o'. PutsPlanned {B = PollAnswer} Stands MayLack keeps_plan o (Err e) made o' × IfErr {T = PollAnswer} (Err e) (λ _. KeepsOrNot keeps_plan made old o inner) in
       let m = with-made {P = P} {a = t} {b = t'} (modelled_as (λ o o'. (made : ℕ) × P made o o') goes (λ o o' h. (h.0, (h.1, h.2)))) in
       let same : new.lease ≡ inner.lease = ap (λ (x : Follower). x.lease) closed in
-      let becomes : new ≡ record old { lease = new.lease; result = poll_result e } =
-      closed ∙ (ap (λ (x : Follower). record x { result = poll_result e }) failed ∙ ap (λ l. record old { lease = l; result = poll_result e }) (sym same)) in (
+      let becomes = failed-leaves old inner new e failed closed in (
         m.0,
         record {
           faults = faults;

@@ -6,10 +6,11 @@ use Rattle.slate_types.specs.declared.store_errors.StoreFault.TheVariants.{Unava
 use Rattle.slate_store.specs.declared.objects.VersionedManifest.{VersionedManifest}
 use Rattle.slate_store.specs.declared.reader_modes.DbReaderMode.TheVariants.{ManagedCheckpoint}
 use Rattle.slate_store.specs.declared.refusals.StoreRefusal.TheVariants as refusals
-use Rattle.slate_store.specs.Checkpoints.{Plan, found, to_write}
+use Rattle.slate_store.specs.Calls.{WhereModelled}
+use Rattle.slate_store.specs.Checkpoints.{Plan, found, to_refresh, to_write}
 use Rattle.slate_store.specs.Content.{IsSound, content}
 use Rattle.slate_store.specs.Objects.{Objects, PutManifest, changed, is_present, last_log, latest_manifest}
-use Rattle.slate_store.specs.Refusals.{planned}
+use Rattle.slate_store.specs.Refusals.{checkpoint_changes, planned}
 use Rattle.slate_replay.specs.Replay.{Replays, line_of}
 use Rattle.slate_replay.specs.declared.replays.Replayed.{Replayed}
 use Rattle.slate_replay.specs.declared.replays.Replayed.TheVariants.{Whole}
@@ -19,10 +20,10 @@ use Rattle.slate_model.specs.Changes.{PartMade, after_part}
 use Rattle.slate_model.specs.Follow.{come_by}
 use Rattle.slate_model.specs.Follower.{Follower, number, rebuilt}
 use Rattle.slate_model.specs.Followed.{last_read}
-use Rattle.slate_model.specs.Lease.{differs, is_due, leased, renews_taken, to_keep}
-use Rattle.slate_model.specs.Managed.{IsOpenAt, follower_under, poll_result}
+use Rattle.slate_model.specs.Lease.{differs, is_due, leased, renews_taken, to_keep, to_take}
+use Rattle.slate_model.specs.Managed.{IsOpenAt, Keeps, KeepsOrNot, PutsPlanned, PutsRenewal, follower_under, poll_result}
 use Rattle.slate_model.specs.Segments.{Extractor}
-use Rattle.slate_model.specs.Stores.{Stands, kept_seen}
+use Rattle.slate_model.specs.Stores.{Stands, by_objects, kept_seen}
 use Rattle.slate_model.specs.declared.answers.PollAnswer.{PollAnswer}
 use Rattle.slate_model.specs.declared.leases.Lease.{Lease}
 use Rattle.slate_follow.specs.declared.keeps.Kept.{Kept}
@@ -202,12 +203,36 @@ MovesBy moved old objects = (latest : VersionedManifest) → latest_manifest obj
 abbrev pub HasTaken : Follower → Type 0
 HasTaken follower = IfSome follower.lease (λ lease. IsSome (found lease.id follower.view))
 
--- What an error of a poll leaves of a reader: what it was, but for its lease, or what a round made of it that answered; the error
--- is recorded.
-abbrev pub LeftBy : SlateError → (old new : Follower) → Type 0
-LeftBy error old new =
-    (new ≡ record old { lease = new.lease; result = poll_result error })
-    ⊎ ((middle : Follower) × (answer : PollAnswer) × IsOpenAt old.skips old.lag middle answer × (new ≡ record middle { result = poll_result error }))
+-- ---- what an error of a poll at a moment leaves of a reader, with any extractor, lawful or not; the error is recorded
+-- A round failed: the reader is what it was, but for its lease. Over a store that is modelled, so many of the changes of its plan were
+-- made, and it has the old lease, or the one that was committed.
+pub record FailsRound (moment : ℤ) (old : Follower) (before : Option Objects) (error : SlateError) (new : Follower) (after : Option Objects) : Type 0 where
+  pub lease : Lease
+  pub held : old.lease ≡ Some lease
+  pub puts : WhereModelled (λ o o'. (made : ℕ) × PutsPlanned {B = PollAnswer} Stands MayLack (to_keep old.view lease moment) o (Err error) made o'
+      × KeepsOrNot (to_keep old.view lease moment) made old o new) before after
+  pub becomes : new ≡ record old { lease = new.lease; result = poll_result error }
+
+-- A round answered, and the reader goes by the manifest that it put for a view that differed; then the renewal failed of the lease that
+-- it took, which is due at once.
+pub record FailsRenewal (moment : ℤ) (old : Follower) (before : Option Objects) (error : SlateError) (new : Follower) (after : Option Objects) : Type 0 where
+  pub lease : Lease
+  pub held : old.lease ≡ Some lease
+  pub middle : Follower
+  pub answer : PollAnswer
+  pub between : Option Objects
+  pub opened : IsOpenAt old.skips old.lag middle answer
+  pub moved : IfSome before (MovesBy true old)
+  pub keeps : WhereModelled (λ o o'. Keeps (by_objects before) lease moment old o middle answer o') before between
+  pub taken : Lease
+  pub leased : middle.lease ≡ Some taken
+  pub there : IsSome (found taken.id middle.view)
+  pub due : is_due moment taken ≡ true
+  pub puts : WhereModelled (λ o o'. (made : ℕ) × PutsRenewal {A = Unit {0}} Stands (to_refresh taken.id taken.lifetime moment middle.view) o (Err error) made o') between after
+  pub becomes : new ≡ record middle { result = poll_result error }
+
+abbrev pub LeftBy : (moment : ℤ) → (old : Follower) → (before : Option Objects) → SlateError → (new : Follower) → (after : Option Objects) → Type 0
+LeftBy moment old before error new after = FailsRound moment old before error new after ⊎ FailsRenewal moment old before error new after
 
 -- ---- calls
 -- How often a round of a poll of a reader that keeps a checkpoint calls a store, where log files are to be read so often: it reads the latest
@@ -228,3 +253,11 @@ abbrev pub CallsKeeping : Objects → Follower → Lease → (moment : ℤ) → 
 CallsKeeping objects old lease moment calls calls' =
     (latest : VersionedManifest) → latest_manifest objects ≡ Some latest →
     calls' ≤ calls + calls_to_keep old.view lease moment latest (new_logs old latest objects) + (if renews_taken old.view lease moment latest then 1 else 0)
+
+-- How often an opening that takes a lease called a store, where the latest manifest refuses it: once, and twice before that for each
+-- time that another manifest was put first. Over a store that is modelled that comes only where one is stored under the next id.
+pub record CallsRefused (lifetime : ℕ) (moment : ℤ) (objects : Option Objects) (calls calls' : ℕ) : Type 0 where
+  pub overtaken : ℕ
+  pub few : overtaken < 8
+  pub most : calls' ≤ calls + 2 * overtaken + 1
+  pub stands : 0 < overtaken → IfSome objects (λ o. Stands (checkpoint_changes (to_take lifetime moment) o) o)

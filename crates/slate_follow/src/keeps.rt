@@ -65,7 +65,7 @@ impl FollowerState {
         ensures faults { CountsFaults (S.faults store.old) (S.faults store.new) result }
         ensures keeps { (x : Option Extractor) → IsExtractor E.may_name E.may_extract (option_copied extractor.entry) x → (made : ℕ) × PollsLeased (by_objects (S.objects store.old)) x made lease.now moment self.old
             (known S.objects S.faults store.old) result self.new (known S.objects S.faults store.new) }
-        ensures left { IfErr result (λ error. LeftBy error self.old self.new) }
+        ensures left { IfErr result (λ error. LeftBy moment self.old (S.objects store.old) error self.new (S.objects store.new)) }
         ensures truncates { IfOk result (λ answer. IfSome (S.objects store.old) (λ o. Truncates o self.new answer)) }
         ensures kind { IfErr result (IsOfPoll ManagedCheckpoint) }
         ensures costs { IfOk result (λ _. IfSome (S.objects store.old) (λ o. CallsKeeping o self.old lease.now moment (S.calls store.old) (S.calls store.new))) }

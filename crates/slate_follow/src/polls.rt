@@ -7,6 +7,7 @@ ghost use Rattle.slate_model.specs.Follow.{Polls, Rebuilds, SeesOwed, SeesPolled
 ghost use Rattle.slate_model.specs.Followed.{RefusesLatest, followed_logs};
 ghost use Rattle.slate_model.specs.Follower.{HasSegments, is_managed, is_pinned};
 ghost use Rattle.slate_model.specs.Known.{FaultsRise, IsContent, known};
+ghost use Rattle.slate_model.specs.Lease.{lease_refusal};
 ghost use Rattle.slate_types.specs.Line.{Line};
 ghost use Rattle.slate_store.specs.Objects.{Objects};
 ghost use Rattle.slate_model.specs.Managed.{OpensManaged, PollsManaged, TakesLease};
@@ -15,7 +16,7 @@ ghost use Rattle.slate_model.specs.Open.{replayed_logs};
 ghost use Rattle.slate_model.specs.Stores.{by_objects, kept_seen};
 ghost use Rattle.slate_follow.specs.Answering.{IsOfLatest, IsOfOpening, IsOfPoll, IsOfTaking};
 ghost use Rattle.slate_follow.specs.Lagging.{readings};
-ghost use Rattle.slate_follow.specs.Keeping.{CallsKeeping, LeftBy};
+ghost use Rattle.slate_follow.specs.Keeping.{CallsKeeping, CallsRefused, LeftBy};
 ghost use Rattle.slate_follow.specs.Rebuilding.{CallsContinuing, CallsOpening, CallsRebuilding, Continues, ReplaysView, Truncates, poll_error, polled};
 
 use crate::leases::{latest_of, lease_refusal, take_lease};
@@ -87,11 +88,15 @@ impl FollowerState {
         ensures managed { (x : Option Extractor) → IsExtractor E.may_name E.may_extract (option_copied extractor.entry) x → is_managed mode ≡ true →
             (made : ℕ) × OpensManaged (by_objects (S.objects store.old)) x made options.now.checkpoint_lifetime_ms options.now.manifest_poll_interval_ms
             options.now.skip_wal_replay options.now.max_lag moment (known S.objects S.faults store.old) result (known S.objects S.faults store.new) }
+        ensures refused { is_managed mode ≡ true → IfSome (lease_refusal options.now.checkpoint_lifetime_ms options.now.manifest_poll_interval_ms) (λ error. (result ≡ Err error) × (store.new ≡ store.old)) }
         ensures managed_calls { is_managed mode ≡ true → IfSome (S.objects store.old) (λ o. S.calls store.new ≤ S.calls store.old + (followed_logs mode options.now.skip_wal_replay o + 17)) }
         ensures faults { FaultsRise (S.faults store.old) (S.faults store.new) result }
         ensures handed { (x : Option Extractor) → IsExtractor E.may_name E.may_extract (option_copied extractor.entry) x → is_managed mode ≡ false → is_pinned mode ≡ false →
             IfOk result (λ p. (o : Objects) (line : Line) → S.objects store.old ≡ Some o → IsContent (S.objects store.old) line → kept_seen p.0 o line) }
         ensures first { is_managed mode ≡ false → IfErr result (λ error. IsOfLatest error → S.calls store.new ≤ S.calls store.old + 1) }
+        ensures first_managed { (x : Option Extractor) (o : Objects) → IsExtractor E.may_name E.may_extract (option_copied extractor.entry) x → is_managed mode ≡ true → S.objects store.old ≡ Some o →
+            IfErr result (λ error. IsOfLatest error → S.calls store.new ≤ S.calls store.old + 1) }
+        ensures tries_managed { is_managed mode ≡ true → IfErr result (λ error. IsOfLatest error → CallsRefused options.now.checkpoint_lifetime_ms moment (S.objects store.old) (S.calls store.old) (S.calls store.new)) }
         ensures errors { IfErr result (IsOfOpening mode) }
         // The latest manifest is looked at in this order, as by handles: it is initialised, it fits the extractor, and another may be put after it.
         ensures decided { (x : Option Extractor) → IsExtractor E.may_name E.may_extract (option_copied extractor.entry) x → is_managed mode ≡ true → result ≡ Err SlateError.InvalidDBState →
@@ -123,7 +128,10 @@ impl FollowerState {
         ensures opens { (x : Option Extractor) → IsExtractor E.may_name E.may_extract (option_copied extractor.entry) x →
             (made : ℕ) × OpensManaged (by_objects (S.objects store.old)) x made options.now.checkpoint_lifetime_ms options.now.manifest_poll_interval_ms
             options.now.skip_wal_replay options.now.max_lag moment (known S.objects S.faults store.old) result (known S.objects S.faults store.new) }
+        ensures refused { IfSome (lease_refusal options.now.checkpoint_lifetime_ms options.now.manifest_poll_interval_ms) (λ error. (result ≡ Err error) × (store.new ≡ store.old)) }
         ensures calls { IfSome (S.objects store.old) (λ o. S.calls store.new ≤ S.calls store.old + (followed_logs ManagedCheckpoint options.now.skip_wal_replay o + 17)) }
+        ensures first { (x : Option Extractor) (o : Objects) → IsExtractor E.may_name E.may_extract (option_copied extractor.entry) x → S.objects store.old ≡ Some o → IfErr result (λ error. IsOfLatest error → S.calls store.new ≤ S.calls store.old + 1) }
+        ensures tries { IfErr result (λ error. IsOfLatest error → CallsRefused options.now.checkpoint_lifetime_ms moment (S.objects store.old) (S.calls store.old) (S.calls store.new)) }
         ensures faults { FaultsRise (S.faults store.old) (S.faults store.new) result }
         ensures kind { IfErr result (IsOfOpening ManagedCheckpoint) }
         ensures decided { (x : Option Extractor) → IsExtractor E.may_name E.may_extract (option_copied extractor.entry) x → result ≡ Err SlateError.InvalidDBState →
@@ -148,6 +156,8 @@ impl FollowerState {
             (made : ℕ) × TakesLease (by_objects (S.objects store.old)) x made options.now.checkpoint_lifetime_ms
             options.now.skip_wal_replay options.now.max_lag moment (known S.objects S.faults store.old) result (known S.objects S.faults store.new) }
         ensures calls { IfSome (S.objects store.old) (λ o. S.calls store.new ≤ S.calls store.old + (followed_logs ManagedCheckpoint options.now.skip_wal_replay o + 17)) }
+        ensures first { (x : Option Extractor) (o : Objects) → IsExtractor E.may_name E.may_extract (option_copied extractor.entry) x → S.objects store.old ≡ Some o → IfErr result (λ error. IsOfLatest error → S.calls store.new ≤ S.calls store.old + 1) }
+        ensures tries { IfErr result (λ error. IsOfLatest error → CallsRefused options.now.checkpoint_lifetime_ms moment (S.objects store.old) (S.calls store.old) (S.calls store.new)) }
         ensures faults { FaultsRise (S.faults store.old) (S.faults store.new) result }
         ensures kind { IfErr result (IsOfOpening ManagedCheckpoint) }
         ensures decided { (x : Option Extractor) → IsExtractor E.may_name E.may_extract (option_copied extractor.entry) x → result ≡ Err SlateError.InvalidDBState →
@@ -241,7 +251,7 @@ impl FollowerState {
         ensures truncates { IfOk result (λ a. IfSome (S.objects store.old) (λ o. Truncates o self.new a)) }
         ensures closed { IfSome self.old.result (λ r. result ≡ Err (closed_error r)) }
         ensures left { is_managed self.old.mode ≡ false → IfErr result (λ _. self.new ≡ self.old) }
-        ensures left_managed { is_managed self.old.mode ≡ true → self.old.result ≡ None → IfErr result (λ error. LeftBy error self.old self.new) }
+        ensures left_managed { is_managed self.old.mode ≡ true → self.old.result ≡ None → IfErr result (λ error. LeftBy moment self.old (S.objects store.old) error self.new (S.objects store.new)) }
         ensures untouched { self.old.result ≢ None → (self.new ≡ self.old) × (store.new ≡ store.old) }
         ensures stays { is_pinned self.old.mode ≡ true → (self.new ≡ self.old) × (store.new ≡ store.old) }
         ensures handed { (x : Option Extractor) → IsExtractor E.may_name E.may_extract (option_copied extractor.entry) x → is_managed self.old.mode ≡ false → is_pinned self.old.mode ≡ false → (o : Objects) (line : Line) →

@@ -204,7 +204,7 @@ impl<S: Store> HeldReader<S> {
         ensures faults { self.old.follower.result ≡ None → FaultsRise (S.faults self.old.store) (S.faults self.new.store) result }
         ensures truncates { IfOk result (λ a. IfSome (S.objects self.old.store) (λ o. Truncates o self.new.follower a)) }
         ensures left_managed { is_managed self.old.follower.mode ≡ true → self.old.follower.result ≡ None →
-            IfErr result (λ error. LeftBy error self.old.follower self.new.follower) }
+            IfErr result (λ error. LeftBy moment self.old.follower (S.objects self.old.store) error self.new.follower (S.objects self.new.store)) }
         ensures handed { (x : Option Extractor) → IsExtractor E.may_name E.may_extract (option_copied extractor.entry) x → is_managed self.old.follower.mode ≡ false → is_pinned self.old.follower.mode ≡ false → (o : Objects) (line : Line) →
             S.objects self.old.store ≡ Some o → IsContent (S.objects self.old.store) line → kept_seen self.old.follower o line → kept_seen self.new.follower o line }
         ensures handed_managed { (x : Option Extractor) → IsExtractor E.may_name E.may_extract (option_copied extractor.entry) x → is_managed self.old.follower.mode ≡ true → (o o' : Objects) (line : Line) →

@@ -603,6 +603,7 @@ module _ (stored : Line) (o o' : Objects) (f f' : ℕ) (made : ℕ) (sound : IsS
     renews = p.renews;
     given = p.given;
     leased = its-lease;
+    due = p.due;
     faults = p.faults;
     puts = as_modelled (catalogue_of o1) (catalogue_of o') (subst (λ v. PutsRenewal first_world.stands (to_refresh (p.given).id (p.given).lifetime moment v) (catalogue_of o1) r p.again (catalogue_of o')) (ap (λ (x : Follower). x.view) first.kept)
         (renewal-known (p.given).id (p.given).lifetime moment o1 (first.maintained).sound (p.middle).view both.next_is stored r p.again o' (subst (λ s. PutsRenewal Stands (to_refresh (p.given).id (p.given).lifetime moment (p.middle).view) o1 r p.again s) last_is both.renews)));

@@ -27,7 +27,7 @@ use Rattle.slate_model.specs.Handle.{CloseResult}
 use Rattle.slate_model.specs.Knowledge.{Knowledge}
 use Rattle.slate_model.specs.Known.{CountsFaults, Known, Untouched}
 use Rattle.slate_model.specs.Segments.{Extractor}
-use Rattle.slate_model.specs.Lease.{lease_refusal, renews_taken, replaces, to_keep, to_take}
+use Rattle.slate_model.specs.Lease.{is_due, lease_refusal, renews_taken, replaces, to_keep, to_take}
 
 -- Why a call with this plan for a checkpoint answers an error, over a store that is modelled. `stands` says that a manifest is
 -- there already under the id of the one that it puts.
@@ -189,6 +189,7 @@ pub record PollsTwice {L : Type 0} (k : Knowledge L) (extractor : Option Extract
   pub renews : RenewsTaken old lease moment true before
   pub given : Lease
   pub leased : middle.lease ≡ Some given
+  pub due : is_due moment given ≡ true
   pub faults : CountsFaults between.faults after.faults result
   pub puts : WhereModelled (λ o o'. PutsRenewal k.stands (to_refresh given.id given.lifetime moment middle.view) o result again o') between.objects after.objects
   pub answers : IfOk result (λ a. (a ≡ answer) × (new ≡ middle))

@@ -14,7 +14,8 @@ use Rattle.slate_follow.proofs.Refusing.{opening-fails, opening-lacks, opening-u
 use Rattle.slate_follow.proofs.Answering.{finding-opening, rebuilding-later, rebuilding-opening}
 use Rattle.slate_follow.proofs.Continued.{builds-truncates, leased-truncates}
 use Rattle.slate_follow.proofs.Handed.{handed}
-use Rattle.slate_follow.specs.Answering.{IsOfOpening}
+use Rattle.slate_follow.specs.Answering.{IsOfLatest, IsOfOpening}
+use Rattle.slate_follow.specs.Keeping.{CallsRefused}
 use Rattle.slate_follow.specs.Rebuilding.{Builds}
 use Rattle.slate_store.specs.declared.reader_modes.DbReaderMode.TheVariants.{ManagedCheckpoint}
 use Rattle.slate_follow.proofs.states.FollowerState.open.Goals as goal
@@ -169,3 +170,16 @@ returns-clause-truncates g c =
     rw c.in_ok-new.ensures
     (if_some t' (λ o at. leased-truncates o b.rebuilt None b.answer
     (builds-truncates o c.args.mode skips c.args.options.now.max_lag v.view v.last b.rebuilt b.answer (some_at (λ o. Builds o c.args.mode skips c.args.options.now.max_lag v.view v.last b.rebuilt b.answer) t1 o (sym b.ensures.kept ∙ at) b.ensures.built))))
+
+-- ---- of one that keeps a checkpoint: options that are refused touch no store, and what the latest manifest decides takes one call
+pub returns-then-eq-clause-refused : goal.returns-then-eq-clause-refused
+returns-then-eq-clause-refused g c = λ managed. c.open_managed.ensures.refused
+
+pub returns-then-eq-clause-first_managed : goal.returns-then-eq-clause-first_managed
+returns-then-eq-clause-first_managed g c x o lawful = λ managed at. c.open_managed.ensures.first x o lawful at
+
+pub returns-then-eq-clause-tries_managed : goal.returns-then-eq-clause-tries_managed
+returns-then-eq-clause-tries_managed g c = λ managed.
+    let n = g.S.Store.calls c.args.store.now in
+    let n' = g.S.Store.calls c.open_managed.new.store in
+    subst (λ m. IfErr c.open_managed.result (λ error. IsOfLatest error → CallsRefused c.args.options.now.checkpoint_lifetime_ms m (g.S.Store.objects c.args.store.now) n n')) (to_z-of_z {w = w64} {z = c.args.moment} (search rules)) c.open_managed.ensures.tries

@@ -15,11 +15,12 @@ use Rattle.slate_model.specs.Lease.{to_take}
 use Rattle.slate_model.specs.Managed.{IsOpenAt, PutsPlanned}
 use Rattle.slate_model.specs.Stores.{Stands}
 use Rattle.slate_model.specs.declared.leases.Lease.{Lease}
-use Rattle.slate_follow.specs.Keeping.{MayMismatch}
+use Rattle.slate_follow.specs.Answering.{IsOfLatest}
+use Rattle.slate_follow.specs.Keeping.{CallsRefused, MayMismatch}
 use Rattle.slate_follow.proofs.Counted.{taken-calls}
 use Rattle.slate_follow.proofs.Refusing.{err-same, lacks-read, replay-rebuilding, replay-unnamed}
 use Rattle.slate_follow.proofs.Taken.{all-well, counts-then, no-fault, take-broken, take-done, take-failed}
-use Rattle.slate_follow.proofs.Answering.{rebuilding-opening, rebuilding-valid}
+use Rattle.slate_follow.proofs.Answering.{rebuilding-later, rebuilding-opening, rebuilding-valid, replay-later}
 use Rattle.slate_follow.proofs.Continued.{builds-truncates, leased-truncates}
 use Rattle.slate_follow.proofs.Rebuilt.{if_some, some_at}
 use Rattle.slate_follow.proofs.states.FollowerState.open_leased.Goals as goal
@@ -185,3 +186,42 @@ returns-clause-truncates g c =
     rw c.in_ok-new.ensures
     (if_some t' (λ o at. leased-truncates o b.rebuilt (Some v.lease) b.answer
     (builds-truncates o ManagedCheckpoint skips c.args.options.now.max_lag v.view c.in_ok-last.last b.rebuilt b.answer (some_at (λ o. Builds o ManagedCheckpoint skips c.args.options.now.max_lag v.view c.in_ok-last.last b.rebuilt b.answer) t1 o (sym b.ensures.kept ∙ at) b.ensures.built))))
+
+-- ---- how often it called the store where the latest manifest decides
+pub returns-in_err-view-clause-first : goal.returns-in_err-view-clause-first
+returns-in_err-view-clause-first g c x o lawful at =
+    let is : c.from_residual.result ≡ Err c.in_err-view.field-0.0 = search rules in
+    rw is (c.in_err-view.ensures.first x o lawful at)
+
+pub returns-in_err-last-clause-first : goal.returns-in_err-last-clause-first
+returns-in_err-last-clause-first g c x o lawful at =
+    let e = c.in_err-last.field-0.0 in
+    let is : c.from_residual-in_err-last.result ≡ Err e = search rules in
+    rw is (λ first. absurd (replay-later e c.in_err-last.ensures.refusals first))
+
+pub returns-in_err-rebuilt-clause-first : goal.returns-in_err-rebuilt-clause-first
+returns-in_err-rebuilt-clause-first g c x o lawful at =
+    let e = c.in_err-rebuilt.field-0.0 in
+    let is : c.from_residual-in_err-rebuilt.result ≡ Err e = search rules in
+    rw is (λ first. absurd (rebuilding-later e c.in_err-rebuilt.ensures.refusals first))
+
+pub returns-in_err-view-clause-tries : goal.returns-in_err-view-clause-tries
+returns-in_err-view-clause-tries g c =
+    let e = c.in_err-view.field-0.0 in
+    let n = g.S.Store.calls c.args.store.now in
+    let n' = g.S.Store.calls c.take_lease.new.store in
+    let is : c.from_residual.result ≡ Err e = search rules in
+    rw is
+    (subst (λ m. IsOfLatest e → CallsRefused c.args.options.now.checkpoint_lifetime_ms m (g.S.Store.objects c.args.store.now) n n') (to_z-of_z {w = w64} {z = c.args.moment} (search rules)) c.in_err-view.ensures.tries)
+
+pub returns-in_err-last-clause-tries : goal.returns-in_err-last-clause-tries
+returns-in_err-last-clause-tries g c =
+    let e = c.in_err-last.field-0.0 in
+    let is : c.from_residual-in_err-last.result ≡ Err e = search rules in
+    rw is (λ first. absurd (replay-later e c.in_err-last.ensures.refusals first))
+
+pub returns-in_err-rebuilt-clause-tries : goal.returns-in_err-rebuilt-clause-tries
+returns-in_err-rebuilt-clause-tries g c =
+    let e = c.in_err-rebuilt.field-0.0 in
+    let is : c.from_residual-in_err-rebuilt.result ≡ Err e = search rules in
+    rw is (λ first. absurd (rebuilding-later e c.in_err-rebuilt.ensures.refusals first))
